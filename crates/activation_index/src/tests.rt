@@ -1,0 +1,36 @@
+// What no clause says: that calls succeed, and a worked example.
+use super::Index;
+use std::test::Fail;
+
+#[test]
+fn a_census_goes_by_serial(rt: HostRuntime) -> Result<(), Fail> {
+    let mut index = Index::new(rt.alloc(), 2)?;
+    index.add(2, 1);
+    index.add(1, 2);
+    let census = index.census(rt.alloc())?;
+    assert_eq!(rt; census.as_slice(), [(1, 2), (2, 1)].as_slice());
+    assert_eq!(rt; index.count(1), 2);
+    assert_eq!(rt; index.count(2), 1);
+    assert_eq!(rt; index.count(3), 0);
+    Ok(())
+}
+
+#[test]
+fn a_count_of_zero_leaves_room(rt: HostRuntime) -> Result<(), Fail> {
+    let mut index = Index::new(rt.alloc(), 1)?;
+    index.add(7, 16_384);
+    index.add(7, -16_384);
+    index.add(9, 0);
+    let none = index.census(rt.alloc())?;
+    assert_eq!(rt; none.len(), 0);
+    index.add(5, 3);
+    index.add(6, 0);
+    let census = index.census(rt.alloc())?;
+    assert_eq!(rt; census.as_slice(), [(5, 3)].as_slice());
+    Ok(())
+}
+
+#[test]
+fn too_many_slots_are_refused(rt: HostRuntime) {
+    assert!(rt; Index::new(rt.alloc(), usize::MAX).is_err());
+}

@@ -1,0 +1,5 @@
+use Rattle.board.specs.Plays.{asked, asked_of}
+use Rattle.board.proofs.keeper.Keeper.retire.Given as goal
+
+abbrev pub ghosts-store_zombie : goal.ghosts-store_zombie
+ghosts-store_zombie a = record { asked = asked a.self.now.board a.code 0 }

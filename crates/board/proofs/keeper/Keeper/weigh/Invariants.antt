@@ -1,0 +1,5 @@
+use Rattle.board.specs.Plays.{asked, asked_of}
+use Rattle.board.proofs.keeper.Keeper.weigh.Given as goal
+
+abbrev pub ghosts-load_count : goal.ghosts-load_count
+ghosts-load_count a = record { asked = asked a.self.now.board a.code 0 }

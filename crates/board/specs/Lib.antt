@@ -1,0 +1,4 @@
+pub mod Boards
+pub mod Plays
+pub mod Notes
+pub mod Closing

@@ -1,0 +1,99 @@
+//! The board.
+ghost use Rattle.std.specs.Prelude.{◌≡◌, ℕ, ◌+◌, ◌*◌, ◌<◌, ◌≤◌, length, IfOk, Some, slice_get};
+ghost use Rattle.board.specs.Boards.{BoardId, board_id, words_at, AreFirst, first_seat, first_keeper};
+ghost use Rattle.board.specs.Closing.{IsLeftBy};
+
+use crate::closed::ClosedBoard;
+use crate::keeper::Keeper;
+use crate::note::Note;
+use crate::rule::{BoardRule, SplitOff};
+use crate::thread_seat::ThreadSeat;
+use crate::words::{MOMENT, count_at, entry_at, word_count};
+use atomic_table::Table;
+use frames::board_rule::BoardView;
+use std::alloc::{AllocError, Global};
+use std::marker::Model;
+
+/// The words of the codes and places, which any number of threads share. Contracts see which board it is.
+#[derive(Drop)]
+pub struct Board {
+    pub(crate) table: Table<(), BoardView, (usize, usize), BoardRule, Global>,
+    slots: usize,
+    places: usize,
+}
+
+impl Model for Board {
+    ghost Value = { BoardId };
+
+    ghost view = { λ b. board_id b.table.shared.table_id b.slots b.places };
+
+    ghost invariant = { λ b. (b.table.shared.key ≡ (b.slots, b.places)) × (b.table.shared.table_id.words ≡ words_at b.slots b.places) × (b.table.shared.table_id.slots ≡ 0) × (0 < b.places) × (b.slots ≤ 1024) × (b.places ≤ 64) };
+}
+
+fn first_words(alloc: Global, slots: usize, places: usize) -> Result<Vec<u64>, AllocError>
+    requires { (slots ≤ 1024) × (places ≤ 64) }
+    ensures { IfOk result (λ v. AreFirst slots places v.items) }
+{
+    let mut words = vec![in alloc; 0; word_count(slots, places)]?;
+    words[MOMENT] = 1;
+    for slot in 0..slots {
+        // Vacant, with serial 0.
+        words[entry_at(slot as u32)] = 3;
+    }
+    Ok(words)
+}
+
+impl Board {
+    /// A board of vacant places and slots in its first moment, its keeper, and the seat of each place in order.
+    ///
+    /// There are 1 to 64 places and at most 1024 slots. Whatever is needed is allocated here, and nothing later.
+    pub fn new(
+        alloc: Global,
+        places: usize,
+        slots: usize,
+    ) -> Result<(Board, Keeper, Vec<ThreadSeat>), AllocError>
+        requires places { (0 < places) × (places ≤ 64) }
+        requires slots { slots ≤ 1024 }
+        ensures board { IfOk result (λ t. (t.0.slots ≡ slots) × (t.0.places ≡ places)) }
+        ensures keeper { IfOk result (λ t. t.1 ≡ first_keeper t.0) }
+        ensures seats { IfOk result (λ t. length t.2.items ≡ places) }
+        ensures each_seat { IfOk result (λ t. (k : ℕ) → k < places → slice_get t.2.items k ≡ Some (first_seat t.0 k)) }
+    {
+        let words = first_words(alloc, slots, places)?;
+        let notes = vec![in alloc; Note::at(0); slots]?;
+        let mut seats = Vec::with_capacity(alloc, places)?;
+        let (table, mut seat) = Table::of_words(alloc, words.as_slice(), &(slots, places))?;
+        for place in 0..places {
+            let seat = table.shared.split_seat::<SplitOff>(&mut seat);
+            seats.push_reserved(ThreadSeat::of(seat, slots, places, place));
+        }
+        let board = Board {
+            table,
+            slots,
+            places,
+        };
+        Ok((board, Keeper::of(seat, slots, places, notes), seats))
+    }
+
+    /// What the count of the slot was a moment ago. Nothing is promised of it, and it is no step of the board.
+    pub fn peek_count(&self, slot: u32) -> u64
+        requires { slot < self.now.slots }
+    {
+        self.table.shared.peek(count_at(self.slots, slot))
+    }
+
+    /// Ends the board, which no thread shares any more, and shows its words: those of a board that meets the rule, with what the
+    /// keeper knows.
+    pub fn close(self, keeper: Keeper) -> ClosedBoard
+        requires { keeper.board ≡ self }
+        ensures sizes { (result.slots ≡ self.slots) × (result.places ≡ self.places) }
+        ensures rule { IsLeftBy keeper result }
+    {
+        let Board {
+            table,
+            slots,
+            places,
+        } = self;
+        ClosedBoard::of(table.close_with(keeper.into_seat()), slots, places)
+    }
+}

@@ -1,0 +1,25 @@
+//! The code board: which codes are in use, how often each is counted, and in which moment each place last published its stack,
+//! in words that the keeper and the threads of the places change in single atomic steps.
+//!
+//! `frames::board_rule` has the rule that the words and views meet between any two steps, and the twelve kinds of step. Here each
+//! call is one of these steps, or none, and nothing waits or takes memory once the board is made. What a call did is read off the
+//! view of its seat: the number of its steps, and the last one with the value that it met.
+#![tactic(auto)]
+
+mod board;
+mod closed;
+mod keeper;
+mod note;
+mod rule;
+#[cfg(test)]
+mod tests;
+mod thread_seat;
+mod weighed;
+mod words;
+
+pub use board::Board;
+pub use closed::ClosedBoard;
+pub use keeper::{Keeper, Spent};
+pub use rule::BoardRule;
+pub use thread_seat::ThreadSeat;
+pub use weighed::Weighed;

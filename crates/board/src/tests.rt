@@ -1,0 +1,258 @@
+//! The rows of the board: a code's life in one thread, and a publication that is stopped at each of its boundaries.
+ghost use Rattle.std.specs.Prelude.{◌≡◌, ◌≢◌, ◌<◌, [], IfOk};
+ghost use Rattle.frames.specs.declared.board_rule.EntryState.TheVariants.{InUse, NotEntrant};
+ghost use Rattle.frames.specs.BoardRule.{code};
+ghost use Rattle.frames.specs.BoardViews.{slot_of, in_use, IsIn};
+ghost use Rattle.board.specs.Boards.{first_seat, first_keeper};
+
+use super::*;
+use frames::CodeId;
+use frames::board_rule::{Entry, EntryState};
+use std::alloc::{AllocError, Global};
+use std::process::Abort;
+use std::test::*;
+
+const C: CodeId = CodeId { slot: 0, serial: 1 };
+
+// A board of one slot, its keeper, and the seat of place 0.
+fn one_slot(alloc: Global, places: usize) -> Result<(Board, Keeper, ThreadSeat), AllocError>
+    requires { (0 < places) × (places < 65) }
+    ensures board { IfOk result (λ t. (t.0.slots ≡ 1) × (t.0.places ≡ places)) }
+    ensures keeper { IfOk result (λ t. t.1 ≡ first_keeper t.0) }
+    ensures seat { IfOk result (λ t. t.2 ≡ first_seat t.0 0) }
+{
+    let (board, keeper, mut seats) = Board::new(alloc, places, 1)?;
+    let seat = seats.swap_remove(0);
+    Ok((board, keeper, seat))
+}
+
+#[test]
+fn a_code_that_was_invalidated_is_never_entered(rt: HostRuntime) -> Result<(), Fail> {
+    let (board, mut keeper, mut seat) = one_slot(rt.alloc(), 1)?;
+    keeper.install(&board, C);
+    seat.read_moment(&board);
+    seat.end_publication(&board);
+    assert!(rt; seat.enter(&board, C));
+    keeper.invalidate(&board, C);
+    assert!(rt; !seat.enter(&board, C));
+    assert!(rt; keeper.round(&board).is_ok());
+    seat.read_moment(&board);
+    seat.end_publication(&board);
+    assert!(rt; !seat.enter(&board, C));
+    assert!(rt; !seat.enter(&board, CodeId { slot: 0, serial: 2 }));
+    Ok(())
+}
+
+#[test]
+fn a_code_is_counted_looked_for_weighed_and_freed(rt: HostRuntime) -> Result<(), Fail> {
+    let (board, mut keeper, mut seat) = one_slot(rt.alloc(), 2)?;
+    keeper.install(&board, C);
+    seat.read_moment(&board);
+    seat.end_publication(&board);
+    assert!(rt; seat.enter(&board, C));
+    assert!(rt; seat.enter(&board, C));
+    keeper.invalidate(&board, C);
+    assert!(rt; matches!(keeper.weigh(&board, C), Weighed::NotLooked(0)));
+    assert!(rt; !keeper.look(&board, C, 0));
+    assert!(rt; keeper.look(&board, C, 1));
+    assert!(rt; keeper.round(&board).is_ok());
+    seat.read_moment(&board);
+    seat.count_change(&board, C, 2);
+    seat.end_publication(&board);
+    assert!(rt; keeper.look(&board, C, 0));
+    assert!(rt; matches!(keeper.weigh(&board, C), Weighed::Used(2)));
+    assert!(rt; board.peek_count(0) == 2);
+    seat.read_moment(&board);
+    seat.count_change(&board, C, -2);
+    seat.end_publication(&board);
+    assert!(rt; matches!(keeper.weigh(&board, C), Weighed::Clear));
+    keeper.retire(&board, C);
+    keeper.free(&board, C);
+    let next = CodeId { slot: 0, serial: 2 };
+    keeper.install(&board, next);
+    assert!(rt; !seat.enter(&board, C));
+    assert!(rt; seat.enter(&board, next));
+    Ok(())
+}
+
+#[test]
+fn a_board_that_ends_shows_its_words(rt: HostRuntime) -> Result<(), Fail> {
+    let (board, mut keeper, mut seat) = one_slot(rt.alloc(), 2)?;
+    keeper.install(&board, C);
+    seat.read_moment(&board);
+    seat.end_publication(&board);
+    assert!(rt; seat.enter(&board, C));
+    assert!(rt; keeper.round(&board).is_ok());
+    seat.read_moment(&board);
+    seat.count_change(&board, C, 1);
+    seat.end_publication(&board);
+    keeper.invalidate(&board, C);
+    let closed = board.close(keeper);
+    let entry = closed.entry(0);
+    let (count, first, second, moment) = (
+        closed.count(0),
+        closed.place(0),
+        closed.place(1),
+        closed.moment(),
+    );
+    closed.free();
+    assert!(rt;
+        entry
+            == Entry {
+                serial: 1,
+                state: EntryState::NotEntrant
+            }
+    );
+    assert!(rt; (count, first, second, moment) == (1, 2, 0, 2));
+    Ok(())
+}
+
+#[test]
+fn a_place_that_was_given_up_lets_every_look_pass(rt: HostRuntime) -> Result<(), Fail> {
+    let (board, mut keeper, mut seat) = one_slot(rt.alloc(), 1)?;
+    keeper.install(&board, C);
+    seat.read_moment(&board);
+    seat.end_publication(&board);
+    assert!(rt; seat.enter(&board, C));
+    keeper.invalidate(&board, C);
+    assert!(rt; !keeper.look(&board, C, 0));
+    seat.vacate(&board);
+    assert!(rt; keeper.look(&board, C, 0));
+    assert!(rt; matches!(keeper.weigh(&board, C), Weighed::Clear));
+    Ok(())
+}
+
+const D: CodeId = CodeId { slot: 1, serial: 2 };
+
+// A board of two slots with the codes C and D in use, and one place, whose seat has ended a publication.
+fn two_codes(alloc: Global) -> Result<(Board, Keeper, ThreadSeat), AllocError>
+    ensures board { IfOk result (λ t. (t.0.slots ≡ 2) × (t.0.places ≡ 1)) }
+    ensures keeper { IfOk result (λ t. (t.1.board ≡ t.0) × (slot_of t.1.seen 0 ≡ in_use (code 0 1))) }
+    ensures seat { IfOk result (λ t. (t.2.board ≡ t.0) × (t.2.seen.stored ≢ 0) × (t.2.seen.counted ≡ [])) }
+{
+    let (board, mut keeper, mut seats) = Board::new(alloc, 1, 2)?;
+    let mut seat = seats.swap_remove(0);
+    keeper.install(&board, C);
+    keeper.install(&board, D);
+    seat.read_moment(&board);
+    seat.end_publication(&board);
+    Ok((board, keeper, seat))
+}
+
+// Invalidates C, goes round, and looks at place 0: whether it went round, and whether the place is done with C.
+fn invalidated(board: &Board, keeper: &mut Keeper) -> (bool, bool)
+    requires board { keeper.old.board ≡ board.now }
+    requires sizes { (board.now.slots ≡ 2) × (board.now.places ≡ 1) }
+    requires code { IsIn keeper.old.seen (code 0 1) InUse }
+    ensures board { keeper.new.board ≡ keeper.old.board }
+    ensures code { IsIn keeper.new.seen (code 0 1) NotEntrant }
+{
+    keeper.invalidate(board, C);
+    let turned = keeper.round(board).is_ok();
+    (turned, keeper.look(board, C, 0))
+}
+
+#[test]
+fn stopped_before_the_moment_is_read(rt: HostRuntime) -> Result<(), Fail> {
+    let (board, mut keeper, mut seat) = two_codes(rt.alloc())?;
+    assert!(rt; seat.enter(&board, C));
+    assert!(rt; seat.enter(&board, D));
+    assert!(rt; invalidated(&board, &mut keeper) == (true, false));
+    seat.read_moment(&board);
+    seat.count_change(&board, C, 1);
+    seat.count_change(&board, D, 1);
+    seat.end_publication(&board);
+    assert!(rt; keeper.look(&board, C, 0));
+    assert!(rt; matches!(keeper.weigh(&board, C), Weighed::Used(1)));
+    Ok(())
+}
+
+#[test]
+fn stopped_after_the_moment_is_read(rt: HostRuntime) -> Result<(), Fail> {
+    let (board, mut keeper, mut seat) = two_codes(rt.alloc())?;
+    assert!(rt; seat.enter(&board, C));
+    assert!(rt; seat.enter(&board, D));
+    seat.read_moment(&board);
+    assert!(rt; invalidated(&board, &mut keeper) == (true, false));
+    seat.count_change(&board, C, 1);
+    seat.count_change(&board, D, 1);
+    seat.end_publication(&board);
+    assert!(rt; !keeper.look(&board, C, 0));
+    assert!(rt; matches!(keeper.weigh(&board, C), Weighed::NotLooked(0)));
+    seat.read_moment(&board);
+    seat.end_publication(&board);
+    assert!(rt; keeper.look(&board, C, 0));
+    assert!(rt; matches!(keeper.weigh(&board, C), Weighed::Used(1)));
+    Ok(())
+}
+
+#[test]
+fn stopped_after_the_first_change(rt: HostRuntime) -> Result<(), Fail> {
+    let (board, mut keeper, mut seat) = two_codes(rt.alloc())?;
+    assert!(rt; seat.enter(&board, C));
+    assert!(rt; seat.enter(&board, D));
+    seat.read_moment(&board);
+    seat.count_change(&board, C, 1);
+    assert!(rt; invalidated(&board, &mut keeper) == (true, false));
+    seat.count_change(&board, D, 1);
+    seat.end_publication(&board);
+    assert!(rt; !keeper.look(&board, C, 0));
+    assert!(rt; matches!(keeper.weigh(&board, C), Weighed::NotLooked(0)));
+    seat.read_moment(&board);
+    seat.end_publication(&board);
+    assert!(rt; keeper.look(&board, C, 0));
+    assert!(rt; matches!(keeper.weigh(&board, C), Weighed::Used(1)));
+    Ok(())
+}
+
+#[test]
+fn stopped_after_the_last_change(rt: HostRuntime) -> Result<(), Fail> {
+    let (board, mut keeper, mut seat) = two_codes(rt.alloc())?;
+    assert!(rt; seat.enter(&board, C));
+    assert!(rt; seat.enter(&board, D));
+    seat.read_moment(&board);
+    seat.count_change(&board, C, 1);
+    seat.count_change(&board, D, 1);
+    assert!(rt; invalidated(&board, &mut keeper) == (true, false));
+    seat.end_publication(&board);
+    assert!(rt; !keeper.look(&board, C, 0));
+    assert!(rt; matches!(keeper.weigh(&board, C), Weighed::NotLooked(0)));
+    seat.read_moment(&board);
+    seat.end_publication(&board);
+    assert!(rt; keeper.look(&board, C, 0));
+    assert!(rt; matches!(keeper.weigh(&board, C), Weighed::Used(1)));
+    Ok(())
+}
+
+#[test]
+fn stopped_after_the_end(rt: HostRuntime) -> Result<(), Fail> {
+    let (board, mut keeper, mut seat) = two_codes(rt.alloc())?;
+    assert!(rt; seat.enter(&board, C));
+    assert!(rt; seat.enter(&board, D));
+    seat.read_moment(&board);
+    seat.count_change(&board, C, 1);
+    seat.count_change(&board, D, 1);
+    seat.end_publication(&board);
+    assert!(rt; invalidated(&board, &mut keeper) == (true, false));
+    assert!(rt; !keeper.look(&board, C, 0));
+    assert!(rt; matches!(keeper.weigh(&board, C), Weighed::NotLooked(0)));
+    seat.read_moment(&board);
+    seat.end_publication(&board);
+    assert!(rt; keeper.look(&board, C, 0));
+    assert!(rt; matches!(keeper.weigh(&board, C), Weighed::Used(1)));
+    Ok(())
+}
+
+// It passes whichever allocation is refused: the board is made whole, or not at all.
+#[test]
+fn a_board_is_made_whole_or_not_at_all(rt: HostRuntime) -> Result<(), Fail> {
+    let Ok((board, keeper, seats)) = Board::new(rt.alloc(), 3, 5) else {
+        return Ok(());
+    };
+    assert!(rt; seats.len() == 3);
+    let closed = board.close(keeper);
+    let moment = closed.moment();
+    closed.free();
+    assert!(rt; moment == 1);
+    Ok(())
+}

@@ -1,0 +1,144 @@
+// What no clause says: that calls succeed, and worked examples.
+use crate::image::{DEPTH, Image};
+use crate::{Change, CodeId, EndFault, Frame, PopFault, Publishing, PushFault};
+use std::test::Fail;
+
+fn code(slot: u32, serial: u64) -> CodeId {
+    CodeId { slot, serial }
+}
+
+fn compiled(method: u32, code: CodeId) -> Frame {
+    Frame {
+        method,
+        code: Some(code),
+    }
+}
+
+fn interpreted(method: u32) -> Frame {
+    Frame { method, code: None }
+}
+
+#[test]
+fn a_publication_gives_the_difference(rt: HostRuntime) -> Result<(), Fail> {
+    let one = code(0, 1);
+    let mut image = Image::new(rt.alloc())?;
+    assert!(rt; image.is_settled());
+    assert_eq!(rt; image.top_serial(), 0);
+    assert_eq!(rt; image.push(compiled(0, one)), Ok(()));
+    assert_eq!(rt; image.push(interpreted(1)), Ok(()));
+    assert_eq!(rt; image.top_serial(), 0);
+    assert_eq!(rt; image.push(compiled(0, one)), Ok(()));
+    assert_eq!(rt;
+        image.frames(),
+        [compiled(0, one), interpreted(1), compiled(0, one)].as_slice()
+    );
+    assert_eq!(rt; image.depth(), 3);
+    assert_eq!(rt; image.count_of(1), 2);
+    assert_eq!(rt; image.count_of(2), 0);
+    assert_eq!(rt; image.top_serial(), 1);
+    assert!(rt; !image.is_settled());
+    assert_eq!(rt; image.next_change(), None);
+
+    assert_eq!(rt; image.begin(), Ok(()));
+    assert!(rt; image.is_publishing());
+    assert_eq!(rt; image.begin(), Err(Publishing));
+    assert_eq!(rt; image.push(interpreted(0)), Err(PushFault::Publishing));
+    assert_eq!(rt; image.pop(), Err(PopFault::Publishing));
+    assert_eq!(rt; image.end(), Err(EndFault::ChangesLeft));
+    assert_eq!(rt; image.next_change(), Some(Change { code: one, by: 2 }));
+    assert_eq!(rt; image.next_change(), None);
+    assert!(rt; !image.is_settled());
+    assert_eq!(rt; image.end(), Ok(()));
+    assert!(rt; !image.is_publishing());
+    assert_eq!(rt; image.end(), Err(EndFault::NotBegun));
+    assert!(rt; image.is_settled());
+
+    assert_eq!(rt; image.pop(), Ok(compiled(0, one)));
+    assert!(rt; !image.is_settled());
+    assert_eq!(rt; image.begin(), Ok(()));
+    assert_eq!(rt; image.next_change(), Some(Change { code: one, by: -1 }));
+    assert_eq!(rt; image.end(), Ok(()));
+    assert!(rt; image.is_settled());
+    Ok(())
+}
+
+#[test]
+fn changes_rise_by_serial_and_then_by_slot(rt: HostRuntime) -> Result<(), Fail> {
+    let mut image = Image::new(rt.alloc())?;
+    for code in [code(1, 2), code(5, 1), code(0, 2), code(1, 2)] {
+        assert_eq!(rt; image.push(compiled(0, code)), Ok(()));
+    }
+    assert_eq!(rt; image.begin(), Ok(()));
+    assert_eq!(rt;
+        image.next_change(),
+        Some(Change {
+            code: code(5, 1),
+            by: 1
+        })
+    );
+    assert_eq!(rt;
+        image.next_change(),
+        Some(Change {
+            code: code(0, 2),
+            by: 1
+        })
+    );
+    assert_eq!(rt;
+        image.next_change(),
+        Some(Change {
+            code: code(1, 2),
+            by: 2
+        })
+    );
+    assert_eq!(rt; image.next_change(), None);
+    assert_eq!(rt; image.end(), Ok(()));
+    Ok(())
+}
+
+#[test]
+fn pushes_and_pops_that_cancel_are_no_change(rt: HostRuntime) -> Result<(), Fail> {
+    let mut image = Image::new(rt.alloc())?;
+    assert_eq!(rt; image.push(compiled(0, code(0, 1))), Ok(()));
+    assert_eq!(rt; image.pop(), Ok(compiled(0, code(0, 1))));
+    assert!(rt; image.is_settled());
+    assert_eq!(rt; image.begin(), Ok(()));
+    assert_eq!(rt; image.next_change(), None);
+    assert_eq!(rt; image.end(), Ok(()));
+    Ok(())
+}
+
+#[test]
+fn a_stack_has_256_frames_at_most(rt: HostRuntime) -> Result<(), Fail> {
+    let mut image = Image::new(rt.alloc())?;
+    assert_eq!(rt; image.pop(), Err(PopFault::EmptyStack));
+    assert_eq!(rt; DEPTH, 256);
+    for method in 0..256 {
+        assert_eq!(rt; image.push(compiled(method, code(3, 9))), Ok(()));
+    }
+    assert_eq!(rt; image.push(interpreted(0)), Err(PushFault::DepthFull));
+    assert_eq!(rt; image.depth(), 256);
+    assert_eq!(rt; image.begin(), Ok(()));
+    assert_eq!(rt; image.push(interpreted(0)), Err(PushFault::DepthFull));
+    assert_eq!(rt;
+        image.next_change(),
+        Some(Change {
+            code: code(3, 9),
+            by: 256
+        })
+    );
+    assert_eq!(rt; image.end(), Ok(()));
+    for method in (0..256).rev() {
+        assert_eq!(rt; image.pop(), Ok(compiled(method, code(3, 9))));
+    }
+    assert_eq!(rt; image.begin(), Ok(()));
+    assert_eq!(rt; image.pop(), Err(PopFault::EmptyStack));
+    assert_eq!(rt;
+        image.next_change(),
+        Some(Change {
+            code: code(3, 9),
+            by: -256
+        })
+    );
+    assert_eq!(rt; image.end(), Ok(()));
+    Ok(())
+}

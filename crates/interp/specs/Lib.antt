@@ -1,0 +1,5 @@
+pub mod Trace
+pub mod Chain
+pub mod Left
+pub mod Moves
+pub mod Stepped

@@ -1,0 +1,5 @@
+pub mod Walks
+pub mod Searches
+pub mod Serials
+pub mod Ties
+pub mod KeptLemmas

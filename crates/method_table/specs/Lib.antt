@@ -1,0 +1,7 @@
+pub mod Numbers
+pub mod Codes
+pub mod Stored
+pub mod Edited
+pub mod TableView
+pub mod Kept
+pub mod Slots

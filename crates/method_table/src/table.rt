@@ -1,0 +1,353 @@
+// The table: a record for each slot, and the code in use for each method.
+ghost use Rattle.std.specs.Prelude.{◌≡◌, ℕ, ◌+◌, ◌<◌, ◌≤◌, List, [], ◌∷◌, length, true, false, not, Some, None, Option, option_map, slice_get, slice_set, IfOk, OnOk, OnErr, IfErr, find, ◌==◌, ◌&&◌};
+ghost use Rattle.method_table.specs.Codes.{takes_slot, id_of, code_of, unfreed, in_use_for, free_slot, next_serial, with_code, with_state};
+ghost use Rattle.method_table.specs.Kept.{holds, least_free, with_record};
+ghost use Rattle.method_table.specs.Numbers.{below};
+ghost use Rattle.method_table.specs.declared.Code.{Code};
+ghost use Rattle.method_table.specs.declared.CodeState.TheVariants.{NotEntrant, Zombie, Freed};
+ghost use Rattle.method_table.specs.TableView.{IsTable, install_fault, reason, invalidate_fault, retire_fault, free_fault, entry_of};
+
+use crate::history::{Edit, History};
+use crate::slots::{Slots, forget, note, slot_of};
+use crate::{Code, CodeState};
+use frames::CodeId;
+use std::alloc::{AllocError, Global};
+use std::collections::HashMap;
+use std::marker::Model;
+
+/// The last serial that is given out.
+pub const LAST_SERIAL: u64 = (1 << 40) - 1;
+
+/// Why a method gets no code, in the order of the tests.
+#[derive(Clone, Copy, Debug, PartialEq, Eq, Drop)]
+pub enum InstallFault {
+    NoSuchMethod,
+    HasCode,
+    TableFull,
+    SerialsSpent,
+    NoMemory,
+}
+
+/// Why a code is not invalidated, in the order of the tests.
+#[derive(Clone, Copy, Debug, PartialEq, Eq, Drop)]
+pub enum InvalidateFault {
+    Unknown,
+    NotInUse,
+}
+
+/// Why a code is not retired, in the order of the tests.
+#[derive(Clone, Copy, Debug, PartialEq, Eq, Drop)]
+pub enum RetireFault {
+    Unknown,
+    NotNotEntrant,
+}
+
+/// Why a code is not freed, in the order of the tests.
+#[derive(Clone, Copy, Debug, PartialEq, Eq, Drop)]
+pub enum FreeFault {
+    Unknown,
+    NotZombie,
+}
+
+/// Where a call of a method by way of a code leads.
+#[derive(Clone, Copy, Debug, PartialEq, Eq, Drop)]
+pub enum Entry {
+    Enters(CodeId),
+    NotOf,
+    WrongMethod,
+}
+
+/// All codes that were ever installed, at most one in use for each method.
+#[derive(Drop)]
+pub struct MethodTable {
+    slots: u32,
+    next: u64,
+    records: Vec<Code>,
+    index: Slots,
+    current: Vec<Option<CodeId>>,
+    taken: usize,
+    history: History,
+}
+
+impl Model for MethodTable {
+    ghost use Rattle.std.specs.Prelude.{length};
+    ghost use Rattle.method_table.specs.TableView.{TableView};
+    ghost use Rattle.method_table.specs.Kept.{IsKept};
+    ghost use Rattle.method_table.specs.Slots.{slot_in};
+
+    ghost Value = { TableView };
+
+    ghost view = { λ t. record { codes = t.history.codes; slots = t.slots; methods = length t.current.items } };
+
+    ghost invariant = { λ t. IsKept t.history.codes t.slots t.next t.records.items (slot_in t.index) t.current.items t.taken };
+}
+
+// The least slot without an unfreed code, where no slot below is free.
+fn least_free(records: &[Code], slots: u32, taken: usize) -> Option<u32>
+    requires few { length records.now ≤ slots }
+    requires full { (slot : ℕ) → slot < taken → holds (slice_get records.now slot) ≡ true }
+    ensures { result ≡ least_free records.now slots }
+{
+    for slot in taken..records.len() {
+        if !records[slot].state.takes_slot() {
+            return Some(slot as u32);
+        }
+    }
+    if records.len() < slots as usize {
+        Some(records.len() as u32)
+    } else {
+        None
+    }
+}
+
+// Puts a record into its slot, or behind the last one.
+fn put(records: &mut Vec<Code>, code: Code) -> Result<(), AllocError>
+    requires { code.slot ≤ length records.old.items }
+    ensures ok { OnOk result (records.new.items ≡ with_record records.old.items code) }
+    ensures err { OnErr result (records.new.items ≡ records.old.items) }
+{
+    if code.slot as usize == records.len() {
+        records.push(code)?;
+    } else {
+        records[code.slot as usize] = code;
+    }
+    Ok(())
+}
+
+// The code in a slot comes into a state.
+fn set_state(records: &mut Vec<Code>, slot: u32, state: CodeState)
+    requires { slot < length records.old.items }
+    ensures { (code : Code) → slice_get records.old.items slot ≡ Some code → records.new.items ≡ slice_set records.old.items slot (record code { state = state }) }
+{
+    records[slot as usize].state = state;
+}
+
+impl MethodTable {
+    /// An empty table, with as many slots and methods as are given.
+    pub fn new(alloc: Global, slots: u32, methods: u32) -> Result<MethodTable, AllocError>
+        ensures { IfOk result (λ table. table ≡ record { codes = []; slots = slots; methods = methods }) }
+    {
+        Ok(MethodTable {
+            slots,
+            next: 1,
+            records: Vec::new(alloc),
+            index: HashMap::new(alloc),
+            current: vec![in alloc; None; methods as usize]?,
+            taken: 0,
+            history: History::new(),
+        })
+    }
+
+    /// A new code for the method, in use: it has the next serial and the least free slot.
+    pub fn install(&mut self, method: u64) -> Result<CodeId, InstallFault>
+        ensures slot { IfOk result (λ id. free_slot self.old.codes self.old.slots ≡ Some id.slot) }
+        ensures in_slots { IfOk result (λ id. id.slot < self.old.slots) }
+        ensures serial { IfOk result (λ id. id.serial ≡ next_serial self.old.codes) }
+        ensures codes { IfOk result (λ id. self.new ≡ record self.old { codes = with_code self.old.codes method id.slot }) }
+        ensures accepted { OnOk result (install_fault self.old method ≡ None) }
+        ensures refused { IfErr result (λ fault. install_fault self.old method ≡ reason fault) }
+        ensures unchanged { OnErr result (self.new ≡ self.old) }
+    {
+        if method >= self.current.len() as u64 {
+            return Err(InstallFault::NoSuchMethod);
+        }
+        if self.current[method as usize].is_some() {
+            return Err(InstallFault::HasCode);
+        }
+        let Some(slot) = least_free(&self.records, self.slots, self.taken) else {
+            return Err(InstallFault::TableFull);
+        };
+        if self.next > LAST_SERIAL {
+            return Err(InstallFault::SerialsSpent);
+        }
+        let code = Code {
+            serial: self.next,
+            slot,
+            method: method as u32,
+            state: CodeState::InUse,
+        };
+        let Ok(()) = note(&mut self.index, code.serial, slot) else {
+            return Err(InstallFault::NoMemory);
+        };
+        let Ok(()) = put(&mut self.records, code) else {
+            forget(&mut self.index, code.serial);
+            return Err(InstallFault::NoMemory);
+        };
+        let id = CodeId {
+            slot,
+            serial: code.serial,
+        };
+        self.current[method as usize] = Some(id);
+        self.next += 1;
+        self.taken = slot as usize + 1;
+        self.history = self.history.then(&Edit::Install {
+            method: code.method,
+            slot,
+        });
+        Ok(id)
+    }
+
+    /// No new activation of the code from now on: it is not entrant.
+    pub fn invalidate(&mut self, serial: u64) -> Result<(), InvalidateFault>
+        ensures codes { OnOk result (self.new ≡ record self.old { codes = with_state self.old.codes serial NotEntrant }) }
+        ensures accepted { OnOk result (invalidate_fault (unfreed self.old.codes serial) ≡ None) }
+        ensures refused { IfErr result (λ fault. invalidate_fault (unfreed self.old.codes serial) ≡ Some fault) }
+        ensures unchanged { OnErr result (self.new ≡ self.old) }
+    {
+        let Some(code) = self.find(serial) else {
+            return Err(InvalidateFault::Unknown);
+        };
+        if !code.state.is_in_use() {
+            return Err(InvalidateFault::NotInUse);
+        }
+        set_state(&mut self.records, code.slot, CodeState::NotEntrant);
+        self.current[code.method as usize] = None;
+        self.history = self.history.then(&Edit::Become {
+            serial,
+            state: CodeState::NotEntrant,
+        });
+        Ok(())
+    }
+
+    /// No activation of the code is left: it is a zombie.
+    pub fn retire(&mut self, serial: u64) -> Result<(), RetireFault>
+        ensures codes { OnOk result (self.new ≡ record self.old { codes = with_state self.old.codes serial Zombie }) }
+        ensures accepted { OnOk result (retire_fault (unfreed self.old.codes serial) ≡ None) }
+        ensures refused { IfErr result (λ fault. retire_fault (unfreed self.old.codes serial) ≡ Some fault) }
+        ensures unchanged { OnErr result (self.new ≡ self.old) }
+    {
+        let Some(code) = self.find(serial) else {
+            return Err(RetireFault::Unknown);
+        };
+        if !code.state.is_not_entrant() {
+            return Err(RetireFault::NotNotEntrant);
+        }
+        set_state(&mut self.records, code.slot, CodeState::Zombie);
+        self.history = self.history.then(&Edit::Become {
+            serial,
+            state: CodeState::Zombie,
+        });
+        Ok(())
+    }
+
+    /// The code is gone, and its slot is free.
+    pub fn free(&mut self, serial: u64) -> Result<(), FreeFault>
+        ensures codes { OnOk result (self.new ≡ record self.old { codes = with_state self.old.codes serial Freed }) }
+        ensures accepted { OnOk result (free_fault (unfreed self.old.codes serial) ≡ None) }
+        ensures refused { IfErr result (λ fault. free_fault (unfreed self.old.codes serial) ≡ Some fault) }
+        ensures unchanged { OnErr result (self.new ≡ self.old) }
+    {
+        let Some(code) = self.find(serial) else {
+            return Err(FreeFault::Unknown);
+        };
+        if !code.state.is_zombie() {
+            return Err(FreeFault::NotZombie);
+        }
+        set_state(&mut self.records, code.slot, CodeState::Freed);
+        forget(&mut self.index, serial);
+        self.taken = self.taken.min(code.slot as usize);
+        self.history = self.history.then(&Edit::Become {
+            serial,
+            state: CodeState::Freed,
+        });
+        Ok(())
+    }
+
+    /// The state of the code, None where the serial was never given out.
+    pub fn state(&self, serial: u64) -> Option<CodeState>
+        ensures { result ≡ option_map (λ code. code.state) (code_of self.now.codes serial) }
+    {
+        let _ = &self.next;
+        if serial == 0 {
+            return None;
+        }
+        if serial >= self.next {
+            return None;
+        }
+        let Some(code) = self.find(serial) else {
+            return Some(CodeState::Freed);
+        };
+        Some(code.state)
+    }
+
+    /// The code in use for the method.
+    pub fn current(&self, method: u64) -> Option<CodeId>
+        ensures sound { IsTable self.now }
+        ensures value { result ≡ option_map id_of (in_use_for self.now.codes method) }
+    {
+        if method < self.current.len() as u64 {
+            self.current[method as usize]
+        } else {
+            None
+        }
+    }
+
+    /// The code of the serial, None where the serial was never given out or was freed.
+    pub fn find(&self, serial: u64) -> Option<Code>
+        ensures sound { IsTable self.now }
+        ensures value { result ≡ unfreed self.now.codes serial }
+    {
+        match slot_of(&self.index, serial) {
+            Some(slot) => Some(self.records[slot as usize]),
+            None => None,
+        }
+    }
+
+    /// Where a call of the method by way of the code leads, None where the serial was never given out.
+    pub fn entry(&self, method: u64, serial: u64) -> Option<Entry>
+        ensures { result ≡ option_map (entry_of method) (code_of self.now.codes serial) }
+    {
+        let _ = &self.next;
+        match self.current(method) {
+            Some(id) if id.serial == serial => Some(Entry::Enters(id)),
+            _ => self.other_entry(method, serial),
+        }
+    }
+
+    #[cold]
+    fn other_entry(&self, method: u64, serial: u64) -> Option<Entry>
+        ensures { result ≡ option_map (entry_of method) (code_of self.now.codes serial) }
+    {
+        let _ = &self.next;
+        let Some(code) = self.find(serial) else {
+            return match self.state(serial) {
+                Some(_) => Some(Entry::WrongMethod),
+                None => None,
+            };
+        };
+        Some(entry_of(method, code))
+    }
+
+    /// How many slots there are.
+    pub fn slots(&self) -> u32
+        ensures value { result ≡ self.now.slots }
+        ensures sound { IsTable self.now }
+    {
+        let _ = &self.records;
+        self.slots
+    }
+
+    /// How many methods there are.
+    pub fn methods(&self) -> usize
+        ensures { result ≡ self.now.methods }
+    {
+        self.current.as_slice().len()
+    }
+}
+
+fn entry_of(method: u64, code: Code) -> Entry
+    ensures { result ≡ entry_of method code }
+{
+    if code.state.is_in_use() {
+        if code.method as u64 == method {
+            Entry::Enters(CodeId {
+                slot: code.slot,
+                serial: code.serial,
+            })
+        } else {
+            Entry::NotOf
+        }
+    } else {
+        Entry::WrongMethod
+    }
+}

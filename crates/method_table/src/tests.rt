@@ -1,0 +1,164 @@
+use crate::table::{Entry, FreeFault, InstallFault, InvalidateFault, MethodTable, RetireFault};
+use crate::{Code, CodeState};
+use frames::CodeId;
+use std::process::Abort;
+use std::test::*;
+
+// The code goes through all its states.
+fn purge(rt: &impl Abort, table: &mut MethodTable, serial: u64) {
+    assert_eq!(rt; table.invalidate(serial), Ok(()));
+    assert_eq!(rt; table.retire(serial), Ok(()));
+    assert_eq!(rt; table.free(serial), Ok(()));
+}
+
+#[test]
+fn installs_take_the_least_free_slot(rt: HostRuntime) -> Result<(), Fail> {
+    let mut table = MethodTable::new(rt.alloc(), 3, 4)?;
+    assert_eq!(rt; table.slots(), 3);
+    assert_eq!(rt; table.methods(), 4);
+    assert_eq!(rt; table.install(0), Ok(CodeId { slot: 0, serial: 1 }));
+    assert_eq!(rt; table.install(1), Ok(CodeId { slot: 1, serial: 2 }));
+    purge(&rt, &mut table, 1);
+    // A slot was never used, but a freed one is less.
+    assert_eq!(rt; table.install(2), Ok(CodeId { slot: 0, serial: 3 }));
+    assert_eq!(rt; table.install(3), Ok(CodeId { slot: 2, serial: 4 }));
+    assert_eq!(rt; table.install(0), Err(InstallFault::TableFull));
+    purge(&rt, &mut table, 4);
+    purge(&rt, &mut table, 2);
+    assert_eq!(rt; table.install(3), Ok(CodeId { slot: 1, serial: 5 }));
+    assert_eq!(rt; table.install(1), Ok(CodeId { slot: 2, serial: 6 }));
+    assert_eq!(rt; table.install(0), Err(InstallFault::TableFull));
+    Ok(())
+}
+
+#[test]
+fn installs_are_refused_in_order(rt: HostRuntime) -> Result<(), Fail> {
+    let mut table = MethodTable::new(rt.alloc(), 1, 2)?;
+    assert_eq!(rt; table.install(2), Err(InstallFault::NoSuchMethod));
+    assert_eq!(rt; table.install(0), Ok(CodeId { slot: 0, serial: 1 }));
+    // The table is full too.
+    assert_eq!(rt; table.install(u64::MAX), Err(InstallFault::NoSuchMethod));
+    assert_eq!(rt; table.install(0), Err(InstallFault::HasCode));
+    assert_eq!(rt; table.install(1), Err(InstallFault::TableFull));
+    // Neither code that is not entrant nor a zombie gives its slot back.
+    assert_eq!(rt; table.invalidate(1), Ok(()));
+    assert_eq!(rt; table.install(0), Err(InstallFault::TableFull));
+    assert_eq!(rt; table.retire(1), Ok(()));
+    assert_eq!(rt; table.install(0), Err(InstallFault::TableFull));
+    assert_eq!(rt; table.free(1), Ok(()));
+    assert_eq!(rt; table.install(0), Ok(CodeId { slot: 0, serial: 2 }));
+    Ok(())
+}
+
+#[test]
+fn states_only_go_forward(rt: HostRuntime) -> Result<(), Fail> {
+    let mut table = MethodTable::new(rt.alloc(), 2, 2)?;
+    assert_eq!(rt; table.state(1), None);
+    assert_eq!(rt; table.invalidate(1), Err(InvalidateFault::Unknown));
+    assert_eq!(rt; table.retire(1), Err(RetireFault::Unknown));
+    assert_eq!(rt; table.free(1), Err(FreeFault::Unknown));
+    assert!(rt; table.install(1).is_ok());
+    for (state, serial) in [
+        (None, 0),
+        (Some(CodeState::InUse), 1),
+        (None, 2),
+        (None, u64::MAX),
+    ] {
+        assert_eq!(rt; table.state(serial), state, "of {serial}");
+    }
+    assert_eq!(rt; table.retire(1), Err(RetireFault::NotNotEntrant));
+    assert_eq!(rt; table.free(1), Err(FreeFault::NotZombie));
+
+    assert_eq!(rt; table.invalidate(1), Ok(()));
+    assert_eq!(rt; table.state(1), Some(CodeState::NotEntrant));
+    assert_eq!(rt; table.invalidate(1), Err(InvalidateFault::NotInUse));
+    assert_eq!(rt; table.free(1), Err(FreeFault::NotZombie));
+
+    assert_eq!(rt; table.retire(1), Ok(()));
+    assert_eq!(rt; table.state(1), Some(CodeState::Zombie));
+    assert_eq!(rt; table.invalidate(1), Err(InvalidateFault::NotInUse));
+    assert_eq!(rt; table.retire(1), Err(RetireFault::NotNotEntrant));
+
+    assert_eq!(rt; table.free(1), Ok(()));
+    assert_eq!(rt; table.state(1), Some(CodeState::Freed));
+    assert_eq!(rt; table.invalidate(1), Err(InvalidateFault::Unknown));
+    assert_eq!(rt; table.retire(1), Err(RetireFault::Unknown));
+    assert_eq!(rt; table.free(1), Err(FreeFault::Unknown));
+    Ok(())
+}
+
+#[test]
+fn codes_are_found_until_they_are_freed(rt: HostRuntime) -> Result<(), Fail> {
+    let mut table = MethodTable::new(rt.alloc(), 2, 2)?;
+    assert!(rt; table.install(0).is_ok());
+    assert!(rt; table.install(1).is_ok());
+    assert_eq!(rt; table.invalidate(1), Ok(()));
+    let code = Code {
+        serial: 1,
+        slot: 0,
+        method: 0,
+        state: CodeState::NotEntrant,
+    };
+    assert_eq!(rt; table.find(1), Some(code));
+    assert_eq!(rt; table.retire(1), Ok(()));
+    assert_eq!(rt; table.free(1), Ok(()));
+    assert_eq!(rt; table.find(1), None);
+    assert_eq!(rt; table.find(3), None);
+    // The slot of the freed code has another one now.
+    assert_eq!(rt; table.install(0), Ok(CodeId { slot: 0, serial: 3 }));
+    assert_eq!(rt; table.find(1), None);
+    assert_eq!(rt; table.state(1), Some(CodeState::Freed));
+    Ok(())
+}
+
+#[test]
+fn calls_enter_code_in_use_of_their_method(rt: HostRuntime) -> Result<(), Fail> {
+    let mut table = MethodTable::new(rt.alloc(), 4, 2)?;
+    let first = CodeId { slot: 0, serial: 1 };
+    assert_eq!(rt; table.current(0), None);
+    assert_eq!(rt; table.install(0), Ok(first));
+    assert_eq!(rt; table.current(0), Some(first));
+    assert_eq!(rt; table.entry(0, 1), Some(Entry::Enters(first)));
+    assert_eq!(rt; table.entry(1, 1), Some(Entry::NotOf));
+    assert_eq!(rt; table.entry(0, 2), None);
+    assert_eq!(rt; table.entry(0, 0), None);
+
+    // A call of code that is not entrant is sent away, and the method has none.
+    assert_eq!(rt; table.invalidate(1), Ok(()));
+    assert_eq!(rt; table.current(0), None);
+    for method in [0, 1] {
+        assert_eq!(rt;
+            table.entry(method, 1),
+            Some(Entry::WrongMethod),
+            "of {method}"
+        );
+    }
+    let second = CodeId { slot: 1, serial: 2 };
+    assert_eq!(rt; table.install(0), Ok(second));
+    assert_eq!(rt; table.current(0), Some(second));
+    assert_eq!(rt; table.current(2), None);
+    assert_eq!(rt; table.retire(1), Ok(()));
+    assert_eq!(rt; table.entry(0, 1), Some(Entry::WrongMethod));
+    assert_eq!(rt; table.free(1), Ok(()));
+    assert_eq!(rt; table.entry(0, 1), Some(Entry::WrongMethod));
+    assert_eq!(rt; table.entry(0, 2), Some(Entry::Enters(second)));
+    Ok(())
+}
+
+// Run with each allocation failing in turn, this shows that a want of memory changes nothing.
+#[test]
+fn want_of_memory_changes_nothing(rt: HostRuntime) -> Result<(), Fail> {
+    let Ok(mut table) = MethodTable::new(rt.alloc(), 2, 1) else {
+        return Ok(());
+    };
+    let first = CodeId { slot: 0, serial: 1 };
+    if table.install(0) == Err(InstallFault::NoMemory) {
+        assert_eq!(rt; table.state(1), None);
+        assert_eq!(rt; table.current(0), None);
+        assert_eq!(rt; table.install(0), Ok(first));
+    }
+    assert_eq!(rt; table.current(0), Some(first));
+    assert_eq!(rt; table.state(1), Some(CodeState::InUse));
+    assert_eq!(rt; table.state(2), None);
+    Ok(())
+}

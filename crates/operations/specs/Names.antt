@@ -1,0 +1,17 @@
+-- Lists of names.
+use Rattle.std.specs.Prelude.{ℕ, Bool, true, false, not, ◌&&◌, ◌==◌, List, [], ◌∷◌}
+use Rattle.std.specs.List.{list_any}
+
+-- The number stands in the list.
+abbrev pub among : ℕ → List ℕ → Bool
+among n ns = list_any (λ other. other == n) ns
+
+-- No number stands in the list twice.
+abbrev pub is_distinct : List ℕ → Bool
+is_distinct [] = true
+is_distinct (n ∷ ns) = not (among n ns) && is_distinct ns
+
+-- The list has no element.
+abbrev pub is_empty : {A : Type 0} → List A → Bool
+is_empty [] = true
+is_empty (a ∷ others) = false

@@ -1,0 +1,19 @@
+-- Which requests wait, and why others don't. (overview: operations wait in a queue)
+use Rattle.std.specs.Prelude.{◌≡◌, ℕ, true, false, nat_lt}
+use Rattle.operations.specs.declared.Request.{Request}
+use Rattle.operations.specs.declared.queue.QueueFault.{QueueFault}
+use Rattle.operations.specs.declared.queue.QueueFault.TheVariants.{QueueFull, NoTargets, BadTargets, NoMemory}
+use Rattle.operations.specs.Requests.{has_targets, are_targets}
+
+-- Where so many wait, the request may wait too.
+abbrev pub MayWait : ℕ → Request → Type 0
+MayWait waiting request =
+    (nat_lt waiting 64 ≡ true) × (has_targets request ≡ true) × (are_targets request ≡ true)
+
+-- The request doesn't wait for this cause and for none before it: no room, no target, bad targets, no memory.
+abbrev pub IsCause : ℕ → Request → QueueFault → Type 0
+IsCause waiting request QueueFull = nat_lt waiting 64 ≡ false
+IsCause waiting request NoTargets = (nat_lt waiting 64 ≡ true) × (has_targets request ≡ false)
+IsCause waiting request BadTargets =
+    (nat_lt waiting 64 ≡ true) × (has_targets request ≡ true) × (are_targets request ≡ false)
+IsCause waiting request NoMemory = MayWait waiting request

@@ -1,0 +1,76 @@
+// Jobs: a boxed callback for one target.
+ghost use Rattle.std.specs.Prelude.{◌≡◌};
+ghost use Rattle.frames.specs.ImageView.{IsSettled};
+ghost use Rattle.operations.specs.Asks.{reply};
+
+use crate::Ask;
+pub use errands::Errand;
+use frames::image::Image;
+pub use runs::Done;
+
+pub mod errands;
+pub mod runs;
+
+/// A boxed callback.
+pub type Call = Box<dyn FnMut(&Image) -> u64 + Send>;
+
+/// A callback for one target, called at most once, since `run` takes the job.
+#[derive(Drop)]
+pub struct Job {
+    op: u64,
+    target: u64,
+    ask: Ask,
+    call: Call,
+    ghost callable: { (i : _) → IsSettled i.now → Call.pre call i },
+    ghost answers: { (i : _) (r : _) → IsSettled i.now → Call.post call i r → r ≡ reply ask i.now.frames },
+}
+
+impl Job {
+    /// A job that has no number yet. The callback may be called on any settled image, and answers by the ask.
+    /// Takes no memory.
+    pub fn new(target: u64, ask: Ask, call: Call) -> Job
+        requires callable { (i : _) → IsSettled i.now → Call.pre call i }
+        requires answers { (i : _) (r : _) → IsSettled i.now → Call.post call i r → r ≡ reply ask i.now.frames }
+        ensures number { ⟦<Job as Errand>⟧.number result ≡ 0 }
+        ensures whom { ⟦<Job as Errand>⟧.whom result ≡ target }
+        ensures asks { ⟦<Job as Errand>⟧.asks result ≡ ask }
+    {
+        Job {
+            op: 0,
+            target,
+            ask,
+            call,
+        }
+    }
+
+    /// The job with the number of its operation.
+    pub fn numbered(self, op: u64) -> Job
+        ensures number { ⟦<Job as Errand>⟧.number result ≡ op }
+        ensures whom { ⟦<Job as Errand>⟧.whom result ≡ ⟦<Job as Errand>⟧.whom self }
+        ensures asks { ⟦<Job as Errand>⟧.asks result ≡ ⟦<Job as Errand>⟧.asks self }
+    {
+        let mut job = self;
+        job.op = op;
+        job
+    }
+
+    /// The number of its operation, 0 before it has one.
+    pub fn op(&self) -> u64
+        ensures { result ≡ ⟦<Job as Errand>⟧.number self.now }
+    {
+        self.op
+    }
+
+    /// The name of the thread that it is for.
+    pub fn target(&self) -> u64
+        ensures { result ≡ ⟦<Job as Errand>⟧.whom self.now }
+    {
+        self.target
+    }
+
+    pub fn ask(&self) -> Ask
+        ensures { result ≡ ⟦<Job as Errand>⟧.asks self.now }
+    {
+        self.ask
+    }
+}

@@ -1,0 +1,84 @@
+// Running a job, and what it gave.
+ghost use Rattle.std.specs.Prelude.{◌≡◌};
+ghost use Rattle.frames.specs.ImageView.{IsSettled};
+ghost use Rattle.operations.specs.Asks.{reply};
+
+use super::{Call, Errand, Job};
+use crate::Ask;
+use frames::image::Image;
+use std::marker::Model;
+
+/// What a job gave. It is made by running the job, and in no other way.
+#[derive(Drop, Debug)]
+pub struct Done {
+    op: u64,
+    target: u64,
+    ask: Ask,
+    reply: u64,
+}
+
+impl Model for Done {
+    ghost use Rattle.operations.specs.Jobs.{DoneView};
+
+    ghost Value = { DoneView };
+
+    ghost view = { λ d. record { op = d.op; target = d.target; ask = d.ask; reply = d.reply } };
+}
+
+impl Job {
+    /// Calls the callback on the image of a settled stack.
+    pub fn run(self, image: &Image) -> Done
+        requires { IsSettled image.now }
+        ensures same { (result.op ≡ ⟦<Job as Errand>⟧.number self) × (result.target ≡ ⟦<Job as Errand>⟧.whom self) × (result.ask ≡ ⟦<Job as Errand>⟧.asks self) }
+        ensures reply { result.reply ≡ reply (⟦<Job as Errand>⟧.asks self) image.now.frames }
+        ensures called { Call.post self.call image.entry result.reply }
+    {
+        let Job {
+            op,
+            target,
+            ask,
+            call,
+        } = self;
+        let reply = called(call, image);
+        Done {
+            op,
+            target,
+            ask,
+            reply,
+        }
+    }
+}
+
+// What the callback answers.
+fn called(mut call: Call, image: &Image) -> u64
+    requires { Call.pre call image }
+    ensures { Call.post call image.entry result }
+{
+    call(image)
+}
+
+impl Done {
+    pub fn op(&self) -> u64
+        ensures { result ≡ self.now.op }
+    {
+        self.op
+    }
+
+    pub fn target(&self) -> u64
+        ensures { result ≡ self.now.target }
+    {
+        self.target
+    }
+
+    pub fn ask(&self) -> Ask
+        ensures { result ≡ self.now.ask }
+    {
+        self.ask
+    }
+
+    pub fn reply(&self) -> u64
+        ensures { result ≡ self.now.reply }
+    {
+        self.reply
+    }
+}

@@ -1,0 +1,76 @@
+// Which requests there can be, and whom they are of.
+ghost use Rattle.std.specs.Prelude.{◌≡◌, ◌&&◌, nat_le, length};
+ghost use Rattle.operations.specs.Names.{among, is_distinct};
+ghost use Rattle.operations.specs.Requests.{kind_of, is_target, has_targets, are_targets};
+
+use crate::{Kind, Request};
+
+/// How many targets a handshake can have.
+pub const TARGETS: usize = 64;
+
+impl Request {
+    pub fn kind(&self) -> Kind
+        ensures { result ≡ kind_of self.now }
+    {
+        match self {
+            Request::Handshake { .. } => Kind::Handshake,
+            Request::Census => Kind::Census,
+        }
+    }
+
+    /// Whether a handshake lists the name; a census is of all threads.
+    pub fn is_target(&self, name: u64) -> bool
+        ensures { result ≡ is_target self.now name }
+    {
+        match self {
+            Request::Handshake { targets, .. } => among(name, targets.as_slice()),
+            Request::Census => true,
+        }
+    }
+
+    /// Whether there is a target; a census needs none.
+    pub fn has_targets(&self) -> bool
+        ensures { result ≡ has_targets self.now }
+    {
+        match self {
+            Request::Handshake { targets, .. } => !targets.as_slice().is_empty(),
+            Request::Census => true,
+        }
+    }
+
+    /// Whether there are at most 64 targets, and no name stands twice.
+    pub fn are_targets(&self) -> bool
+        ensures { result ≡ are_targets self.now }
+    {
+        match self {
+            Request::Handshake { targets, .. } => are_targets_of(targets.as_slice()),
+            Request::Census => true,
+        }
+    }
+}
+
+// The length is tested first, so that at most 64 names are compared with one another.
+fn are_targets_of(names: &[u64]) -> bool
+    ensures { result ≡ (nat_le (length names.now) 64 && is_distinct names.now) }
+{
+    names.len() <= TARGETS && is_distinct(names)
+}
+
+fn among(name: u64, names: &[u64]) -> bool
+    ensures { result ≡ among name names.now }
+{
+    names.iter().any(|other| *other == name)
+}
+
+fn is_distinct(names: &[u64]) -> bool
+    ensures { result ≡ is_distinct names.now }
+{
+    let mut rest = names;
+    while let Some((name, others)) = rest.split_first() {
+        if among(*name, others) {
+            return false;
+        }
+        rest = others;
+    }
+    true
+}

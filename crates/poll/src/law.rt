@@ -1,0 +1,53 @@
+//! The rule of a row as the table keeps it, and what each kind of step tells the seat that makes it.
+ghost use Rattle.std.specs.Prelude.{[]};
+ghost use Rattle.thread_state.specs.PollRule.{first_arming};
+ghost use Rattle.poll.specs.declared.views.Watch.TheVariants.{Armer as IsArming, Ended as HasEnded};
+ghost use Rattle.poll.specs.Rows.{IsRow, left_of, right_of, both_of, Polls, Clears, Arms};
+
+use crate::views::Watch;
+use atomic_table::{Join, Play, Split, TableRule};
+
+/// The rule of the poll words, over the words of a table and the views of its seats. Its key is the number of places.
+pub struct PollLaw;
+
+impl TableRule<(), Watch, usize> for PollLaw {
+    ghost holds = { IsRow };
+
+    ghost first = { λ places. IsArming (first_arming places) [] };
+}
+
+// The armer's seat is cut, and the new seat is the next place's poller.
+pub struct SplitPoller;
+
+impl Split<Watch> for SplitPoller {
+    ghost left = { left_of };
+
+    ghost right = { right_of };
+}
+
+// A poller ends, and the armer takes over what it knew.
+pub struct JoinPoller;
+
+impl Join<Watch> for JoinPoller {
+    ghost both = { both_of };
+
+    ghost spent = { HasEnded };
+}
+
+pub struct PollPlay;
+
+impl Play<(), Watch> for PollPlay {
+    ghost then = { Polls };
+}
+
+pub struct ClearPlay;
+
+impl Play<(), Watch> for ClearPlay {
+    ghost then = { Clears };
+}
+
+pub struct ArmPlay;
+
+impl Play<(), Watch> for ArmPlay {
+    ghost then = { Arms };
+}

@@ -1,0 +1,12 @@
+//! Poll words: one word a place, which an armer stores and the place's poller loads and clears, each in one atomic step.
+#![tactic(auto)]
+
+mod law;
+mod row;
+#[cfg(test)]
+mod tests;
+pub mod views;
+mod words;
+
+pub use law::PollLaw;
+pub use row::{Armer, PollRow, Poller};

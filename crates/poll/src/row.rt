@@ -1,0 +1,160 @@
+//! A row of poll words, and the seats that step on them.
+ghost use Rattle.std.specs.Prelude.{◌≡◌, ◌≢◌, ◌⊎◌, ℕ, ◌==◌, ◌<◌, ◌≤◌, ◌^◌, true, [], length, vec_len, slice_index, slice_get, Some, IfOk};
+ghost use Rattle.thread_state.specs.PollRule.{IsPlaceKept, armed_with, polled, exchanged};
+ghost use Rattle.poll.specs.Rows.{RowId, ArmerSeen, PollerSeen, of_armer, of_poller, arming_of, watching_of, word_at, words_of, IsArmer, IsPoller, IsMet, place_left, first_poller, full_armer};
+
+use crate::law::{ArmPlay, ClearPlay, JoinPoller, PollLaw, PollPlay, SplitPoller};
+use crate::views::Watch;
+use crate::words::{word_at, words_of};
+use atomic_table::{Seat, Table};
+use std::alloc::{AllocError, Global};
+use std::marker::Model;
+
+/// The poll words, one for each place. Contracts see which row it is.
+#[derive(Drop)]
+pub struct PollRow {
+    table: Table<(), Watch, usize, PollLaw, Global>,
+}
+
+impl Model for PollRow {
+    ghost Value = { RowId };
+
+    ghost view = { λ r. r.table.shared.table_id };
+
+    ghost invariant = { λ r. (r.table.shared.table_id.words ≡ words_of r.table.shared.key) × (r.table.shared.key ≤ 64) × (r.table.shared.table_id.slots ≡ 0) };
+}
+
+/// Stores numbers of operations. Contracts see which row it is of, the number that each place was last armed with, how many
+/// steps it has made, and the last of them.
+#[derive(Drop)]
+pub struct Armer {
+    seat: Seat<(), Watch>,
+    last: Vec<u64>,
+}
+
+impl Model for Armer {
+    ghost Value = { ArmerSeen };
+
+    ghost view = { λ a. of_armer a.seat.table_id a.seat.me.0 };
+
+    ghost invariant = { λ a. IsArmer a.seat.me.0 × (a.last.items ≡ (arming_of a.seat.me.0).armed) × (a.seat.table_id.words ≡ words_of (length a.last.items)) };
+}
+
+/// Loads and clears the word of one place. Contracts see which row it is of, its place, the number that it cleared last, how
+/// many steps it has made, and the last of them.
+#[derive(Drop)]
+pub struct Poller {
+    seat: Seat<(), Watch>,
+    word: usize,
+}
+
+impl Model for Poller {
+    ghost Value = { PollerSeen };
+
+    ghost view = { λ p. of_poller p.seat.table_id p.seat.me.0 };
+
+    ghost invariant = { λ p. IsPoller p.seat.me.0 × (p.seat.me.1 ≡ []) × (p.word ≡ word_at (watching_of 0 p.seat.me.0).place) × (p.word < p.seat.table_id.words) };
+}
+
+impl PollRow {
+    /// A row of words that are 0, its armer, and a poller for each place in order. The error is that memory was refused.
+    /// Nothing else in the crate takes memory.
+    pub fn new(alloc: Global, places: usize) -> Result<(PollRow, Armer, Vec<Poller>), AllocError>
+        requires { (0 < places) × (places ≤ 64) }
+        ensures armer { IfOk result (λ t. t.1 ≡ full_armer t.0 places) }
+        ensures pollers { IfOk result (λ t. vec_len t.2 ≡ places) }
+        ensures places { IfOk result (λ t. (k : ℕ) → k < places → slice_get t.2.items k ≡ Some (first_poller t.0 k)) }
+    {
+        let words = vec![in alloc; 0; words_of(places)]?;
+        let last = vec![in alloc; 0; places]?;
+        let mut pollers = Vec::with_capacity(alloc, places)?;
+        let (table, mut seat) = Table::of_words(alloc, words.as_slice(), &places)?;
+        for place in 0..places {
+            let seat = table.shared.split_seat::<SplitPoller>(&mut seat);
+            let word = word_at(place);
+            pollers.push_reserved(Poller { seat, word });
+        }
+        Ok((PollRow { table }, Armer { seat, last }, pollers))
+    }
+
+    /// Ends the row with its armer and all its pollers, in the order of their places, and gives the word that each place was
+    /// left with.
+    pub fn close(self, armer: Armer, mut pollers: Vec<Poller>) -> Vec<u64>
+        requires armer { armer.table ≡ self }
+        requires count { vec_len pollers ≡ length armer.seen.armed }
+        requires pollers { (k : ℕ) (p : PollerSeen) → slice_get pollers.items k ≡ Some p → (p.table ≡ self) × (p.seen.place ≡ k) }
+        ensures count { vec_len result ≡ length armer.seen.armed }
+        ensures kept { (k : ℕ) (p : PollerSeen) → slice_get pollers.items k ≡ Some p → IsPlaceKept (place_left result.items armer p) }
+    {
+        let PollRow { table } = self;
+        let Armer { mut seat, mut last } = armer;
+        while let Some(poller) = pollers.pop() {
+            let Poller {
+                seat: other,
+                word: _,
+            } = poller;
+            table.shared.join_seat::<JoinPoller>(&mut seat, other);
+        }
+        let closed = table.close_with(seat);
+        for place in 0..last.len() {
+            last[place] = closed.word(word_at(place));
+        }
+        closed.free();
+        last
+    }
+}
+
+impl Poller {
+    /// The number that the place is armed with, 0 where nothing is armed or what was armed last is cleared: one load.
+    pub fn poll(&mut self, row: &PollRow) -> u64
+        requires row { self.old.table ≡ row.now }
+        ensures row { self.new.table ≡ self.old.table }
+        ensures step { self.new.seen ≡ polled self.old.seen result }
+        ensures met { IsMet self.old.seen.cleared result }
+        ensures later { (result ≡ 0) ⊎ (self.old.seen.cleared < result) }
+    {
+        let word = self.word;
+        row.table.shared.load::<PollPlay>(&mut self.seat, word)
+    }
+
+    /// Clears the place where it is armed with `n`, and says whether it did: one compare-exchange of `n` against 0. A greater
+    /// number that was armed meanwhile stays.
+    pub fn clear(&mut self, row: &PollRow, n: u64) -> bool
+        requires row { self.old.table ≡ row.now }
+        requires number { n ≢ 0 }
+        ensures row { self.new.table ≡ self.old.table }
+        ensures step { (found : ℕ) × IsMet self.old.seen.cleared found × (self.new.seen ≡ exchanged self.old.seen n found) × (result ≡ (found == n)) }
+        ensures later { result ≡ true → self.old.seen.cleared < n }
+    {
+        let word = self.word;
+        row.table
+            .shared
+            .compare_exchange::<ClearPlay>(&mut self.seat, word, n, 0)
+            == n
+    }
+}
+
+impl Armer {
+    /// Arms the place with the number of an operation: one store.
+    pub fn arm(&mut self, row: &PollRow, place: usize, n: u64)
+        requires row { self.old.table ≡ row.now }
+        requires place { place < length self.old.seen.armed }
+        requires later { slice_index self.old.seen.armed place < n }
+        requires small { n < 2 ^ 40 }
+        ensures row { self.new.table ≡ self.old.table }
+        ensures step { self.new.seen ≡ armed_with self.old.seen place n }
+    {
+        row.table
+            .shared
+            .store::<ArmPlay>(&mut self.seat, word_at(place), n);
+        self.last[place] = n;
+    }
+
+    /// The number that the place was last armed with, 0 at first. It makes no step.
+    pub fn last(&self, place: usize) -> u64
+        requires place { place < length self.now.seen.armed }
+        ensures { result ≡ slice_index self.now.seen.armed place }
+    {
+        self.last[place]
+    }
+}

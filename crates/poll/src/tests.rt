@@ -1,0 +1,205 @@
+ghost use Rattle.std.specs.Prelude.{◌≡◌, ◌≢◌, ◌<◌, ◌^◌, ◌∷◌, [], length, vec_len, slice_index, IfOk};
+ghost use Rattle.thread_state.specs.PollRule.{armed_with};
+
+use super::*;
+use std::alloc::{AllocError, Global};
+use std::process::Abort;
+use std::test::*;
+use std::thread::{Threads, join, yield_now};
+
+// The row of one place, its armer and its poller.
+fn one_place(alloc: Global) -> Result<(PollRow, Armer, Poller), AllocError>
+    ensures tables { IfOk result (λ t. (t.1.table ≡ t.0) × (t.2.table ≡ t.0)) }
+    ensures place { IfOk result (λ t. t.2.seen.place ≡ 0) }
+    ensures armed { IfOk result (λ t. t.1.seen.armed ≡ 0 ∷ []) }
+{
+    let (row, armer, mut pollers) = PollRow::new(alloc, 1)?;
+    let poller = pollers.swap_remove(0);
+    Ok((row, armer, poller))
+}
+
+#[test]
+fn a_greater_number_stays_armed(rt: HostRuntime) -> Result<(), Fail> {
+    let (row, mut armer, mut poller) = one_place(rt.alloc())?;
+    assert_eq!(rt; armer.last(0), 0);
+    assert_eq!(rt; poller.poll(&row), 0);
+    armer.arm(&row, 0, 1);
+    assert_eq!(rt; armer.last(0), 1);
+    assert_eq!(rt; poller.poll(&row), 1);
+    armer.arm(&row, 0, 2);
+    assert!(rt; !poller.clear(&row, 1));
+    assert_eq!(rt; poller.poll(&row), 2);
+    assert!(rt; poller.clear(&row, 2));
+    assert_eq!(rt; poller.poll(&row), 0);
+    assert_eq!(rt; armer.last(0), 2);
+    Ok(())
+}
+
+#[test]
+fn places_are_apart(rt: HostRuntime) -> Result<(), Fail> {
+    let (row, mut armer, mut pollers) = PollRow::new(rt.alloc(), 3)?;
+    let mut third = pollers.swap_remove(2);
+    let mut second = pollers.swap_remove(1);
+    let mut first = pollers.swap_remove(0);
+    armer.arm(&row, 1, 7);
+    assert_eq!(rt; first.poll(&row), 0);
+    assert_eq!(rt; second.poll(&row), 7);
+    assert_eq!(rt; third.poll(&row), 0);
+    armer.arm(&row, 2, 1_099_511_627_775);
+    assert!(rt; second.clear(&row, 7));
+    assert_eq!(rt; third.poll(&row), 1_099_511_627_775);
+    assert_eq!(rt; armer.last(0), 0);
+    assert_eq!(rt; armer.last(1), 7);
+    assert_eq!(rt; armer.last(2), 1_099_511_627_775);
+    Ok(())
+}
+
+#[test]
+fn words_are_left_as_they_were_armed(rt: HostRuntime) -> Result<(), Fail> {
+    let (row, mut armer, pollers) = PollRow::new(rt.alloc(), 3)?;
+    armer.arm(&row, 1, 7);
+    armer.arm(&row, 2, 9);
+    let words = row.close(armer, pollers);
+    assert_eq!(rt; words.as_slice(), [0, 7, 9].as_slice());
+    Ok(())
+}
+
+fn armed_elsewhere<R: Threads + Sync>(rt: &R, row: &PollRow, armer: Armer, n: u64) -> Armer
+    requires { (armer.table ≡ row.now) × (length armer.seen.armed ≡ 1) × (slice_index armer.seen.armed 0 < n) × (n < 2 ^ 40) }
+    ensures row { result.table ≡ row.now }
+    ensures step { result.seen ≡ armed_with armer.seen 0 n }
+{
+    let (_, armer) = join(
+        rt,
+        || (),
+        move || -> Armer
+            requires { (armer.table ≡ row.now) × (length armer.seen.armed ≡ 1) × (slice_index armer.seen.armed 0 < n) × (n < 2 ^ 40) }
+            ensures { (result.table ≡ row.entry.now) × (result.seen ≡ armed_with armer.seen 0 n) }
+        {
+            let mut armer = armer;
+            armer.arm(row, 0, n);
+            armer
+        },
+    );
+    armer
+}
+
+#[test]
+fn the_armer_is_in_another_thread(rt: HostRuntime) -> Result<(), Fail> {
+    let (row, armer, mut poller) = one_place(rt.alloc())?;
+    assert_eq!(rt; poller.poll(&row), 0);
+    let armer = armed_elsewhere(&rt, &row, armer, 1);
+    assert_eq!(rt; poller.poll(&row), 1);
+    let armer = armed_elsewhere(&rt, &row, armer, 2);
+    assert!(rt; !poller.clear(&row, 1));
+    assert_eq!(rt; poller.poll(&row), 2);
+    assert!(rt; poller.clear(&row, 2));
+    assert_eq!(rt; poller.poll(&row), 0);
+    assert_eq!(rt; armer.last(0), 2);
+    Ok(())
+}
+
+// Arms the first place with 1, 2, .. up to `most`.
+fn arm_in_order(row: &PollRow, armer: &mut Armer, most: u64)
+    requires row { armer.old.table ≡ row.now }
+    requires fresh { armer.old.seen.armed ≡ 0 ∷ [] }
+    requires small { most < 2 ^ 40 }
+    ensures row { armer.new.table ≡ armer.old.table }
+    ensures armed { armer.new.seen.armed ≡ most ∷ [] }
+{
+    for n in 0..most {
+        armer.arm(row, 0, n + 1);
+        if n % 16 == 0 {
+            yield_now();
+        }
+    }
+}
+
+// What a poller cleared: the greatest number, and whether each was above the one before.
+#[derive(Clone, Copy, Debug, PartialEq, Eq, Drop)]
+struct Cleared {
+    last: u64,
+    rising: bool,
+}
+
+fn clear_once(row: &PollRow, poller: &mut Poller, cleared: &mut Cleared)
+    requires row { poller.old.table ≡ row.now }
+    ensures row { poller.new.table ≡ poller.old.table }
+    ensures place { poller.new.seen.place ≡ poller.old.seen.place }
+{
+    let n = poller.poll(row);
+    if n != 0 && poller.clear(row, n) {
+        cleared.rising = cleared.rising && cleared.last < n;
+        cleared.last = n;
+    }
+}
+
+fn clear_many(row: &PollRow, poller: &mut Poller, turns: u32) -> Cleared
+    requires row { poller.old.table ≡ row.now }
+    ensures row { poller.new.table ≡ poller.old.table }
+    ensures place { poller.new.seen.place ≡ poller.old.seen.place }
+{
+    let mut cleared = Cleared {
+        last: 0,
+        rising: true,
+    };
+    for _ in 0..turns {
+        clear_once(row, poller, &mut cleared);
+        yield_now();
+    }
+    cleared
+}
+
+// Arms in one thread while another polls and clears.
+fn arm_against_clear<R: Threads + Sync>(
+    rt: &R,
+    row: &PollRow,
+    armer: Armer,
+    poller: Poller,
+) -> (Armer, Poller, Cleared)
+    requires armer { (armer.table ≡ row.now) × (armer.seen.armed ≡ 0 ∷ []) }
+    requires poller { (poller.table ≡ row.now) × (poller.seen.place ≡ 0) }
+    ensures armer { (result.0.table ≡ row.now) × (result.0.seen.armed ≡ 10000 ∷ []) }
+    ensures poller { (result.1.table ≡ row.now) × (result.1.seen.place ≡ 0) }
+{
+    let (armer, (poller, cleared)) = join(
+        rt,
+        move || -> Armer
+            requires { (armer.table ≡ row.now) × (armer.seen.armed ≡ 0 ∷ []) }
+            ensures { (result.table ≡ row.entry.now) × (result.seen.armed ≡ 10000 ∷ []) }
+        {
+            let mut armer = armer;
+            arm_in_order(row, &mut armer, 10_000);
+            armer
+        },
+        move || -> (Poller, Cleared)
+            requires { (poller.table ≡ row.now) × (poller.seen.place ≡ 0) }
+            ensures { (result.0.table ≡ row.entry.now) × (result.0.seen.place ≡ 0) }
+        {
+            let mut poller = poller;
+            let cleared = clear_many(row, &mut poller, 20_000);
+            (poller, cleared)
+        },
+    );
+    (armer, poller, cleared)
+}
+
+#[test]
+fn no_arming_is_lost_to_a_clear(rt: HostRuntime) -> Result<(), Fail> {
+    let (row, armer, poller) = one_place(rt.alloc())?;
+    let (armer, mut poller, mut cleared) = arm_against_clear(&rt, &row, armer, poller);
+    clear_once(&row, &mut poller, &mut cleared);
+    assert_eq!(rt;
+        cleared,
+        Cleared {
+            last: 10_000,
+            rising: true
+        }
+    );
+    assert_eq!(rt; poller.poll(&row), 0);
+    assert_eq!(rt; armer.last(0), 10_000);
+    let pollers = vec![in rt.alloc(); poller]?;
+    let words = row.close(armer, pollers);
+    assert_eq!(rt; words.as_slice(), [0].as_slice());
+    Ok(())
+}

@@ -1,0 +1,12 @@
+pub mod Lists
+pub mod Cuts
+pub mod Numbers
+pub mod Lookup
+pub mod Replies
+pub mod Streams
+pub mod Growth
+pub mod Splitting
+pub mod Feeds
+pub mod Whole
+pub mod Spellings
+pub mod Reading

@@ -1,0 +1,13 @@
+use Rattle.std.proofs.Common.{◌≡◌, ◌<◌, [], vec_len}
+use Rattle.replay.specs.Outcome.{SoFar}
+use Rattle.replay.proofs.stream.answer_all.Given as goal
+
+abbrev pub invariant-loop-turn : goal.invariant-loop-turn
+invariant-loop-turn g l = record {
+  reads : g.R.Source.reads l.source ≡ l.turn;
+  source : g.R.Source.failures l.source ≡ 0;
+  sink : g.W.Sink.failures l.sink ≡ 0;
+  room : 0 < vec_len l.block;
+  none : l.waits.items ≡ [];
+  so_far : SoFar (g.R.Source.left l.fn.source) (g.R.Source.left l.source) (g.W.Sink.got l.fn.sink) (g.W.Sink.got l.sink) l.system l.held;
+}

@@ -1,0 +1,10 @@
+pub mod Words
+pub mod Keywords
+pub mod Scanned
+pub mod Grammar
+pub mod Spelling
+pub mod Printed
+pub mod Text
+pub mod Known
+pub mod Streams
+pub mod Outcome

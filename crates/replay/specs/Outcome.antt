@@ -1,0 +1,59 @@
+-- What a whole call read and wrote.
+use Rattle.std.specs.Prelude.{◌≡◌, ◌⊎◌, ◌^◌, ◌-◌, ℕ, List, [], ◌++◌, Option, None, Result, Ok, Err}
+use Rattle.std.specs.Io.KnownBytes.{Appends, Consumes, IsAtEnd}
+use Rattle.replay.specs.declared.stream.ReplayFault.{ReplayFault}
+use Rattle.replay.specs.declared.stream.ReplayFault.TheVariants.{ReadFailed, WriteFailed, NoMemory}
+use Rattle.replay.specs.Known.{AppendsPart}
+use Rattle.replay.specs.Text.{SystemView, told, text}
+use Rattle.replay.specs.Streams.{Front, Splits, FedTo}
+
+-- All was read, and the text of it was written.
+pub record WroteAll (left left' got got' : Option (List ℕ)) : Type 0 where
+  pub read : List ℕ
+  pub consumed : Consumes left left' read
+  pub at_end : IsAtEnd left'
+  pub written : Appends got got' (text read)
+
+-- Of what was read, the text of the whole lines was written; a rest without a newline was not answered.
+pub record WroteLines (left left' got got' : Option (List ℕ)) : Type 0 where
+  pub read : List ℕ
+  pub lines : List (List ℕ)
+  pub rest : List ℕ
+  pub consumed : Consumes left left' read
+  pub splits : Splits read lines rest
+  pub written : Appends got got' (told None lines)
+
+-- A beginning of the text of what was read was written.
+pub record WrotePart (left left' got got' : Option (List ℕ)) : Type 0 where
+  pub read : List ℕ
+  pub consumed : Consumes left left' read
+  pub written : AppendsPart got got' (text read)
+
+-- The text of the first lines of what was read was written: those before the event for which memory was refused.
+pub record WroteFront (left left' got got' : Option (List ℕ)) : Type 0 where
+  pub read : List ℕ
+  pub lines : List (List ℕ)
+  pub rest : List ℕ
+  pub consumed : Consumes left left' read
+  pub front : Front read lines rest
+  pub written : Appends got got' (told None lines)
+
+-- What was read and written, by what is answered.
+abbrev pub Wrote : {A : Type 0} → Result A ReplayFault → Option (List ℕ) → Option (List ℕ) → Option (List ℕ) → Option (List ℕ) → Type 0
+Wrote (Ok x) left left' got got' = WroteAll left left' got got'
+Wrote (Err ReadFailed) left left' got got' = WroteLines left left' got got'
+Wrote (Err WriteFailed) left left' got got' = WrotePart left left' got got'
+Wrote (Err NoMemory) left left' got got' = WroteFront left left' got got'
+
+-- Which calls failed, by what is answered; and how many reads gave bytes, where none failed and the end wasn't reached.
+abbrev pub FailedCalls : {A : Type 0} → Result A ReplayFault → ℕ → ℕ → ℕ → Type 0
+FailedCalls (Ok x) reads failed_reads failed_writes = (failed_reads ≡ 0) × (failed_writes ≡ 0)
+FailedCalls (Err ReadFailed) reads failed_reads failed_writes = ((failed_reads ≡ 1) ⊎ (reads ≡ 2 ^ 40 - 1)) × (failed_writes ≡ 0)
+FailedCalls (Err WriteFailed) reads failed_reads failed_writes = (failed_reads ≡ 0) × (failed_writes ≡ 1)
+FailedCalls (Err NoMemory) reads failed_reads failed_writes = (failed_reads ≡ 0) × (failed_writes ≡ 0)
+
+-- What was read so far, and how the lines in it were answered.
+pub record SoFar (left left' got got' : Option (List ℕ)) (new : Option SystemView) (held : List ℕ) : Type 0 where
+  pub read : List ℕ
+  pub consumed : Consumes left left' read
+  pub fed : FedTo None [] read [] got new held [] got'

@@ -1,0 +1,103 @@
+-- A stream of bytes, cut into lines as it comes.
+use Rattle.std.specs.Prelude.{◌≡◌, ℕ, ◌+◌, List, [], ◌∷◌, ◌++◌, length, take, Option, Some, None, Result, Ok, Err}
+use Rattle.std.specs.List.{flat_map, AllByRecursion}
+use Rattle.std.specs.Io.KnownBytes.{Appends}
+use Rattle.system.specs.World.{World}
+use Rattle.replay.specs.declared.stream.Halt.{Halt}
+use Rattle.replay.specs.declared.stream.Halt.TheVariants as halt
+use Rattle.replay.specs.declared.stream.ReplayFault.{ReplayFault}
+use Rattle.replay.specs.declared.stream.ReplayFault.TheVariants.{ReadFailed, WriteFailed, NoMemory}
+use Rattle.replay.specs.Scanned.{first_at}
+use Rattle.replay.specs.Known.{AppendsPart, Grows}
+use Rattle.replay.specs.Text.{SystemView, IsAt, line_text, after_line, told}
+
+-- No newline stands in the bytes.
+abbrev pub IsPiece : List ℕ → Type 0
+IsPiece bytes = first_at 10 bytes ≡ length bytes
+
+-- A line with its end.
+abbrev pub ended : List ℕ → List ℕ
+ended line = line ++ 10 ∷ []
+
+-- The bytes begin with these lines.
+pub record Front (bytes : List ℕ) (lines : List (List ℕ)) (rest : List ℕ) : Type 0 where
+  pub whole : bytes ≡ flat_map ended lines ++ rest
+  pub each : AllByRecursion IsPiece lines
+
+-- The bytes are these lines, and then less than a line.
+pub record Splits (bytes : List ℕ) (lines : List (List ℕ)) (rest : List ℕ) : Type 0 where
+  pub front : Front bytes lines rest
+  pub partial : IsPiece rest
+
+abbrev pub after_lines : Option World → List (List ℕ) → Option World
+after_lines world [] = world
+after_lines world (line ∷ lines) = after_lines (after_line world line) lines
+
+-- A line was answered.
+abbrev pub Turned : Option SystemView → List ℕ → List ℕ → List ℕ → Option SystemView → Type 0
+Turned old line waits waits' new = (world : Option World) → IsAt old world → (waits' ≡ waits ++ line_text world line) × IsAt new (after_line world line)
+
+-- What was held, and more bytes, came to these lines, each answered, and less than a line, of which as much is held as matters.
+pub record FedTo (world : Option World) (tail bytes waits : List ℕ) (got : Option (List ℕ)) (new : Option SystemView) (held waits' : List ℕ) (got' : Option (List ℕ)) : Type 0 where
+  pub lines : List (List ℕ)
+  pub rest : List ℕ
+  pub splits : Splits (tail ++ bytes) lines rest
+  pub holds : held ≡ take 1025 rest
+  pub grows : Grows got waits got' waits' (told world lines)
+  pub at : IsAt new (after_lines world lines)
+
+-- Memory was refused: the lines before are answered.
+pub record StoppedIn (world : Option World) (bytes waits : List ℕ) (got : Option (List ℕ)) (waits' : List ℕ) (got' : Option (List ℕ)) : Type 0 where
+  pub lines : List (List ℕ)
+  pub rest : List ℕ
+  pub front : Front bytes lines rest
+  pub grows : Grows got waits got' waits' (told world lines)
+
+-- A write failed: a beginning of the answers is written.
+pub record BrokenIn (world : Option World) (bytes waits : List ℕ) (got got' : Option (List ℕ)) : Type 0 where
+  pub lines : List (List ℕ)
+  pub rest : List ℕ
+  pub front : Front bytes lines rest
+  pub part : AppendsPart got got' (waits ++ told world lines)
+
+-- For each world that the system is at, and each beginning of a line of which this is held.
+abbrev pub ForEachStart : Option SystemView → List ℕ → (Option World → List ℕ → Type 0) → Type 0
+ForEachStart old held P = (world : Option World) → IsAt old world → (tail : List ℕ) → IsPiece tail → held ≡ take 1025 tail → P world tail
+
+abbrev pub Fed : Option SystemView → List ℕ → List ℕ → List ℕ → Option (List ℕ) → Option SystemView → List ℕ → List ℕ → Option (List ℕ) → Type 0
+Fed old held bytes waits got new held' waits' got' = ForEachStart old held (λ world tail. FedTo world tail bytes waits got new held' waits' got')
+
+-- What is so after bytes were fed, by how that ended.
+abbrev pub FedBy : {A : Type 0} → Result A Halt → Option SystemView → List ℕ → List ℕ → List ℕ → Option (List ℕ) → Option SystemView → List ℕ → List ℕ → Option (List ℕ) → Type 0
+FedBy (Ok x) old held bytes waits got new held' waits' got' = Fed old held bytes waits got new held' waits' got'
+FedBy (Err halt.NoMemory) old held bytes waits got new held' waits' got' = ForEachStart old held (λ world tail. StoppedIn world (tail ++ bytes) waits got waits' got')
+FedBy (Err halt.WriteFailed) old held bytes waits got new held' waits' got' = ForEachStart old held (λ world tail. BrokenIn world (tail ++ bytes) waits got got')
+
+-- How many writes failed.
+abbrev pub failed_writes : Halt → ℕ
+failed_writes halt.NoMemory = 0
+failed_writes halt.WriteFailed = 1
+
+-- A rest that isn't empty is a line.
+abbrev pub last_of : List ℕ → List (List ℕ)
+last_of [] = []
+last_of (b ∷ bytes) = (b ∷ bytes) ∷ []
+
+-- The line that was held, if any, was answered.
+abbrev pub Ended : Option SystemView → List ℕ → List ℕ → List ℕ → Type 0
+Ended old held waits waits' = (world : Option World) → IsAt old world → waits' ≡ waits ++ told world (last_of held)
+
+-- What is so after the last line, by how that ended. Nothing waited before.
+abbrev pub Finished : {A : Type 0} → Result A ReplayFault → Option SystemView → List ℕ → Option (List ℕ) → Option (List ℕ) → Type 0
+Finished (Ok x) old held got got' = (world : Option World) → IsAt old world → Appends got got' (told world (last_of held))
+Finished (Err WriteFailed) old held got got' = (world : Option World) → IsAt old world → AppendsPart got got' (told world (last_of held))
+Finished (Err NoMemory) old held got got' = got' ≡ got
+Finished (Err ReadFailed) old held got got' = ⊥
+
+-- What is so after lines weren't answered, by the fault that is answered for that: for want of memory, what waits was written,
+-- or a beginning of it.
+abbrev pub GaveUp : Halt → ReplayFault → List ℕ → Option (List ℕ) → Option (List ℕ) → ℕ → Type 0
+GaveUp halt.WriteFailed WriteFailed waits got got' failures = (got' ≡ got) × (failures ≡ 1)
+GaveUp halt.NoMemory NoMemory waits got got' failures = Appends got got' waits × (failures ≡ 0)
+GaveUp halt.NoMemory WriteFailed waits got got' failures = AppendsPart got got' waits × (failures ≡ 1)
+GaveUp halt fault waits got got' failures = ⊥

@@ -1,0 +1,150 @@
+// The grammar of a line.
+ghost use Rattle.std.specs.Prelude.{◌≡◌, ◌≢◌, IfOk, option_map};
+ghost use Rattle.replay.specs.Words.{words_after};
+ghost use Rattle.replay.specs.Grammar.{command_of, of_word, size_of, enter_of, asking, handshake, alone, of_one, of_two, numbers};
+
+use crate::keywords::{AskWord, Word, ask_of, word_of};
+use crate::words::{cut, is_end, last, next};
+use operations::{Ask, Request, Targets};
+use std::alloc::{AllocError, Global};
+use system::events::{Act, Event};
+
+/// What a line spells: an event, or the sizes of a new system.
+#[derive(Debug, Drop)]
+pub enum Command {
+    /// Places, slots and methods.
+    Size(u64, u64, u64),
+    Do(Event),
+}
+
+/// The longest line, without its newline.
+const LONGEST: usize = 1024;
+
+/// The command that the line spells. The names of an `ask` take memory, nothing else does.
+pub(crate) fn parse(alloc: Global, line: &[u8]) -> Result<Option<Command>, AllocError>
+    ensures { IfOk result (λ command. command ≡ command_of line.now) }
+{
+    if line.len() > LONGEST {
+        return Ok(None);
+    }
+    let (first, tail) = cut(line);
+    match word_of(first) {
+        None => Ok(None),
+        Some(Word::Ask) => asking(alloc, tail),
+        Some(word) => Ok(plain(word, tail)),
+    }
+}
+
+/// What a keyword and the words after it spell, where they take no memory.
+fn plain(word: Word, tail: &[u8]) -> Option<Command>
+    requires { word ≢ Word.Ask }
+    ensures { result ≡ of_word word (words_after tail.now) }
+{
+    match word {
+        Word::Size => size(tail),
+        Word::Start => alone(Event::Start, tail),
+        Word::At(act) => Some(Command::Do(Event::At(last(tail)? as usize, act))),
+        Word::Enter => enter(tail),
+        Word::Install => Some(Command::Do(Event::Install(last(tail)?))),
+        Word::Invalidate => Some(Command::Do(Event::Invalidate(last(tail)?))),
+        Word::Round => alone(Event::Round, tail),
+        Word::Look => look(tail),
+        Word::Weigh => Some(Command::Do(Event::Weigh(last(tail)?))),
+        Word::Free => Some(Command::Do(Event::Free(last(tail)?))),
+        Word::Ask => None,
+        Word::Open => alone(Event::Open, tail),
+        Word::Tell => Some(Command::Do(Event::Tell(last(tail)?))),
+        Word::Operate => alone(Event::Operate, tail),
+        Word::Close => alone(Event::Close, tail),
+        Word::Count => Some(Command::Do(Event::Count(last(tail)?))),
+        Word::State => Some(Command::Do(Event::CodeState(last(tail)?))),
+        Word::Resolve => Some(Command::Do(Event::Resolve(last(tail)?))),
+    }
+}
+
+fn alone(event: Event, tail: &[u8]) -> Option<Command>
+    ensures { result ≡ alone event (words_after tail.now) }
+{
+    if is_end(tail) {
+        Some(Command::Do(event))
+    } else {
+        None
+    }
+}
+
+fn enter(tail: &[u8]) -> Option<Command>
+    ensures { result ≡ enter_of (words_after tail.now) }
+{
+    let (place, tail) = next(tail)?;
+    let (method, tail) = next(tail)?;
+    if is_end(tail) {
+        return Some(Command::Do(Event::At(place as usize, Act::Enter(method, None))));
+    }
+    let serial = last(tail)?;
+    Some(Command::Do(Event::At(place as usize, Act::Enter(method, Some(serial)))))
+}
+
+fn look(tail: &[u8]) -> Option<Command>
+    ensures { result ≡ of_two Event.Look (words_after tail.now) }
+{
+    let (serial, tail) = next(tail)?;
+    Some(Command::Do(Event::Look(serial, last(tail)? as usize)))
+}
+
+fn size(tail: &[u8]) -> Option<Command>
+    ensures { result ≡ size_of (words_after tail.now) }
+{
+    let (x, tail) = next(tail)?;
+    let (y, tail) = next(tail)?;
+    Some(Command::Size(x, y, last(tail)?))
+}
+
+/// What the words after `ask` spell.
+fn asking(alloc: Global, tail: &[u8]) -> Result<Option<Command>, AllocError>
+    ensures { IfOk result (λ command. command ≡ asking (words_after tail.now)) }
+{
+    if is_end(tail) {
+        return Ok(None);
+    }
+    let (first, tail) = cut(&tail[1..]);
+    match ask_of(first) {
+        None => Ok(None),
+        Some(AskWord::Depth) => handshake(alloc, Ask::Depth, tail),
+        Some(AskWord::Top) => handshake(alloc, Ask::Top, tail),
+        Some(AskWord::Count) => match next(tail) {
+            None => Ok(None),
+            Some((serial, tail)) => handshake(alloc, Ask::CountOf(serial), tail),
+        },
+        Some(AskWord::Census) => Ok(alone(Event::Ask(Request::Census), tail)),
+    }
+}
+
+fn handshake(alloc: Global, ask: Ask, tail: &[u8]) -> Result<Option<Command>, AllocError>
+    ensures { IfOk result (λ command. command ≡ handshake ask (words_after tail.now)) }
+{
+    match numbers(alloc, tail)? {
+        None => Ok(None),
+        Some(names) => {
+            let targets = Targets::from_vec(names);
+            Ok(Some(Command::Do(Event::Ask(Request::Handshake { targets, ask }))))
+        }
+    }
+}
+
+/// All words as numbers.
+fn numbers(alloc: Global, tail: &[u8]) -> Result<Option<Vec<u64>>, AllocError>
+    ensures { IfOk result (λ read. option_map (λ names. names.items) read ≡ numbers (words_after tail.now)) }
+{
+    let mut names = Vec::new(alloc);
+    let mut rest = tail;
+    while !rest.is_empty() {
+        match next(rest) {
+            None => return Ok(None),
+            Some((name, behind)) => {
+                names.push(name)?;
+                rest = behind;
+            }
+        }
+    }
+    Ok(Some(names))
+}

@@ -1,0 +1,14 @@
+//! Lines to events, and answers to text.
+#![tactic(auto)]
+
+pub mod device;
+pub mod engine;
+pub mod grammar;
+pub(crate) mod held;
+pub(crate) mod keywords;
+pub(crate) mod print;
+pub mod spelling;
+pub mod stream;
+#[cfg(test)]
+mod tests;
+pub(crate) mod words;

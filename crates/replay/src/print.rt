@@ -1,0 +1,249 @@
+// The text of replies.
+ghost use Rattle.std.specs.Prelude.{◌≡◌, ◌++◌, ◌∷◌, [], ℕ, ℤ, List, OnOk, codes, decimal};
+ghost use Rattle.std.specs.List.{flat_map};
+ghost use Rattle.thread_state.specs.StateText.{back_text, with_back, state_text};
+ghost use Rattle.replay.specs.Printed.{refusal_text, signed_text, frame_text, counted_text, kind_text, code_state_text, answer_text, reply_text};
+
+use crate::engine::Reply;
+use frames::Frame;
+use itoa::Buffer;
+use method_table::CodeState;
+use operations::Kind;
+use std::alloc::AllocError;
+use system::answers::{Answer, CodeCount, Refusal};
+use thread_state::{Back, State};
+
+fn put_number(text: &mut Vec<u8>, n: u64) -> Result<(), AllocError>
+    ensures { OnOk result (text.new.items ≡ text.old.items ++ decimal n) }
+{
+    let mut buffer = Buffer::new();
+    text.extend_from_slice(buffer.format(n).as_bytes())
+}
+
+/// A word, and a number behind it.
+fn put_counted(text: &mut Vec<u8>, word: &[u8], n: u64) -> Result<(), AllocError>
+    ensures { OnOk result (text.new.items ≡ text.old.items ++ (word.now ++ decimal n)) }
+{
+    text.extend_from_slice(word)?;
+    put_number(text, n)
+}
+
+fn back_name(back: Back) -> &'static [u8]
+    ensures { result.now ≡ back_text back }
+{
+    match back {
+        Back::Java => b"Java",
+        Back::Vm => b"Vm",
+    }
+}
+
+fn put_state(text: &mut Vec<u8>, state: State) -> Result<(), AllocError>
+    ensures { OnOk result (text.new.items ≡ text.old.items ++ state_text state) }
+{
+    match state {
+        State::Vacant => text.extend_from_slice(b"Vacant"),
+        State::New => text.extend_from_slice(b"New"),
+        State::InJava => text.extend_from_slice(b"InJava"),
+        State::InVm => text.extend_from_slice(b"InVm"),
+        State::InNative(back) => put_with_back(text, b"InNative", back),
+        State::Blocked => text.extend_from_slice(b"Blocked"),
+        State::NewTrans => text.extend_from_slice(b"NewTrans"),
+        State::NativeTrans(back) => put_with_back(text, b"NativeTrans", back),
+        State::BlockedTrans => text.extend_from_slice(b"BlockedTrans"),
+        State::AtPoll(back) => put_with_back(text, b"AtPoll", back),
+        State::Serving(back) => put_with_back(text, b"Serving", back),
+    }
+}
+
+/// A name, and the way back in round brackets.
+fn put_with_back(text: &mut Vec<u8>, name: &[u8], back: Back) -> Result<(), AllocError>
+    ensures { OnOk result (text.new.items ≡ text.old.items ++ with_back name.now back) }
+{
+    text.extend_from_slice(name)?;
+    text.push(b'(')?;
+    text.extend_from_slice(back_name(back))?;
+    Ok(text.push(b')')?)
+}
+
+fn put_refusal(text: &mut Vec<u8>, refusal: Refusal) -> Result<(), AllocError>
+    ensures { OnOk result (text.new.items ≡ text.old.items ++ refusal_text refusal) }
+{
+    match refusal {
+        Refusal::Illegal(state) => {
+            text.extend_from_slice(b"Illegal ")?;
+            put_state(text, state)
+        }
+        Refusal::NoSuchPlace => text.extend_from_slice(b"NoSuchPlace"),
+        Refusal::Publishing => text.extend_from_slice(b"Publishing"),
+        Refusal::NotBegun => text.extend_from_slice(b"NotBegun"),
+        Refusal::ChangesLeft => text.extend_from_slice(b"ChangesLeft"),
+        Refusal::Held => text.extend_from_slice(b"Held"),
+        Refusal::NoSuchMethod => text.extend_from_slice(b"NoSuchMethod"),
+        Refusal::Unknown => text.extend_from_slice(b"Unknown"),
+        Refusal::Unpublished => text.extend_from_slice(b"Unpublished"),
+        Refusal::DepthFull => text.extend_from_slice(b"DepthFull"),
+        Refusal::NotOf => text.extend_from_slice(b"NotOf"),
+        Refusal::EmptyStack => text.extend_from_slice(b"EmptyStack"),
+        Refusal::StackNotEmpty => text.extend_from_slice(b"StackNotEmpty"),
+        Refusal::OperationPending => text.extend_from_slice(b"OperationPending"),
+        Refusal::NotDone => text.extend_from_slice(b"NotDone"),
+        Refusal::NothingOpen => text.extend_from_slice(b"NothingOpen"),
+        Refusal::NotTold => text.extend_from_slice(b"NotTold"),
+        Refusal::AlreadyDone => text.extend_from_slice(b"AlreadyDone"),
+        Refusal::NotSafe => text.extend_from_slice(b"NotSafe"),
+        Refusal::NotHeld => text.extend_from_slice(b"NotHeld"),
+        Refusal::SafepointOpen => text.extend_from_slice(b"SafepointOpen"),
+        Refusal::PlacesFull => text.extend_from_slice(b"PlacesFull"),
+        Refusal::Spent => text.extend_from_slice(b"Spent"),
+        Refusal::HasCode => text.extend_from_slice(b"HasCode"),
+        Refusal::TableFull => text.extend_from_slice(b"TableFull"),
+        Refusal::SerialsSpent => text.extend_from_slice(b"SerialsSpent"),
+        Refusal::NotInUse => text.extend_from_slice(b"NotInUse"),
+        Refusal::NotNotEntrant => text.extend_from_slice(b"NotNotEntrant"),
+        Refusal::NotZombie => text.extend_from_slice(b"NotZombie"),
+        Refusal::QueueFull => text.extend_from_slice(b"QueueFull"),
+        Refusal::NoTargets => text.extend_from_slice(b"NoTargets"),
+        Refusal::BadTargets => text.extend_from_slice(b"BadTargets"),
+        Refusal::AlreadyOpen => text.extend_from_slice(b"AlreadyOpen"),
+        Refusal::QueueEmpty => text.extend_from_slice(b"QueueEmpty"),
+        Refusal::AlreadyTold => text.extend_from_slice(b"AlreadyTold"),
+        Refusal::NotAllHeld => text.extend_from_slice(b"NotAllHeld"),
+    }
+}
+
+fn put_signed(text: &mut Vec<u8>, by: i32) -> Result<(), AllocError>
+    ensures { OnOk result (text.new.items ≡ text.old.items ++ signed_text by) }
+{
+    if by < 0 {
+        text.push(b'-')?;
+    } else {
+        text.push(b'+')?;
+    }
+    put_number(text, by.unsigned_abs() as u64)
+}
+
+fn put_frame(text: &mut Vec<u8>, frame: Frame) -> Result<(), AllocError>
+    ensures { OnOk result (text.new.items ≡ text.old.items ++ frame_text frame) }
+{
+    text.push(b' ')?;
+    put_number(text, frame.method as u64)?;
+    text.push(b':')?;
+    match frame.code {
+        None => Ok(text.push(b'i')?),
+        Some(code) => put_number(text, code.serial),
+    }
+}
+
+fn put_frames(text: &mut Vec<u8>, frames: &[Frame]) -> Result<(), AllocError>
+    ensures { OnOk result (text.new.items ≡ text.old.items ++ codes "stack" ++ flat_map frame_text frames.now) }
+{
+    text.extend_from_slice(b"stack")?;
+    for frame in frames {
+        put_frame(text, *frame)?;
+    }
+    Ok(())
+}
+
+fn put_code_count(text: &mut Vec<u8>, counted: CodeCount) -> Result<(), AllocError>
+    ensures { OnOk result (text.new.items ≡ text.old.items ++ counted_text counted) }
+{
+    text.push(b' ')?;
+    put_number(text, counted.serial)?;
+    text.push(b':')?;
+    put_number(text, counted.count as u64)
+}
+
+fn put_census(text: &mut Vec<u8>, counts: &[CodeCount]) -> Result<(), AllocError>
+    ensures { OnOk result (text.new.items ≡ text.old.items ++ codes "census" ++ flat_map counted_text counts.now) }
+{
+    text.extend_from_slice(b"census")?;
+    for counted in counts {
+        put_code_count(text, *counted)?;
+    }
+    Ok(())
+}
+
+fn put_thread(text: &mut Vec<u8>, name: u64, place: usize) -> Result<(), AllocError>
+    ensures { OnOk result (text.new.items ≡ text.old.items ++ (codes "thread " ++ decimal name ++ codes " place " ++ decimal place)) }
+{
+    put_counted(text, b"thread ", name)?;
+    put_counted(text, b" place ", place as u64)
+}
+
+fn put_change(text: &mut Vec<u8>, serial: u64, by: i32) -> Result<(), AllocError>
+    ensures { OnOk result (text.new.items ≡ text.old.items ++ (codes "change " ++ decimal serial ++ codes " " ++ signed_text by)) }
+{
+    put_counted(text, b"change ", serial)?;
+    text.push(b' ')?;
+    put_signed(text, by)
+}
+
+fn put_opened(text: &mut Vec<u8>, operation: u64, kind: Kind) -> Result<(), AllocError>
+    ensures { OnOk result (text.new.items ≡ text.old.items ++ (codes "open " ++ decimal operation ++ kind_text kind)) }
+{
+    put_counted(text, b"open ", operation)?;
+    match kind {
+        Kind::Handshake => text.extend_from_slice(b" handshake"),
+        Kind::Census => text.extend_from_slice(b" census"),
+    }
+}
+
+fn put_code_state(text: &mut Vec<u8>, state: CodeState) -> Result<(), AllocError>
+    ensures { OnOk result (text.new.items ≡ text.old.items ++ code_state_text state) }
+{
+    match state {
+        CodeState::InUse => text.extend_from_slice(b"in use"),
+        CodeState::NotEntrant => text.extend_from_slice(b"not entrant"),
+        CodeState::Zombie => text.extend_from_slice(b"zombie"),
+        CodeState::Freed => text.extend_from_slice(b"freed"),
+    }
+}
+
+fn put_answer(text: &mut Vec<u8>, answer: &Answer) -> Result<(), AllocError>
+    ensures { OnOk result (text.new.items ≡ text.old.items ++ answer_text answer.now) }
+{
+    match answer {
+        Answer::Done => text.extend_from_slice(b"ok"),
+        Answer::Thread(name, place) => put_thread(text, *name, *place),
+        Answer::Exited(name) => put_counted(text, b"exited ", *name),
+        Answer::Changed(serial, by) => put_change(text, *serial, *by),
+        Answer::NoChange => text.extend_from_slice(b"change none"),
+        Answer::Go => text.extend_from_slice(b"go"),
+        Answer::Stop(operation) => put_counted(text, b"stop ", *operation),
+        Answer::Entered => text.extend_from_slice(b"entered"),
+        Answer::WrongMethod => text.extend_from_slice(b"wrong method"),
+        Answer::Reply(n) => put_counted(text, b"reply ", *n),
+        Answer::Frames(frames) => put_frames(text, frames.as_slice()),
+        Answer::Code(serial) => put_counted(text, b"code ", *serial),
+        Answer::NoCode => text.extend_from_slice(b"none"),
+        Answer::Clear => text.extend_from_slice(b"clear"),
+        Answer::Late => text.extend_from_slice(b"late"),
+        Answer::NotLooked(place) => put_counted(text, b"not looked ", *place as u64),
+        Answer::Used(n) => put_counted(text, b"used ", *n as u64),
+        Answer::Retired => text.extend_from_slice(b"retired"),
+        Answer::Asked(operation) => put_counted(text, b"asked ", *operation),
+        Answer::Opened(operation, kind) => put_opened(text, *operation, *kind),
+        Answer::Closed(operation) => put_counted(text, b"closed ", *operation),
+        Answer::Told => text.extend_from_slice(b"told"),
+        Answer::Gone => text.extend_from_slice(b"gone"),
+        Answer::Census(counts) => put_census(text, counts.as_slice()),
+        Answer::Count(n) => put_counted(text, b"count ", *n as u64),
+        Answer::State(state) => put_code_state(text, *state),
+        Answer::Refused(why) => {
+            text.extend_from_slice(b"refused ")?;
+            put_refusal(text, *why)
+        }
+    }
+}
+
+/// Puts the line of text for a reply behind the text.
+pub(crate) fn put_reply(text: &mut Vec<u8>, reply: &Reply) -> Result<(), AllocError>
+    ensures { OnOk result (text.new.items ≡ text.old.items ++ (reply_text reply.now ++ 10 ∷ [])) }
+{
+    match reply {
+        Reply::BadLine => text.extend_from_slice(b"bad line")?,
+        Reply::BadSize => text.extend_from_slice(b"refused BadSize")?,
+        Reply::Answered(answer) => put_answer(text, answer)?,
+    }
+    Ok(text.push(b'\n')?)
+}

@@ -1,0 +1,275 @@
+// Bytes in, text out.
+ghost use Rattle.std.specs.Prelude.{◌≡◌, ◌++◌, ◌<◌, ◌≤◌, [], ℕ, List, Option, None, OnOk, OnErr, IfOk, IfSome, MatchResult, length, vec_len};
+ghost use Rattle.std.specs.Io.KnownBytes.{Appends};
+ghost use Rattle.replay.specs.Known.{AppendsPart, Grows};
+ghost use Rattle.replay.specs.Streams.{Turned, FedBy, Ended, Finished, GaveUp, failed_writes};
+ghost use Rattle.replay.specs.Outcome.{Wrote, FailedCalls};
+ghost use Rattle.replay.specs.Text.{text};
+
+use crate::device::{Failed, Sink, Source};
+use crate::engine::obey;
+use crate::grammar::parse;
+use crate::held::Held;
+use crate::print::put_reply;
+use crate::words::find;
+use std::alloc::{AllocError, Global};
+use system::System;
+
+/// Bytes that are read at a time, and that wait at most, but for one answer, before they are written.
+const BLOCK: usize = 65_536;
+
+/// The reads of one call.
+const READS: u64 = 1_099_511_627_775;
+
+/// Why not all was read, or not all was answered.
+#[derive(Clone, Copy, Debug, PartialEq, Eq, Drop)]
+pub enum ReplayFault {
+    /// A read failed, or 2^40 - 1 reads didn't reach the end. The whole lines before are answered.
+    ReadFailed,
+    /// A write failed, or took nothing. A beginning of the text is written.
+    WriteFailed,
+    /// Memory was refused. The lines before that event are answered.
+    NoMemory,
+}
+
+/// Why lines aren't answered.
+#[derive(Clone, Copy, Debug, PartialEq, Eq, Drop)]
+pub(crate) enum Halt {
+    WriteFailed,
+    NoMemory,
+}
+
+/// Writes all that waits.
+fn flush<W: Sink>(waits: &mut Vec<u8>, sink: &mut W) -> Result<(), Failed>
+    requires { W.failures sink.old ≡ 0 }
+    ensures done { OnOk result (Appends (W.got sink.old) (W.got sink.new) waits.old.items × (waits.new.items ≡ []) × (W.failures sink.new ≡ 0)) }
+    ensures part { OnErr result (AppendsPart (W.got sink.old) (W.got sink.new) waits.old.items × (W.failures sink.new ≡ 1)) }
+{
+    let mut at = 0;
+    while at < waits.len() {
+        at += sink.write(&waits[at..])?;
+    }
+    waits.clear();
+    Ok(())
+}
+
+/// Writes all that waits, if that is much.
+fn relieve<W: Sink>(waits: &mut Vec<u8>, sink: &mut W) -> Result<(), Failed>
+    requires { W.failures sink.old ≡ 0 }
+    ensures done { OnOk result (Grows (W.got sink.old) waits.old.items (W.got sink.new) waits.new.items [] × (W.failures sink.new ≡ 0)) }
+    ensures part { OnErr result (AppendsPart (W.got sink.old) (W.got sink.new) waits.old.items × (W.failures sink.new ≡ 1)) }
+{
+    if waits.len() < BLOCK {
+        Ok(())
+    } else {
+        flush(waits, sink)
+    }
+}
+
+/// Answers a line. The answer joins what waits once it is whole.
+fn turn(
+    system: &mut Option<System>,
+    text: &mut Vec<u8>,
+    waits: &mut Vec<u8>,
+    alloc: Global,
+    line: &[u8],
+) -> Result<(), AllocError>
+    ensures done { OnOk result (Turned system.old line.now waits.old.items waits.new.items system.new) }
+    ensures none { OnErr result (waits.new.items ≡ waits.old.items) }
+{
+    text.clear();
+    let command = parse(alloc, line)?;
+    let said = obey(system, alloc, command)?;
+    put_reply(text, &said)?;
+    waits.extend_from_slice(text)
+}
+
+/// Ends the line that was held.
+fn end_line(
+    system: &mut Option<System>,
+    held: &mut Held,
+    text: &mut Vec<u8>,
+    waits: &mut Vec<u8>,
+    alloc: Global,
+    piece: &[u8],
+) -> Result<(), AllocError>
+    ensures done { OnOk result (Turned system.old (held.old ++ piece.now) waits.old.items waits.new.items system.new) }
+    ensures held { OnOk result (held.new ≡ []) }
+    ensures none { OnErr result (waits.new.items ≡ waits.old.items) }
+{
+    if held.is_empty() {
+        return turn(system, text, waits, alloc, piece);
+    }
+    held.add(piece);
+    turn(system, text, waits, alloc, held.as_slice())?;
+    held.clear();
+    Ok(())
+}
+
+/// Answers the lines that end in the bytes.
+fn feed<W: Sink>(
+    system: &mut Option<System>,
+    held: &mut Held,
+    text: &mut Vec<u8>,
+    waits: &mut Vec<u8>,
+    sink: &mut W,
+    alloc: Global,
+    bytes: &[u8],
+) -> Result<(), Halt>
+    requires { W.failures sink.old ≡ 0 }
+    ensures failures { MatchResult result (λ _. W.failures sink.new ≡ 0) (λ halt. W.failures sink.new ≡ failed_writes halt) }
+    ensures fed { FedBy result system.old held.old bytes.now waits.old.items (W.got sink.old) system.new held.new waits.new.items (W.got sink.new) }
+{
+    let mut at = 0;
+    while at < bytes.len() {
+        let piece = &bytes[at..];
+        let n = find(b'\n', piece);
+        if n >= piece.len() {
+            held.add(piece);
+            return Ok(());
+        }
+        match end_line(system, held, text, waits, alloc, &piece[..n]) {
+            Ok(()) => {}
+            Err(_) => return Err(Halt::NoMemory),
+        }
+        at += n + 1;
+        match relieve(waits, sink) {
+            Ok(()) => {}
+            Err(_) => return Err(Halt::WriteFailed),
+        }
+    }
+    Ok(())
+}
+
+/// Reads all there is, and answers each line.
+///
+/// A last line without a newline is a line. A line that spells nothing is answered `bad line`, and the run goes on. What is
+/// read and written doesn't change how much memory the call takes; no call that failed is made again.
+pub fn replay<R: Source, W: Sink>(
+    alloc: Global,
+    source: &mut R,
+    sink: &mut W,
+) -> Result<(), ReplayFault>
+    requires source { R.failures source.old ≡ 0 }
+    requires unread { R.reads source.old ≡ 0 }
+    requires sink { W.failures sink.old ≡ 0 }
+    ensures text { OnOk result (IfSome (R.left source.old) (λ input. Appends (W.got sink.old) (W.got sink.new) (text input))) }
+    ensures wrote { Wrote result (R.left source.old) (R.left source.new) (W.got sink.old) (W.got sink.new) }
+    ensures failed { FailedCalls result (R.reads source.new) (R.failures source.new) (W.failures sink.new) }
+{
+    match buffers(alloc) {
+        Ok((block, text, waits)) => answer_all(alloc, source, sink, block, text, waits),
+        Err(_) => Err(ReplayFault::NoMemory),
+    }
+}
+
+fn buffers(alloc: Global) -> Result<(Vec<u8>, Vec<u8>, Vec<u8>), AllocError>
+    ensures { IfOk result (λ all. (0 < vec_len all.0) × (all.2.items ≡ [])) }
+{
+    let block = vec![in alloc; 0u8; BLOCK]?;
+    let text = Vec::with_capacity(alloc, BLOCK)?;
+    let waits = Vec::with_capacity(alloc, 2 * BLOCK)?;
+    Ok((block, text, waits))
+}
+
+/// Answers block after block, through buffers for what is read, for one answer and for what waits to be written.
+fn answer_all<R: Source, W: Sink>(
+    alloc: Global,
+    source: &mut R,
+    sink: &mut W,
+    mut block: Vec<u8>,
+    mut text: Vec<u8>,
+    mut waits: Vec<u8>,
+) -> Result<(), ReplayFault>
+    requires source { R.failures source.old ≡ 0 }
+    requires unread { R.reads source.old ≡ 0 }
+    requires sink { W.failures sink.old ≡ 0 }
+    requires room { 0 < vec_len block }
+    requires none { waits.items ≡ [] }
+    ensures wrote { Wrote result (R.left source.old) (R.left source.new) (W.got sink.old) (W.got sink.new) }
+    ensures failed { FailedCalls result (R.reads source.new) (R.failures source.new) (W.failures sink.new) }
+{
+    let mut held = Held::new();
+    let mut system = None;
+    for turn in 0..READS {
+        let Ok(n) = source.read(&mut block) else {
+            return Err(ReplayFault::ReadFailed);
+        };
+        if n == 0 {
+            return finish(&mut system, &mut held, &mut text, &mut waits, sink, alloc);
+        }
+        match feed(
+            &mut system,
+            &mut held,
+            &mut text,
+            &mut waits,
+            sink,
+            alloc,
+            &block[..n],
+        ) {
+            Ok(()) => {}
+            Err(halt) => return Err(give_up(halt, &mut waits, sink)),
+        }
+        match flush(&mut waits, sink) {
+            Ok(()) => {}
+            Err(_) => return Err(ReplayFault::WriteFailed),
+        }
+    }
+    Err(ReplayFault::ReadFailed)
+}
+
+/// Says which fault stops the call. For want of memory, the answers before that event are written first.
+fn give_up<W: Sink>(halt: Halt, waits: &mut Vec<u8>, sink: &mut W) -> ReplayFault
+    requires { W.failures sink.old ≡ failed_writes halt }
+    ensures { GaveUp halt result waits.old.items (W.got sink.old) (W.got sink.new) (W.failures sink.new) }
+{
+    match halt {
+        Halt::WriteFailed => ReplayFault::WriteFailed,
+        Halt::NoMemory => match flush(waits, sink) {
+            Ok(()) => ReplayFault::NoMemory,
+            Err(_) => ReplayFault::WriteFailed,
+        },
+    }
+}
+
+/// Answers a last line without an end.
+fn end_rest(
+    system: &mut Option<System>,
+    held: &mut Held,
+    text: &mut Vec<u8>,
+    waits: &mut Vec<u8>,
+    alloc: Global,
+) -> Result<(), AllocError>
+    ensures done { OnOk result (Ended system.old held.old waits.old.items waits.new.items) }
+    ensures none { OnErr result (waits.new.items ≡ waits.old.items) }
+{
+    if held.is_empty() {
+        Ok(())
+    } else {
+        end_line(system, held, text, waits, alloc, &[])
+    }
+}
+
+/// Answers a last line without an end, and writes all.
+fn finish<W: Sink>(
+    system: &mut Option<System>,
+    held: &mut Held,
+    text: &mut Vec<u8>,
+    waits: &mut Vec<u8>,
+    sink: &mut W,
+    alloc: Global,
+) -> Result<(), ReplayFault>
+    requires fresh { W.failures sink.old ≡ 0 }
+    requires none { waits.old.items ≡ [] }
+    ensures failed { FailedCalls result 0 0 (W.failures sink.new) }
+    ensures finished { Finished result system.old held.old (W.got sink.old) (W.got sink.new) }
+{
+    match end_rest(system, held, text, waits, alloc) {
+        Ok(()) => {}
+        Err(_) => return Err(ReplayFault::NoMemory),
+    }
+    match flush(waits, sink) {
+        Ok(()) => Ok(()),
+        Err(_) => Err(ReplayFault::WriteFailed),
+    }
+}

@@ -1,0 +1,92 @@
+// Words and numbers of a line.
+ghost use Rattle.std.specs.Prelude.{◌≡◌, ◌≤◌, ◌<◌, ◌==◌, ℕ, length, ◌∷◌, List, option_map, Some, None, IfSome};
+ghost use Rattle.replay.specs.Words.{words, words_after, is_nil};
+ghost use Rattle.replay.specs.Scanned.{first_at, digits_from, begins_well};
+ghost use Rattle.replay.specs.Grammar.{took, last_number};
+
+/// The greatest number of a line.
+const GREATEST: u64 = 1_099_511_627_775;
+
+/// Where the byte stands first, or the length.
+pub(crate) fn find(byte: u8, bytes: &[u8]) -> usize
+    ensures at { result ≡ first_at byte bytes.now }
+    ensures bound { result ≤ length bytes.now }
+{
+    for (i, b) in bytes.iter().enumerate() {
+        if *b == byte {
+            return i;
+        }
+    }
+    bytes.len()
+}
+
+/// The first word, and what stands after it: nothing, or a space and more words.
+#[tactic(auto, using(crate::proofs::Cuts::words_cut))]
+pub(crate) fn cut(bytes: &[u8]) -> (&[u8], &[u8])
+    ensures { words bytes.now ≡ result.0.now ∷ words_after result.1.now }
+{
+    bytes.split_at(find(b' ', bytes))
+}
+
+/// No word stands after.
+#[tactic(auto, using(crate::proofs::Cuts::none_left))]
+pub(crate) fn is_end(tail: &[u8]) -> bool
+    ensures { result ≡ is_nil (words_after tail.now) }
+{
+    tail.is_empty()
+}
+
+/// The digits up to a space, and what stands from the space on.
+fn digits(bytes: &[u8]) -> Option<(u64, &[u8])>
+    ensures taken { option_map (λ taken. (taken.0, taken.1.now)) result ≡ digits_from 0 bytes.now }
+    ensures rest { IfSome result (λ taken. length taken.1.now ≤ length bytes.now) }
+{
+    let mut value = 0u64;
+    for (i, b) in bytes.iter().enumerate() {
+        if *b == b' ' {
+            return Some((value, &bytes[i..]));
+        }
+        if *b < b'0' || b'9' < *b {
+            return None;
+        }
+        value = value * 10 + (*b - b'0') as u64;
+        if value > GREATEST {
+            return None;
+        }
+    }
+    Some((value, &[]))
+}
+
+/// A number may begin the bytes: there is a word, and it doesn't begin with a 0 that more follows.
+fn begins_well(bytes: &[u8]) -> bool
+    ensures { result ≡ begins_well bytes.now }
+{
+    match bytes {
+        [] => false,
+        [b] => *b != b' ',
+        [b, c, ..] => *b != b' ' && (*c == b' ' || *b != b'0'),
+    }
+}
+
+/// The number that is the next word, and what stands after it.
+pub(crate) fn next(tail: &[u8]) -> Option<(u64, &[u8])>
+    ensures taken { option_map (λ taken. (taken.0, words_after taken.1.now)) result ≡ took (words_after tail.now) }
+    ensures shorter { IfSome result (λ taken. length taken.1.now < length tail.now) }
+{
+    let [_, bytes @ ..] = tail else {
+        return None;
+    };
+    if begins_well(bytes) {
+        digits(bytes)
+    } else {
+        None
+    }
+}
+
+/// The number that is the next and last word.
+pub(crate) fn last(tail: &[u8]) -> Option<u64>
+    ensures { result ≡ last_number (words_after tail.now) }
+{
+    let (n, rest) = next(tail)?;
+    if is_end(rest) { Some(n) } else { None }
+}

@@ -1,0 +1,148 @@
+// Cases that are easily taken for others: the definitions give these answers, by computation.
+ghost use Rattle.rows.specs.Lines.{Plays};
+ghost use Rattle.rows.specs.Traps;
+
+/// A full queue is named before targets; no targets before bad ones.
+pub fn ask_order()
+    ensures { Plays 1 1 1 Traps.ask_order }
+{}
+
+/// A stop keeps where the thread goes on, in Java or in the VM.
+pub fn way_back_to_the_vm()
+    ensures { Plays 1 4 2 Traps.way_back_to_the_vm }
+{}
+
+/// A frame left and entered again since it was shown is no change.
+pub fn left_and_entered_again()
+    ensures { Plays 1 4 2 Traps.left_and_entered_again }
+{}
+
+/// An untold thread may leave while a census is open; refusals of Operate and Close in their order.
+pub fn exit_in_an_open_census()
+    ensures { Plays 2 4 2 Traps.exit_in_an_open_census }
+{}
+
+/// A thread that was released uncleared after a census clears for itself.
+pub fn clear_after_a_census()
+    ensures { Plays 1 4 2 Traps.clear_after_a_census }
+{}
+
+/// Changes come in rising serial, whatever the order of the frames.
+pub fn change_order()
+    ensures { Plays 1 4 2 Traps.change_order }
+{}
+
+/// The refusals of Clear and Finish in their order.
+pub fn clear_order()
+    ensures { Plays 2 4 2 Traps.clear_order }
+{}
+
+/// A full stack is named before code that isn't entrant.
+pub fn depth_full_before_wrong_method()
+    ensures { Plays 1 4 2 Traps.depth_full_before_wrong_method }
+{}
+
+/// The refusals of Enter in their order.
+pub fn enter_order()
+    ensures { Plays 1 2 2 Traps.enter_order }
+{}
+
+/// The refusals of Exit: frames, then what isn't published.
+pub fn exit_order()
+    ensures { Plays 1 4 2 Traps.exit_order }
+{}
+
+/// The refusals of Exit: what isn't published, then an operation that was told.
+pub fn exit_unpublished_before_pending()
+    ensures { Plays 1 4 2 Traps.exit_unpublished_before_pending }
+{}
+
+/// A thread that never published leaves with an empty stack.
+pub fn exit_without_a_publication()
+    ensures { Plays 1 1 1 Traps.exit_without_a_publication }
+{}
+
+/// A target that leaves before it is told is gone, and its operation closes.
+pub fn exit_before_being_told()
+    ensures { Plays 1 4 2 Traps.exit_before_being_told }
+{}
+
+/// A new thread that is held is served without having published.
+pub fn finish_of_a_new_thread()
+    ensures { Plays 1 1 1 Traps.finish_of_a_new_thread }
+{}
+
+/// A target that starts after the opening is gone for it, and is told of the next.
+pub fn target_started_later()
+    ensures { Plays 1 1 1 Traps.target_started_later }
+{}
+
+/// The refusals of Hold in their order.
+pub fn hold_order()
+    ensures { Plays 1 4 2 Traps.hold_order }
+{}
+
+/// Code in use is named before a full table; a zombie still takes its slot.
+pub fn install_order()
+    ensures { Plays 1 2 2 Traps.install_order }
+{}
+
+/// A pair that was looked at stays so, although a later look is late.
+pub fn look_for_good()
+    ensures { Plays 1 1 1 Traps.look_for_good }
+{}
+
+/// A place whose thread never ended a publication is clear; after its first End it may be late.
+pub fn look_before_the_first_end()
+    ensures { Plays 1 1 1 Traps.look_before_the_first_end }
+{}
+
+/// Names that were never given out are gone in a handshake that lists them, and not of a census.
+pub fn names_never_given()
+    ensures { Plays 1 4 2 Traps.names_never_given }
+{}
+
+/// A held thread publishes and is served whatever its state.
+pub fn publication_of_a_held_thread()
+    ensures { Plays 1 4 2 Traps.publication_of_a_held_thread }
+{}
+
+/// The refusals of Open, Operate and Close where nothing or another kind is open.
+pub fn open_order()
+    ensures { Plays 1 1 1 Traps.open_order }
+{}
+
+/// The common tests in their order: place, vacancy, publication, state.
+pub fn publishing_before_state()
+    ensures { Plays 2 1 1 Traps.publishing_before_state }
+{}
+
+/// A place is covered by invalidation, round, begin and end in this order alone.
+pub fn round_between()
+    ensures { Plays 1 4 2 Traps.round_between }
+{}
+
+/// A thread stops at each poll until it has cleared.
+pub fn stopped_until_cleared()
+    ensures { Plays 1 4 2 Traps.stopped_until_cleared }
+{}
+
+/// A freed code is unknown, but to its state and its entry.
+pub fn freed_is_unknown()
+    ensures { Plays 1 1 1 Traps.freed_is_unknown }
+{}
+
+/// A place that wasn't looked at is named before the count.
+pub fn not_looked_before_used()
+    ensures { Plays 2 4 2 Traps.not_looked_before_used }
+{}
+
+/// A weighing goes by the count, which moves with the changes of an open publication.
+pub fn weighed_while_publishing()
+    ensures { Plays 1 4 2 Traps.weighed_while_publishing }
+{}
+
+/// Code that isn't in use is sent away, whatever method it was for.
+pub fn wrong_method_of_any_method()
+    ensures { Plays 1 4 2 Traps.wrong_method_of_any_method }
+{}

@@ -1,0 +1,10 @@
+pub mod Shapes
+pub mod Sketches
+pub mod SoFar
+pub mod ItemRead
+pub mod MethodsSoFar
+pub mod Documents
+pub mod CheckedSoFar
+pub mod ItemChecked
+pub mod Runnable
+pub mod ScriptSoFar

@@ -1,0 +1,11 @@
+pub mod Body
+pub mod Outline
+pub mod Shape
+pub mod Json
+pub mod View
+pub mod Seen
+pub mod Faults
+pub mod Reads
+pub mod Layout
+pub mod Checks
+pub mod Checked

@@ -1,0 +1,33 @@
+/// What one item does that isn't a loop.
+#[derive(Clone, Copy, Debug, PartialEq, Eq)]
+pub enum Action {
+    /// Into native code and back.
+    Native,
+    /// Into the VM and back.
+    Vm,
+    /// A wait, from inside the VM.
+    Block,
+    /// A tick for whoever watches the run.
+    Tick,
+    /// A call of the method of this number.
+    Call(u64),
+}
+
+/// One item of a method, or of a loop's body.
+#[derive(Debug, Drop)]
+pub enum Item {
+    Action(Action),
+    Loop { turns: u64, body: Vec<Item> },
+}
+
+/// A method: its items, in order.
+#[derive(Debug, Drop)]
+pub struct Method {
+    pub items: Vec<Item>,
+}
+
+/// A script as its text says it. Running starts with method 0. Nothing is checked of calls and loops.
+#[derive(Debug, Drop)]
+pub struct Script {
+    pub methods: Vec<Method>,
+}

@@ -1,0 +1,20 @@
+//! Scripts for threads: what a text of JSON says as a script, and that script as checked code.
+#![tactic(auto)]
+
+mod checking;
+mod code;
+mod fault;
+mod items;
+mod place;
+mod reading;
+mod shape;
+#[cfg(test)]
+mod tests;
+mod walk;
+
+pub use checking::{MAX_LEVELS, MAX_TURNS, check};
+pub use code::{Code, Op, Routine};
+pub use fault::{Fault, ScriptFault};
+pub use items::{Action, Item, Method, Script};
+pub use place::Place;
+pub use reading::{MAX_BYTES, MAX_ITEMS, MAX_METHODS, read_script};

@@ -1,0 +1,333 @@
+-- A census: when it is refused, that the index answers it, and what the system has afterwards.
+use Rattle.std.proofs.Common.{◌≡◌, ◌≢◌, ◌∙◌, ◌+◌, ◌<◌, ◌≤◌, sym, ap, ap₂, refl, subst, ℕ, suc, Bool, true, false, not, ◌&&◌, ◌||◌, ◌==◌, eqb, cond, List, [], ◌∷◌, Option, Some, None, length, map, arith}
+use Rattle.std.specs.Prelude.{slice_get, filter, is_none, IsTrue, ◌↔◌}
+use Rattle.std.specs.List.{list_all}
+use Rattle.std.proofs.lemmas.Bool.Decides.{nat_tests}
+use Rattle.std.proofs.lemmas.List.Folds.{list_any-append}
+use Rattle.frames.specs.declared.CodeId.{CodeId}
+use Rattle.frames.specs.ImageView.{ImageView, IsSettled, next_code}
+use Rattle.frames.proofs.Fewer.{none_next}
+use Rattle.method_table.specs.declared.Code.{Code}
+use Rattle.method_table.specs.Codes.{code_of, id_of}
+use Rattle.activation_index.specs.declared.Entry.{Entry}
+use Rattle.activation_index.specs.Counts.{count_in, IsRisingFrom}
+use Rattle.operations.specs.Names.{among}
+use Rattle.operations.specs.Requests.{is_census}
+use Rattle.system.specs.declared.events.Event.TheVariants as event
+use Rattle.system.specs.declared.answers.Answer.{Answer}
+use Rattle.system.specs.declared.answers.Answer.TheVariants as answer
+use Rattle.system.specs.declared.answers.CodeCount.{CodeCount}
+use Rattle.system.specs.declared.answers.Refusal.{Refusal}
+use Rattle.system.specs.declared.answers.Refusal.TheVariants.{NothingOpen, NotOf, AlreadyDone, NotAllHeld, Publishing, Unpublished}
+use Rattle.system.specs.declared.requests.Open.{Open}
+use Rattle.system.specs.declared.thread.Marks.{Marks}
+use Rattle.system.specs.declared.thread.Thread.{Thread as Kept}
+use Rattle.system.specs.declared.keeping.Core.{Core}
+use Rattle.system.specs.Verdict.{Verdict, refused, accepted, unless◌refuse◌then◌}
+use Rattle.system.specs.Operations.{Opened, Mark, is_marked, marks_of}
+use Rattle.system.specs.Log.{Entry as Logged}
+use Rattle.system.specs.Threads.{Thread, is_publishing, is_settled}
+use Rattle.system.specs.World.{World, found, thread_at, threads, live_names, frames_of, census}
+use Rattle.system.specs.Places.{in_open}
+use Rattle.system.specs.Step.{outcome, operate, operated_if}
+use Rattle.system.specs.Facts.{IsSound}
+use Rattle.system.specs.Keeps.{SameThread}
+use Rattle.system.specs.Censuses.{holds_at, is_held_kept, is_quiet_kept, is_settled_kept, operate_refusal, operated, census_of}
+use Rattle.system.specs.Stands.{Matches, SamePlace, SameMarks, SameOpen, SameOpened, DoesIn, Does, kept_at, walk_of, done_by, waiting_of}
+use Rattle.system.proofs.Outcomes.{asked, with_operated}
+use Rattle.system.proofs.Lists.{all_at, find_place}
+use Rattle.system.proofs.Logs.{operations_next}
+use Rattle.system.proofs.Codings.{accepted_in, refused_does}
+use Rattle.system.proofs.Marks.{threads_has, live_has}
+use Rattle.system.proofs.Seats.{there_of}
+use Rattle.system.proofs.Table.{code_serial}
+use Rattle.system.proofs.Images.{is_settled_by, counted_none}
+use Rattle.system.proofs.Safely.{index_is}
+use Rattle.system.proofs.Slots.{below_none, own}
+use Rattle.system.proofs.Requesting.{Rerequests, IsOfRequests, OneOpen, one_open, none_open, asked_live, sizes_stay, among_names, names_stay}
+
+none_of : (o : Option CodeId) → is_none o ≡ true → o ≡ None
+none_of None h = refl
+none_of (Some code) h = cc
+
+-- What an image's own test says.
+pub settled_test : (image : ImageView) (b : Bool) → (IsTrue b ↔ IsSettled image) → b ≡ not image.publishing && is_none (next_code image)
+settled_test image true iff = let s : IsSettled image = iff.0 refl in rw (s.0, counted_none image s.1) refl
+settled_test image false iff = by image.publishing (is_none (next_code image)) refl refl
+  where
+    by : (p n : Bool) → image.publishing ≡ p → is_none (next_code image) ≡ n → false ≡ not p && n
+    by true n e f = refl
+    by false false e f = refl
+    by false true e f = let bad : IsTrue false = iff.1 (e, none_next image (none_of (next_code image) f)) in cc
+
+-- The entries as pairs, and these under their names.
+pub named_counts : (es : List Entry) → map (λ (c : ℕ × ℕ). record { serial = c.0; count = c.1 }) (map (λ (e : Entry). (e.serial, e.count)) es) ≡ census_of es
+named_counts [] = refl
+named_counts (e ∷ es) = ap (λ cs. record { serial = e.serial; count = e.count } ∷ cs) (named_counts es)
+
+-- A test of all threads is one of all that the system keeps.
+abbrev Agree : (Kept → Bool) → (Thread → Bool) → Option Kept → Option Thread → Type 0
+Agree f g None None = Unit {0}
+Agree f g (Some kept) (Some t) = f kept ≡ g t
+Agree f g None (Some t) = ⊥
+Agree f g (Some kept) None = ⊥
+
+all_same : (f : Kept → Bool) (g : Thread → Bool) (ks : List (Option Kept)) (ts : List (Option Thread)) → length ks ≡ length ts → ((p : ℕ) → Agree f g (kept_at ks p) (found (slice_get ts p))) → list_all g (threads ts) ≡ list_all (holds_at f) ks
+all_same f g [] [] e h = refl
+all_same f g [] (t ∷ ts) e h = absurd (omega arith)
+all_same f g (k ∷ ks) [] e h = absurd (omega arith)
+all_same f g (None ∷ ks) (None ∷ ts) e h = all_same f g ks ts (omega arith) (λ p. h (suc p))
+all_same f g (None ∷ ks) (Some t ∷ ts) e h = absurd (h 0)
+all_same f g (Some k ∷ ks) (None ∷ ts) e h = absurd (h 0)
+all_same f g (Some k ∷ ks) (Some t ∷ ts) e h = ap₂ (λ a b. a && b) (sym (h 0)) (all_same f g ks ts (omega arith) (λ p. h (suc p)))
+
+agree : (f : Kept → Bool) (g : Thread → Bool) (w : World) (p : ℕ) (k : Option Kept) (t : Option Thread) → ((kept : Kept) (u : Thread) → SameThread kept u → f kept ≡ g u) → SamePlace w p k t → Agree f g k t
+agree f g w p None None h same = tt
+agree f g w p (Some kept) (Some t) h same = h kept t same.thread
+agree f g w p None (Some t) h same = absurd same
+agree f g w p (Some kept) None h same = absurd same
+
+all_threads_same : (f : Kept → Bool) (g : Thread → Bool) (s : Core) (w : World) → Matches s w → ((kept : Kept) (u : Thread) → SameThread kept u → f kept ≡ g u) → list_all g (threads w.places) ≡ list_all (holds_at f) s.places.items
+all_threads_same f g s w m h = all_same f g s.places.items w.places m.places.lengths (λ p. agree f g w p (kept_at s.places.items p) (thread_at w p) h (m.places.each p))
+
+held_same : (s : Core) (w : World) → Matches s w → list_all (λ (t : Thread). t.held) (threads w.places) ≡ list_all (holds_at is_held_kept) s.places.items
+held_same s w m = all_threads_same is_held_kept (λ t. t.held) s w m (λ kept u same. same.held)
+
+quiet_same : (s : Core) (w : World) → Matches s w → list_all (λ (t : Thread). not (is_publishing t)) (threads w.places) ≡ list_all (holds_at is_quiet_kept) s.places.items
+quiet_same s w m = all_threads_same is_quiet_kept (λ t. not (is_publishing t)) s w m (λ kept u same. ap not same.image.publishing)
+
+settled_same : (s : Core) (w : World) → Matches s w → list_all is_settled (threads w.places) ≡ list_all (holds_at is_settled_kept) s.places.items
+settled_same s w m = all_threads_same is_settled_kept is_settled s w m (λ kept u same. sym (is_settled_by kept.image u same.image))
+
+operated_list : (w : World) (o : Opened) → w.requests.opened ≡ o ∷ [] → map (operated_if o.number) w.requests.opened ≡ record o { operated = true } ∷ []
+operated_list w o is = let self : eqb o.number o.number ≡ true = grind (arith, nat_tests) in ap (map (operated_if o.number)) is ∙ rw self refl
+
+-- The tests in their order.
+abbrev tests : World → Opened → Bool → Bool → Bool → Bool → Bool → Verdict World
+tests w o a b c d e =
+    unless a refuse NotOf then
+    unless not b refuse AlreadyDone then
+    unless c refuse NotAllHeld then
+    unless d refuse Publishing then
+    unless e refuse Unpublished then
+    accepted (record w { requests = with_operated w o }) (answer.Census (census w))
+
+abbrev first : Bool → Bool → Bool → Bool → Bool → Option Refusal
+first a b c d e = cond (not a) (Some NotOf) (cond b (Some AlreadyDone) (cond (not c) (Some NotAllHeld) (cond (not d) (Some Publishing) (cond (not e) (Some Unpublished) None))))
+
+tests_refused : (w : World) (o : Opened) (a b c d e : Bool) (r : Refusal) → first a b c d e ≡ Some r → tests w o a b c d e ≡ refused r
+tests_refused w o false b c d e r h = cc
+tests_refused w o true true c d e r h = cc
+tests_refused w o true false false d e r h = cc
+tests_refused w o true false true false e r h = cc
+tests_refused w o true false true true false r h = cc
+tests_refused w o true false true true true r h = cc
+
+-- a census that isn't refused passed them
+record Passed (w : World) (o : Opened) (a b c d e : Bool) : Type 0 where
+  is : tests w o a b c d e ≡ accepted (record w { requests = with_operated w o }) (answer.Census (census w))
+  asked : a ≡ true
+  settled : e ≡ true
+
+passed : (w : World) (o : Opened) (a b c d e : Bool) → first a b c d e ≡ None → Passed w o a b c d e
+passed w o false b c d e h = cc
+passed w o true true c d e h = cc
+passed w o true false false d e h = cc
+passed w o true false true false e h = cc
+passed w o true false true true false h = cc
+passed w o true false true true true h = record { is = refl; asked = refl; settled = refl }
+
+-- What the world tests is what the system does.
+module _ (s : Core) (w : World) (m : Matches s w) (open_ : Open) (k : OneOpen open_ w.requests.opened w) where
+  kept_tests : Verdict World
+  kept_tests = tests w k.o (is_census open_.request) open_.operated (list_all (holds_at is_held_kept) s.places.items) (list_all (holds_at is_quiet_kept) s.places.items) (list_all (holds_at is_settled_kept) s.places.items)
+
+  outcome_is : outcome w event.Operate ≡ tests w k.o (is_census open_.request) open_.operated (list_all (holds_at is_held_kept) s.places.items) (list_all (holds_at is_quiet_kept) s.places.items) (list_all (holds_at is_settled_kept) s.places.items)
+  outcome_is =
+      let one : outcome w event.Operate ≡ operate w k.o = ap (λ os. in_open os (operate w)) k.is in
+      let request : is_census k.o.request ≡ is_census open_.request = ap is_census (sym k.same.request) in
+      let done : k.o.operated ≡ open_.operated = sym k.same.operated in
+      let held = held_same s w m in
+      let quiet = quiet_same s w m in
+      let settled = settled_same s w m in
+      one ∙ (λ i. tests w k.o (request i) (done i) (held i) (quiet i) (settled i))
+
+refused_by : (s : Core) (w : World) (o : Option Open) (r : Refusal) → Matches s w → s.requests.open ≡ o → operate_refusal o s.places.items ≡ Some r → outcome w event.Operate ≡ refused r
+refused_by s w None r m is h =
+    let none = none_open s.requests.open w.requests.opened w m.opened is in
+    let r_is : NothingOpen ≡ r = cc in
+    ap (λ os. in_open os (operate w)) none ∙ ap refused r_is
+refused_by s w (Some open_) r m is h =
+    let k = one_open s.requests.open w.requests.opened w open_ m.opened is in
+    outcome_is s w m open_ k ∙ tests_refused w k.o (is_census open_.request) open_.operated (list_all (holds_at is_held_kept) s.places.items) (list_all (holds_at is_quiet_kept) s.places.items) (list_all (holds_at is_settled_kept) s.places.items) r h
+
+pub operate_refused : (s : Core) (r : Refusal) → operate_refusal s.requests.open s.places.items ≡ Some r → Does event.Operate s (answer.Refused r) s
+operate_refused s r h = refused_does s event.Operate r (λ w m. refused_by s w s.requests.open r m refl h)
+
+-- Rising entries without zeros that count as the codes do are the codes' counts without zeros.
+abbrev count_of : (Code → ℕ) → Option Code → ℕ
+count_of g None = 0
+count_of g (Some code) = g code
+
+abbrev counted : (Code → ℕ) → Code → CodeCount
+counted g code = record { serial = code.serial; count = g code }
+
+abbrev counts_of : (Code → ℕ) → List Code → List CodeCount
+counts_of g codes = filter (λ (c : CodeCount). not (c.count == 0)) (map (counted g) codes)
+
+-- serials go by one from n
+abbrev AreFrom : ℕ → List Code → Type 0
+AreFrom n [] = Unit {0}
+AreFrom n (code ∷ codes) = (code.serial ≡ n) × AreFrom (n + 1) codes
+
+are_from : (n : ℕ) (codes : List Code) → ((i : ℕ) (code : Code) → slice_get codes i ≡ Some code → code.serial ≡ i + n) → AreFrom n codes
+are_from n [] h = tt
+are_from n (code ∷ codes) h = (let first = h 0 code refl in omega (arith, first), are_from (n + 1) codes (λ i other e. (let x = h (suc i) other e in omega (arith, x))))
+
+not_counted : (g : Code → ℕ) (code : Code) (codes : List Code) → g code ≡ 0 → counts_of g (code ∷ codes) ≡ counts_of g codes
+not_counted g code codes none = let e : eqb (g code) 0 ≡ true = grind (arith, nat_tests) in rw e refl
+
+is_counted : (g : Code → ℕ) (code : Code) (codes : List Code) → 0 < g code → counts_of g (code ∷ codes) ≡ counted g code ∷ counts_of g codes
+is_counted g code codes some = let e : eqb (g code) 0 ≡ false = grind (arith, nat_tests) in rw e refl
+
+code_later : (code : Code) (codes : List Code) (n q : ℕ) → code.serial ≡ n → n + 1 ≤ q → code_of (code ∷ codes) q ≡ code_of codes q
+code_later code codes n q is later = let e : eqb code.serial q ≡ false = grind (arith, nat_tests) in rw e refl
+
+code_now : (code : Code) (codes : List Code) (n : ℕ) → code.serial ≡ n → code_of (code ∷ codes) n ≡ Some code
+code_now code codes n is = let e : eqb code.serial n ≡ true = grind (arith, nat_tests) in rw e refl
+
+count_later : (e : Entry) (es : List Entry) (n q : ℕ) → e.serial ≡ n → n + 1 ≤ q → count_in (e ∷ es) q ≡ count_in es q
+count_later e es n q is later = let x : eqb e.serial q ≡ false = grind (arith, nat_tests) in rw x refl
+
+count_now : (e : Entry) (es : List Entry) (n : ℕ) → e.serial ≡ n → count_in (e ∷ es) n ≡ e.count
+count_now e es n is = let x : eqb e.serial n ≡ true = grind (arith, nat_tests) in rw x refl
+
+rising_later : (e : Entry) (es : List Entry) (n : ℕ) → IsRisingFrom n (e ∷ es) → e.serial ≢ n → IsRisingFrom (n + 1) (e ∷ es)
+rising_later e es n r differ = (let low = r.0 in grind arith, r.1, r.2)
+
+census_matches : (g : Code → ℕ) (codes : List Code) (n : ℕ) (es : List Entry) → AreFrom n codes → IsRisingFrom n es → ((q : ℕ) → n ≤ q → count_in es q ≡ count_of g (code_of codes q)) → census_of es ≡ counts_of g codes
+census_matches g [] n [] f r h = refl
+census_matches g [] n (e ∷ es) f r h = let none = h e.serial r.0 in let some = own e es n r in absurd (omega (arith, none, some))
+census_matches g (code ∷ codes) n [] f r h =
+    let zero : g code ≡ 0 = sym (h n (omega arith) ∙ ap (count_of g) (code_now code codes n f.0)) in
+    census_matches g codes (n + 1) [] f.1 tt (λ q later. h q (omega (arith, later)) ∙ ap (count_of g) (code_later code codes n q f.0 later)) ∙ sym (not_counted g code codes zero)
+census_matches g (code ∷ codes) n (e ∷ es) f r h = by (eqb e.serial n) refl
+    (λ is rising. census_matches g codes (n + 1) es f.1 rising (λ q later. sym (count_later e es n q is later) ∙ (h q (omega (arith, later)) ∙ ap (count_of g) (code_later code codes n q f.0 later))))
+    (λ rising. census_matches g codes (n + 1) (e ∷ es) f.1 rising (λ q later. h q (omega (arith, later)) ∙ ap (count_of g) (code_later code codes n q f.0 later)))
+  where
+    at_n : count_in (e ∷ es) n ≡ g code
+    at_n = h n (omega arith) ∙ ap (count_of g) (code_now code codes n f.0)
+
+    by : (b : Bool) → eqb e.serial n ≡ b → (e.serial ≡ n → IsRisingFrom (n + 1) es → census_of es ≡ counts_of g codes) → (IsRisingFrom (n + 1) (e ∷ es) → census_of (e ∷ es) ≡ counts_of g codes) → census_of (e ∷ es) ≡ counts_of g (code ∷ codes)
+    by true t here there =
+        let is : e.serial ≡ n = grind (arith, nat_tests) in
+        let count_is : e.count ≡ g code = sym (count_now e es n is) ∙ at_n in
+        let some : 0 < g code = (let p = r.1 in omega (arith, p, count_is)) in
+        let serials : e.serial ≡ code.serial = is ∙ sym f.0 in
+        let one : record { serial = e.serial; count = e.count } ≡ counted g code = (λ i. record { serial = serials i; count = count_is i }) in
+        ap₂ (λ (x : CodeCount) xs. x ∷ xs) one (here is (subst (λ k. IsRisingFrom (k + 1) es) is r.2)) ∙ sym (is_counted g code codes some)
+    by false t here there =
+        let differ : e.serial ≢ n = λ is. (let x : eqb e.serial n ≡ true = grind (arith, nat_tests) in cc) in
+        let other : count_in (e ∷ es) n ≡ count_in es n = rw t refl in
+        let below : count_in es n ≡ 0 = below_none es (e.serial + 1) n r.2 (let low = r.0 in omega (arith, low)) in
+        let zero : g code ≡ 0 = sym at_n ∙ (other ∙ below) in
+        there (rising_later e es n r differ) ∙ sym (not_counted g code codes zero)
+
+from_one : (es : List Entry) → IsRisingFrom 0 es → count_in es 0 ≡ 0 → IsRisingFrom 1 es
+from_one [] r none = tt
+from_one (e ∷ es) r none = rising_later e es 0 r (λ is. let now = count_now e es 0 is in let some = r.1 in absurd (omega (arith, now, some, none)))
+
+-- The index answers the census where all are settled.
+census_is : (s : Core) (w : World) → Matches s w → IsSound w → IsRisingFrom 0 s.index.entries → list_all is_settled (threads w.places) ≡ true → census_of s.index.entries ≡ census w
+census_is s w m sound rising settled =
+    census_matches (λ code. frames_of w (id_of code)) w.codes 1 s.index.entries (are_from 1 w.codes (λ i code e. sound.table.serial_is i code e)) (from_one s.index.entries rising (m.index 0 ∙ zero_free (code_of w.codes 0) refl)) (λ q low. m.index q ∙ same (code_of w.codes q))
+  where
+    settled_at : (p : ℕ) (t : Thread) → slice_get w.places p ≡ Some (Some t) → is_settled t ≡ true
+    settled_at p t x = let r = threads_has w.places p t x in all_at is_settled (threads w.places) r.0 t settled r.1
+
+    same : (o : Option Code) → walk_of w o ≡ count_of (λ code. frames_of w (id_of code)) o
+    same None = refl
+    same (Some code) = index_is (id_of code) w.places settled_at
+
+    zero_free : (o : Option Code) → code_of w.codes 0 ≡ o → walk_of w o ≡ 0
+    zero_free None e = refl
+    zero_free (Some code) e =
+        let at = find_place (λ (c : Code). eqb c.serial 0) w.codes code e in
+        let is = sound.table.serial_is at.0 code at.1 in
+        let zero = code_serial w.codes 0 code e in
+        absurd (omega (arith, is, zero))
+
+-- The marks of all live threads.
+marked_all : (n name : ℕ) (names : List ℕ) → among name names ≡ true → is_marked (marks_of n names) n name ≡ true
+marked_all n name [] h = cc
+marked_all n name (x ∷ xs) h = by (eqb x name) h (marked_all n name xs)
+  where
+    self : eqb n n ≡ true
+    self = grind (arith, nat_tests)
+
+    by : (b : Bool) → (b || among name xs) ≡ true → (among name xs ≡ true → is_marked (marks_of n xs) n name ≡ true) → ((eqb n n && b) || is_marked (marks_of n xs) n name) ≡ true
+    by true k rest = rw self refl
+    by false k rest = rw self (rest k)
+
+or_true : (a b : Bool) → a ≡ true → (a || b) ≡ true
+or_true true b h = refl
+or_true false b h = cc
+
+operated_marks : (w : World) (o : Opened) (m : Marks) (p : ℕ) (u : Thread) → w.requests.opened ≡ o ∷ [] → is_census o.request ≡ true → thread_at w p ≡ Some u → SameMarks m w.requests u.name → SameMarks m (with_operated w o) u.name
+operated_marks w o m p u is asked there h = record {
+  told_last = h.told_last;
+  told_is = h.told_is;
+  cleared_is = h.cleared_is;
+  older = h.older;
+  cleared_old = h.cleared_old;
+  done_old = h.done_old;
+  done_is = λ other e told. (
+      let one : record o { operated = true } ∷ [] ≡ other ∷ [] = sym (operated_list w o is) ∙ e in
+      let same : record o { operated = true } ≡ other = cc in
+      let lives : among u.name (live_names w) ≡ true = among_names u.name (threads w.places) ∙ live_has w p u (there_of w p u there) in
+      let marked : is_marked (with_operated w o).done o.number u.name ≡ true =
+      list_any-append (λ (mark : Mark). (mark.operation == o.number) && (mark.name == u.name)) (marks_of o.number (live_names w)) w.requests.done
+      ∙ or_true (is_marked (marks_of o.number (live_names w)) o.number u.name) (is_marked w.requests.done o.number u.name) (marked_all o.number u.name (live_names w) lives) in
+      subst (λ (q : Opened). is_marked (with_operated w o).done q.number u.name ≡ done_by q m) same (marked ∙ rw asked refl));
+}
+
+of_operate : (a : Answer) → IsOfRequests event.Operate a
+of_operate a = record { starts_none = refl; rounds_none = refl; invalidates_none = λ r. refl; looks_none = λ r place. refl; elsewhere = λ place. record { starts_not = refl; begins_not = refl; ends_not = refl } }
+
+done_in : (s new : Core) (w : World) (o : Option Open) → Matches s w → IsSound w → Rerequests s new → new.requests ≡ record s.requests { «open» = operated s.requests.open } → IsRisingFrom 0 s.index.entries → s.requests.open ≡ o → operate_refusal o s.places.items ≡ None
+    → DoesIn event.Operate (answer.Census (census_of s.index.entries)) new w
+done_in s new w None m sound rest requests rising is h = cc
+done_in s new w (Some open_) m sound rest requests rising is h =
+    let k = one_open s.requests.open w.requests.opened w open_ m.opened is in
+    let a : Answer = answer.Census (census w) in
+    let entry : Logged = record { event = event.Operate; answer = a } in
+    let pass = passed w k.o (is_census open_.request) open_.operated (list_all (holds_at is_held_kept) s.places.items) (list_all (holds_at is_quiet_kept) s.places.items) (list_all (holds_at is_settled_kept) s.places.items) h in
+    let asks : is_census k.o.request ≡ true = ap is_census (sym k.same.request) ∙ pass.asked in
+    let settled : list_all is_settled (threads w.places) ≡ true = settled_same s w m ∙ pass.settled in
+    let goes : outcome w event.Operate ≡ accepted (record w { requests = with_operated w k.o }) a = outcome_is s w m open_ k ∙ pass.is in
+    let open_is : new.requests.open ≡ Some (record open_ { operated = true }) = ap (λ r. r.«open») requests ∙ ap operated is in
+    let list_is = operated_list w k.o k.is in
+    let v : World = asked w (with_operated w k.o) event.Operate a in
+    let same : SameOpened (record open_ { operated = true }) (record k.o { operated = true }) v = record {
+      number = k.same.number;
+      request = k.same.request;
+      operated = refl;
+      names = (let n = names_stay w event.Operate a (of_operate a) in let low = k.same.names in omega (arith, n, low));
+      live = k.same.live;
+    } in
+    subst (λ counts. DoesIn event.Operate (answer.Census counts) new w) (sym (census_is s w m sound rising settled))
+    (accepted_in new w (record w { requests = with_operated w k.o }) event.Operate a goes (asked_live s new w (with_operated w k.o) event.Operate a m (record {
+      rest = rest;
+      entry = of_operate a;
+      numbers = ap (λ r. r.numbers) requests ∙ (let n = operations_next entry w.log in let same = m.numbers in omega (arith, n, same));
+      waiting = ap (λ r. map waiting_of r.waiting) requests ∙ m.waiting;
+      opened = subst (λ os. SameOpen new.requests.open os v) (sym list_is) (subst (λ x. SameOpen x (record k.o { operated = true } ∷ []) v) (sym open_is) same);
+      marks = λ x p u there h. operated_marks w k.o x p u k.is asks there h;
+    })))
+
+pub operate_done : (s new : Core) → Rerequests s new → new.requests ≡ record s.requests { «open» = operated s.requests.open } → IsRisingFrom 0 s.index.entries → operate_refusal s.requests.open s.places.items ≡ None
+    → Does event.Operate s (answer.Census (census_of s.index.entries)) new
+operate_done s new rest requests rising h = record {
+  each = λ w sound m. done_in s new w s.requests.open m sound rest requests rising refl h;
+  sizes = sizes_stay s new rest;
+}

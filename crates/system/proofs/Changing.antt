@@ -1,0 +1,307 @@
+-- A change of the open publication moves the count of one code.
+use Rattle.std.proofs.Common.{◌≡◌, ◌≢◌, ◌∙◌, ◌+◌, ◌<◌, ◌≤◌, sym, ap, ap₂, refl, subst, ℕ, zero, suc, Bool, true, false, not, ◌||◌, cond, List, [], ◌∷◌, Option, Some, None, Result, Ok, Err, length, arith, ℤ, pos, ◌+ℤ◌, ◌-ℤ◌}
+use Rattle.std.specs.Prelude.{slice_get, slice_set, sum_by, ◌≤ℤ◌}
+use Rattle.std.proofs.lemmas.Int.{ints}
+use Rattle.std.proofs.lemmas.List.Sums.{sum_by-cons}
+use Rattle.std.proofs.lemmas.Option.{slice_get_within}
+use mathlib.Core.Logic.{dite}
+use native.Mathlib.Decide.{ℕ_discrete}
+use Rattle.frames.specs.declared.CodeId.{CodeId}
+use Rattle.frames.specs.declared.Change.{Change as CodeChange}
+use Rattle.frames.specs.Stack.{same_code, act, times}
+use Rattle.thread_state.specs.declared.State.TheVariants.{Vacant}
+use Rattle.method_table.specs.declared.Code.{Code}
+use Rattle.method_table.specs.Codes.{code_of, id_of}
+use Rattle.activation_index.specs.declared.Entry.{Entry}
+use Rattle.activation_index.specs.Counts.{count_in, IsRisingFrom}
+use Rattle.system.specs.declared.events.Act.TheVariants.{Change}
+use Rattle.system.specs.declared.events.Event.TheVariants as event
+use Rattle.system.specs.declared.answers.Answer.{Answer}
+use Rattle.system.specs.declared.answers.Answer.TheVariants as answer
+use Rattle.system.specs.declared.answers.Refusal.{Refusal}
+use Rattle.system.specs.declared.answers.Refusal.TheVariants.{NoSuchPlace, Illegal, Publishing, NotBegun}
+use Rattle.system.specs.declared.thread.Thread.{Thread as Kept}
+use Rattle.system.specs.declared.keeping.Core.{Core}
+use Rattle.system.specs.Verdict.{Verdict, accepted, unless◌refuse◌then◌}
+use Rattle.system.specs.Log.{names_given}
+use Rattle.system.specs.Threads.{Thread, is_publishing, has_changed, next_change, part}
+use Rattle.system.specs.World.{World, part_at, walk}
+use Rattle.system.specs.Places.{Effect, changes, here}
+use Rattle.system.specs.Step.{outcome, with_place}
+use Rattle.system.specs.Facts.{IsSound, IsLive, ThreadsAreSound}
+use Rattle.system.specs.Keeps.{SameThread, DidNext, Counted, said_change}
+use Rattle.system.specs.Steps.{DidChange, DidCountAt, CountedAt}
+use Rattle.system.specs.Stands.{Matches, SameAt, DoesIn, Does, SameSizes, walk_of}
+use Rattle.system.proofs.Outcomes.{Stands, seated, changed_by, difference}
+use Rattle.system.proofs.Threads.{threads_kept}
+use Rattle.system.proofs.Sound.{counts_sound}
+use Rattle.system.proofs.Table.{code_serial}
+use Rattle.system.proofs.Images.{left_is_new}
+use Rattle.system.proofs.Frames.{same_is, same_refl, next_left}
+use Rattle.system.proofs.Found.{put_back}
+use Rattle.system.proofs.Acting.{SameRest, SameOthers, counted_matches, length_set, walk_seat}
+use Rattle.system.proofs.Acted.{became, refused_in, act_quiet, act_elsewhere, timed}
+use Rattle.system.proofs.Plain.{nowhere, vacant, seat, at_place, accepted_in}
+use Rattle.system.proofs.Slots.{live_has, counted_has, has_room}
+
+-- what a change was
+pub record WasChanged (s : Core) (w : World) (p serial : ℕ) (by : ℤ) (new : List (Option Kept)) : Type 0 where
+  pub kept : Kept
+  pub after : Kept
+  pub t : Thread
+  pub code : CodeId
+  pub there : slice_get w.places p ≡ Some (Some t)
+  pub same : SameAt w p kept t
+  pub publishing : is_publishing t ≡ true
+  pub next : next_change t ≡ Some code
+  pub serial_is : serial ≡ code.serial
+  pub by_is : by ≡ pos (act code t.stack) -ℤ pos (act code t.shown)
+  pub thread : SameThread after (changed_by t code)
+  pub marks : after.marks ≡ kept.marks
+  pub moments : after.moments ≡ kept.moments
+  pub places : new ≡ slice_set s.places.items p (Some after)
+
+-- what the definitions say, by whether the thread publishes and what is next
+abbrev says : Thread → Bool → Option CodeId → Verdict Effect
+says t b o =
+    unless not b || true refuse Publishing then
+    unless true refuse Illegal t.state then
+    unless b refuse NotBegun then changes t o
+
+-- what a thread answered to a change
+abbrev ok : Option CodeChange → Result (Option CodeChange) Refusal
+ok change = Ok change
+
+abbrev err : Refusal → Result (Option CodeChange) Refusal
+err refusal = Err refusal
+
+never : (change : Option CodeChange) (refusal : Refusal) → ok change ≡ err refusal → ⊥
+never change refusal h = cc
+
+same_change : (one other : Option CodeChange) → ok one ≡ ok other → one ≡ other
+same_change one other h = cc
+
+same_refusal : (one other : Refusal) → err one ≡ err other → answer.Refused one ≡ answer.Refused other
+same_refusal one other h = cc
+
+none_changed : (change : CodeChange) → answer.NoChange ≡ said_change (Some change) → ⊥
+none_changed change h = cc
+
+no_change : (code : CodeId) (t : Thread) → difference t code ≡ said_change None → ⊥
+no_change code t h = cc
+
+pub was_changed : (s : Core) (w : World) (p : ℕ) (change : CodeChange) (new : List (Option Kept)) → Matches s w → DidChange p s.places.items new (Ok (Some change)) → WasChanged s w p change.code.serial change.by new
+was_changed s w p change new m did = elim (at_place s w p m) [
+  | nowhere e x ↦ (let d = rw e at did in absurd (never (Some change) NoSuchPlace d.0))
+  | vacant e x ↦ (let d = rw e at did in absurd (never (Some change) (Illegal Vacant) d.0))
+  | seat kept t e x same ↦ (
+      let d : CountedAt p kept s.places.items new (Ok (Some change)) = rw e at did in
+      by kept d.after t x same d.places (is_publishing t) (next_change t) refl refl (d.did w t same.thread))
+]
+  where
+    by : (kept after_ : Kept) (t : Thread) → slice_get w.places p ≡ Some (Some t) → SameAt w p kept t → new ≡ slice_set s.places.items p (Some after_) → (b : Bool) (o : Option CodeId) → is_publishing t ≡ b → next_change t ≡ o → DidNext (says t b o) kept after_ t (Ok (Some change)) → WasChanged s w p change.code.serial change.by new
+    by kept after_ t x same places false o pub_is next_is did = absurd (never (Some change) NotBegun did.0)
+    by kept after_ t x same places true None pub_is next_is did = absurd (none_changed change (subst (λ o. answer.NoChange ≡ said_change o) (sym (same_change (Some change) did.0 did.1)) did.2))
+    by kept after_ t x same places true (Some code) pub_is next_is did =
+        let is : Some change ≡ did.0 = same_change (Some change) did.0 did.1 in
+        let said : answer.Changed code.serial (pos (act code t.stack) -ℤ pos (act code t.shown)) ≡ answer.Changed change.code.serial change.by = subst (λ o. difference t code ≡ said_change o) (sym is) did.2 in
+        let counted : Counted (Some change) kept after_ = subst (λ o. Counted o kept after_) (sym is) did.4 in
+        record {
+          kept = kept;
+          after = after_;
+          t = t;
+          code = code;
+          there = x;
+          same = same;
+          publishing = pub_is;
+          next = next_is;
+          serial_is = cc;
+          by_is = cc;
+          thread = did.3;
+          marks = ap (λ (k : Kept). k.marks) counted.1;
+          moments = ap (λ (k : Kept). k.moments) counted.1;
+          places = places;
+        }
+
+-- the world after it
+abbrev pub changed_world : World → ℕ → Thread → CodeId → World
+changed_world w p t code = seated w p (Some (changed_by t code)) (event.At p Change) (difference t code)
+
+-- one thread's count moves, and the sum with it
+walk_moved : (places : List (Option Thread)) (p : ℕ) (t u : Thread) (code : CodeId) → slice_get places p ≡ Some (Some t) → sum_by (part_at code) (slice_set places p (Some u)) + part code t ≡ sum_by (part_at code) places + part code u
+walk_moved [] p t u code h = cc
+walk_moved (o ∷ os) zero t u code h =
+    let is : part_at code o ≡ part code t = ap (part_at code) (let k : o ≡ Some t = cc in k) in
+    omega (arith, sum_by-cons (part_at code) (Some u) os, sum_by-cons (part_at code) o os, is)
+walk_moved (o ∷ os) (suc p) t u code h =
+    omega (arith, sum_by-cons (part_at code) o (slice_set os p (Some u)), sum_by-cons (part_at code) o os, walk_moved os p t u code h)
+
+part_self : (t : Thread) (code : CodeId) → part code (changed_by t code) ≡ act code t.stack
+part_self t code = ap (λ b. cond (b || has_changed t code) (act code t.stack) (act code t.shown)) (same_refl code)
+
+part_other : (t : Thread) (code other : CodeId) → same_code code other ≡ false → part other (changed_by t code) ≡ part other t
+part_other t code other h = ap (λ b. cond (b || has_changed t other) (act other t.stack) (act other t.shown)) h
+
+not_same : (code : CodeId) (k : Code) → k.serial ≢ code.serial → same_code code (id_of k) ≡ false
+not_same code k differ = by (same_code code (id_of k)) refl
+  where
+    by : (b : Bool) → same_code code (id_of k) ≡ b → same_code code (id_of k) ≡ false
+    by false e = e
+    by true e = absurd (differ (sym (ap (λ (x : CodeId). x.serial) (same_is code (id_of k) e))))
+
+-- the counts of other codes stay
+other_walk : (w : World) (p : ℕ) (t : Thread) (code : CodeId) (serial q : ℕ) → slice_get w.places p ≡ Some (Some t) → serial ≡ code.serial → q ≢ serial → walk_of (changed_world w p t code) (code_of w.codes q) ≡ walk_of w (code_of w.codes q)
+other_walk w p t code serial q there is differ = by (code_of w.codes q) refl
+  where
+    by : (o : Option Code) → code_of w.codes q ≡ o → walk_of (changed_world w p t code) o ≡ walk_of w o
+    by None e = refl
+    by (Some k) e =
+        let apart : k.serial ≢ code.serial = λ same. differ (sym (code_serial w.codes q k e) ∙ (same ∙ sym is)) in
+        walk_seat w.places p t (changed_by t code) (id_of k) there (part_other t code (id_of k) (not_same code k apart))
+
+module _ (s : Core) (w : World) (p serial : ℕ) (by : ℤ) (new : List (Option Kept)) (c : WasChanged s w p serial by new) where
+  goes : outcome w (event.At p Change) ≡ accepted (with_place w p (Some (changed_by c.t c.code))) (difference c.t c.code)
+  goes = rw (c.there, c.publishing, c.next) refl
+
+  part_is : part c.code c.t ≡ act c.code c.t.shown
+  part_is = ap (λ b. cond b (act c.code c.t.stack) (act c.code c.t.shown)) (left_is_new c.t c.code c.next)
+
+  -- the code has frames, or had them
+  code_live : IsSound w → IsLive w.codes c.code
+  code_live sound = by_stack (act c.code c.t.stack) refl
+    where
+      by_shown : (m : ℕ) → act c.code c.t.stack ≡ 0 → act c.code c.t.shown ≡ m → 0 < part c.code c.t
+      by_shown (suc m) e f = omega (arith, part_is, f)
+      by_shown zero e f = (let a = left_is_new c.t c.code c.next in let left = next_left c.t c.code c.next in let h = rw (a, e, f) at left in let no : false ≡ true = h in cc)
+
+      by_stack : (n : ℕ) → act c.code c.t.stack ≡ n → IsLive w.codes c.code
+      by_stack (suc n) e = sound.frames.live p c.t c.code c.there (omega (arith, e))
+      by_stack zero e = sound.frames.counted p c.t c.code c.there (by_shown (act c.code c.t.shown) e refl)
+
+  moves : pos (walk w c.code) +ℤ by ≡ pos (walk (changed_world w p c.t c.code) c.code)
+  moves =
+      let moved = walk_moved w.places p c.t (changed_by c.t c.code) c.code c.there in
+      let now = part_self c.t c.code in
+      omega (arith, ints, moved, part_is, now, c.by_is)
+
+  found_walk : IsSound w → (v : World) → walk_of v (code_of w.codes serial) ≡ walk v c.code
+  found_walk sound v = let live = code_live sound in ap (walk_of v) (ap (code_of w.codes) c.serial_is ∙ live.1) ∙ ap (walk v) live.2
+
+  -- the count is as the index takes it
+  pub counts_to : Matches s w → IsSound w → pos (count_in s.index.entries serial) +ℤ by ≡ pos (walk (changed_world w p c.t c.code) c.code)
+  counts_to m sound = let was = m.index serial ∙ found_walk sound w in rw was moves
+
+  pub low : Matches s w → IsSound w → pos 0 ≤ℤ (pos (count_in s.index.entries serial) +ℤ by)
+  low m sound = omega (arith, ints, counts_to m sound)
+
+  pub high : Matches s w → IsSound w → length s.places.items ≤ 64 → (pos (count_in s.index.entries serial) +ℤ by) ≤ℤ pos 16384
+  high m sound few =
+      let v : World = changed_world w p c.t c.code in
+      let stands : Stands w p c.t = record { there = c.there; low = slice_get_within w.places p (Some c.t) c.there } in
+      let threads : ThreadsAreSound v.places v.codes (names_given v.log) = (threads_kept w sound.threads).changes p c.t c.code (record { publishes = record { stands = stands; publishing = c.publishing }; next = c.next }) in
+      let most = (counts_sound v threads).walk_few c.code in
+      let long : length v.places ≡ length s.places.items = length_set w.places p (Some (changed_by c.t c.code)) ∙ sym m.places.lengths in
+      omega (arith, ints, counts_to m sound, most, long, few)
+
+  pub room : Matches s w → IsSound w → IsRisingFrom 0 s.index.entries → count_in s.index.entries serial ≡ 0 → length s.index.entries < s.index.slots
+  room m sound rising none =
+      let fewer = has_room w sound s.index.entries rising (λ q some. counted_has w q sound (subst (λ n. 0 < n) (m.index q) some)) serial (live_has w.codes c.code serial (sym c.serial_is) (code_live sound)) none in
+      omega (arith, fewer, m.index_slots)
+
+  -- the counts after it are those of the world after it
+  index_moved : Matches s w → IsSound w → (entries : List Entry) → pos (count_in entries serial) ≡ pos (count_in s.index.entries serial) +ℤ by → ((q : ℕ) → q ≢ serial → count_in entries q ≡ count_in s.index.entries q)
+      → (q : ℕ) → count_in entries q ≡ walk_of (changed_world w p c.t c.code) (code_of w.codes q)
+  index_moved m sound entries here others q = dite (ℕ_discrete q serial)
+      (λ same. (
+      let v : World = changed_world w p c.t c.code in
+      let count : count_in entries serial ≡ walk v c.code = omega (arith, ints, here, counts_to m sound) in
+      subst (λ n. count_in entries n ≡ walk_of v (code_of w.codes n)) (sym same) (count ∙ sym (found_walk sound v))))
+      (λ differ. others q differ ∙ (m.index q ∙ sym (other_walk w p c.t c.code serial q c.there c.serial_is differ)))
+
+  pub change_in : (after_ : Core) → Matches s w → IsSound w → SameOthers s after_ → after_.places.items ≡ new → pos (count_in after_.index.entries serial) ≡ pos (count_in s.index.entries serial) +ℤ by → ((q : ℕ) → q ≢ serial → count_in after_.index.entries q ≡ count_in s.index.entries q)
+      → DoesIn (event.At p Change) (answer.Changed serial by) after_ w
+  change_in after_ m sound rest places here others =
+      let a : Answer = difference c.t c.code in
+      accepted_in after_ w (event.At p Change) (with_place w p (Some (changed_by c.t c.code))) a (answer.Changed serial by) goes (ap₂ answer.Changed c.serial_is c.by_is)
+      (counted_matches s after_ w p c.kept c.after c.t (changed_by c.t c.code) (event.At p Change) a m (record {
+        rest = rest;
+        places = places ∙ c.places;
+        there = c.there;
+        thread = c.thread;
+        name = refl;
+        marks = rw c.marks c.same.marks;
+        moments = rw c.moments (timed p s.moment Change a c.kept.moments w.log m.moment_is c.same.moments);
+        index = index_moved m sound after_.index.entries here others;
+        quiet = act_quiet p Change a;
+        elsewhere = λ q differ. act_elsewhere p q Change a differ;
+      }))
+
+-- a change that was the last, and one that was refused, leave the system
+rest_in : (s new : Core) (w : World) (p : ℕ) → Matches s w → SameRest s new → DidChange p s.places.items new.places.items (Ok None) → DoesIn (event.At p Change) answer.NoChange new w
+rest_in s new w p m rest did = elim (at_place s w p m) [
+  | nowhere e x ↦ (let d = rw e at did in absurd (never None NoSuchPlace d.0))
+  | vacant e x ↦ (let d = rw e at did in absurd (never None (Illegal Vacant) d.0))
+  | seat kept t e x same ↦ (
+      let d : CountedAt p kept s.places.items new.places.items (Ok None) = rw e at did in
+      by kept d.after t x same d.places (is_publishing t) (next_change t) refl refl (d.did w t same.thread))
+]
+  where
+    by : (kept after_ : Kept) (t : Thread) → slice_get w.places p ≡ Some (Some t) → SameAt w p kept t → new.places.items ≡ slice_set s.places.items p (Some after_) → (b : Bool) (o : Option CodeId) → is_publishing t ≡ b → next_change t ≡ o → DidNext (says t b o) kept after_ t (Ok None) → DoesIn (event.At p Change) answer.NoChange new w
+    by kept after_ t x same places false o pub_is next_is did = absurd (never None NotBegun did.0)
+    by kept after_ t x same places true (Some code) pub_is next_is did = absurd (no_change code t (subst (λ o. difference t code ≡ said_change o) (sym (same_change None did.0 did.1)) did.2))
+    by kept after_ t x same places true None pub_is next_is did =
+        let is : None ≡ did.0 = same_change None did.0 did.1 in
+        let stays : after_ ≡ kept = subst (λ o. Counted o kept after_) (sym is) did.4 in
+        let goes : outcome w (event.At p Change) ≡ accepted (with_place w p (Some t)) answer.NoChange = rw (x, pub_is, next_is) refl in
+        accepted_in new w (event.At p Change) (with_place w p (Some t)) answer.NoChange answer.NoChange goes refl (became s new w p Change kept after_ t t answer.NoChange m rest places x same did.3 (record {
+          name = ap (λ (k : Kept). k.name) stays;
+          counted = λ code. ap (λ (k : Kept). times code k.image.counted) stays;
+          marks_are = ap (λ (k : Kept). k.marks) stays;
+          moments_are = ap (λ (k : Kept). k.moments) stays;
+        }))
+
+refusal_in : (s new : Core) (w : World) (p : ℕ) (r : Refusal) → Matches s w → SameRest s new → DidChange p s.places.items new.places.items (Err r) → DoesIn (event.At p Change) (answer.Refused r) new w
+refusal_in s new w p r m rest did = elim (at_place s w p m) [
+  | nowhere e x ↦ (let d = rw e at did in refused_in s new w (event.At p Change) NoSuchPlace (answer.Refused r) rest d.1 m (rw x refl) (same_refusal r NoSuchPlace d.0))
+  | vacant e x ↦ (let d = rw e at did in refused_in s new w (event.At p Change) (Illegal Vacant) (answer.Refused r) rest d.1 m (rw x refl) (same_refusal r (Illegal Vacant) d.0))
+  | seat kept t e x same ↦ (
+      let d : CountedAt p kept s.places.items new.places.items (Err r) = rw e at did in
+      by kept d.after t e x d.places (is_publishing t) (next_change t) refl (d.did w t same.thread))
+]
+  where
+    by : (kept after_ : Kept) (t : Thread) → slice_get s.places.items p ≡ Some (Some kept) → slice_get w.places p ≡ Some (Some t) → new.places.items ≡ slice_set s.places.items p (Some after_) → (b : Bool) (o : Option CodeId) → is_publishing t ≡ b → DidNext (says t b o) kept after_ t (Err r) → DoesIn (event.At p Change) (answer.Refused r) new w
+    by kept after_ t e x places false o pub_is did =
+        let back : new.places.items ≡ s.places.items = places ∙ (ap (λ k. slice_set s.places.items p (Some k)) did.1 ∙ put_back s.places.items p (Some kept) e) in
+        refused_in s new w (event.At p Change) NotBegun (answer.Refused r) rest back m (rw (x, pub_is) refl) (same_refusal r NotBegun did.0)
+    by kept after_ t e x places true None pub_is did = absurd (never did.0 r (sym did.1))
+    by kept after_ t e x places true (Some code) pub_is did = absurd (never did.0 r (sym did.1))
+
+-- each of them for every world
+count_length : (p : ℕ) (o : Option (Option Kept)) (old new : List (Option Kept)) (result : Result (Option CodeChange) Refusal) → DidCountAt p o old new result → length new ≡ length old
+count_length p None old new result d = ap length d.1
+count_length p (Some None) old new result d = ap length d.1
+count_length p (Some (Some kept)) old new result d = ap length d.places ∙ length_set old p (Some d.after)
+
+pub change_does : (s new : Core) (p : ℕ) (change : CodeChange) → SameOthers s new → DidChange p s.places.items new.places.items (Ok (Some change)) → pos (count_in new.index.entries change.code.serial) ≡ pos (count_in s.index.entries change.code.serial) +ℤ change.by
+    → ((q : ℕ) → q ≢ change.code.serial → count_in new.index.entries q ≡ count_in s.index.entries q) → Does (event.At p Change) s (answer.Changed change.code.serial change.by) new
+change_does s new p change rest did here others = record {
+  each = λ w sound m. change_in s w p change.code.serial change.by new.places.items (was_changed s w p change new.places.items m did) new m sound rest refl here others;
+  sizes = record {
+    places = count_length p (slice_get s.places.items p) s.places.items new.places.items (Ok (Some change)) did;
+    slots = ap (λ tb. tb.slots) rest.table;
+    methods = ap (λ tb. tb.methods) rest.table;
+  };
+}
+
+rest_sizes : (s new : Core) (p : ℕ) (result : Result (Option CodeChange) Refusal) → SameRest s new → DidChange p s.places.items new.places.items result → SameSizes s new
+rest_sizes s new p result rest did = record {
+  places = count_length p (slice_get s.places.items p) s.places.items new.places.items result did;
+  slots = ap (λ tb. tb.slots) rest.table;
+  methods = ap (λ tb. tb.methods) rest.table;
+}
+
+pub rest_does : (s new : Core) (p : ℕ) → SameRest s new → DidChange p s.places.items new.places.items (Ok None) → Does (event.At p Change) s answer.NoChange new
+rest_does s new p rest did = record { each = λ w sound m. rest_in s new w p m rest did; sizes = rest_sizes s new p (Ok None) rest did }
+
+pub refusal_does : (s new : Core) (p : ℕ) (r : Refusal) → SameRest s new → DidChange p s.places.items new.places.items (Err r) → Does (event.At p Change) s (answer.Refused r) new
+refusal_does s new p r rest did = record { each = λ w sound m. refusal_in s new w p r m rest did; sizes = rest_sizes s new p (Err r) rest did }

@@ -1,0 +1,282 @@
+-- The events of codes: what they answer, and what the system has after them.
+use Rattle.std.proofs.Common.{◌≡◌, ◌≢◌, ◌∙◌, ◌+◌, ◌<◌, sym, ap, refl, subst, ℕ, zero, suc, Bool, true, false, ◌&&◌, cond, List, [], ◌∷◌, Option, Some, None, length, arith}
+use Rattle.std.specs.Prelude.{slice_get, option_map, is_some, is_none, nat_lt, nat_le, sum_by, ◌==◌}
+use Rattle.std.proofs.lemmas.Bool.{eqb-true, and_parts}
+use Rattle.std.proofs.lemmas.List.Sums.{sum_by-cons}
+use mathlib.Core.Logic.{dite}
+use native.Mathlib.Decide.{ℕ_discrete}
+use Rattle.frames.specs.declared.CodeId.{CodeId}
+use Rattle.frames.specs.Stack.{act}
+use Rattle.activation_index.specs.Counts.{count_in}
+use Rattle.method_table.specs.declared.Code.{Code}
+use Rattle.method_table.specs.declared.CodeState.{CodeState}
+use Rattle.method_table.specs.declared.CodeState.TheVariants.{InUse, NotEntrant, Freed}
+use Rattle.method_table.specs.declared.table.InstallFault.{InstallFault}
+use Rattle.method_table.specs.declared.table.InstallFault.TheVariants as fault
+use Rattle.method_table.specs.TableView.{TableView, install_fault, free_fault}
+use Rattle.method_table.specs.Numbers.{last_number}
+use Rattle.method_table.specs.Codes.{id_of, is_zombie, takes_slot, code_of, unfreed, in_use_for, free_slot, next_serial, with_code, in_state, with_state}
+use Rattle.system.specs.declared.events.Event.{Event}
+use Rattle.system.specs.declared.events.Event.TheVariants as event
+use Rattle.system.specs.declared.answers.Answer.{Answer}
+use Rattle.system.specs.declared.answers.Answer.TheVariants as answer
+use Rattle.system.specs.declared.answers.Refusal.{Refusal}
+use Rattle.system.specs.declared.answers.Refusal.TheVariants as refusal
+use Rattle.system.specs.declared.records.Record.{Record}
+use Rattle.system.specs.declared.keeping.Core.{Core}
+use Rattle.system.specs.Verdict.{Verdict, refused, accepted, unless◌refuse◌then◌}
+use Rattle.system.specs.Threads.{Thread, has_changed, part}
+use Rattle.system.specs.Log.{Entry, is_start, is_ask, is_round, is_invalidate, is_look, says_clear, names_given, operations_given, moment}
+use Rattle.system.specs.World.{World, thread_at, part_at, walk}
+use Rattle.system.specs.Step.{outcome, of_code, install_in, free, count}
+use Rattle.system.specs.Facts.{IsGiven, IsSound}
+use Rattle.system.specs.Stands.{Matches, SamePlaces, SameRecord, SameRecords, DoesIn, Does, walk_of, kept_at}
+use Rattle.system.proofs.Lists.{found_passes, find_place, find_push, find_push_none, at_low}
+use Rattle.system.proofs.Outcomes.{coded}
+use Rattle.system.proofs.Table.{code_serial, code_with_state, in_state_id, in_state_here, in_state_other, unfreed_code}
+use Rattle.system.proofs.Logs.{IsElsewhere, names_next, operations_next, moment_next, left_next, looked_next, moments_next, place_over, opened_over, noted_matches}
+
+-- An outcome that is known decides what is answered and what is after it.
+pub accepted_in : (s : Core) (w v : World) (e : Event) (a : Answer) → outcome w e ≡ accepted v a → Matches s (record v { log = record { event = e; answer = a } ∷ w.log }) → DoesIn e a s w
+accepted_in s w v e a h m = record { answer = rw h refl; matches = rw h m }
+
+pub refused_in : (s : Core) (w : World) (e : Event) (r : Refusal) → outcome w e ≡ refused r → Matches s w → DoesIn e (answer.Refused r) s w
+refused_in s w e r h m = record { answer = rw h refl; matches = rw h m }
+
+pub refused_does : (s : Core) (e : Event) (r : Refusal) → ((w : World) → Matches s w → outcome w e ≡ refused r) → Does e s (answer.Refused r) s
+refused_does s e r h = record { each = λ w sound m. refused_in s w e r (h w m) m; sizes = record { places = refl; slots = refl; methods = refl } }
+
+-- The system after a change of the codes: all but the table and the records stays.
+pub record Recodes (s t : Core) (codes : List Code) : Type 0 where
+  pub table : t.table ≡ record s.table { codes = codes }
+  pub places : t.places ≡ s.places
+  pub index : t.index ≡ s.index
+  pub names : t.names ≡ s.names
+  pub moment_is : t.moment ≡ s.moment
+  pub requests : t.requests ≡ s.requests
+
+-- An entry of an event of codes.
+pub record IsOfCodes (e : Event) (a : Answer) : Type 0 where
+  pub starts_none : is_start e ≡ false
+  pub asks_none : is_ask e ≡ false
+  pub rounds_none : is_round e ≡ false
+  pub elsewhere : (place : ℕ) → IsElsewhere place (record { event = e; answer = a })
+
+pub coded_matches : (s t : Core) (w : World) (codes : List Code) (e : Event) (a : Answer) → Recodes s t codes → IsOfCodes e a → Matches s w → SameRecords t.records.items (coded w codes e a)
+    → ((serial : ℕ) → walk_of w (code_of codes serial) ≡ walk_of w (code_of w.codes serial)) → Matches t (coded w codes e a)
+coded_matches s t w codes e a k q m records walks =
+    let entry : Entry = record { event = e; answer = a } in
+    let names : names_given (entry ∷ w.log) ≡ names_given w.log = (let n = names_next entry w.log ∙ ap (λ b. cond b 1 0 + names_given w.log) q.starts_none in omega arith) in
+    let numbers : operations_given (entry ∷ w.log) ≡ operations_given w.log = (let n = operations_next entry w.log ∙ ap (λ b. cond b 1 0 + operations_given w.log) q.asks_none in omega arith) in
+    let now : moment (entry ∷ w.log) ≡ moment w.log = (let n = moment_next entry w.log ∙ ap (λ b. cond b 1 0 + moment w.log) q.rounds_none in omega arith) in
+    let places : SamePlaces s.places.items (coded w codes e a) = record {
+      lengths = m.places.lengths;
+      each = λ place. place_over w (coded w codes e a) place (kept_at s.places.items place) (thread_at w place)
+          (λ kept u there same. record { thread = same.thread; marks = same.marks; moments = moments_next place entry w.log kept.moments (q.elsewhere place) same.moments }) (m.places.each place);
+    } in
+    record {
+      slots = ap (λ (x : TableView). x.slots) k.table ∙ m.slots;
+      methods = ap (λ (x : TableView). x.methods) k.table ∙ m.methods;
+      codes = ap (λ (x : TableView). x.codes) k.table;
+      places = rw k.places places;
+      records = records;
+      names = k.names ∙ (m.names ∙ sym names);
+      moment_is = k.moment_is ∙ (m.moment_is ∙ sym now);
+      numbers = rw k.requests (m.numbers ∙ sym numbers);
+      waiting = rw k.requests m.waiting;
+      opened = rw k.requests (opened_over s.requests.«open» w.requests.opened w (coded w codes e a) (omega arith) (λ name lives. lives) m.opened);
+      index_slots = rw k.index m.index_slots;
+      index = λ serial. rw k.index (m.index serial ∙ sym (walks serial));
+    }
+
+-- A record stays where the entry is no invalidation of its code and no look for it.
+pub record_next : (r : Record) (w : World) (codes : List Code) (e : Event) (a : Answer) (code : Code) → is_invalidate code.serial e ≡ false → ((place : ℕ) → (is_look code.serial place e && says_clear a) ≡ false)
+    → SameRecord r w code → SameRecord r (coded w codes e a) code
+record_next r w codes e a code stays unlooked h = record {
+  left_is = h.left_is ∙ sym (left_next code.serial (record { event = e; answer = a }) w.log stays);
+  looked_is = λ place lt. h.looked_is place lt ∙ sym (looked_next code.serial place (record { event = e; answer = a }) w.log (unlooked place));
+}
+
+-- The code of a serial after a change of state: the code itself in the new state, or as it was.
+pub restated_at : {P : Type 0} (codes : List Code) (s : ℕ) (state : CodeState) (r : ℕ) (code : Code) → code_of (with_state codes s state) r ≡ Some code
+    → ((k : Code) → code_of codes r ≡ Some k → k.serial ≡ s → code ≡ record k { state = state } → P) → (code.serial ≢ s → code_of codes r ≡ Some code → P) → P
+restated_at {P = P} codes s state r code found here other = by (code_of codes r) refl (sym (code_with_state codes s state r) ∙ found)
+  where
+    by : (o : Option Code) → code_of codes r ≡ o → option_map (in_state s state) o ≡ Some code → P
+    by None is h = cc
+    by (Some k) is h = let same : in_state s state k ≡ code = cc in
+        dite (ℕ_discrete k.serial s) (λ e. here k is e (sym same ∙ in_state_here s state k e))
+        (λ e. (let was : k ≡ code = sym (in_state_other s state k e) ∙ same in other (λ x. e (ap (λ (y : Code). y.serial) was ∙ x)) (is ∙ ap Some was)))
+
+-- A code that is retired or freed takes its record out of sight.
+pub restated_records : (records : List Record) (w : World) (s : ℕ) (state : CodeState) (e : Event) (a : Answer) → state ≢ NotEntrant
+    → ((r : ℕ) → is_invalidate r e ≡ false) → ((r place : ℕ) → (is_look r place e && says_clear a) ≡ false) → SameRecords records w → SameRecords records (coded w (with_state w.codes s state) e a)
+restated_records records w s state e a differs stays unlooked h = record {
+  lengths = h.lengths;
+  each = λ serial code r found is at_slot. restated_at w.codes s state serial code found
+      (λ k was here new. absurd (differs (ap (λ (y : Code). y.state) (sym new) ∙ is)))
+      (λ ne was. record_next r w (with_state w.codes s state) e a code (stays code.serial) (unlooked code.serial) (h.each serial code r was is at_slot));
+}
+
+-- The walk of a code doesn't see its state.
+pub restated_walks : (w : World) (s : ℕ) (state : CodeState) (serial : ℕ) → walk_of w (code_of (with_state w.codes s state) serial) ≡ walk_of w (code_of w.codes serial)
+restated_walks w s state serial = ap (walk_of w) (code_with_state w.codes s state serial) ∙ by (code_of w.codes serial)
+  where
+    by : (o : Option Code) → walk_of w (option_map (in_state s state) o) ≡ walk_of w o
+    by None = refl
+    by (Some k) = ap (walk w) (in_state_id s state k)
+
+-- No thread has a frame of the next code.
+none_of : (w : World) → IsSound w → (c : CodeId) → c.serial ≡ next_serial w.codes → IsGiven w.codes c → ⊥
+none_of w sound c is given =
+    let place = find_place (λ (x : Code). x.serial == c.serial) w.codes given.0 given.1 in
+    let low = at_low w.codes place.0 given.0 place.1 in
+    let at_place = sound.table.serial_is place.0 given.0 place.1 in
+    let same = code_serial w.codes c.serial given.0 given.1 in omega arith
+
+sum_none : (c : CodeId) (places : List (Option Thread)) → ((p : ℕ) (t : Thread) → slice_get places p ≡ Some (Some t) → part c t ≡ 0) → sum_by (part_at c) places ≡ 0
+sum_none c [] h = refl
+sum_none c (None ∷ places) h = let a = sum_by-cons (part_at c) None places in let r = sum_none c places (λ p t x. h (suc p) t x) in omega arith
+sum_none c (Some t ∷ places) h = let a = sum_by-cons (part_at c) (Some t) places in let b = h 0 t refl in let r = sum_none c places (λ p t x. h (suc p) t x) in omega arith
+
+next_unwalked : (w : World) → IsSound w → (c : CodeId) → c.serial ≡ next_serial w.codes → walk w c ≡ 0
+next_unwalked w sound c is = sum_none c w.places (λ p t x. by t (sound.threads.each p t x).stack_given (sound.threads.each p t x).shown_given (has_changed t c))
+  where
+    zero_where : (n : ℕ) → (0 < n → IsGiven w.codes c) → n ≡ 0
+    zero_where zero given = refl
+    zero_where (suc n) given = absurd (none_of w sound c is (given (omega arith)))
+
+    by : (t : Thread) → ((c : CodeId) → 0 < act c t.stack → IsGiven w.codes c) → ((c : CodeId) → 0 < act c t.shown → IsGiven w.codes c) → (b : Bool) → cond b (act c t.stack) (act c t.shown) ≡ 0
+    by t stacked shown true = zero_where (act c t.stack) (stacked c)
+    by t stacked shown false = zero_where (act c t.shown) (shown c)
+
+installed_walks : (w : World) (method slot : ℕ) → IsSound w → (serial : ℕ) → walk_of w (code_of (with_code w.codes method slot) serial) ≡ walk_of w (code_of w.codes serial)
+installed_walks w method slot sound serial = by (code_of w.codes serial) refl
+  where
+    new : Code
+    new = record { serial = next_serial w.codes; slot = slot; method = method; state = InUse }
+
+    two : (b : Bool) → walk_of w (cond b (Some (record { serial = next_serial w.codes; slot = slot; method = method; state = InUse })) None) ≡ 0
+    two true = next_unwalked w sound (record { slot = slot; serial = next_serial w.codes }) refl
+    two false = refl
+
+    by : (o : Option Code) → code_of w.codes serial ≡ o → walk_of w (code_of (with_code w.codes method slot) serial) ≡ walk_of w o
+    by (Some k) is = ap (walk_of w) (find_push (λ (x : Code). x.serial == serial) w.codes new k is)
+    by None is = ap (walk_of w) (find_push_none (λ (x : Code). x.serial == serial) w.codes new is) ∙ two (next_serial w.codes == serial)
+
+installed_records : (records : List Record) (w : World) (method slot : ℕ) (a : Answer) → SameRecords records w → SameRecords records (coded w (with_code w.codes method slot) (event.Install method) a)
+installed_records records w method slot a h = record {
+  lengths = h.lengths;
+  each = λ serial code r found is at_slot. record_next r w (with_code w.codes method slot) (event.Install method) a code refl (λ place. refl) (h.each serial code r (was serial code found is) is at_slot);
+}
+  where
+    new : Code
+    new = record { serial = next_serial w.codes; slot = slot; method = method; state = InUse }
+
+    two : (code : Code) (b : Bool) → code.state ≡ NotEntrant → cond b (Some (record { serial = next_serial w.codes; slot = slot; method = method; state = InUse })) None ≡ Some code → None ≡ Some code
+    two code true is h = cc
+    two code false is h = h
+
+    by : (serial : ℕ) (code : Code) (o : Option Code) → code_of w.codes serial ≡ o → code_of (with_code w.codes method slot) serial ≡ Some code → code.state ≡ NotEntrant → o ≡ Some code
+    by serial code (Some k) was found is = sym (find_push (λ (x : Code). x.serial == serial) w.codes new k was) ∙ found
+    by serial code None was found is = two code (next_serial w.codes == serial) is (sym (find_push_none (λ (x : Code). x.serial == serial) w.codes new was) ∙ found)
+
+    was : (serial : ℕ) (code : Code) → code_of (with_code w.codes method slot) serial ≡ Some code → code.state ≡ NotEntrant → code_of w.codes serial ≡ Some code
+    was serial code found is = by serial code (code_of w.codes serial) refl found is
+
+-- The table of the system is that of the world.
+table_over : (t : TableView) (codes : List Code) (slots methods : ℕ) → t.codes ≡ codes → t.slots ≡ slots → t.methods ≡ methods → t ≡ record { codes = codes; slots = slots; methods = methods }
+table_over t codes slots methods a b c = rw (← a, ← b, ← c) refl
+
+pub table_is : (s : Core) (w : World) → Matches s w → s.table ≡ record { codes = w.codes; slots = w.slots; methods = w.methods }
+table_is s w m = table_over s.table w.codes w.slots w.methods m.codes m.slots m.methods
+
+-- What a fault of an install is refused with.
+abbrev pub install_refusal : InstallFault → Option Refusal
+install_refusal fault.NoSuchMethod = Some refusal.NoSuchMethod
+install_refusal fault.HasCode = Some refusal.HasCode
+install_refusal fault.TableFull = Some refusal.TableFull
+install_refusal fault.SerialsSpent = Some refusal.SerialsSpent
+install_refusal fault.NoMemory = None
+
+abbrev fault_by : Bool → Bool → Option ℕ → Bool → Option InstallFault
+fault_by named unused slot room =
+    cond named (cond unused (cond (is_some slot) (cond room None (Some fault.SerialsSpent)) (Some fault.TableFull)) (Some fault.HasCode)) (Some fault.NoSuchMethod)
+
+abbrev verdict_by : World → ℕ → Bool → Bool → Option ℕ → Verdict World
+verdict_by w method named unused slot = unless named refuse refusal.NoSuchMethod then unless unused refuse refusal.HasCode then install_in w method slot
+
+install_refused : (w : World) (method : ℕ) (named unused : Bool) (slot : Option ℕ) (room : Bool) (f : InstallFault) (r : Refusal) → nat_le (next_serial w.codes) last_number ≡ room
+    → fault_by named unused slot room ≡ Some f → install_refusal f ≡ Some r → verdict_by w method named unused slot ≡ refused r
+install_refused w method false unused slot room f r e h is = let same : fault.NoSuchMethod ≡ f = cc in let said = ap install_refusal same ∙ is in cc
+install_refused w method true false slot room f r e h is = let same : fault.HasCode ≡ f = cc in let said = ap install_refusal same ∙ is in cc
+install_refused w method true true None room f r e h is = let same : fault.TableFull ≡ f = cc in let said = ap install_refusal same ∙ is in cc
+install_refused w method true true (Some slot) false f r e h is = let same : fault.SerialsSpent ≡ f = cc in let said = ap install_refusal same ∙ is in rw e (cc)
+install_refused w method true true (Some slot) true f r e h is = cc
+
+install_accepted : (w : World) (method at : ℕ) (named unused : Bool) (slot : Option ℕ) (room : Bool) → nat_le (next_serial w.codes) last_number ≡ room
+    → fault_by named unused slot room ≡ None → slot ≡ Some at → verdict_by w method named unused slot ≡ accepted (record w { codes = with_code w.codes method at }) (answer.Code (next_serial w.codes))
+install_accepted w method at false unused slot room e h is = cc
+install_accepted w method at true false slot room e h is = cc
+install_accepted w method at true true None room e h is = cc
+install_accepted w method at true true (Some slot) false e h is = cc
+install_accepted w method at true true (Some slot) true e h is = let same : slot ≡ at = cc in rw (e, same) refl
+
+pub no_install : (s : Core) (method : ℕ) (f : InstallFault) (r : Refusal) → install_fault s.table method ≡ Some f → install_refusal f ≡ Some r → Does (event.Install method) s (answer.Refused r) s
+no_install s method f r h is = refused_does s (event.Install method) r (λ w m.
+    install_refused w method (nat_lt method w.methods) (is_none (in_use_for w.codes method)) (free_slot w.codes w.slots) (nat_le (next_serial w.codes) last_number) f r refl
+    (ap (λ t. install_fault t method) (sym (table_is s w m)) ∙ h) is)
+
+pub installed : (s t : Core) (method slot serial : ℕ) → install_fault s.table method ≡ None → free_slot s.table.codes s.table.slots ≡ Some slot → serial ≡ next_serial s.table.codes
+    → Recodes s t (with_code s.table.codes method slot) → t.records ≡ s.records → Does (event.Install method) s (answer.Code serial) t
+installed s t method slot serial h is at k records = record {
+  each = λ w sound m. (
+      let serial_is : serial ≡ next_serial w.codes = at ∙ ap next_serial m.codes in
+      let codes : Recodes s t (with_code w.codes method slot) = subst (λ cs. Recodes s t (with_code cs method slot)) m.codes k in
+      let said : outcome w (event.Install method) ≡ accepted (record w { codes = with_code w.codes method slot }) (answer.Code (next_serial w.codes)) =
+      install_accepted w method slot (nat_lt method w.methods) (is_none (in_use_for w.codes method)) (free_slot w.codes w.slots) (nat_le (next_serial w.codes) last_number) refl
+      (ap (λ t. install_fault t method) (sym (table_is s w m)) ∙ h) (ap (λ (x : TableView). free_slot x.codes x.slots) (sym (table_is s w m)) ∙ is) in
+      rw serial_is (accepted_in t w (record w { codes = with_code w.codes method slot }) (event.Install method) (answer.Code (next_serial w.codes)) said
+      (coded_matches s t w (with_code w.codes method slot) (event.Install method) (answer.Code (next_serial w.codes)) codes
+      (record { starts_none = refl; asks_none = refl; rounds_none = refl; elsewhere = λ place. record { starts_not = refl; begins_not = refl; ends_not = refl } }) m
+      (rw records (installed_records s.records.items w method slot (answer.Code (next_serial w.codes)) m.records)) (installed_walks w method slot sound))));
+  sizes = record { places = ap (λ v. length v.items) k.places; slots = ap (λ (x : TableView). x.slots) k.table; methods = ap (λ (x : TableView). x.methods) k.table };
+}
+
+-- A zombie is freed.
+free_accepted : (w : World) (serial : ℕ) (o : Option Code) → unfreed w.codes serial ≡ o → free_fault o ≡ None → of_code o (free w) ≡ accepted (record w { codes = with_state w.codes serial Freed }) answer.Done
+free_accepted w serial None e h = cc
+free_accepted w serial (Some k) e h = by (is_zombie k.state) refl h
+  where
+    same : k.serial ≡ serial
+    same = eqb-true k.serial serial (and_parts (k.serial == serial) (takes_slot k.state) (found_passes (λ (x : Code). (x.serial == serial) && takes_slot x.state) w.codes k e)).0
+
+    by : (b : Bool) → is_zombie k.state ≡ b → free_fault (Some k) ≡ None → free w k ≡ accepted (record w { codes = with_state w.codes serial Freed }) answer.Done
+    by true z h = rw (z, same) refl
+    by false z h = let no = rw z at h in cc
+
+pub freed : (s t : Core) (serial : ℕ) → free_fault (unfreed s.table.codes serial) ≡ None → Recodes s t (with_state s.table.codes serial Freed) → t.records ≡ s.records → Does (event.Free serial) s answer.Done t
+freed s t serial h k records = record {
+  each = λ w sound m. (
+      let codes : Recodes s t (with_state w.codes serial Freed) = subst (λ cs. Recodes s t (with_state cs serial Freed)) m.codes k in
+      let said : outcome w (event.Free serial) ≡ accepted (record w { codes = with_state w.codes serial Freed }) answer.Done =
+      free_accepted w serial (unfreed w.codes serial) refl (ap (λ cs. free_fault (unfreed cs serial)) (sym m.codes) ∙ h) in
+      accepted_in t w (record w { codes = with_state w.codes serial Freed }) (event.Free serial) answer.Done said
+      (coded_matches s t w (with_state w.codes serial Freed) (event.Free serial) answer.Done codes
+      (record { starts_none = refl; asks_none = refl; rounds_none = refl; elsewhere = λ place. record { starts_not = refl; begins_not = refl; ends_not = refl } }) m
+      (rw records (restated_records s.records.items w serial Freed (event.Free serial) answer.Done (λ e. cc) (λ r. refl) (λ r place. refl) m.records)) (restated_walks w serial Freed)));
+  sizes = record { places = ap (λ v. length v.items) k.places; slots = ap (λ (x : TableView). x.slots) k.table; methods = ap (λ (x : TableView). x.methods) k.table };
+}
+
+-- A code's count is its walk.
+pub counted : (s : Core) (serial n : ℕ) (code : Code) → unfreed s.table.codes serial ≡ Some code → n ≡ count_in s.index.entries serial → Does (event.Count serial) s (answer.Count n) s
+counted s serial n code is count_is = record {
+  each = λ w sound m. (
+      let found : unfreed w.codes serial ≡ Some code = ap (λ cs. unfreed cs serial) (sym m.codes) ∙ is in
+      let walks : n ≡ walk w (id_of code) = count_is ∙ (m.index serial ∙ ap (walk_of w) (unfreed_code w.slots w.methods w.codes sound.table serial code found)) in
+      let said : outcome w (event.Count serial) ≡ accepted w (answer.Count (walk w (id_of code))) = ap (λ o. of_code o (count w)) found in
+      rw walks (accepted_in s w w (event.Count serial) (answer.Count (walk w (id_of code))) said
+      (noted_matches s w (event.Count serial) (answer.Count (walk w (id_of code)))
+      (record { starts_none = refl; asks_none = refl; rounds_none = refl; invalidates_none = λ r. refl; looks_none = λ r place. refl }) (λ place. record { starts_not = refl; begins_not = refl; ends_not = refl }) m)));
+  sizes = record { places = refl; slots = refl; methods = refl };
+}

@@ -1,0 +1,157 @@
+-- Lists by position: what stands where after a map, a push, or a search.
+use Rattle.std.proofs.Common.{◌≡◌, ◌⊎◌, ℕ, zero, suc, ◌+◌, ◌<◌, ◌≤◌, Bool, true, false, cond, List, [], ◌∷◌, ◌++◌, length, map, Some, None, sym, refl, ap, ◌∙◌, inl, inr, ⊎_elim, subst, arith}
+use Rattle.std.specs.Prelude.{slice_get, option_map, find, ◌||◌, filter}
+use Rattle.std.specs.List.{list_any, list_all}
+use Rattle.std.proofs.lemmas.Bool.{false≢true, or_parts, and_parts, cases_lt}
+use Rattle.method_table.specs.Numbers.{below}
+
+-- What stands in a mapped list.
+pub map_at : {A B : Type 0} (f : A → B) (xs : List A) (i : ℕ) (y : B) → slice_get (map f xs) i ≡ Some y → (x : A) × (slice_get xs i ≡ Some x) × (f x ≡ y)
+map_at f [] i y h = cc
+map_at f (x ∷ xs) zero y h = let e : f x ≡ y = cc in (x, refl, e)
+map_at f (x ∷ xs) (suc i) y h = map_at f xs i y h
+
+-- What stands in a list with one element more.
+pub push_at : {A : Type 0} (xs : List A) (y : A) (i : ℕ) (x : A) → slice_get (xs ++ y ∷ []) i ≡ Some x → (slice_get xs i ≡ Some x) ⊎ ((i ≡ length xs) × (y ≡ x))
+push_at [] y zero x h = let e : y ≡ x = cc in inr (refl, e)
+push_at [] y (suc i) x h = cc
+push_at (z ∷ xs) y zero x h = inl h
+push_at (z ∷ xs) y (suc i) x h = ⊎_elim (λ a. inl a) (λ b. inr (ap suc b.0, b.1)) (push_at xs y i x h)
+
+pub push_low : {A : Type 0} (xs : List A) (y : A) (i : ℕ) (x : A) → slice_get xs i ≡ Some x → slice_get (xs ++ y ∷ []) i ≡ Some x
+push_low [] y i x h = cc
+push_low (z ∷ xs) y zero x h = h
+push_low (z ∷ xs) y (suc i) x h = push_low xs y i x h
+
+pub push_length : {A : Type 0} (xs : List A) (y : A) → length (xs ++ y ∷ []) ≡ length xs + 1
+push_length [] y = refl
+push_length (x ∷ xs) y = let r = push_length xs y in omega arith
+
+pub map_length : {A B : Type 0} (f : A → B) (xs : List A) → length (map f xs) ≡ length xs
+map_length f [] = refl
+map_length f (x ∷ xs) = ap suc (map_length f xs)
+
+pub at_low : {A : Type 0} (xs : List A) (i : ℕ) (x : A) → slice_get xs i ≡ Some x → i < length xs
+at_low [] i x h = cc
+at_low (y ∷ ys) zero x h = omega arith
+at_low (y ∷ ys) (suc i) x h = let r = at_low ys i x h in omega arith
+
+pub same_at : {A : Type 0} (xs : List A) (i : ℕ) (x y : A) → slice_get xs i ≡ Some x → slice_get xs i ≡ Some y → x ≡ y
+same_at xs i x y h k = cc
+
+-- What a search finds.
+pub found_passes : {A : Type 0} (test : A → Bool) (xs : List A) (x : A) → find test xs ≡ Some x → test x ≡ true
+found_passes test [] x h = cc
+found_passes test (y ∷ ys) x h = by (test y) refl h (found_passes test ys x)
+  where
+    by : (b : Bool) → test y ≡ b → cond b (Some y) (find test ys) ≡ Some x → (find test ys ≡ Some x → test x ≡ true) → test x ≡ true
+    by true e k rest = let same : y ≡ x = cc in ap test (sym same) ∙ e
+    by false e k rest = rest k
+
+pub find_place : {A : Type 0} (test : A → Bool) (xs : List A) (x : A) → find test xs ≡ Some x → (i : ℕ) × (slice_get xs i ≡ Some x)
+find_place test [] x h = cc
+find_place test (y ∷ ys) x h = by (test y) h (find_place test ys x)
+  where
+    by : (b : Bool) → cond b (Some y) (find test ys) ≡ Some x → (find test ys ≡ Some x → (i : ℕ) × (slice_get ys i ≡ Some x)) → (i : ℕ) × (slice_get (y ∷ ys) i ≡ Some x)
+    by true k rest = (0, k)
+    by false k rest = let r = rest k in (suc r.0, r.1)
+
+pub find_none_at : {A : Type 0} (test : A → Bool) (xs : List A) (i : ℕ) (x : A) → find test xs ≡ None → slice_get xs i ≡ Some x → test x ≡ false
+find_none_at {A = A} test [] i x h k = cc
+find_none_at {A = A} test (y ∷ ys) i x h k = by (test y) refl h i k (find_none_at test ys)
+  where
+    by : (b : Bool) → test y ≡ b → cond b (Some y) (find test ys) ≡ None → (i : ℕ) → slice_get (y ∷ ys) i ≡ Some x → ((i : ℕ) (x : A) → find test ys ≡ None → slice_get ys i ≡ Some x → test x ≡ false) → test x ≡ false
+    by true e n i k rest = cc
+    by false e n zero k rest = let same : y ≡ x = cc in ap test (sym same) ∙ e
+    by false e n (suc i) k rest = rest i x n k
+
+pub find_map : {A : Type 0} (test : A → Bool) (f : A → A) (xs : List A) → ((x : A) → test (f x) ≡ test x) → find test (map f xs) ≡ option_map f (find test xs)
+find_map test f [] h = refl
+find_map test f (x ∷ xs) h = (let e = h x in rw e refl) ∙ by (test x) (find_map test f xs h)
+  where
+    by : (b : Bool) → find test (map f xs) ≡ option_map f (find test xs) → cond b (Some (f x)) (find test (map f xs)) ≡ option_map f (cond b (Some x) (find test xs))
+    by true r = refl
+    by false r = r
+
+pub find_push : {A : Type 0} (test : A → Bool) (xs : List A) (y x : A) → find test xs ≡ Some x → find test (xs ++ y ∷ []) ≡ Some x
+find_push test [] y x h = cc
+find_push test (z ∷ zs) y x h = by (test z) h (find_push test zs y x)
+  where
+    by : (b : Bool) → cond b (Some z) (find test zs) ≡ Some x → (find test zs ≡ Some x → find test (zs ++ y ∷ []) ≡ Some x) → cond b (Some z) (find test (zs ++ y ∷ [])) ≡ Some x
+    by true k rest = k
+    by false k rest = rest k
+
+pub find_push_none : {A : Type 0} (test : A → Bool) (xs : List A) (y : A) → find test xs ≡ None → find test (xs ++ y ∷ []) ≡ cond (test y) (Some y) None
+find_push_none test [] y h = refl
+find_push_none test (z ∷ zs) y h = by (test z) h (find_push_none test zs y)
+  where
+    by : (b : Bool) → cond b (Some z) (find test zs) ≡ None → (find test zs ≡ None → find test (zs ++ y ∷ []) ≡ cond (test y) (Some y) None) → cond b (Some z) (find test (zs ++ y ∷ [])) ≡ cond (test y) (Some y) None
+    by true k rest = cc
+    by false k rest = rest k
+
+-- Where some element passes, and where none does.
+pub any_none_at : {A : Type 0} (test : A → Bool) (xs : List A) (i : ℕ) (x : A) → list_any test xs ≡ false → slice_get xs i ≡ Some x → test x ≡ false
+any_none_at test [] i x h k = cc
+any_none_at test (y ∷ ys) zero x h k = let e : test y ≡ false = (or_parts (test y) (list_any test ys) h).0 in let same : y ≡ x = cc in ap test (sym same) ∙ e
+any_none_at test (y ∷ ys) (suc i) x h k = any_none_at test ys i x (or_parts (test y) (list_any test ys) h).1 k
+
+pub any_at : {A : Type 0} (test : A → Bool) (xs : List A) → list_any test xs ≡ true → (i : ℕ) × (x : A) × (slice_get xs i ≡ Some x) × (test x ≡ true)
+any_at {A = A} test [] h = absurd (false≢true h)
+any_at {A = A} test (y ∷ ys) h = by (test y) refl h (any_at test ys)
+  where
+    by : (b : Bool) → test y ≡ b → (b || list_any test ys) ≡ true → (list_any test ys ≡ true → (i : ℕ) × (x : A) × (slice_get ys i ≡ Some x) × (test x ≡ true)) → (i : ℕ) × (x : A) × (slice_get (y ∷ ys) i ≡ Some x) × (test x ≡ true)
+    by true e k rest = (0, y, refl, e)
+    by false e k rest = let r = rest k in (suc r.0, r.1, r.2, r.3)
+
+pub any_here : {A : Type 0} (test : A → Bool) (xs : List A) (i : ℕ) (x : A) → slice_get xs i ≡ Some x → test x ≡ true → list_any test xs ≡ true
+any_here test [] i x h k = cc
+any_here test (y ∷ ys) zero x h k = let same : y ≡ x = cc in let e : test y ≡ true = ap test same ∙ k in rw e refl
+any_here test (y ∷ ys) (suc i) x h k = by (test y) (any_here test ys i x h k)
+  where
+    by : (b : Bool) → list_any test ys ≡ true → (b || list_any test ys) ≡ true
+    by true r = refl
+    by false r = r
+
+pub all_at : {A : Type 0} (test : A → Bool) (xs : List A) (i : ℕ) (x : A) → list_all test xs ≡ true → slice_get xs i ≡ Some x → test x ≡ true
+all_at test [] i x h k = cc
+all_at test (y ∷ ys) zero x h k = let e = (and_parts (test y) (list_all test ys) h).0 in let same : y ≡ x = cc in ap test (sym same) ∙ e
+all_at test (y ∷ ys) (suc i) x h k = all_at test ys i x (and_parts (test y) (list_all test ys) h).1 k
+
+-- The numbers below n.
+pub below_low : (n i x : ℕ) → slice_get (below n) i ≡ Some x → x < n
+below_low zero i x h = cc
+below_low (suc n) i x h = ⊎_elim (λ a. (let r = below_low n i x a in omega arith)) (λ b. (let e = b.1 in omega arith)) (push_at (below n) n i x h)
+
+pub push_here : {A : Type 0} (xs : List A) (y : A) → slice_get (xs ++ y ∷ []) (length xs) ≡ Some y
+push_here [] y = refl
+push_here (x ∷ xs) y = push_here xs y
+
+below_length : (n : ℕ) → length (below n) ≡ n
+below_length zero = refl
+below_length (suc n) = let r = below_length n in push_length (below n) n ∙ (omega arith)
+
+pub below_has : (n x : ℕ) → x < n → slice_get (below n) x ≡ Some x
+below_has zero x h = absurd (omega arith)
+below_has (suc n) x h = ⊎_elim (λ low. push_low (below n) n x x (below_has n x low))
+    (λ high. let same : length (below n) ≡ x = (let r = below_length n in omega arith) in let is : n ≡ x = (let r = below_length n in omega arith) in
+    subst (λ m. slice_get (below n ++ n ∷ []) m ≡ Some x) same (push_here (below n) n ∙ ap Some is))
+    (cases_lt x n)
+
+-- What stands in a filtered list.
+pub filter_at : {A : Type 0} (test : A → Bool) (xs : List A) (i : ℕ) (x : A) → slice_get (filter test xs) i ≡ Some x → (j : ℕ) × (slice_get xs j ≡ Some x) × (test x ≡ true)
+filter_at {A = A} test [] i x h = cc
+filter_at {A = A} test (y ∷ ys) i x h = by (test y) refl i h (filter_at test ys)
+  where
+    by : (b : Bool) → test y ≡ b → (i : ℕ) → slice_get (cond b (y ∷ filter test ys) (filter test ys)) i ≡ Some x
+        → ((i : ℕ) (x : A) → slice_get (filter test ys) i ≡ Some x → (j : ℕ) × (slice_get ys j ≡ Some x) × (test x ≡ true)) → (j : ℕ) × (slice_get (y ∷ ys) j ≡ Some x) × (test x ≡ true)
+    by true e zero k rest = let same : y ≡ x = cc in (0, k, ap test (sym same) ∙ e)
+    by true e (suc i) k rest = let r = rest i x k in (suc r.0, r.1, r.2)
+    by false e i k rest = let r = rest i x k in (suc r.0, r.1, r.2)
+
+pub filter_less : {A : Type 0} (test : A → Bool) (xs : List A) → length (filter test xs) ≤ length xs
+filter_less test [] = omega arith
+filter_less test (y ∷ ys) = by (test y) (filter_less test ys)
+  where
+    by : (b : Bool) → length (filter test ys) ≤ length ys → length (cond b (y ∷ filter test ys) (filter test ys)) ≤ length (y ∷ ys)
+    by true h = omega arith
+    by false h = omega arith

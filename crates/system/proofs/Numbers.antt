@@ -1,0 +1,159 @@
+-- The numbers of names, operations and moments are sound in every world that events lead to.
+use Rattle.std.proofs.Common.{◌≡◌, ◌⊎◌, ℕ, suc, ◌+◌, ◌<◌, Bool, true, false, cond, List, [], ◌∷◌, ◌++◌, length, map, Some, sym, refl, ap, ◌∙◌, inl, inr, ⊎_elim, subst, arith}
+use Rattle.std.specs.Prelude.{not, ◌==◌, slice_get, filter}
+use Rattle.operations.specs.declared.Request.{Request}
+use Rattle.method_table.specs.Numbers.{last_number}
+use Rattle.system.specs.declared.events.Event.TheVariants as event
+use Rattle.system.specs.declared.answers.Answer.TheVariants as answer
+use Rattle.system.specs.Operations.{Waiting, Opened}
+use Rattle.system.specs.World.{World}
+use Rattle.system.specs.Log.{Entry, is_ask, is_round, names_given, operations_given, moment}
+use Rattle.system.specs.Step.{operated_if}
+use Rattle.system.specs.Facts.{WasOpened, NumbersAreSound}
+use Rattle.system.proofs.Outcomes.{newly_opened, Opens}
+use Rattle.system.proofs.Cases.{Cases}
+use Rattle.system.proofs.Lists.{map_at, map_length, push_at, push_length, filter_at, filter_less}
+use Rattle.system.proofs.Frames.{count_cons}
+use Rattle.system.proofs.Threads.{started_more}
+
+pub operated_number : (n : ℕ) (o : Opened) → (operated_if n o).number ≡ o.number
+operated_number n o = by (o.number == n)
+  where
+    by : (b : Bool) → (cond b (record o { operated = true }) o).number ≡ o.number
+    by true = refl
+    by false = refl
+
+pub operated_live : (n : ℕ) (o : Opened) → (operated_if n o).live ≡ o.live
+operated_live n o = by (o.number == n)
+  where
+    by : (b : Bool) → (cond b (record o { operated = true }) o).live ≡ o.live
+    by true = refl
+    by false = refl
+
+pub asked_more : (w : World) (request : Request) → operations_given w.log + 1 ≡ operations_given (record { event = event.Ask request; answer = answer.Asked (operations_given w.log + 1) } ∷ w.log)
+asked_more w request = let a = count_cons (λ (x : Entry). is_ask x.event) (record { event = event.Ask request; answer = answer.Asked (operations_given w.log + 1) }) w.log in omega arith
+
+pub round_more : (w : World) → moment w.log + 1 ≡ moment (record { event = event.Round; answer = answer.Done } ∷ w.log)
+round_more w = let a = count_cons (λ (x : Entry). is_round x.event) (record { event = event.Round; answer = answer.Done }) w.log in omega arith
+
+asked_sound : (ws : List Waiting) (os : List Opened) (g n m : ℕ) (request : Request) → n < last_number → length ws < 64 → NumbersAreSound ws os g n m → NumbersAreSound (ws ++ record { number = n + 1; request = request } ∷ []) os g (n + 1) m
+asked_sound ws os g n m request room queue h = record {
+  names_few = h.names_few;
+  operations_few = omega arith;
+  moment_few = h.moment_few;
+  queue_few = (let e = push_length ws new in omega arith);
+  waiting_asked = (let e = push_length ws new in let a = h.waiting_asked in omega arith);
+  waiting_is = λ i x y. (let e = push_length ws new in ⊎_elim (λ old. (let a = h.waiting_is i x old in omega arith)) (λ last. (let a = last.0 in let b : n + 1 ≡ x.number = ap (λ (z : Waiting). z.number) last.1 in omega arith)) (push_at ws new i x y));
+  one_open = h.one_open;
+  opened_is = λ i o y. (let e = push_length ws new in let a = h.opened_is i o y in let low = a.1 in (a.0, omega arith));
+  newest_is = λ i o y. (let e = push_length ws new in let a = h.newest_is i o y in omega arith);
+}
+  where
+    new : Waiting
+    new = record { number = n + 1; request = request }
+
+opened_sound : (w : World) (oldest : Waiting) (others : List Waiting) (g n m : ℕ) → Opens w oldest others → NumbersAreSound w.requests.waiting w.requests.opened g n m → NumbersAreSound others (w.requests.opened ++ newly_opened w oldest ∷ []) g n m
+opened_sound w oldest others g n m i h = record {
+  names_few = h.names_few;
+  operations_few = h.operations_few;
+  moment_few = h.moment_few;
+  queue_few = (let a = h.queue_few in let b = longer in omega arith);
+  waiting_asked = (let a = h.waiting_asked in let b = longer in omega arith);
+  waiting_is = λ j x y. (let a = h.waiting_is (suc j) x (subst (λ ws. slice_get ws (suc j) ≡ Some x) (sym i.waiting_is) y) in let b = longer in omega arith);
+  one_open = (let a = push_length w.requests.opened (newly_opened w oldest) in let b : length w.requests.opened ≡ 0 = ap (λ (os : List Opened). length os) i.none_open in omega arith);
+  opened_is = λ j o y. by j o (push_at w.requests.opened (newly_opened w oldest) j o y);
+  newest_is = λ j o y. newest j o (push_at w.requests.opened (newly_opened w oldest) j o y);
+}
+  where
+    longer : length w.requests.waiting ≡ suc (length others)
+    longer = ap (λ (ws : List Waiting). length ws) i.waiting_is
+
+    by : (j : ℕ) (o : Opened) → (slice_get w.requests.opened j ≡ Some o) ⊎ ((j ≡ length w.requests.opened) × (newly_opened w oldest ≡ o)) → WasOpened others n o.number
+    by j o (inl a) = let b = h.opened_is j o a in let c = b.1 in let d = longer in (b.0, omega arith)
+    by j o (inr a) =
+        let first = h.waiting_is 0 oldest (subst (λ ws. slice_get ws 0 ≡ Some oldest) (sym i.waiting_is) refl) in let d = longer in let few = h.waiting_asked in
+        let same : oldest.number ≡ o.number = ap (λ (x : Opened). x.number) a.1 in (omega arith, omega arith)
+
+    newest : (j : ℕ) (o : Opened) → (slice_get w.requests.opened j ≡ Some o) ⊎ ((j ≡ length w.requests.opened) × (newly_opened w oldest ≡ o)) → o.number + length others ≡ n
+    newest j o (inl a) = let none : slice_get {X = Opened} [] j ≡ Some o = subst (λ os. slice_get os j ≡ Some o) i.none_open a in cc
+    newest j o (inr a) =
+        let first = h.waiting_is 0 oldest (subst (λ ws. slice_get ws 0 ≡ Some oldest) (sym i.waiting_is) refl) in let d = longer in
+        let same : oldest.number ≡ o.number = ap (λ (x : Opened). x.number) a.1 in omega arith
+
+-- Each event keeps the numbers sound.
+pub numbers_kept : (w : World) → NumbersAreSound w.requests.waiting w.requests.opened (names_given w.log) (operations_given w.log) (moment w.log)
+    → Cases w (λ e a v. NumbersAreSound v.requests.waiting v.requests.opened (names_given v.log) (operations_given v.log) (moment v.log))
+numbers_kept w h = record {
+  refuses = λ e r. h;
+  begins = λ p t i. h;
+  changes = λ p t code i. h;
+  rests = λ p t i. h;
+  ends = λ p t i. h;
+  moves = λ p t a state given i. h;
+  interprets = λ p t method i. h;
+  enters = λ p t method serial code i. h;
+  misses = λ p t method serial code i. h;
+  leaves = λ p t state i. h;
+  exits = λ p t i. h;
+  finishes = λ p t opened others i. h;
+  clears = λ p t opened others i. h;
+  holds = λ p t opened others i. h;
+  releases = λ p t i. h;
+  shows = λ p t i. h;
+  starts = λ p i. subst (λ n. NumbersAreSound w.requests.waiting w.requests.opened n (operations_given w.log) (moment w.log)) (started_more w p) (named_sound i.room);
+  installs = λ method slot i. h;
+  invalidates = λ serial code i. h;
+  goes_round = λ i. subst (λ n. NumbersAreSound w.requests.waiting w.requests.opened (names_given w.log) (operations_given w.log) n) (round_more w) (rounded_sound i);
+  looks_clear = λ serial p code i. h;
+  looks_late = λ serial p code i. h;
+  finds_unlooked = λ serial code p i. h;
+  finds_used = λ serial code i. h;
+  retires = λ serial code i. h;
+  frees = λ serial code i. h;
+  asks = λ request i. subst (λ n. NumbersAreSound (w.requests.waiting ++ record { number = operations_given w.log + 1; request = request } ∷ []) w.requests.opened (names_given w.log) n (moment w.log)) (asked_more w request) (asked_sound w.requests.waiting w.requests.opened (names_given w.log) (operations_given w.log) (moment w.log) request i.room i.queue_room h);
+  opens = λ oldest others i. opened_sound w oldest others (names_given w.log) (operations_given w.log) (moment w.log) i h;
+  tells = λ name opened others i. h;
+  finds_gone = λ name opened others i. h;
+  operates = λ opened others i. operated_sound opened.number;
+  closes = λ opened others i. closed_sound opened.number;
+  counts = λ serial code i. h;
+  says_state = λ serial code i. h;
+  resolves = λ method i. h;
+}
+  where
+    named_sound : names_given w.log < last_number → NumbersAreSound w.requests.waiting w.requests.opened (names_given w.log + 1) (operations_given w.log) (moment w.log)
+    named_sound room = record { names_few = omega arith; operations_few = h.operations_few; moment_few = h.moment_few; queue_few = h.queue_few; waiting_asked = h.waiting_asked; waiting_is = h.waiting_is; one_open = h.one_open; opened_is = h.opened_is; newest_is = h.newest_is }
+
+    rounded_sound : moment w.log < last_number → NumbersAreSound w.requests.waiting w.requests.opened (names_given w.log) (operations_given w.log) (moment w.log + 1)
+    rounded_sound room = record { names_few = h.names_few; operations_few = h.operations_few; moment_few = omega arith; queue_few = h.queue_few; waiting_asked = h.waiting_asked; waiting_is = h.waiting_is; one_open = h.one_open; opened_is = h.opened_is; newest_is = h.newest_is }
+
+    operated_sound : (n : ℕ) → NumbersAreSound w.requests.waiting (map (operated_if n) w.requests.opened) (names_given w.log) (operations_given w.log) (moment w.log)
+    operated_sound n = record {
+      names_few = h.names_few;
+      operations_few = h.operations_few;
+      moment_few = h.moment_few;
+      queue_few = h.queue_few;
+      waiting_asked = h.waiting_asked;
+      waiting_is = h.waiting_is;
+      one_open = (let a = map_length (operated_if n) w.requests.opened in let b = h.one_open in omega arith);
+      opened_is = λ i o x. (let m = map_at (operated_if n) w.requests.opened i o x in
+          subst (WasOpened w.requests.waiting (operations_given w.log)) (sym (operated_number n m.0) ∙ ap (λ (y : Opened). y.number) m.2) (h.opened_is i m.0 m.1));
+      newest_is = λ i o x. (let m = map_at (operated_if n) w.requests.opened i o x in
+          subst (λ k. k + length w.requests.waiting ≡ operations_given w.log) (sym (operated_number n m.0) ∙ ap (λ (y : Opened). y.number) m.2) (h.newest_is i m.0 m.1));
+    }
+
+    closed_sound : (n : ℕ) → NumbersAreSound w.requests.waiting (filter (λ o. not (o.number == n)) w.requests.opened) (names_given w.log) (operations_given w.log) (moment w.log)
+    closed_sound n = record {
+      names_few = h.names_few;
+      operations_few = h.operations_few;
+      moment_few = h.moment_few;
+      queue_few = h.queue_few;
+      waiting_asked = h.waiting_asked;
+      waiting_is = h.waiting_is;
+      one_open = (let a = filter_less (λ (o : Opened). not (o.number == n)) w.requests.opened in let b = h.one_open in omega arith);
+      opened_is = λ i o x. (let m = filter_at (λ (o : Opened). not (o.number == n)) w.requests.opened i o x in h.opened_is m.0 o m.1);
+      newest_is = λ i o x. (let m = filter_at (λ (o : Opened). not (o.number == n)) w.requests.opened i o x in h.newest_is m.0 o m.1);
+    }
+
+pub numbers_start : NumbersAreSound [] [] 0 0 1
+numbers_start = record { names_few = omega arith; operations_few = omega arith; moment_few = omega arith; queue_few = omega arith; waiting_asked = omega arith; waiting_is = λ i x y. cc; one_open = omega arith; opened_is = λ i o y. cc; newest_is = λ i o y. cc }

@@ -1,0 +1,6 @@
+-- By induction over the events.
+use Rattle.system.proofs.Held.{held_are_safe}
+use Rattle.system.proofs.laws.held_threads_are_safe.Goals as goal
+
+pub returns : goal.returns
+returns c = held_are_safe

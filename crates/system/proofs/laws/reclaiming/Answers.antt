@@ -1,0 +1,6 @@
+-- By induction over the events.
+use Rattle.system.proofs.Reclaimed as law
+use Rattle.system.proofs.laws.reclaiming.Goals as goal
+
+pub returns : goal.returns
+returns c = law.retired_stand_nowhere

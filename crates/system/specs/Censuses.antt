@@ -1,0 +1,51 @@
+-- When a census is taken of the threads that the system keeps, and what the index answers it.
+use Rattle.std.specs.Prelude.{Bool, true, not, ◌&&◌, is_none, List, map, Option, Some, None, if◌then◌else◌}
+use Rattle.std.specs.List.{list_all}
+use Rattle.frames.specs.ImageView.{next_code}
+use Rattle.operations.specs.Requests.{is_census}
+use Rattle.activation_index.specs.declared.Entry.{Entry}
+use Rattle.system.specs.declared.answers.CodeCount.{CodeCount}
+use Rattle.system.specs.declared.answers.Refusal.{Refusal}
+use Rattle.system.specs.declared.answers.Refusal.TheVariants.{NothingOpen, NotOf, AlreadyDone, NotAllHeld, Publishing, Unpublished}
+use Rattle.system.specs.declared.requests.Open.{Open}
+use Rattle.system.specs.declared.thread.Thread.{Thread as Kept}
+
+-- A thread passes; a vacant place does.
+abbrev pub holds_at : (Kept → Bool) → Option Kept → Bool
+holds_at test None = true
+holds_at test (Some kept) = test kept
+
+abbrev pub is_held_kept : Kept → Bool
+is_held_kept kept = kept.held
+
+abbrev pub is_quiet_kept : Kept → Bool
+is_quiet_kept kept = not kept.image.publishing
+
+-- No publication is open, and every frame is counted.
+abbrev pub is_settled_kept : Kept → Bool
+is_settled_kept kept = not kept.image.publishing && is_none (next_code kept.image)
+
+-- The first of the tests of the threads that fails.
+abbrev pub census_refusal : List (Option Kept) → Option Refusal
+census_refusal kepts =
+    if not (list_all (holds_at is_held_kept) kepts) then Some NotAllHeld
+    else if not (list_all (holds_at is_quiet_kept) kepts) then Some Publishing
+    else if not (list_all (holds_at is_settled_kept) kepts) then Some Unpublished
+    else None
+
+-- The first of all tests that fails.
+abbrev pub operate_refusal : Option Open → List (Option Kept) → Option Refusal
+operate_refusal None kepts = Some NothingOpen
+operate_refusal (Some open_) kepts =
+    if not (is_census open_.request) then Some NotOf
+    else if open_.operated then Some AlreadyDone
+    else census_refusal kepts
+
+-- The open operation, operated.
+abbrev pub operated : Option Open → Option Open
+operated None = None
+operated (Some open_) = Some (record open_ { operated = true })
+
+-- The entries of the index as a census answers them.
+abbrev pub census_of : List Entry → List CodeCount
+census_of entries = map (λ entry. record { serial = entry.serial; count = entry.count }) entries

@@ -1,0 +1,209 @@
+-- What the system keeps of a thread, against the thread of the definitions.
+use Rattle.std.specs.Prelude.{◌≡◌, ℕ, ◌<◌, ◌≤◌, Bool, true, false, not, ◌&&◌, ◌||◌, ◌==◌, List, [], ◌∷◌, Option, Some, None, Result, Ok, Err, is_some, length, nat_lt, nat_le, if◌then◌else◌}
+use Rattle.thread_state.specs.declared.State.{State}
+use Rattle.thread_state.specs.declared.State.TheVariants.{New}
+use Rattle.thread_state.specs.declared.Move.TheVariants as move
+use Rattle.thread_state.specs.States.{step, may_publish, may_cross, is_in_java, is_in_vm, is_serving}
+use Rattle.frames.specs.declared.CodeId.{CodeId}
+use Rattle.frames.specs.Stack.{times}
+use Rattle.frames.specs.declared.Change.{Change as CodeChange}
+use Rattle.frames.specs.ImageView.{ImageView, SameBag, Counts}
+use Rattle.operations.specs.Requests.{is_census}
+use Rattle.system.specs.declared.thread.Marks.{Marks}
+use Rattle.system.specs.declared.thread.Moments.{Moments}
+use Rattle.system.specs.declared.thread.Thread.{Thread as Kept}
+use Rattle.system.specs.declared.requests.Open.{Open}
+use Rattle.system.specs.declared.events.Act.{Act}
+use Rattle.system.specs.declared.events.Act.TheVariants.{Begin, Change, End, Wake, Cross, Enter, Leave, Edge, ToVm, FromVm, ToNative, Block, Exit, Take, Finish, Clear, Stack}
+use Rattle.system.specs.declared.answers.Answer.{Answer}
+use Rattle.system.specs.declared.answers.Answer.TheVariants.{Changed, NoChange, Exited}
+use Rattle.system.specs.declared.answers.Refusal.{Refusal}
+use Rattle.system.specs.declared.answers.Refusal.TheVariants.{Illegal, Publishing, Unpublished, DepthFull}
+use Rattle.system.specs.Verdict.{Verdict, refused, accepted, unless◌refuse◌then◌}
+use Rattle.system.specs.Operations.{Requests, Opened, is_marked, with_mark, poll_of}
+use Rattle.system.specs.Threads.{Thread, part}
+use Rattle.system.specs.Places.{Effect, becomes, leaves, marks, may_while_publishing, pushed}
+
+-- The image has the thread's stack, and counts what the thread published.
+pub record SameImage (image : ImageView) (t : Thread) : Type 0 where
+  pub frames : image.frames ≡ t.stack
+  pub publishing : image.publishing ≡ is_some t.changed
+  pub counted : (code : CodeId) → times code image.counted ≡ part code t
+
+pub record SameThread (kept : Kept) (t : Thread) : Type 0 where
+  pub name : kept.name ≡ t.name
+  pub state : kept.state ≡ t.state
+  pub held : kept.held ≡ t.held
+  pub published : kept.published ≡ t.published
+  pub image : SameImage kept.image t
+
+-- The poll, by the last operation that was told and the last that is cleared.
+abbrev pub poll_by : Marks → Option ℕ
+poll_by m = if m.told == m.cleared then None else Some m.told
+
+-- The thread's poll is the one kept.
+abbrev pub PollIs : Requests → Thread → Kept → Type 0
+PollIs requests t kept = poll_of requests t.name ≡ poll_by kept.marks
+
+-- The operation was told to the thread, is done for it, or is cleared for it. A census is done for all where it was operated.
+abbrev pub was_told : Open → Kept → Bool
+was_told open_ kept = kept.marks.told == open_.number
+
+abbrev pub is_done : Open → Kept → Bool
+is_done open_ kept = if is_census open_.request then open_.operated else kept.marks.done == open_.number
+
+abbrev pub is_cleared : Open → Kept → Bool
+is_cleared open_ kept = kept.marks.cleared == open_.number
+
+-- The open operation, and what the thread's marks say of it; done counts for a thread that was told.
+pub record SameOpen (open_ : Open) (kept : Kept) (requests : Requests) (o : Opened) : Type 0 where
+  pub number : open_.number ≡ o.number
+  pub request : open_.request ≡ o.request
+  pub operated : open_.operated ≡ o.operated
+  pub told : is_marked requests.told o.number kept.name ≡ was_told open_ kept
+  pub done : is_marked requests.told o.number kept.name ≡ true → is_marked requests.done o.number kept.name ≡ is_done open_ kept
+  pub cleared : is_marked requests.cleared o.number kept.name ≡ is_cleared open_ kept
+
+abbrev pub OpenBy : Option Open → Kept → Requests → List Opened → Type 0
+OpenBy None kept requests [] = Unit {0}
+OpenBy (Some open_) kept requests (o ∷ []) = SameOpen open_ kept requests o
+OpenBy open_ kept requests opened = ⊥
+
+-- All that an act of the thread asks: the thread, its poll, and the open operation.
+pub record IsHere (open_ : Option Open) (kept : Kept) (requests : Requests) (t : Thread) : Type 0 where
+  pub thread : SameThread kept t
+  pub poll : poll_of requests t.name ≡ poll_by kept.marks
+  pub opened : OpenBy open_ kept requests requests.opened
+
+-- The states in which an act is lawful.
+abbrev pub lawful_in : Act → Bool → State → Bool
+lawful_in Begin held state = held || may_publish state
+lawful_in Wake held state = is_some (step state move.Wake)
+lawful_in Cross held state = may_cross state
+lawful_in (Enter method code) held state = is_in_java state
+lawful_in Leave held state = is_in_java state
+lawful_in Edge held state = is_in_java state
+lawful_in ToVm held state = is_some (step state move.ToVm)
+lawful_in FromVm held state = is_in_vm state
+lawful_in ToNative held state = is_some (step state move.ToNative)
+lawful_in Block held state = is_some (step state move.Block)
+lawful_in Exit held state = is_some (step state move.Exit)
+lawful_in Take held state = is_some (step state move.Take)
+lawful_in Finish held state = held || is_serving state
+lawful_in Clear held state = held || is_serving state
+lawful_in other held state = true
+
+-- The first of the tests that all acts of a thread have in common that fails.
+abbrev pub common_refusal : Kept → Act → Option Refusal
+common_refusal kept act =
+    if kept.image.publishing && not (may_while_publishing act) then Some Publishing
+    else if not (lawful_in act kept.held kept.state) then Some (Illegal kept.state)
+    else None
+
+-- The acts that change the thread alone, and are answered without memory: all but Change, which changes the index too, Exit,
+-- which leaves the place vacant, and Stack.
+abbrev pub is_plain : Act → Bool
+is_plain Change = false
+is_plain Exit = false
+is_plain Stack = false
+is_plain other = true
+
+-- The number of the open operation, 0 for none.
+abbrev pub number_of : Option Open → ℕ
+number_of None = 0
+number_of (Some open_) = open_.number
+
+-- The marks and moments after an accepted act.
+abbrev pub marked_by : Act → ℕ → Marks → Marks
+marked_by Finish number m = record m { done = number }
+marked_by Clear number m = record m { cleared = number }
+marked_by other number m = m
+
+abbrev pub timed_by : Act → ℕ → Moments → Moments
+timed_by Begin now m = record m { begun = now }
+timed_by End now m = record m { stored = m.begun }
+timed_by other now m = m
+
+-- What an act may change: its thread; or the marks of done or cleared operations, with the operation's number.
+pub data Reach : Type 0 where
+  seats : Reach
+  finishes : ℕ → Requests → Reach
+  clears : ℕ → Requests → Reach
+
+abbrev pub reach_of : Act → Option Open → Requests → Reach
+reach_of Finish open_ requests = finishes (number_of open_) requests
+reach_of Clear open_ requests = clears (number_of open_) requests
+reach_of other open_ requests = seats
+
+-- What a thread is after an effect, and which marks are new.
+abbrev pub Lands : Reach → Effect → Kept → Thread → Type 0
+Lands seats (becomes new) kept t = SameThread kept new
+Lands (finishes number before) (marks requests) kept t = (requests ≡ record before { done = with_mark before.done number t.name }) × SameThread kept t
+Lands (clears number before) (marks requests) kept t = (requests ≡ record before { cleared = with_mark before.cleared number t.name }) × SameThread kept t
+Lands reach effect kept t = ⊥
+
+-- The name and the counts stay, and marks and moments become these.
+pub record Becomes (m : Marks) (times_ : Moments) (old new : Kept) : Type 0 where
+  pub name : new.name ≡ old.name
+  pub counted : SameBag new.image.counted old.image.counted
+  pub marks_are : new.marks ≡ m
+  pub moments_are : new.moments ≡ times_
+
+-- What the verdict says was done: a refusal leaves the thread; after an effect its marks and moments are these.
+abbrev pub DidWith : Reach → Marks → Moments → Verdict Effect → Kept → Kept → Thread → Result Answer Refusal → Type 0
+DidWith reach m times_ (refused refusal) old new t result = (result ≡ Err refusal) × (new ≡ old)
+DidWith reach m times_ (accepted effect answer) old new t result = (result ≡ Ok answer) × Lands reach effect new t × Becomes m times_ old new
+
+-- The same of an act that changes its thread alone, with marks and moments as they were; and of each act.
+abbrev pub DidStay : Verdict Effect → Kept → Kept → Thread → Result Answer Refusal → Type 0
+DidStay verdict old new t result = DidWith seats old.marks old.moments verdict old new t result
+
+abbrev pub Did : Act → Option Open → Requests → ℕ → Verdict Effect → Kept → Kept → Thread → Result Answer Refusal → Type 0
+Did act open_ requests now verdict old new t result = DidWith (reach_of act open_ requests) (marked_by act (number_of open_) old.marks) (timed_by act now old.moments) verdict old new t result
+
+-- A frame goes on top of the stack, where the thread has published and there is room.
+abbrev pub enters_frame : Thread → ℕ → Option CodeId → Verdict Effect
+enters_frame t method code =
+    unless t.published refuse Unpublished then
+    unless nat_lt (length t.stack) 256 refuse DepthFull then
+    pushed t method code
+
+-- The first of these tests that fails.
+abbrev pub frame_refusal : Kept → Option Refusal
+frame_refusal kept =
+    if not kept.published then Some Unpublished
+    else if nat_le 256 (length kept.image.frames) then Some DepthFull
+    else None
+
+-- What a thread's exit was answered.
+abbrev pub SaysExit : Verdict Effect → Thread → Option Refusal → Type 0
+SaysExit verdict t None = verdict ≡ accepted leaves (Exited t.name)
+SaysExit verdict t (Some refusal) = verdict ≡ refused refusal
+
+-- What a change of the open publication is: its code's count moves to that of the stack, and no other count does.
+abbrev pub said_change : Option CodeChange → Answer
+said_change None = NoChange
+said_change (Some change) = Changed change.code.serial change.by
+
+abbrev pub Counted : Option CodeChange → Kept → Kept → Type 0
+Counted None old new = new ≡ old
+Counted (Some change) old new = Counts old.image new.image change × (new ≡ record old { image = new.image })
+
+abbrev pub DidNext : Verdict Effect → Kept → Kept → Thread → Result (Option CodeChange) Refusal → Type 0
+DidNext (refused refusal) old new t result = (result ≡ Err refusal) × (new ≡ old)
+DidNext (accepted effect answer) old new t result = (change : Option CodeChange) × (result ≡ Ok change) × (answer ≡ said_change change) × Lands seats effect new t × Counted change old new
+
+-- A census is open.
+abbrev pub safepoint_by : Option Open → Bool
+safepoint_by None = false
+safepoint_by (Some open_) = is_census open_.request
+
+-- A new thread: its stack is empty, and it has published nothing.
+pub record IsNew (kept : Kept) (name : ℕ) : Type 0 where
+  pub name_is : kept.name ≡ name
+  pub state_is : kept.state ≡ New
+  pub held_is : kept.held ≡ false
+  pub published_is : kept.published ≡ false
+  pub image_is : (kept.image.frames ≡ []) × (kept.image.publishing ≡ false) × ((code : CodeId) → times code kept.image.counted ≡ 0)
+  pub marks_are : kept.marks ≡ record { told = 0; done = 0; cleared = 0 }
+  pub moments_are : kept.moments ≡ record { begun = 0; stored = 0 }

@@ -1,0 +1,75 @@
+-- The operations: requests that wait, those that are open, and what was told, done and cleared.
+-- (overview: operations wait in a queue; JEP 312: a handshake runs a callback once for each chosen thread)
+use Rattle.std.specs.Prelude.{ℕ, max, Bool, not, ◌&&◌, ◌==◌, List, [], ◌∷◌, map, filter, Option, Some, None}
+use Rattle.std.specs.List.{list_any}
+use Rattle.operations.specs.declared.Request.{Request}
+use Rattle.operations.specs.Requests.{is_census}
+
+-- The greater of a number and of another, where there is another.
+abbrev pub max_with : ℕ → Option ℕ → ℕ
+max_with n None = n
+max_with n (Some m) = max n m
+
+-- The greatest number of a list, where there is one.
+abbrev pub greatest : List ℕ → Option ℕ
+greatest [] = None
+greatest (n ∷ ns) = Some (max_with n (greatest ns))
+
+-- A numbered request.
+pub record Waiting : Type 0 where
+  pub number : ℕ
+  pub request : Request
+
+-- An open operation: the targets that were live when it was opened, and whether it, a census, was operated.
+pub record Opened : Type 0 where
+  pub number : ℕ
+  pub request : Request
+  pub live : List ℕ
+  pub operated : Bool
+
+-- An operation and the name of a thread.
+pub record Mark : Type 0 where
+  pub operation : ℕ
+  pub name : ℕ
+
+-- The waiting requests, the oldest first; the open operations, the oldest first; and three sets of marks.
+pub record Requests : Type 0 where
+  pub waiting : List Waiting
+  pub opened : List Opened
+  pub told : List Mark
+  pub done : List Mark
+  pub cleared : List Mark
+
+-- Nothing is asked.
+abbrev pub no_requests : Requests
+no_requests = record { waiting = []; opened = []; told = []; done = []; cleared = [] }
+
+-- The operation was told to the thread, is done for it, or is cleared for it, as the set is.
+abbrev pub is_marked : List Mark → ℕ → ℕ → Bool
+is_marked marks operation name = list_any (λ mark. (mark.operation == operation) && (mark.name == name)) marks
+
+-- The set with one mark more.
+abbrev pub with_mark : List Mark → ℕ → ℕ → List Mark
+with_mark marks operation name = record { operation = operation; name = name } ∷ marks
+
+-- The marks of one operation for several names.
+abbrev pub marks_of : ℕ → List ℕ → List Mark
+marks_of operation names = map (λ name. record { operation = operation; name = name }) names
+
+-- The operations told to the thread that aren't cleared for it.
+abbrev pub pending : Requests → ℕ → List ℕ
+pending requests name =
+    map (λ mark. mark.operation) (filter (λ mark. (mark.name == name) && not (is_marked requests.cleared mark.operation name)) requests.told)
+
+-- A poll stops for the greatest operation that was told and isn't cleared. (JEP 312: the poll is per thread)
+abbrev pub poll_of : Requests → ℕ → Option ℕ
+poll_of requests name = greatest (pending requests name)
+
+-- A census is open. (overview: at a safepoint)
+abbrev pub is_safepoint : Requests → Bool
+is_safepoint requests = list_any (λ opened. is_census opened.request) requests.opened
+
+-- A census is open that was told to the thread and isn't operated. (overview: threads are kept while it lasts)
+abbrev pub awaits_census : Requests → ℕ → Bool
+awaits_census requests name =
+    list_any (λ opened. is_census opened.request && not opened.operated && is_marked requests.told opened.number name) requests.opened

@@ -1,0 +1,190 @@
+-- The acts of a thread at its place.
+use Rattle.std.specs.Prelude.{ℕ, pos, ◌-ℤ◌, Bool, true, false, not, ◌||◌, ◌==◌, nat_lt, length, List, [], ◌∷◌, ◌++◌, Option, Some, None, is_some, is_none, take, ◌-◌, if◌then◌else◌}
+use Rattle.thread_state.specs.declared.State.{State}
+use Rattle.thread_state.specs.declared.Move.{Move}
+use Rattle.thread_state.specs.declared.Move.TheVariants as move
+use Rattle.frames.specs.declared.CodeId.{CodeId}
+use Rattle.method_table.specs.declared.Code.{Code}
+use Rattle.system.specs.declared.events.Act.{Act}
+use Rattle.system.specs.declared.events.Act.TheVariants.{Begin, Change, End, Wake, Cross, Enter, Leave, Edge, ToVm, FromVm, ToNative, Block, Exit, Take, Finish, Clear, Hold, Release, Stack}
+use Rattle.system.specs.declared.answers.Answer.{Answer}
+use Rattle.system.specs.declared.answers.Answer.TheVariants as answer
+use Rattle.system.specs.declared.answers.Refusal.TheVariants.{Illegal, Publishing, NotBegun, ChangesLeft, Held, NoSuchMethod, Unknown, Unpublished, DepthFull, NotOf, EmptyStack, StackNotEmpty, OperationPending, NotDone, NothingOpen, NotTold, AlreadyDone, NotSafe, NotHeld}
+use Rattle.operations.specs.Names.{is_empty}
+use Rattle.system.specs.Verdict.{Verdict, refused, accepted, unless◌refuse◌then◌}
+use Rattle.thread_state.specs.States.{step, cross, is_safe, may_publish, may_cross, is_in_java, is_in_vm, is_serving}
+use Rattle.frames.specs.Stack.{act}
+use Rattle.method_table.specs.Codes.{code_of, id_of, is_in_use}
+use Rattle.system.specs.Threads.{Thread, is_publishing, changed_codes, next_change, is_settled}
+use Rattle.system.specs.Operations.{Requests, Opened, is_marked, with_mark, poll_of, awaits_census}
+use Rattle.operations.specs.Requests.{lists, is_target, reply_to}
+use Rattle.system.specs.World.{World}
+
+-- What an accepted act changes: the thread, or its place, which gets vacant, or the requests.
+pub data Effect : Type 0 where
+  becomes : Thread → Effect
+  leaves : Effect
+  marks : Requests → Effect
+
+-- The acts that an open publication allows.
+abbrev pub may_while_publishing : Act → Bool
+may_while_publishing Change = true
+may_while_publishing End = true
+may_while_publishing Stack = true
+may_while_publishing other = false
+
+-- The states in which an act is lawful. A callback runs while the thread is held or serves itself. (JEP 312)
+abbrev pub is_lawful : Act → Thread → Bool
+is_lawful Begin t = t.held || may_publish t.state
+is_lawful Wake t = is_some (step t.state move.Wake)
+is_lawful Cross t = may_cross t.state
+is_lawful (Enter method code) t = is_in_java t.state
+is_lawful Leave t = is_in_java t.state
+is_lawful Edge t = is_in_java t.state
+is_lawful ToVm t = is_some (step t.state move.ToVm)
+is_lawful FromVm t = is_in_vm t.state
+is_lawful ToNative t = is_some (step t.state move.ToNative)
+is_lawful Block t = is_some (step t.state move.Block)
+is_lawful Exit t = is_some (step t.state move.Exit)
+is_lawful Take t = is_some (step t.state move.Take)
+is_lawful Finish t = t.held || is_serving t.state
+is_lawful Clear t = t.held || is_serving t.state
+is_lawful other t = true
+
+-- Where a move leads; is_lawful leaves no move without an end.
+abbrev pub to_state : Thread → Option State → Verdict Effect
+to_state t None = refused (Illegal t.state)
+to_state t (Some state) = accepted (becomes (record t { state = state })) answer.Done
+
+-- A move without a poll.
+abbrev pub move_by : Thread → Move → Verdict Effect
+move_by t move = to_state t (step t.state move)
+
+-- What a poll answers.
+abbrev pub go_or_stop : Option ℕ → Answer
+go_or_stop None = answer.Go
+go_or_stop (Some operation) = answer.Stop operation
+
+-- Where a poll leads; is_lawful leaves no poll without an end.
+abbrev pub crosses : Thread → Option ℕ → Option State → Verdict Effect
+crosses t poll None = refused (Illegal t.state)
+crosses t poll (Some state) = accepted (becomes (record t { state = state })) (go_or_stop poll)
+
+-- A poll: the thread goes on, or stops for the operation. (JEP 312: the poll is per thread)
+abbrev pub polls : Requests → Thread → Verdict Effect
+polls requests t = crosses t (poll_of requests t.name) (cross t.state (is_none (poll_of requests t.name)))
+
+-- The least code that has to change yet changes, and the index takes the difference.
+abbrev pub changes : Thread → Option CodeId → Verdict Effect
+changes t None = accepted (becomes t) answer.NoChange
+changes t (Some code) =
+    accepted (becomes (record t { changed = Some (code ∷ changed_codes t) }))
+    (answer.Changed code.serial (pos (act code t.stack) -ℤ pos (act code t.shown)))
+
+-- A frame on top of the stack.
+abbrev pub pushed : Thread → ℕ → Option CodeId → Verdict Effect
+pushed t method code = accepted (becomes (record t { stack = t.stack ++ record { method = method; code = code } ∷ [] })) answer.Entered
+
+-- Code in use is entered, all other code sends the call away. (nmethod: a call to not-entrant code is sent away at its entry)
+abbrev pub enters : Thread → ℕ → Option Code → Verdict Effect
+enters t method None = refused Unknown
+enters t method (Some code) =
+    if is_in_use code.state
+    then (unless code.method == method refuse NotOf then pushed t method (Some (id_of code)))
+    else accepted (becomes t) answer.WrongMethod
+
+-- A call without a code is interpreted.
+abbrev pub calls : List Code → Thread → ℕ → Option ℕ → Verdict Effect
+calls codes t method None = pushed t method None
+calls codes t method (Some serial) = enters t method (code_of codes serial)
+
+-- The serial, where one is given, was given out.
+abbrev pub is_known : List Code → Option ℕ → Bool
+is_known codes None = true
+is_known codes (Some serial) = is_some (code_of codes serial)
+
+-- A call, with the tests in their order; sent away only after them.
+abbrev pub enter : World → ℕ → Option ℕ → Thread → Verdict Effect
+enter w method code t =
+    unless nat_lt method w.methods refuse NoSuchMethod then
+    unless is_known w.codes code refuse Unknown then
+    unless t.published refuse Unpublished then
+    unless nat_lt (length t.stack) 256 refuse DepthFull then
+    calls w.codes t method code
+
+-- The stack without its top.
+abbrev pub popped : Thread → Thread
+popped t = record t { stack = take (length t.stack - 1) t.stack }
+
+-- The callback of a handshake, once for each target, on a published stack. (JEP 312: by the thread itself or by the
+-- coordinator while it keeps the thread blocked)
+abbrev pub finish : Requests → Thread → Opened → Verdict Effect
+finish requests t opened =
+    unless lists opened.request t.name refuse NotOf then
+    unless is_marked requests.told opened.number t.name refuse NotTold then
+    unless not (is_marked requests.done opened.number t.name) refuse AlreadyDone then
+    unless is_settled t refuse Unpublished then
+    accepted (marks (record requests { done = with_mark requests.done opened.number t.name })) (answer.Reply (reply_to opened.request t.stack))
+
+-- The thread may go on once its own work is done. (JEP 312: it doesn't wait for the other threads)
+abbrev pub clear : Requests → Thread → Opened → Verdict Effect
+clear requests t opened =
+    unless is_target opened.request t.name refuse NotOf then
+    unless is_marked requests.told opened.number t.name refuse NotTold then
+    unless is_marked requests.done opened.number t.name refuse NotDone then
+    unless not (is_marked requests.cleared opened.number t.name) refuse AlreadyDone then
+    accepted (marks (record requests { cleared = with_mark requests.cleared opened.number t.name })) answer.Done
+
+-- The coordinator keeps a thread blocked in a safe state. (JEP 312)
+abbrev pub hold : Requests → Thread → Opened → Verdict Effect
+hold requests t opened =
+    unless is_target opened.request t.name refuse NotOf then
+    unless is_marked requests.told opened.number t.name refuse NotTold then
+    unless not (is_marked requests.cleared opened.number t.name) refuse AlreadyDone then
+    unless not t.held refuse Held then
+    unless is_safe t.state refuse NotSafe then
+    accepted (becomes (record t { held = true })) answer.Done
+
+-- In the oldest open operation.
+abbrev pub in_open : {A : Type 0} → List Opened → (Opened → Verdict A) → Verdict A
+in_open [] work = refused NothingOpen
+in_open (opened ∷ others) work = work opened
+
+-- What an act does after the common tests.
+abbrev pub does : World → Act → Thread → Verdict Effect
+does w Begin t = accepted (becomes (record t { changed = Some [] })) answer.Done
+does w Change t = unless is_publishing t refuse NotBegun then changes t (next_change t)
+does w End t =
+    unless is_publishing t refuse NotBegun then
+    unless is_none (next_change t) refuse ChangesLeft then
+    accepted (becomes (record t { shown = t.stack; published = true; changed = None })) answer.Done
+does w Wake t = unless not t.held refuse Held then move_by t move.Wake
+does w Cross t = polls w.requests t
+does w (Enter method code) t = enter w method code t
+does w Leave t = unless not (is_empty t.stack) refuse EmptyStack then polls w.requests (popped t)
+does w Edge t = polls w.requests t
+does w ToVm t = move_by t move.ToVm
+does w FromVm t = polls w.requests t
+does w ToNative t = move_by t move.ToNative
+does w Block t = move_by t move.Block
+does w Exit t =
+    unless is_empty t.stack refuse StackNotEmpty then
+    unless is_settled t refuse Unpublished then
+    unless is_none (poll_of w.requests t.name) refuse OperationPending then
+    accepted leaves (answer.Exited t.name)
+does w Take t =
+    unless not t.held refuse Held then
+    unless not (awaits_census w.requests t.name) refuse NotDone then
+    move_by t move.Take
+does w Finish t = in_open w.requests.opened (finish w.requests t)
+does w Clear t = in_open w.requests.opened (clear w.requests t)
+does w Hold t = in_open w.requests.opened (hold w.requests t)
+does w Release t = unless t.held refuse NotHeld then accepted (becomes (record t { held = false })) answer.Done
+does w Stack t = accepted (becomes t) (answer.Frames t.stack)
+
+-- The tests that all acts of a thread have in common, and then its own.
+abbrev pub here : World → Act → Thread → Verdict Effect
+here w act t =
+    unless not (is_publishing t) || may_while_publishing act refuse Publishing then
+    unless is_lawful act t refuse Illegal t.state then
+    does w act t

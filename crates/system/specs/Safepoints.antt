@@ -1,0 +1,85 @@
+-- Where an operation runs: on a published stack, of a thread at a safe point.
+use Rattle.std.specs.Prelude.{◌≡◌, ◌⊎◌, ℕ, ◌<◌, Bool, true, false, List, [], ◌∷◌, ◌++◌, Some}
+use Rattle.frames.specs.declared.CodeId.{CodeId}
+use Rattle.operations.specs.declared.Ask.{Ask}
+use Rattle.operations.specs.declared.Request.TheVariants.{Handshake}
+use Rattle.system.specs.declared.events.Act.TheVariants as act
+use Rattle.system.specs.declared.events.Event.{Event}
+use Rattle.system.specs.declared.events.Event.TheVariants as event
+use Rattle.system.specs.declared.answers.Answer.{Answer}
+use Rattle.system.specs.declared.answers.Answer.TheVariants as answer
+use Rattle.thread_state.specs.States.{is_safe, is_serving}
+use Rattle.frames.specs.Stack as stack
+use Rattle.operations.specs.Asks as asks
+use Rattle.operations.specs.Requests.{is_census}
+use Rattle.system.specs.Threads.{Thread, is_publishing}
+use Rattle.system.specs.Operations.{Opened}
+use Rattle.system.specs.World.{World, start_world, thread_at, walk, frames_of, census}
+use Rattle.system.specs.Runs.{world_after, answer_to}
+use Rattle.system.specs.Laws.{HeldIsSafe}
+use Rattle.system.specs.Facts.{IsGiven}
+
+-- The event was accepted.
+abbrev pub is_accepted : Answer → Bool
+is_accepted (answer.Refused refusal) = false
+is_accepted other = true
+
+-- No publication is open, and what was shown counts each code as the stack does.
+pub record IsSettled (t : Thread) : Type 0 where
+  pub quiet : is_publishing t ≡ false
+  pub counts : (code : CodeId) → stack.act code t.stack ≡ stack.act code t.shown
+
+-- The thread is held, or serves itself. (JEP 312: by the thread itself or by the coordinator while it keeps the thread blocked)
+abbrev pub IsAtSafePoint : Thread → Type 0
+IsAtSafePoint t = (t.held ≡ true) ⊎ (is_serving t.state ≡ true)
+
+-- A Finish at the place, answered so: the thread there is settled and at a safe point, in a safe state where it is held, and the
+-- reply is that of the open handshake's ask on its stack.
+pub record FinishesSafely (w : World) (place : ℕ) (said : Answer) : Type 0 where
+  pub thread : Thread
+  pub there : thread_at w place ≡ Some thread
+  pub settled : IsSettled thread
+  pub safe_point : IsAtSafePoint thread
+  pub held_safe : HeldIsSafe thread
+  pub opened : Opened
+  pub opened_is : w.requests.opened ≡ opened ∷ []
+  pub targets : List ℕ
+  pub ask : Ask
+  pub handshake : opened.request ≡ Handshake targets ask
+  pub reply : said ≡ answer.Reply (asks.reply ask thread.stack)
+
+-- A thread at a safepoint.
+pub record StandsStill (t : Thread) : Type 0 where
+  pub settled : IsSettled t
+  pub held : t.held ≡ true
+  pub safe : is_safe t.state ≡ true
+
+-- An Operate, answered so: each thread is held in a safe state and settled, so the index counts the stacks as they are, and the
+-- answer is the census of these stacks, which misses no code. (overview: at a safepoint)
+pub record OperatesSafely (w : World) (said : Answer) : Type 0 where
+  pub opened : Opened
+  pub opened_is : w.requests.opened ≡ opened ∷ []
+  pub is_a_census : is_census opened.request ≡ true
+  pub each : (place : ℕ) (t : Thread) → thread_at w place ≡ Some t → StandsStill t
+  pub index : (code : CodeId) → walk w code ≡ frames_of w code
+  pub complete : (code : CodeId) → 0 < frames_of w code → IsGiven w.codes code
+  pub answer_is : said ≡ answer.Census (census w)
+
+-- Each accepted Finish among the events, in the world before it.
+abbrev pub FinishesAtSafePoints : ℕ → ℕ → ℕ → List Event → Type 0
+FinishesAtSafePoints places slots methods events = (before rest : List Event) (place : ℕ) → events ≡ before ++ event.At place act.Finish ∷ rest
+    → is_accepted (answer_to (world_after (start_world places slots methods) before) (event.At place act.Finish)) ≡ true
+    → FinishesSafely (world_after (start_world places slots methods) before) place (answer_to (world_after (start_world places slots methods) before) (event.At place act.Finish))
+
+-- Each accepted Operate among the events, in the world before it.
+abbrev pub OperatesAtSafepoints : ℕ → ℕ → ℕ → List Event → Type 0
+OperatesAtSafepoints places slots methods events = (before rest : List Event) → events ≡ before ++ event.Operate ∷ rest
+    → is_accepted (answer_to (world_after (start_world places slots methods) before) event.Operate) ≡ true
+    → OperatesSafely (world_after (start_world places slots methods) before) (answer_to (world_after (start_world places slots methods) before) event.Operate)
+
+-- So it is with any events.
+abbrev pub HandshakesRunAtSafePoints : Type 0
+HandshakesRunAtSafePoints = (places slots methods : ℕ) (events : List Event) → FinishesAtSafePoints places slots methods events
+
+abbrev pub CensusesRunAtSafepoints : Type 0
+CensusesRunAtSafepoints = (places slots methods : ℕ) (events : List Event) → OperatesAtSafepoints places slots methods events

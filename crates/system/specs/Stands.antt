@@ -1,0 +1,179 @@
+-- A system stands for a list of events: what it keeps is what the world after them has.
+use Rattle.std.specs.Prelude.{Bool, true, false, nat_le, ◌&&◌, ◌==◌, ◌≡◌, ℕ, ◌≤◌, ◌<◌, List, [], ◌∷◌, ◌++◌, length, map, Option, Some, None, slice_get, slice_index_or, if◌then◌else◌}
+use Rattle.method_table.specs.declared.Code.{Code}
+use Rattle.method_table.specs.declared.CodeState.TheVariants.{NotEntrant}
+use Rattle.method_table.specs.Codes.{code_of, id_of}
+use Rattle.activation_index.specs.Counts.{count_in, IsRisingFrom}
+use Rattle.operations.specs.declared.queue.Waiting.{Waiting as Queued}
+use Rattle.operations.specs.Names.{among}
+use Rattle.operations.specs.Requests.{is_census, is_target}
+use Rattle.system.specs.declared.events.Event.{Event}
+use Rattle.system.specs.declared.events.Event.TheVariants as event
+use Rattle.system.specs.declared.events.Act.TheVariants as act
+use Rattle.system.specs.declared.answers.Answer.{Answer}
+use Rattle.system.specs.declared.thread.Marks.{Marks}
+use Rattle.system.specs.declared.thread.Moments.{Moments}
+use Rattle.system.specs.declared.thread.Thread.{Thread as Kept}
+use Rattle.system.specs.declared.records.Record.{Record}
+use Rattle.system.specs.declared.requests.Open.{Open}
+use Rattle.system.specs.declared.keeping.Core.{Core}
+use Rattle.system.specs.Operations.{Requests, Waiting, Opened, is_marked}
+use Rattle.system.specs.Log.{Entry, names_given, operations_given, moment, is_looked}
+use Rattle.system.specs.Threads.{Thread}
+use Rattle.system.specs.World.{World, start_world, found, thread_at, is_live, walk}
+use Rattle.system.specs.Runs.{world_after, answer_to, after}
+use Rattle.system.specs.Moments.{left_at, begun, ended}
+use Rattle.system.specs.Facts.{IsSound}
+use Rattle.system.specs.Keeps.{SameThread}
+
+-- The sizes that a system may have: places, slots, methods. (own limits)
+abbrev pub are_sizes : ℕ → ℕ → ℕ → Bool
+are_sizes places slots methods =
+    nat_le 1 places && nat_le places 64 && nat_le 1 slots && nat_le slots 1024 && nat_le 1 methods && nat_le methods 256
+
+-- Done for a thread: a census is done for all where it was operated, a handshake where it is the last that is done.
+abbrev pub done_by : Opened → Marks → Bool
+done_by o m = if is_census o.request then o.operated else (m.done == o.number)
+
+-- The last marks of a thread, against all marks of the requests. Those told before the last are cleared.
+pub record SameMarks (m : Marks) (requests : Requests) (name : ℕ) : Type 0 where
+  pub told_last : (n : ℕ) → is_marked requests.told n name ≡ true → n ≤ m.told
+  pub told_is : 0 < m.told → is_marked requests.told m.told name ≡ true
+  pub cleared_is : 0 < m.told → is_marked requests.cleared m.told name ≡ (m.cleared == m.told)
+  pub older : (n : ℕ) → is_marked requests.told n name ≡ true → n < m.told → is_marked requests.cleared n name ≡ true
+  pub cleared_old : m.cleared ≤ m.told
+  pub done_old : m.done ≤ m.told
+  pub done_is : (o : Opened) → requests.opened ≡ o ∷ [] → is_marked requests.told o.number name ≡ true → is_marked requests.done o.number name ≡ done_by o m
+
+-- The moments of a thread, against the log.
+pub record SameMoments (m : Moments) (log : List Entry) (place : ℕ) : Type 0 where
+  pub begun_is : m.begun ≡ begun place log
+  pub stored_is : m.stored ≡ ended place log
+
+-- The thread kept at a place.
+pub record SameAt (w : World) (place : ℕ) (kept : Kept) (t : Thread) : Type 0 where
+  pub thread : SameThread kept t
+  pub marks : SameMarks kept.marks w.requests t.name
+  pub moments : SameMoments kept.moments w.log place
+
+abbrev pub SamePlace : World → ℕ → Option Kept → Option Thread → Type 0
+SamePlace w place None None = Unit {0}
+SamePlace w place (Some kept) (Some t) = SameAt w place kept t
+SamePlace w place None (Some t) = ⊥
+SamePlace w place (Some kept) None = ⊥
+
+-- What a list has at a position: none past its end, and none at a vacant place.
+abbrev pub held_at : Option (Option Kept) → Option Kept
+held_at None = None
+held_at (Some kept) = kept
+
+abbrev pub kept_at : List (Option Kept) → ℕ → Option Kept
+kept_at kepts place = held_at (slice_get kepts place)
+
+-- All places.
+pub record SamePlaces (kepts : List (Option Kept)) (w : World) : Type 0 where
+  pub lengths : length kepts ≡ length w.places
+  pub each : (place : ℕ) → SamePlace w place (kept_at kepts place) (thread_at w place)
+
+-- A slot's record is of a code that isn't entrant: the moment of its invalidation, and the places that were looked at.
+pub record SameRecord (record_ : Record) (w : World) (code : Code) : Type 0 where
+  pub left_is : record_.left ≡ left_at code.serial w.log
+  pub looked_is : (place : ℕ) → place < length w.places → slice_index_or record_.looked place true ≡ is_looked w.log code.serial place
+
+pub record SameRecords (records : List Record) (w : World) : Type 0 where
+  pub lengths : length records ≡ w.slots
+  pub each : (serial : ℕ) (code : Code) (record_ : Record) → code_of w.codes serial ≡ Some code → code.state ≡ NotEntrant → slice_get records code.slot ≡ Some record_ → SameRecord record_ w code
+
+-- A request that waits.
+abbrev pub waiting_of : Queued (Unit {0}) → Waiting
+waiting_of queued = record { number = queued.number; request = queued.request }
+
+-- The open operation: its live targets are the live threads that it asks among the first names.
+pub record SameOpened (open_ : Open) (o : Opened) (w : World) : Type 0 where
+  pub number : open_.number ≡ o.number
+  pub request : open_.request ≡ o.request
+  pub operated : open_.operated ≡ o.operated
+  pub names : open_.names ≤ names_given w.log
+  pub live : (name : ℕ) → is_live w name ≡ true → among name o.live ≡ is_target o.request name && nat_le name open_.names
+
+abbrev pub SameOpen : Option Open → List Opened → World → Type 0
+SameOpen None [] w = Unit {0}
+SameOpen (Some open_) (o ∷ []) w = SameOpened open_ o w
+SameOpen open_ opened w = ⊥
+
+-- The count of a serial's code over all places.
+abbrev pub walk_of : World → Option Code → ℕ
+walk_of w None = 0
+walk_of w (Some code) = walk w (id_of code)
+
+-- The system has what the world has, and the index counts what the threads published.
+pub record Matches (s : Core) (w : World) : Type 0 where
+  pub slots : s.table.slots ≡ w.slots
+  pub methods : s.table.methods ≡ w.methods
+  pub codes : s.table.codes ≡ w.codes
+  pub places : SamePlaces s.places.items w
+  pub records : SameRecords s.records.items w
+  pub names : s.names ≡ names_given w.log
+  pub moment_is : s.moment ≡ moment w.log
+  pub numbers : s.requests.numbers ≡ operations_given w.log
+  pub waiting : map waiting_of s.requests.waiting ≡ w.requests.waiting
+  pub opened : SameOpen s.requests.«open» w.requests.opened w
+  pub index_slots : s.index.slots ≡ w.slots
+  pub index : (serial : ℕ) → count_in s.index.entries serial ≡ walk_of w (code_of w.codes serial)
+
+-- The sizes of a system.
+abbrev pub places_of : Core → ℕ
+places_of s = length s.places.items
+
+abbrev pub slots_of : Core → ℕ
+slots_of s = s.table.slots
+
+abbrev pub methods_of : Core → ℕ
+methods_of s = s.table.methods
+
+-- The sizes stay.
+pub record SameSizes (old new : Core) : Type 0 where
+  pub places : places_of new ≡ places_of old
+  pub slots : slots_of new ≡ slots_of old
+  pub methods : methods_of new ≡ methods_of old
+
+-- The world that a system of these sizes comes to by the events.
+abbrev pub world_by : Core → List Event → World
+world_by s events = world_after (start_world (places_of s) (slots_of s) (methods_of s)) events
+
+-- The system stands for the events: it has what the world after them has.
+abbrev pub StandsFor : Core → List Event → Type 0
+StandsFor s events = Matches s (world_by s events)
+
+-- After the event the system stands for one event more, and the answer is the definitions'.
+abbrev pub Next : Core → Event → Answer → Core → Type 0
+Next old event said new =
+    (events : List Event) → StandsFor old events → (said ≡ answer_to (world_by old events) event) × StandsFor new (events ++ event ∷ [])
+
+-- A part of the system does an event: in every sound world that it has, the answer is the definitions', and it has the world after.
+pub record DoesIn (event : Event) (said : Answer) (new : Core) (w : World) : Type 0 where
+  pub answer : said ≡ answer_to w event
+  pub matches : Matches new (after w event)
+
+pub record Does (event : Event) (old : Core) (said : Answer) (new : Core) : Type 0 where
+  pub each : (w : World) → IsSound w → Matches old w → DoesIn event said new w
+  pub sizes : SameSizes old new
+
+-- Some sound world is the one that the system has.
+abbrev pub OfWorld : Core → Type 0
+OfWorld s = (w : World) × IsSound w × Matches s w
+
+-- The sizes of a system are within the limits.
+pub record IsSized (s : Core) : Type 0 where
+  pub places : places_of s ≤ 64
+  pub slots : slots_of s ≤ 1024
+  pub methods : methods_of s ≤ 256
+
+-- The events that take no memory: all but Start, Install, Ask, Operate and Stack.
+abbrev pub takes_no_memory : Event → Bool
+takes_no_memory (event.At place act.Stack) = false
+takes_no_memory event.Start = false
+takes_no_memory (event.Install method) = false
+takes_no_memory (event.Ask request) = false
+takes_no_memory event.Operate = false
+takes_no_memory other = true

@@ -1,0 +1,145 @@
+// Answers to events, and why an event is refused.
+ghost use Rattle.std.specs.Prelude.{◌≡◌};
+
+use frames::Frame;
+use method_table::CodeState;
+use operations::Kind;
+use std::marker::Model;
+use thread_state::State;
+
+/// Why an event is refused.
+#[derive(Clone, Copy, Debug, PartialEq, Eq, Drop)]
+pub enum Refusal {
+    NoSuchPlace,
+    Illegal(State),
+    Publishing,
+    NotBegun,
+    ChangesLeft,
+    Held,
+    NoSuchMethod,
+    Unknown,
+    Unpublished,
+    DepthFull,
+    NotOf,
+    EmptyStack,
+    StackNotEmpty,
+    OperationPending,
+    NotDone,
+    NothingOpen,
+    NotTold,
+    AlreadyDone,
+    NotSafe,
+    NotHeld,
+    SafepointOpen,
+    PlacesFull,
+    Spent,
+    HasCode,
+    TableFull,
+    SerialsSpent,
+    NotInUse,
+    NotNotEntrant,
+    NotZombie,
+    QueueFull,
+    NoTargets,
+    BadTargets,
+    AlreadyOpen,
+    QueueEmpty,
+    AlreadyTold,
+    NotAllHeld,
+}
+
+/// A code's serial, and how many frames it has.
+#[derive(Clone, Copy, Debug, PartialEq, Eq, Drop)]
+pub struct CodeCount {
+    pub serial: u64,
+    pub count: u32,
+}
+
+/// What a census counted, in rising serial.
+#[derive(Debug, Drop)]
+pub struct CountList {
+    counts: Vec<CodeCount>,
+}
+
+impl Model for CountList {
+    ghost use Rattle.std.specs.Prelude.{List};
+    ghost use Rattle.system.specs.declared.answers.CodeCount.{CodeCount};
+
+    ghost Value = { List CodeCount };
+
+    ghost view = { λ l. l.counts.items };
+}
+
+impl CountList {
+    pub fn from_vec(counts: Vec<CodeCount>) -> CountList
+        ensures { result ≡ counts.items }
+    {
+        CountList { counts }
+    }
+
+    pub fn as_slice(&self) -> &[CodeCount]
+        ensures { result.now ≡ self.now }
+    {
+        self.counts.as_slice()
+    }
+}
+
+/// The answer to an event. Places are those of threads, all other numbers are names, serials, operations or counts.
+#[derive(Debug, Drop)]
+pub enum Answer {
+    Done,
+    Thread(u64, usize),
+    Exited(u64),
+    Changed(u64, i32),
+    NoChange,
+    Go,
+    Stop(u64),
+    Entered,
+    WrongMethod,
+    Reply(u64),
+    Frames(FrameList),
+    Code(u64),
+    NoCode,
+    Clear,
+    Late,
+    NotLooked(usize),
+    Used(u32),
+    Retired,
+    Asked(u64),
+    Opened(u64, Kind),
+    Closed(u64),
+    Told,
+    Gone,
+    Census(CountList),
+    Count(u32),
+    State(CodeState),
+    Refused(Refusal),
+}
+/// Frames, bottom first.
+#[derive(Debug, Drop)]
+pub struct FrameList {
+    frames: Vec<Frame>,
+}
+
+impl Model for FrameList {
+    ghost use Rattle.std.specs.Prelude.{List};
+    ghost use Rattle.frames.specs.declared.Frame.{Frame};
+
+    ghost Value = { List Frame };
+
+    ghost view = { λ l. l.frames.items };
+}
+
+impl FrameList {
+    pub fn from_vec(frames: Vec<Frame>) -> FrameList
+        ensures { result ≡ frames.items }
+    {
+        FrameList { frames }
+    }
+
+    pub fn as_slice(&self) -> &[Frame]
+        ensures { result.now ≡ self.now }
+    {
+        self.frames.as_slice()
+    }
+}

@@ -1,0 +1,175 @@
+// The events of the codes, and of their reclaiming.
+ghost use Rattle.std.specs.Prelude.{◌≡◌, ◌<◌, ◌≤◌, length, IfOk, OnErr};
+ghost use Rattle.method_table.specs.Codes.{unfreed};
+ghost use Rattle.system.specs.declared.events.Event.TheVariants as events;
+ghost use Rattle.system.specs.Records.{not_entrant, is_clear};
+ghost use Rattle.system.specs.Stands.{Does};
+
+use crate::answers::{Answer, Refusal};
+use crate::keeping::{Core, LAST};
+use crate::records::Record;
+use crate::thread::Thread;
+use method_table::table::{FreeFault, InstallFault, InvalidateFault};
+use method_table::{Code, CodeState};
+use std::alloc::AllocError;
+
+impl Core {
+    /// A new code in use for the method, in the least free slot.
+    pub fn install(&mut self, method: u64) -> Result<Answer, AllocError>
+        ensures does { IfOk result (λ answer. Does (events.Install method) self.old answer self.new) }
+        ensures refused { OnErr result (self.new ≡ self.old) }
+    {
+        match self.table.install(method) {
+            Ok(code) => Ok(Answer::Code(code.serial)),
+            Err(InstallFault::NoSuchMethod) => Ok(Answer::Refused(Refusal::NoSuchMethod)),
+            Err(InstallFault::HasCode) => Ok(Answer::Refused(Refusal::HasCode)),
+            Err(InstallFault::TableFull) => Ok(Answer::Refused(Refusal::TableFull)),
+            Err(InstallFault::SerialsSpent) => Ok(Answer::Refused(Refusal::SerialsSpent)),
+            Err(InstallFault::NoMemory) => Err(AllocError),
+        }
+    }
+
+    /// The code isn't entered from now on; its invalidation has this moment.
+    pub fn invalidate(&mut self, serial: u64) -> Answer
+        requires few { length self.old.places.items ≤ 64 }
+        requires recorded { length self.old.records.items ≡ self.old.table.slots }
+        ensures { Does (events.Invalidate serial) self.old result self.new }
+    {
+        let Some(code) = self.table.find(serial) else {
+            return Answer::Refused(Refusal::Unknown);
+        };
+        match self.table.invalidate(serial) {
+            Ok(()) => {
+                self.records[code.slot as usize] = Record::of(self.moment);
+                Answer::Done
+            }
+            Err(InvalidateFault::NotInUse) => Answer::Refused(Refusal::NotInUse),
+            Err(InvalidateFault::Unknown) => Answer::Refused(Refusal::Unknown),
+        }
+    }
+
+    /// The next moment.
+    pub fn round(&mut self) -> Answer
+        ensures { Does events.Round self.old result self.new }
+    {
+        if self.moment >= LAST {
+            return Answer::Refused(Refusal::Spent);
+        }
+        self.moment += 1;
+        Answer::Done
+    }
+
+    /// Whether no frame of the code can stand unpublished at the place: it is vacant, its thread
+    /// published nothing yet, or published its stack after the invalidation.
+    pub fn look(&mut self, serial: u64, place: usize) -> Answer
+        requires few { length self.old.places.items ≤ 64 }
+        requires recorded { length self.old.records.items ≡ self.old.table.slots }
+        ensures { Does (events.Look serial place) self.old result self.new }
+    {
+        let code = match self.not_entrant(serial) {
+            Ok(code) => code,
+            Err(refusal) => return Answer::Refused(refusal),
+        };
+        if place >= self.places.len() {
+            return Answer::Refused(Refusal::NoSuchPlace);
+        }
+        let slot = code.slot as usize;
+        if !is_clear(self.records[slot].left, &self.places[place]) {
+            return Answer::Late;
+        }
+        self.records[slot].look(place);
+        Answer::Clear
+    }
+
+    /// The least place that wasn't looked at; then the code's count; and a code that counts nothing
+    /// becomes a zombie.
+    pub fn weigh(&mut self, serial: u64) -> Answer
+        requires few { length self.old.places.items ≤ 64 }
+        requires recorded { length self.old.records.items ≡ self.old.table.slots }
+        ensures { Does (events.Weigh serial) self.old result self.new }
+    {
+        let code = match self.not_entrant(serial) {
+            Ok(code) => code,
+            Err(refusal) => return Answer::Refused(refusal),
+        };
+        if let Some(place) = self.records[code.slot as usize].unlooked(self.places.len()) {
+            return Answer::NotLooked(place);
+        }
+        let count = self.index.count(serial);
+        if count != 0 {
+            return Answer::Used(count);
+        }
+        match self.table.retire(serial) {
+            Ok(()) => Answer::Retired,
+            Err(_) => unreachable!(),
+        }
+    }
+
+    /// The slot of a zombie gets free.
+    pub fn free(&mut self, serial: u64) -> Answer
+        ensures { Does (events.Free serial) self.old result self.new }
+    {
+        match self.table.free(serial) {
+            Ok(()) => Answer::Done,
+            Err(FreeFault::Unknown) => Answer::Refused(Refusal::Unknown),
+            Err(FreeFault::NotZombie) => Answer::Refused(Refusal::NotZombie),
+        }
+    }
+
+    /// How many frames of the code the threads published.
+    pub fn count(&self, serial: u64) -> Answer
+        ensures { Does (events.Count serial) self.now result self.now }
+    {
+        match self.table.find(serial) {
+            Some(_) => Answer::Count(self.index.count(serial)),
+            None => Answer::Refused(Refusal::Unknown),
+        }
+    }
+
+    /// The code's state, freed codes included.
+    pub fn code_state(&self, serial: u64) -> Answer
+        ensures { Does (events.CodeState serial) self.now result self.now }
+    {
+        match self.table.state(serial) {
+            Some(state) => Answer::State(state),
+            None => Answer::Refused(Refusal::Unknown),
+        }
+    }
+
+    /// The code in use for the method.
+    pub fn resolve(&self, method: u64) -> Answer
+        ensures { Does (events.Resolve method) self.now result self.now }
+    {
+        if method >= self.table.methods() as u64 {
+            return Answer::Refused(Refusal::NoSuchMethod);
+        }
+        match self.table.current(method) {
+            Some(code) => Answer::Code(code.serial),
+            None => Answer::NoCode,
+        }
+    }
+
+    // The code of the serial, where it is not entrant.
+    fn not_entrant(&self, serial: u64) -> Result<Code, Refusal>
+        ensures value { result ≡ not_entrant (unfreed self.now.table.codes serial) }
+        ensures slot { IfOk result (λ code. code.slot < self.now.table.slots) }
+    {
+        let Some(code) = self.table.find(serial) else {
+            return Err(Refusal::Unknown);
+        };
+        match code.state {
+            CodeState::NotEntrant => Ok(code),
+            CodeState::InUse | CodeState::Zombie | CodeState::Freed => Err(Refusal::NotNotEntrant),
+        }
+    }
+}
+
+// Nothing is published at the place, or what is published is later than the moment.
+fn is_clear(left: u64, place: &Option<Thread>) -> bool
+    ensures { result ≡ is_clear left place.now }
+{
+    match place {
+        None => true,
+        Some(thread) => !thread.published || left < thread.moments.stored,
+    }
+}

@@ -1,0 +1,88 @@
+// The events of the core.
+ghost use Rattle.std.specs.Prelude.{◌≡◌, IfOk};
+
+use operations::{Request, Targets};
+use std::alloc::{AllocError, Global};
+
+/// What happens at one place.
+#[derive(Clone, Copy, Debug, PartialEq, Eq, Drop)]
+pub enum Act {
+    Begin,
+    Change,
+    End,
+    Wake,
+    Cross,
+    Enter(u64, Option<u64>),
+    Leave,
+    Edge,
+    ToVm,
+    FromVm,
+    ToNative,
+    Block,
+    Exit,
+    Take,
+    Finish,
+    Clear,
+    Hold,
+    Release,
+    Stack,
+}
+
+/// An event: an act at a place, or one of the whole.
+#[derive(Debug, Drop)]
+pub enum Event {
+    At(usize, Act),
+    Start,
+    Install(u64),
+    Invalidate(u64),
+    Round,
+    Look(u64, usize),
+    Weigh(u64),
+    Free(u64),
+    Ask(Request),
+    Open,
+    Tell(u64),
+    Operate,
+    Close,
+    Count(u64),
+    CodeState(u64),
+    Resolve(u64),
+}
+
+impl Event {
+    /// The same event. Only a request with targets takes memory.
+    pub fn copied(&self, alloc: Global) -> Result<Event, AllocError>
+        ensures { IfOk result (λ event. event ≡ self.now) }
+    {
+        Ok(match self {
+            Event::At(place, act) => Event::At(*place, *act),
+            Event::Start => Event::Start,
+            Event::Install(method) => Event::Install(*method),
+            Event::Invalidate(serial) => Event::Invalidate(*serial),
+            Event::Round => Event::Round,
+            Event::Look(serial, place) => Event::Look(*serial, *place),
+            Event::Weigh(serial) => Event::Weigh(*serial),
+            Event::Free(serial) => Event::Free(*serial),
+            Event::Ask(request) => Event::Ask(copied_request(request, alloc)?),
+            Event::Open => Event::Open,
+            Event::Tell(name) => Event::Tell(*name),
+            Event::Operate => Event::Operate,
+            Event::Close => Event::Close,
+            Event::Count(serial) => Event::Count(*serial),
+            Event::CodeState(serial) => Event::CodeState(*serial),
+            Event::Resolve(method) => Event::Resolve(*method),
+        })
+    }
+}
+
+fn copied_request(request: &Request, alloc: Global) -> Result<Request, AllocError>
+    ensures { IfOk result (λ copy. copy ≡ request.now) }
+{
+    match request {
+        Request::Census => Ok(Request::Census),
+        Request::Handshake { targets, ask } => Ok(Request::Handshake {
+            targets: Targets::from_vec(Vec::from_slice(alloc, targets.as_slice())?),
+            ask: *ask,
+        }),
+    }
+}

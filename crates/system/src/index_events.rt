@@ -1,0 +1,82 @@
+// The events that count frames: a change of the open publication, and a census.
+ghost use Rattle.std.specs.Prelude.{◌≡◌, ◌≤◌, length, map, IfOk, OnErr};
+ghost use Rattle.activation_index.specs.Counts.{IsRisingFrom};
+ghost use Rattle.system.specs.declared.events.Act.TheVariants as acts;
+ghost use Rattle.system.specs.declared.events.Event.TheVariants as events;
+ghost use Rattle.system.specs.Censuses.{census_of, operate_refusal};
+ghost use Rattle.system.specs.Stands.{Does, OfWorld};
+
+use crate::answers::{Answer, CodeCount, CountList, Refusal};
+use crate::keeping::Core;
+use crate::places::change_at;
+use crate::safepoints::census_refusal;
+use std::alloc::{AllocError, Global};
+
+// The counts under their names.
+fn code_counts(alloc: Global, counts: &[(u64, u32)]) -> Result<Vec<CodeCount>, AllocError>
+    ensures { IfOk result (λ list. list.items ≡ map (λ counted. record { serial = counted.0; count = counted.1 }) counts.now) }
+{
+    counts
+        .iter()
+        .map(|counted| CodeCount {
+            serial: counted.0,
+            count: counted.1,
+        })
+        .collect(alloc)
+}
+
+impl Core {
+    /// The thread at the place counts its next change, and the index takes the difference.
+    pub fn change(&mut self, place: usize) -> Answer
+        requires few { length self.old.places.items ≤ 64 }
+        requires world { OfWorld self.old }
+        ensures { Does (events.At place acts.Change) self.old result self.new }
+    {
+        match change_at(&mut self.places, place) {
+            Ok(Some(change)) => {
+                self.index.add(change.code.serial, change.by);
+                Answer::Changed(change.code.serial, change.by)
+            }
+            Ok(None) => Answer::NoChange,
+            Err(refusal) => Answer::Refused(refusal),
+        }
+    }
+
+    // Why a census isn't taken now: the first test that fails.
+    fn operate_refusal(&self) -> Option<Refusal>
+        ensures { result ≡ operate_refusal self.now.requests.«open» self.now.places.items }
+    {
+        let Some(open) = &self.requests.open else {
+            return Some(Refusal::NothingOpen);
+        };
+        if !open.is_census() {
+            return Some(Refusal::NotOf);
+        }
+        if open.operated {
+            return Some(Refusal::AlreadyDone);
+        }
+        census_refusal(&self.places)
+    }
+
+    // The counts of the index, in rising serial.
+    fn census(&self, alloc: Global) -> Result<CountList, AllocError>
+        ensures census { IfOk result (λ counts. counts ≡ census_of self.now.index.entries) }
+        ensures rising { IfOk result (λ counts. IsRisingFrom 0 self.now.index.entries) }
+    {
+        let counts = self.index.census(alloc)?;
+        Ok(CountList::from_vec(code_counts(alloc, &counts)?))
+    }
+
+    /// The frames of each code over all stacks, which are all held and published: the census is operated.
+    pub fn operate(&mut self, alloc: Global) -> Result<Answer, AllocError>
+        ensures does { IfOk result (λ answer. Does events.Operate self.old answer self.new) }
+        ensures refused { OnErr result (self.new ≡ self.old) }
+    {
+        if let Some(refusal) = self.operate_refusal() {
+            return Ok(Answer::Refused(refusal));
+        }
+        let counts = self.census(alloc)?;
+        self.requests.set_operated();
+        Ok(Answer::Census(counts))
+    }
+}

@@ -1,0 +1,22 @@
+//! What the safepoint and handshake coordinator does: its events, its answers, and the system that answers them.
+#![tactic(auto)]
+
+pub mod answers;
+mod code_events;
+pub mod events;
+mod index_events;
+pub mod keeping;
+pub mod laws;
+pub mod machine;
+pub mod places;
+pub mod records;
+mod request_events;
+pub mod requests;
+mod safepoints;
+pub mod tells;
+#[cfg(test)]
+mod tests;
+pub mod thread;
+mod thread_events;
+
+pub use machine::{NewFault, Stopped, System};

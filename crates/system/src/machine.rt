@@ -1,0 +1,190 @@
+// The system: it does events, and answers them.
+ghost use Rattle.std.specs.Prelude.{◌≡◌, ◌≤◌, ℕ, List, [], ◌∷◌, ◌++◌, length, take, true, false, IfOk, IsOk, OnOk, OnErr, IfErr};
+ghost use Rattle.system.specs.declared.events.Event.{Event as TheEvent};
+ghost use Rattle.system.specs.declared.machine.NewFault.TheVariants as NewFaults;
+ghost use Rattle.system.specs.Laws.{AllHeldAreSafe, NoRetiredCodeStands};
+ghost use Rattle.system.specs.Ran.{RanAtMostOnce};
+ghost use Rattle.system.specs.Runs.{answers};
+ghost use Rattle.system.specs.Safepoints.{FinishesAtSafePoints, OperatesAtSafepoints};
+ghost use Rattle.system.specs.Stands.{StandsFor, Next, SameSizes, Does, OfWorld, IsSized, are_sizes, places_of, slots_of, methods_of, world_by, takes_no_memory};
+
+use crate::answers::Answer;
+use crate::events::{Act, Event};
+use crate::keeping::Core;
+use crate::places::vacant_places;
+use crate::records::blank_records;
+use crate::requests::Requests;
+use activation_index::Index;
+use method_table::table::MethodTable;
+use operations::queue::Queue;
+use std::alloc::{AllocError, Global};
+use std::marker::Model;
+
+/// The coordinator's core: it does events one at a time, and answers them as the definitions do.
+#[derive(Drop)]
+pub struct System {
+    core: Core,
+}
+
+impl Model for System {
+    ghost use Rattle.std.specs.Prelude.{List};
+    ghost use Rattle.system.specs.declared.events.Event.{Event as TheEvent};
+    ghost use Rattle.system.specs.declared.keeping.Core.{Core as TheCore};
+    ghost use Rattle.system.specs.Stands.{StandsFor, IsSized};
+
+    ghost Value = { TheCore };
+
+    ghost view = { λ s. s.core };
+
+    ghost invariant = { λ s. (events : List TheEvent) × StandsFor s.core events × IsSized s.core };
+}
+
+/// Why no system is made.
+#[derive(Clone, Copy, Debug, PartialEq, Eq, Drop)]
+pub enum NewFault {
+    /// A size is 0 or above its limit: 64 places, 1024 slots, 256 methods.
+    BadSize,
+    /// Memory was refused.
+    NoMemory,
+}
+
+/// Memory was refused at the event at this position. The events before it are done and answered, and no other.
+#[derive(Debug, Drop)]
+pub struct Stopped {
+    pub answers: Vec<Answer>,
+    pub at: usize,
+}
+
+impl System {
+    /// A system of these sizes, which stands for no event yet.
+    pub fn new(
+        alloc: Global,
+        places: usize,
+        slots: usize,
+        methods: usize,
+    ) -> Result<System, NewFault>
+        ensures stands { IfOk result (λ system. StandsFor system [] × (places_of system ≡ places) × (slots_of system ≡ slots) × (methods_of system ≡ methods)) }
+        ensures sized { OnOk result (are_sizes places slots methods ≡ true) }
+        ensures bad_size { IfErr result (λ fault. fault ≡ NewFaults.BadSize → are_sizes places slots methods ≡ false) }
+        ensures no_memory { IfErr result (λ fault. fault ≡ NewFaults.NoMemory → are_sizes places slots methods ≡ true) }
+    {
+        if !are_sizes(places, slots, methods) {
+            return Err(NewFault::BadSize);
+        }
+        match new_core(alloc, places, slots, methods) {
+            Ok(core) => Ok(System { core }),
+            Err(_) => Err(NewFault::NoMemory),
+        }
+    }
+
+    /// Does the event, and answers it. Where memory is refused, nothing was done.
+    pub fn apply(&mut self, alloc: Global, event: Event) -> Result<Answer, AllocError>
+        ensures answered { IfOk result (λ answer. Next self.old event answer self.new) }
+        ensures refused { OnErr result (self.new ≡ self.old) }
+        ensures sizes { SameSizes self.old self.new }
+        ensures succeeds { takes_no_memory event ≡ true → IsOk result }
+    {
+        apply_to(&mut self.core, alloc, event)
+    }
+
+    /// Does the events one after another, and answers them. Room for the answers is reserved first.
+    pub fn run(&mut self, alloc: Global, events: &[Event]) -> Result<Vec<Answer>, Stopped>
+        ensures answered { (before : List TheEvent) → StandsFor self.old before →
+            IfOk result (λ said. (said.items ≡ answers (world_by self.old before) events.now) × StandsFor self.new (before ++ events.now)) }
+        ensures stopped { (before : List TheEvent) → StandsFor self.old before →
+            IfErr result (λ stop. (stop.at ≤ length events.now)
+            × (stop.answers.items ≡ answers (world_by self.old before) (take stop.at events.now))
+            × StandsFor self.new (before ++ take stop.at events.now)) }
+        ensures sizes { SameSizes self.old self.new }
+        ensures once { (all : List TheEvent) → StandsFor self.new all → RanAtMostOnce (world_by self.new all) }
+        ensures handshakes { (all : List TheEvent) → StandsFor self.new all → FinishesAtSafePoints (places_of self.new) (slots_of self.new) (methods_of self.new) all }
+        ensures safepoints { (all : List TheEvent) → StandsFor self.new all → OperatesAtSafepoints (places_of self.new) (slots_of self.new) (methods_of self.new) all }
+        ensures held { (all : List TheEvent) → StandsFor self.new all → AllHeldAreSafe (world_by self.new all) }
+        ensures reclaimed { (all : List TheEvent) → StandsFor self.new all → NoRetiredCodeStands (world_by self.new all) }
+    {
+        let mut said = Vec::new(alloc);
+        if said.reserve(events.len()).is_err() {
+            return Err(Stopped {
+                answers: said,
+                at: 0,
+            });
+        }
+        for (at, event) in events.iter().enumerate() {
+            match self.apply_copy(alloc, event) {
+                Ok(answer) => match said.push(answer) {
+                    Ok(()) => {}
+                    Err(_) => unreachable!(),
+                },
+                Err(_) => return Err(Stopped { answers: said, at }),
+            }
+        }
+        Ok(said)
+    }
+
+    // The same of an event that is lent.
+    fn apply_copy(&mut self, alloc: Global, event: &Event) -> Result<Answer, AllocError>
+        ensures answered { IfOk result (λ answer. Next self.old event.now answer self.new) }
+        ensures refused { OnErr result (self.new ≡ self.old) }
+        ensures sizes { SameSizes self.old self.new }
+    {
+        let copy = event.copied(alloc)?;
+        self.apply(alloc, copy)
+    }
+}
+
+fn are_sizes(places: usize, slots: usize, methods: usize) -> bool
+    ensures { result ≡ are_sizes places slots methods }
+{
+    1 <= places && places <= 64 && 1 <= slots && slots <= 1024 && 1 <= methods && methods <= 256
+}
+
+// What a system of these sizes keeps at the start.
+fn new_core(alloc: Global, places: usize, slots: usize, methods: usize) -> Result<Core, AllocError>
+    requires { are_sizes places slots methods ≡ true }
+    ensures { IfOk result (λ core. StandsFor core [] × (places_of core ≡ places) × (slots_of core ≡ slots) × (methods_of core ≡ methods)) }
+{
+    Ok(Core {
+        places: vacant_places(alloc, places)?,
+        table: MethodTable::new(alloc, slots as u32, methods as u32)?,
+        records: blank_records(alloc, slots)?,
+        index: Index::new(alloc, slots)?,
+        names: 0,
+        moment: 1,
+        requests: Requests {
+            numbers: 0,
+            waiting: Queue::new(alloc),
+            open: None,
+        },
+    })
+}
+
+// Each event has its own method.
+fn apply_to(core: &mut Core, alloc: Global, event: Event) -> Result<Answer, AllocError>
+    requires world { OfWorld core.old }
+    requires sized { IsSized core.old }
+    ensures does { IfOk result (λ answer. Does event core.old answer core.new) }
+    ensures refused { OnErr result (core.new ≡ core.old) }
+    ensures succeeds { takes_no_memory event ≡ true → IsOk result }
+{
+    match event {
+        Event::At(place, Act::Change) => Ok(core.change(place)),
+        Event::At(place, Act::Exit) => Ok(core.exit(place)),
+        Event::At(place, Act::Stack) => core.stack(alloc, place),
+        Event::At(place, act) => Ok(core.act(place, act)),
+        Event::Start => core.start(alloc),
+        Event::Install(method) => core.install(method),
+        Event::Invalidate(serial) => Ok(core.invalidate(serial)),
+        Event::Round => Ok(core.round()),
+        Event::Look(serial, place) => Ok(core.look(serial, place)),
+        Event::Weigh(serial) => Ok(core.weigh(serial)),
+        Event::Free(serial) => Ok(core.free(serial)),
+        Event::Ask(request) => core.ask(request),
+        Event::Open => Ok(core.open_next()),
+        Event::Tell(name) => Ok(core.tell(name)),
+        Event::Operate => core.operate(alloc),
+        Event::Close => Ok(core.close()),
+        Event::Count(serial) => Ok(core.count(serial)),
+        Event::CodeState(serial) => Ok(core.code_state(serial)),
+        Event::Resolve(method) => Ok(core.resolve(method)),
+    }
+}

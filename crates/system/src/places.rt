@@ -1,0 +1,120 @@
+// The places, and the acts of the threads at them.
+ghost use Rattle.std.specs.Prelude.{◌≡◌, ◌<◌, ◌≤◌, ℕ, List, length, Some, None, IfOk, slice_get, slice_set, true, replicate};
+ghost use Rattle.system.specs.declared.answers.Answer.TheVariants;
+ghost use Rattle.system.specs.Keeps.{is_plain};
+ghost use Rattle.system.specs.Steps.{DidAt, DidExit, DidChange, answer_here, frames_at, vacant_kept};
+
+use crate::answers::{Answer, FrameList, Refusal};
+use crate::events::Act;
+use crate::requests::Open;
+use crate::thread::Thread;
+use frames::Change;
+use method_table::table::MethodTable;
+use std::alloc::{AllocError, Global};
+use thread_state::State;
+
+// The answer to what a thread did.
+fn answer_of(outcome: Result<Answer, Refusal>) -> Answer
+    ensures { result ≡ answer_here outcome }
+{
+    match outcome {
+        Ok(answer) => answer,
+        Err(refusal) => Answer::Refused(refusal),
+    }
+}
+
+/// The thread at the place does a plain act, in a system with these codes, this open operation and this moment.
+pub fn act_at(
+    places: &mut Vec<Option<Thread>>,
+    place: usize,
+    act: Act,
+    table: &MethodTable,
+    open: &Option<Open>,
+    now: u64,
+) -> Answer
+    requires plain { is_plain act ≡ true }
+    requires few { table.now.methods ≤ 256 }
+    ensures { DidAt act table.now «open».now now place places.old.items places.new.items result }
+{
+    if place >= places.len() {
+        return Answer::Refused(Refusal::NoSuchPlace);
+    }
+    match &mut places[place] {
+        None => Answer::Refused(Refusal::Illegal(State::Vacant)),
+        Some(thread) => answer_of(thread.act(act, table, open, now)),
+    }
+}
+
+/// The thread at the place counts its next change.
+pub fn change_at(places: &mut Vec<Option<Thread>>, place: usize) -> Result<Option<Change>, Refusal>
+    ensures { DidChange place places.old.items places.new.items result }
+{
+    if place >= places.len() {
+        return Err(Refusal::NoSuchPlace);
+    }
+    match &mut places[place] {
+        None => Err(Refusal::Illegal(State::Vacant)),
+        Some(thread) => thread.change(),
+    }
+}
+
+/// The thread at the place leaves it.
+pub fn exit_at(places: &mut Vec<Option<Thread>>, place: usize) -> Answer
+    ensures { DidExit place places.old.items places.new.items result }
+{
+    if place >= places.len() {
+        return Answer::Refused(Refusal::NoSuchPlace);
+    }
+    let Some(thread) = &places[place] else {
+        return Answer::Refused(Refusal::Illegal(State::Vacant));
+    };
+    if let Some(refusal) = thread.exit_refusal() {
+        return Answer::Refused(refusal);
+    }
+    let name = thread.name;
+    places[place] = None;
+    Answer::Exited(name)
+}
+
+/// The frames of the thread at the place, bottom first.
+pub fn stack_at(
+    alloc: Global,
+    places: &[Option<Thread>],
+    place: usize,
+) -> Result<Answer, AllocError>
+    ensures { IfOk result (λ answer. answer ≡ frames_at (slice_get places.now place)) }
+{
+    if place >= places.len() {
+        return Ok(Answer::Refused(Refusal::NoSuchPlace));
+    }
+    match &places[place] {
+        None => Ok(Answer::Refused(Refusal::Illegal(State::Vacant))),
+        Some(thread) => Ok(Answer::Frames(FrameList::from_vec(Vec::from_slice(
+            alloc,
+            thread.image.frames(),
+        )?))),
+    }
+}
+
+/// The least vacant place.
+pub fn vacant_place(places: &[Option<Thread>]) -> Option<usize>
+    ensures { result ≡ vacant_kept places.now }
+{
+    for (place, thread) in places.iter().enumerate() {
+        if thread.is_none() {
+            return Some(place);
+        }
+    }
+    None
+}
+
+/// So many vacant places.
+pub fn vacant_places(alloc: Global, count: usize) -> Result<Vec<Option<Thread>>, AllocError>
+    ensures { IfOk result (λ places. places.items ≡ replicate count None) }
+{
+    let mut places = Vec::with_capacity(alloc, count)?;
+    for _made in 0..count {
+        places.push(None)?;
+    }
+    Ok(places)
+}
