@@ -2,40 +2,19 @@
 use crate::device::{FromReader, IntoWriter};
 use crate::stream::{ReplayFault, replay};
 use std::alloc::Global;
-use std::fs;
 use std::io::{self, Read, Write};
 use std::test::Fail;
 
-// Inputs and answers lie in files of these names, one with `.in` and one with `.out`.
-const INPUTS: [&str; 27] = [
-    "interpreted_frame",
-    "changes_left",
-    "cancelled_push_and_pop",
-    "partial_publication",
-    "look_before_a_round",
-    "reclaimed_after_all_published",
-    "publication_begun_before_the_round",
-    "slot_used_again",
-    "place_used_again",
-    "two_operations_in_turn",
-    "held_in_native",
-    "queue_of_censuses",
-    "safepoint_of_two_threads",
-    "depth_and_a_cut_line",
-    "last_line_without_newline",
-    "bad_lines_and_sizes",
-    "exit_after_publishing",
-    "stopped_in_the_vm",
-    "blocked_and_native",
-    "wrong_method",
-    "queue_of_handshakes",
-    "asks_of_a_stack",
-    "started_after_open",
-    "control_bytes",
-    "every_refusal",
-    "bad_words_and_numbers",
-    "longest_line",
-];
+mod bad_lines;
+mod operation_runs;
+mod publication_runs;
+
+// A whole input with its answers: what a test calls it, and its lines, each `LINE => ANSWER`.
+#[derive(Clone, Copy)]
+struct Transcript {
+    name: &'static str,
+    lines: &'static str,
+}
 
 // Gives its bytes, at most `step` a call. The call of number `bad_call` fails.
 #[derive(Drop)]
@@ -116,8 +95,31 @@ fn run(alloc: Global, source: &mut Drip<'_>, sink: &mut Basin) -> Result<(), Rep
     )
 }
 
-fn file(rt: &HostRuntime, name: &str, end: &str) -> Result<Vec<u8>, Fail> {
-    Ok(fs::read(rt, format!(in rt.alloc(); "{name}.{end}")?.as_str())?)
+// The lines of a run, and their answers.
+fn sides(alloc: Global, run: &Transcript) -> Result<(Vec<u8>, Vec<u8>), Fail> {
+    let mut input = Vec::new(alloc);
+    let mut output = Vec::new(alloc);
+    for line in run.lines.split_terminator('\n') {
+        let Some((command, answer)) = line.split_once(" => ") else {
+            return Err(Fail::from("a line without an answer"));
+        };
+        input.extend_from_slice(command.as_bytes())?;
+        input.push(b'\n')?;
+        output.extend_from_slice(answer.as_bytes())?;
+        output.push(b'\n')?;
+    }
+    Ok((input, output))
+}
+
+fn is_answered(alloc: Global, input: &[u8], output: &[u8]) -> bool {
+    for step in [1, 7, 1_000_000] {
+        let mut source = from_bytes(input, step, 0);
+        let mut sink = new_basin(alloc, step, 0, false);
+        if run(alloc, &mut source, &mut sink) != Ok(()) || sink.got.as_slice() != output {
+            return false;
+        }
+    }
+    true
 }
 
 // Whole answers of a text are a beginning of it that ends with a newline, or nothing.
@@ -125,17 +127,95 @@ fn are_answers(got: &[u8], all: &[u8]) -> bool {
     all.starts_with(got) && (got.is_empty() || got.ends_with(b"\n"))
 }
 
-#[test]
-fn inputs_are_answered(rt: HostRuntime) -> Result<(), Fail> {
-    for name in INPUTS {
-        let input = file(&rt, name, "in")?;
-        let output = file(&rt, name, "out")?;
-        for step in [1, 7, 1_000_000] {
-            let mut source = from_bytes(&input, step, 0);
-            let mut sink = new_basin(rt.alloc(), step, 0, false);
-            assert_eq!(rt; run(rt.alloc(), &mut source, &mut sink), Ok(()), "{name}");
-            assert_eq!(rt; sink.got.as_slice(), output.as_slice(), "{name} by {step}");
+// The first of these runs that isn't answered as it says.
+fn first_unanswered(alloc: Global, runs: &[Transcript]) -> Result<Option<&'static str>, Fail> {
+    for run in runs {
+        let (input, output) = sides(alloc, run)?;
+        if !is_answered(alloc, &input, &output) {
+            return Ok(Some(run.name));
         }
+    }
+    Ok(None)
+}
+
+#[test]
+fn publications_are_answered(rt: HostRuntime) -> Result<(), Fail> {
+    assert_eq!(rt;
+        first_unanswered(rt.alloc(), &publication_runs::RUNS)?,
+        None
+    );
+    Ok(())
+}
+
+#[test]
+fn operations_are_answered(rt: HostRuntime) -> Result<(), Fail> {
+    assert_eq!(rt; first_unanswered(rt.alloc(), &operation_runs::RUNS)?, None);
+    Ok(())
+}
+
+#[test]
+fn bad_lines_are_answered(rt: HostRuntime) -> Result<(), Fail> {
+    assert_eq!(rt; first_unanswered(rt.alloc(), &bad_lines::RUNS)?, None);
+    Ok(())
+}
+
+#[test]
+fn bytes_that_are_no_text_make_bad_lines(rt: HostRuntime) -> Result<(), Fail> {
+    let input = b"size 1 1 1\nbegin 0\r\nbegin\xff 0\n\xff\nbegin 0\0\nbegin\0 0\nbegin \xb2\n";
+    let output = b"ok\nbad line\nbad line\nbad line\nbad line\nbad line\nbad line\n";
+    assert!(rt; is_answered(rt.alloc(), input, output));
+    Ok(())
+}
+
+fn push_times(text: &mut Vec<u8>, more: &[u8], times: usize) -> Result<(), Fail> {
+    for _ in 0..times {
+        text.extend_from_slice(more)?;
+    }
+    Ok(())
+}
+
+#[test]
+fn the_last_line_needs_no_newline(rt: HostRuntime) -> Result<(), Fail> {
+    for (end, answer) in [
+        (b"exit 0".as_slice(), b"refused StackNotEmpty\n".as_slice()),
+        (b"lea".as_slice(), b"bad line\n".as_slice()),
+        (
+            b"exit 0\n".as_slice(),
+            b"refused StackNotEmpty\n".as_slice(),
+        ),
+        (b"".as_slice(), b"".as_slice()),
+    ] {
+        let mut input = b"size 1 4 2\nstart\nbegin 0\nend 0\nwake 0\ncross 0\n".to_vec(rt.alloc())?;
+        let mut output = b"ok\nthread 1 place 0\nok\nok\nok\ngo\n".to_vec(rt.alloc())?;
+        push_times(&mut input, b"enter 0 0\n", 257)?;
+        push_times(&mut output, b"entered\n", 256)?;
+        output.extend_from_slice(b"refused DepthFull\n")?;
+        input.extend_from_slice(end)?;
+        output.extend_from_slice(answer)?;
+        assert!(rt; is_answered(rt.alloc(), &input, &output));
+    }
+    Ok(())
+}
+
+// `ask depth` with 78 names, the first and the last of 13 digits: a line of so many bytes more than 1023.
+fn long_ask(alloc: Global, more: usize) -> Result<Vec<u8>, Fail> {
+    let mut input = b"size 1 1 1\nask depth 1".to_vec(alloc)?;
+    push_times(&mut input, b"0", 10 + more)?;
+    push_times(&mut input, b" 100000000001", 76)?;
+    input.extend_from_slice(b" 1000000000000\n")?;
+    Ok(input)
+}
+
+#[test]
+fn lines_of_1024_bytes_are_taken(rt: HostRuntime) -> Result<(), Fail> {
+    for (more, answer) in [
+        (0, b"ok\nrefused BadTargets\n".as_slice()),
+        (1, b"ok\nrefused BadTargets\n".as_slice()),
+        (2, b"ok\nbad line\n".as_slice()),
+    ] {
+        let input = long_ask(rt.alloc(), more)?;
+        assert_eq!(rt; input.len(), b"size 1 1 1\n".len() + 1024 + more);
+        assert!(rt; is_answered(rt.alloc(), &input, answer));
     }
     Ok(())
 }
@@ -151,8 +231,7 @@ fn an_empty_input_is_answered_with_nothing(rt: HostRuntime) -> Result<(), Fail> 
 
 #[test]
 fn a_cut_input_is_answered_up_to_the_cut(rt: HostRuntime) -> Result<(), Fail> {
-    let input = file(&rt, "reclaimed_after_all_published", "in")?;
-    let output = file(&rt, "reclaimed_after_all_published", "out")?;
+    let (input, output) = sides(rt.alloc(), &operation_runs::RECLAIMED_AFTER_ALL_PUBLISHED)?;
     for cut in 0..input.len() {
         let mut source = from_bytes(&input[..cut], 1_000_000, 0);
         let mut sink = new_basin(rt.alloc(), 1_000_000, 0, false);
@@ -210,8 +289,7 @@ fn a_read_that_fails_in_a_line_leaves_the_whole_lines(rt: HostRuntime) -> Result
 
 #[test]
 fn each_read_may_fail(rt: HostRuntime) -> Result<(), Fail> {
-    let input = file(&rt, "held_in_native", "in")?;
-    let output = file(&rt, "held_in_native", "out")?;
+    let (input, output) = sides(rt.alloc(), &operation_runs::HELD_IN_NATIVE)?;
     for bad_call in 1..40 {
         let mut source = from_bytes(&input, 10, bad_call);
         let mut sink = new_basin(rt.alloc(), 3, 0, false);
@@ -233,8 +311,7 @@ fn each_read_may_fail(rt: HostRuntime) -> Result<(), Fail> {
 
 #[test]
 fn each_write_may_fail_or_take_nothing(rt: HostRuntime) -> Result<(), Fail> {
-    let input = file(&rt, "held_in_native", "in")?;
-    let output = file(&rt, "held_in_native", "out")?;
+    let (input, output) = sides(rt.alloc(), &operation_runs::HELD_IN_NATIVE)?;
     for takes_nothing in [false, true] {
         let mut faults = 0usize;
         for bad_call in 1..40 {
@@ -256,11 +333,10 @@ fn each_write_may_fail_or_take_nothing(rt: HostRuntime) -> Result<(), Fail> {
     Ok(())
 }
 
-// Run with each allocation failing in turn, this shows that what was written is whole answers.
+// Transcript with each allocation failing in turn, this shows that what was written is whole answers.
 #[test]
 fn refused_memory_leaves_whole_answers(rt: HostRuntime) -> Result<(), Fail> {
-    let input = file(&rt, "safepoint_of_two_threads", "in")?;
-    let output = file(&rt, "safepoint_of_two_threads", "out")?;
+    let (input, output) = sides(rt.alloc(), &operation_runs::SAFEPOINT_OF_TWO_THREADS)?;
     let mut sink = new_basin(rt.alloc(), 1_000_000, 0, false);
     sink.got.reserve(output.len())?;
     let outcome = run(rt.alloc(), &mut from_bytes(&input, 1_000_000, 0), &mut sink);
