@@ -1,14 +1,18 @@
-//! How long the board's calls take, beside a plain atomic load: `word_bench times` prints nanoseconds a turn. Without an argument
-//! it makes few turns and prints nothing, since times differ from run to run.
+//! How long the calls on shared words take, beside a plain atomic load and compare-exchange: `word_bench times` prints nanoseconds
+//! a turn. Without an argument it makes few turns and prints nothing, since times differ from run to run.
 #![tactic(auto)]
 
-ghost use Rattle.std.specs.Prelude.{◌≡◌, ◌≢◌, ◌<◌, ◌≤◌, ℕ};
+ghost use Rattle.std.specs.Prelude.{◌≡◌, ◌≢◌, ◌<◌, ◌≤◌, ◌^◌, ℕ};
 ghost use Rattle.frames.specs.declared.CodeId.{CodeId as Code};
 ghost use Rattle.frames.specs.declared.board_rule.EntryState.TheVariants.{NotEntrant};
 ghost use Rattle.frames.specs.BoardViews.{how_often, IsIn};
 
+mod polls;
+
 use board::{Board, Keeper, ThreadSeat, Weighed};
 use frames::CodeId;
+use poll::PollRow;
+use polls::{arms, misses, polls};
 use std::sync::atomic::{AtomicU64, Ordering};
 use std::time::{Duration, Instant};
 
@@ -23,6 +27,20 @@ fn loads(word: &AtomicU64, turns: u64) -> u64 {
         sum = sum.wrapping_add(word.load(Ordering::SeqCst));
     }
     sum
+}
+
+/// Compares a word, which is 0, with 1, and counts how often it was 1.
+fn exchanges(word: &AtomicU64, turns: u64) -> u64 {
+    let mut hits = 0u64;
+    for turn in 0..turns {
+        if word
+            .compare_exchange(1, 0, Ordering::SeqCst, Ordering::SeqCst)
+            .is_ok()
+        {
+            hits = hits.wrapping_add(1);
+        }
+    }
+    hits
 }
 
 /// Enters the code, and counts how often it was in use.
@@ -186,6 +204,36 @@ fn time_keeper(rt: &HostRuntime, shown: bool, turns: u64) -> anyhow::Result<u64>
     Ok(passed.wrapping_add(clear))
 }
 
+/// The calls on a row of poll words.
+fn time_row(rt: &HostRuntime, shown: bool, turns: u64) -> anyhow::Result<u64>
+    requires { (1000 ≤ turns) × (turns < 2 ^ 32) }
+{
+    let (row, mut armer, mut pollers) = PollRow::new(rt.alloc(), 4)?;
+    let mut poller = pollers.swap_remove(0);
+    let start = Instant::now(rt)?;
+    let armed = polls(&mut poller, &row, turns);
+    report(rt, shown, "poll", start.elapsed(rt)?, turns)?;
+    let start = Instant::now(rt)?;
+    let cleared = misses(&mut poller, &row, turns);
+    report(
+        rt,
+        shown,
+        "clear of another number",
+        start.elapsed(rt)?,
+        turns,
+    )?;
+    let start = Instant::now(rt)?;
+    let both = arms(&mut armer, &mut poller, &row, turns);
+    report(
+        rt,
+        shown,
+        "arm and clear, 2 steps",
+        start.elapsed(rt)?,
+        turns,
+    )?;
+    Ok(armed.wrapping_add(cleared).wrapping_add(both))
+}
+
 fn main(rt: HostRuntime) -> anyhow::Result<()> {
     let shown = std::env::args(&rt)?.count() > 1;
     let turns = if shown { MANY } else { FEW };
@@ -193,10 +241,23 @@ fn main(rt: HostRuntime) -> anyhow::Result<()> {
     let start = Instant::now(&rt)?;
     let sum = loads(&word, turns);
     report(&rt, shown, "plain load", start.elapsed(&rt)?, turns)?;
+    let zero = AtomicU64::new(0);
+    let start = Instant::now(&rt)?;
+    let exchanged = exchanges(&zero, turns);
+    report(
+        &rt,
+        shown,
+        "plain compare-exchange of another number",
+        start.elapsed(&rt)?,
+        turns,
+    )?;
+    let cleared = time_row(&rt, shown, turns)?;
     let hits = time_seat(&rt, shown, turns)?;
     let passed = time_keeper(&rt, shown, turns)?;
     if shown {
-        println!(rt; "{sum} found, {hits} in use, {passed} passed or clear")?;
+        println!(rt;
+            "{sum} found, {exchanged} exchanged, {cleared} cleared, {hits} in use, {passed} passed or clear"
+        )?;
     }
     Ok(())
 }
