@@ -1,0 +1,103 @@
+-- The board of a world: the words and the views that a running board would have where the core is in this world.
+use Rattle.std.specs.Prelude.{ℕ, Bool, false, ◌&&◌, ◌==◌, List, [], ◌∷◌, Option, Some, None, if◌then◌else◌}
+use Rattle.std.specs.List.{list_any}
+use Rattle.frames.specs.declared.CodeId.{CodeId}
+use Rattle.frames.specs.declared.board_rule.EntryState.{EntryState}
+use Rattle.frames.specs.declared.board_rule.EntryState.TheVariants as entry
+use Rattle.method_table.specs.declared.Code.{Code}
+use Rattle.method_table.specs.declared.CodeState.{CodeState}
+use Rattle.method_table.specs.declared.CodeState.TheVariants as state
+use Rattle.system.specs.declared.events.Act.TheVariants as act
+use Rattle.system.specs.declared.events.Event.{Event}
+use Rattle.system.specs.declared.events.Event.TheVariants as event
+use Rattle.system.specs.declared.answers.Answer.{Answer}
+use Rattle.system.specs.declared.answers.Answer.TheVariants as answer
+use Rattle.frames.specs.BoardWords.{Word, entry_of, count_of, place_of, the_moment, pack}
+use Rattle.frames.specs.BoardRule.{SlotState, SeatState, BoardState, code, first_slot, IsBoardKept}
+use Rattle.method_table.specs.Codes.{code_of}
+use Rattle.system.specs.Threads.{Thread}
+use Rattle.system.specs.Log.{Entry, moment, is_looked}
+use Rattle.system.specs.Moments.{left_at, published_at, publishing_at, is_fresh}
+use Rattle.system.specs.World.{World, start_world, part_at, walk, thread_at}
+use Rattle.system.specs.Laws.{is_retired}
+use Rattle.system.specs.Runs.{world_after}
+
+-- The state of a code as an entry has it: a freed code leaves its slot vacant.
+abbrev pub entry_state : CodeState → EntryState
+entry_state state.InUse = entry.InUse
+entry_state state.NotEntrant = entry.NotEntrant
+entry_state state.Zombie = entry.Zombie
+entry_state state.Freed = entry.Vacant
+
+-- The first, where there is one, else the other.
+abbrev pub first_of : Option Code → Option Code → Option Code
+first_of None other = other
+first_of (Some code) other = Some code
+
+-- The newest code of a slot, whatever its state. Codes go by rising serial, so it has the greatest serial of its slot.
+abbrev pub newest_in : List Code → ℕ → Option Code
+newest_in [] slot = None
+newest_in (code ∷ codes) slot = first_of (newest_in codes slot) (if code.slot == slot then Some code else None)
+
+-- What the keeper knows of a slot with this newest code: its serial and state; the moment of its invalidation; the places that
+-- were looked at for it and found clear; and that it was weighed clear, which zombies and freed codes were. A freed code leaves
+-- all but the state as it was. A slot that never had a code is as at first.
+abbrev pub slot_by : List Entry → Option Code → SlotState
+slot_by log None = first_slot
+slot_by log (Some code) = record {
+  serial = code.serial;
+  state = entry_state code.state;
+  left = left_at code.serial log;
+  looked = λ place. is_looked log code.serial place;
+  clear = is_retired code.state;
+}
+
+abbrev pub slot_at : World → ℕ → SlotState
+slot_at w slot = slot_by w.log (newest_in w.codes slot)
+
+-- The code was given out: its serial was, with this slot.
+abbrev pub stands_in : Option Code → ℕ → Bool
+stands_in None slot = false
+stands_in (Some code) slot = code.slot == slot
+
+abbrev pub is_given : List Code → CodeId → Bool
+is_given codes code = stands_in (code_of codes code.serial) code.slot
+
+-- An Enter of the code at the place was sent away.
+abbrev pub misses_code : ℕ → ℕ → Event → Answer → Bool
+misses_code place serial (event.At p (act.Enter method (Some s))) answer.WrongMethod = (p == place) && (s == serial)
+misses_code place serial event answer = false
+
+abbrev pub is_missed : ℕ → ℕ → List Entry → Bool
+is_missed place serial log = list_any (λ entry. misses_code place serial entry.event entry.answer) log
+
+-- What the seat of a place with this thread, or none, knows: how often each code is counted there, as last published code by
+-- code; the codes that its thread entered since its last ended publication; the moment of its open publication, and of its last
+-- ended one, 0 for none; and the codes that were ever sent away there.
+abbrev pub seat_by : List Code → List Entry → ℕ → Option Thread → SeatState
+seat_by codes log place t = record {
+  counted = λ code. part_at code t;
+  fresh = λ code. is_given codes code && is_fresh place code.serial log;
+  moment = publishing_at log place t;
+  stored = published_at log place t;
+  gone = λ code. is_given codes code && is_missed place code.serial log;
+}
+
+abbrev pub seat_at : World → ℕ → SeatState
+seat_at w place = seat_by w.codes w.log place (thread_at w place)
+
+-- The words: an entry is the serial and the state of its slot's code, a count is the index of that code, a place has the moment
+-- of its last ended publication, and the moment is 1 and the rounds in the log.
+abbrev pub word_by : World → Word → ℕ
+word_by w (entry_of slot) = pack (slot_at w slot).serial (slot_at w slot).state
+word_by w (count_of slot) = walk w (code slot (slot_at w slot).serial)
+word_by w (place_of place) = published_at w.log place (thread_at w place)
+word_by w the_moment = moment w.log
+
+-- The board of a world.
+abbrev pub board_of : World → BoardState
+board_of w = record { word = word_by w; now = moment w.log; slot = slot_at w; seat = seat_at w }
+
+-- After any events, the board of the world meets the rule of a code board of so many slots and places.
+abbrev pub BoardsKeepTheRule : Type 0
+BoardsKeepTheRule = (places slots methods : ℕ) (events : List Event) → IsBoardKept slots places (board_of (world_after (start_world places slots methods) events))

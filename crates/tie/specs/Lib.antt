@@ -1,0 +1,2 @@
+pub mod BoardOf
+pub mod Steps
