@@ -1,0 +1,4 @@
+pub mod Slots
+pub mod Quiet
+pub mod Tied
+pub mod Board

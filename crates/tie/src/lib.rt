@@ -1,3 +1,5 @@
 //! The tie between the core and the running words: a world of the core, seen as words and views, meets the rules by which the
 //! running tables are proved, and each accepted event changes it by just the steps that those rules let a seat make.
 #![tactic(auto)]
+
+pub mod board_laws;
