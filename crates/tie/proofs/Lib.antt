@@ -3,3 +3,9 @@ pub mod Quiet
 pub mod Tied
 pub mod Board
 pub mod Views
+pub mod PollMarks
+pub mod PollLog
+pub mod PollKept
+pub mod PollTold
+pub mod PollRows
+pub mod PollLaws

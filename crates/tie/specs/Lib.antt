@@ -1,2 +1,3 @@
 pub mod BoardOf
 pub mod Steps
+pub mod PollRow

@@ -3,3 +3,4 @@
 #![tactic(auto)]
 
 pub mod board_laws;
+pub mod poll_row;

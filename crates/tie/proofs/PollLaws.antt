@@ -1,0 +1,77 @@
+-- The laws of the poll row.
+use Rattle.std.proofs.Common.{◌≡◌, ◌≢◌, ℕ, ◌+◌, ◌<◌, ◌≤◌, Bool, true, false, cond, List, [], ◌∷◌, ◌++◌, Option, Some, None, sym, refl, ap, ◌∙◌, inl, inr, subst, arith}
+use Rattle.std.specs.Prelude.{◌==◌, slice_get, replicate, unwrap_or, max}
+use Rattle.std.proofs.lemmas.Bool.{eq-eqb, ne_eqb}
+use Rattle.thread_state.specs.PollRule.{IsPlaceKept}
+use Rattle.system.specs.declared.events.Event.{Event}
+use Rattle.system.specs.Threads.{Thread}
+use Rattle.system.specs.Operations.{Requests, greatest, max_with, no_requests}
+use Rattle.system.specs.World.{World, thread_at, found, start_world}
+use Rattle.system.specs.Facts.{IsSound}
+use Rattle.system.specs.Ran.{RanAtMostOnce}
+use Rattle.system.specs.Runs.{after, world_after}
+use Rattle.system.proofs.ByCases.{by_cases}
+use Rattle.system.proofs.Seats.{each_start}
+use Rattle.system.proofs.Worlds.{worlds_are_sound}
+use Rattle.system.proofs.Once.{run_at_most_once}
+use Rattle.tie.specs.PollRow.{word_of, row_of, armed_at, uncleared_at, cleared_at, RowsKeepTheRule}
+use Rattle.tie.proofs.PollKept.{pending_at, IsLast, IsToldTo, IsRow}
+use Rattle.tie.proofs.PollRows.{RowIn, row_kept}
+
+-- At the start nothing waits anywhere.
+nothing_waits : (n p : ℕ) → pending_at no_requests (found (slice_get (replicate {A = Option Thread} n None) p)) ≡ []
+nothing_waits n p = by (found (slice_get (replicate {A = Option Thread} n None) p))
+  where
+    by : (o : Option Thread) → pending_at no_requests o ≡ []
+    by None = refl
+    by (Some t) = refl
+
+row_start : (places slots methods : ℕ) → RowIn (start_world places slots methods)
+row_start places slots methods = record {
+  few = λ p. omega arith;
+  waiting = λ p. nothing_waits places p;
+  last = λ p. inl (refl, refl);
+  told = each_start (λ p t. IsToldTo no_requests 0 t.name) places;
+  names = λ p. omega arith;
+  apart = λ p q some same. absurd (omega arith);
+}
+
+-- One event more after others.
+one_more : (w : World) (events : List Event) (e : Event) → world_after w (events ++ e ∷ []) ≡ after (world_after w events) e
+one_more w [] e = refl
+one_more w (x ∷ events) e = one_more (after w x) events e
+
+pub row_in : (places slots methods : ℕ) (events : List Event) → RowIn (world_after (start_world places slots methods) events)
+row_in places slots methods events = onward [] events (row_start places slots methods)
+  where
+    onward : (before events : List Event) → RowIn (world_after (start_world places slots methods) before) → RowIn (world_after (world_after (start_world places slots methods) before) events)
+    onward before [] h = h
+    onward before (e ∷ events) h =
+        let w : World = world_after (start_world places slots methods) before in
+        let next : RowIn (after w e) = by_cases w (λ e a v. RowIn v) (row_kept w (worlds_are_sound places slots methods before).0 (run_at_most_once places slots methods before) h) e in
+        subst (λ v. RowIn (world_after v events)) (one_more (start_world places slots methods) before e)
+        (onward (before ++ e ∷ []) events (subst RowIn (sym (one_more (start_world places slots methods) before e)) next))
+
+-- The word is the greatest number that waits.
+pub word_is : (requests : Requests) (o : Option Thread) → word_of requests o ≡ unwrap_or (greatest (pending_at requests o)) 0
+word_is requests None = refl
+word_is requests (Some t) = refl
+
+pub row_word : (w : World) → RowIn w → (p : ℕ) → (row_of w p).word ≡ unwrap_or (greatest (uncleared_at p w.log)) 0
+row_word w h p = word_is w.requests (thread_at w p) ∙ ap (λ ns. unwrap_or (greatest ns) 0) (h.waiting p)
+
+kept_at : (w : World) → RowIn w → (p : ℕ) → IsPlaceKept (row_of w p)
+kept_at w h p = by (h.last p)
+  where
+    by : IsLast (uncleared_at p w.log) (armed_at p w.log) (cleared_at p w.log) → IsPlaceKept (row_of w p)
+    by (inl a) = record {
+      cleared_by = (let same = a.1 in omega arith);
+      word_is = row_word w h p ∙ (ap (λ ns. unwrap_or (greatest ns) 0) a.0 ∙ (let same = eq-eqb (cleared_at p w.log) (armed_at p w.log) a.1 in rw same refl));
+    }
+    by (inr a) = record {
+      cleared_by = (let less = a.1 in omega arith);
+      word_is = row_word w h p ∙ (ap (λ ns. unwrap_or (greatest ns) 0) a.0 ∙ (let differ = ne_eqb (cleared_at p w.log) (armed_at p w.log) (λ same. (let less = a.1 in omega arith)) in rw differ refl));
+    }
+
+pub rows_keep_the_rule : RowsKeepTheRule
+rows_keep_the_rule places slots methods events p low = kept_at (world_after (start_world places slots methods) events) (row_in places slots methods events) p
