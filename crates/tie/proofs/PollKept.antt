@@ -1,7 +1,6 @@
 -- What the marks and the log say of one another, which each event keeps.
-use Rattle.std.proofs.Common.{◌≡◌, ◌≢◌, ◌⊎◌, ℕ, suc, ◌+◌, ◌<◌, ◌≤◌, Bool, true, false, cond, List, [], ◌∷◌, length, Option, Some, None, sym, refl, ap, ap₂, ◌∙◌, inl, inr, ⊎_elim, subst, arith}
-use Rattle.std.specs.Prelude.{not, ◌&&◌, ◌==◌, slice_get, slice_set, filter}
-use Rattle.std.proofs.lemmas.Bool.{false≢true, and_parts, eqb-true, eq-eqb, ne_eqb}
+use Rattle.std.proofs.Common.{◌≡◌, ◌⊎◌, ℕ, ◌+◌, ◌<◌, ◌≤◌, true, List, [], ◌∷◌, length, Option, Some, None, sym, refl, ap, ap₂, ◌∙◌, inl, inr, subst, arith}
+use Rattle.std.specs.Prelude.{slice_get, slice_set}
 use mathlib.Core.Logic.{dite}
 use native.Mathlib.Decide.{ℕ_discrete}
 use Rattle.operations.specs.Names.{among}
@@ -10,7 +9,7 @@ use Rattle.system.specs.declared.answers.Answer.{Answer}
 use Rattle.system.specs.Threads.{Thread}
 use Rattle.system.specs.Operations.{Requests, Opened, Mark, is_marked, pending}
 use Rattle.system.specs.Log.{Entry, names_given, operations_given}
-use Rattle.system.specs.World.{World, found}
+use Rattle.system.specs.World.{found}
 use Rattle.system.specs.Ran.{name_in}
 use Rattle.system.proofs.Seats.{Each, each_some, each_none, get_set_same, get_set_other}
 use Rattle.system.proofs.Polls.{waits}

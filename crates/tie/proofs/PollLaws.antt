@@ -1,21 +1,19 @@
 -- The laws of the poll row.
-use Rattle.std.proofs.Common.{◌≡◌, ◌≢◌, ℕ, ◌+◌, ◌<◌, ◌≤◌, Bool, true, false, cond, List, [], ◌∷◌, ◌++◌, Option, Some, None, sym, refl, ap, ◌∙◌, inl, inr, subst, arith}
-use Rattle.std.specs.Prelude.{◌==◌, slice_get, replicate, unwrap_or, max}
+use Rattle.std.proofs.Common.{◌≡◌, ℕ, List, [], ◌∷◌, ◌++◌, Option, Some, None, sym, refl, ap, ◌∙◌, inl, inr, subst, arith}
+use Rattle.std.specs.Prelude.{slice_get, replicate, unwrap_or}
 use Rattle.std.proofs.lemmas.Bool.{eq-eqb, ne_eqb}
 use Rattle.thread_state.specs.PollRule.{IsPlaceKept}
 use Rattle.system.specs.declared.events.Event.{Event}
 use Rattle.system.specs.Threads.{Thread}
-use Rattle.system.specs.Operations.{Requests, greatest, max_with, no_requests}
+use Rattle.system.specs.Operations.{Requests, greatest, no_requests}
 use Rattle.system.specs.World.{World, thread_at, found, start_world}
-use Rattle.system.specs.Facts.{IsSound}
-use Rattle.system.specs.Ran.{RanAtMostOnce}
 use Rattle.system.specs.Runs.{after, world_after}
 use Rattle.system.proofs.ByCases.{by_cases}
 use Rattle.system.proofs.Seats.{each_start}
 use Rattle.system.proofs.Worlds.{worlds_are_sound}
 use Rattle.system.proofs.Once.{run_at_most_once}
 use Rattle.tie.specs.PollRow.{word_of, row_of, armed_at, uncleared_at, cleared_at, RowsKeepTheRule}
-use Rattle.tie.proofs.PollKept.{pending_at, IsLast, IsToldTo, IsRow}
+use Rattle.tie.proofs.PollKept.{pending_at, IsLast, IsToldTo}
 use Rattle.tie.proofs.PollRows.{RowIn, row_kept}
 
 -- At the start nothing waits anywhere.

@@ -1,11 +1,10 @@
 -- The row and the marks agree in every world that events lead to, so the row meets the rule.
-use Rattle.std.proofs.Common.{◌≡◌, ◌≢◌, ◌⊎◌, ℕ, suc, ◌+◌, ◌<◌, ◌≤◌, Bool, true, false, cond, List, [], ◌∷◌, ◌++◌, length, map, Option, Some, None, sym, refl, ap, ◌∙◌, inl, inr, ⊎_elim, subst, arith}
-use Rattle.std.specs.Prelude.{not, ◌==◌, slice_get, slice_set, filter, replicate, unwrap_or}
-use Rattle.std.proofs.lemmas.Bool.{false≢true, eqb-true, eqb-false, eq-eqb, ne_eqb}
+use Rattle.std.proofs.Common.{◌≡◌, ◌≢◌, ℕ, suc, ◌+◌, ◌<◌, ◌≤◌, Bool, true, false, cond, List, [], ◌∷◌, length, map, Some, None, sym, refl, ap, ◌∙◌, inl, inr, ⊎_elim, subst, arith}
+use Rattle.std.specs.Prelude.{not, ◌==◌, slice_get, slice_set, filter}
+use Rattle.std.proofs.lemmas.Bool.{false≢true, eq-eqb, ne_eqb}
 use mathlib.Core.Logic.{dite}
 use native.Mathlib.Decide.{ℕ_discrete}
 use Rattle.operations.specs.declared.Request.{Request}
-use Rattle.operations.specs.Names.{among}
 use Rattle.operations.specs.Requests.{kind_of, reply_to}
 use Rattle.method_table.specs.Codes.{id_of, in_use_for, next_serial}
 use Rattle.system.specs.declared.events.Act.{Act}
@@ -15,23 +14,23 @@ use Rattle.system.specs.declared.events.Event.TheVariants as event
 use Rattle.system.specs.declared.answers.Answer.{Answer}
 use Rattle.system.specs.declared.answers.Answer.TheVariants as answer
 use Rattle.system.specs.Threads.{Thread}
-use Rattle.system.specs.Operations.{Requests, Waiting, Opened, Mark, is_marked, with_mark, pending, poll_of, no_requests}
+use Rattle.system.specs.Operations.{Requests, Waiting, Opened, is_marked, with_mark, pending, poll_of}
 use Rattle.system.specs.Log.{Entry, is_start, names_given, operations_given}
-use Rattle.system.specs.World.{World, thread_at, found, start_world, walk, census}
+use Rattle.system.specs.World.{World, thread_at, found, walk, census}
 use Rattle.system.specs.Places.{popped, go_or_stop}
 use Rattle.system.specs.Step.{new_thread, operated_if, code_or_none}
 use Rattle.system.specs.Facts.{IsSound}
 use Rattle.system.specs.Ran.{name_in, started_or, RanAtMostOnce}
-use Rattle.system.proofs.Outcomes.{difference, Stands, begun, changed_by, ended, entered, moved, held, released, is_move, noted, seated, coded, asked, with_done, with_cleared, with_told, with_request, newly_opened, with_opened, with_operated, without_opened, Starts, Tells, Clears, Opens, Exits}
+use Rattle.system.proofs.Outcomes.{difference, Stands, begun, changed_by, ended, entered, moved, held, released, is_move, noted, seated, asked, with_done, with_cleared, with_told, with_request, newly_opened, with_opened, with_operated, without_opened, Starts, Tells, Clears, Opens, Exits}
 use Rattle.system.proofs.Cases.{Cases}
-use Rattle.system.proofs.Seats.{Each, each_some, get_set_same, get_set_other, each_start}
+use Rattle.system.proofs.Seats.{each_some}
 use Rattle.system.proofs.Lists.{map_at, push_at, push_length, filter_at}
 use Rattle.system.proofs.Numbers.{operated_number, operated_live, asked_more}
 use Rattle.system.proofs.Marks.{only_open, first_open, marked_old, marked_new}
 use Rattle.system.proofs.Threads.{started_more}
 use Rattle.tie.specs.PollRow.{armed_at, uncleared_at, cleared_at, tells, clears, place_of}
 use Rattle.tie.proofs.PollMarks.{waits_none, greatest_none}
-use Rattle.tie.proofs.PollLog.{IsSilent, IsElsewhere, armed_rests, uncleared_rests, cleared_rests}
+use Rattle.tie.proofs.PollLog.{IsSilent, armed_rests, uncleared_rests, cleared_rests}
 use Rattle.tie.proofs.PollKept.{pending_at, IsLast, last_same, IsToldTo, IsRow, left_waits, seated_row, left_row, asked_row, WasOpen, told_still, log_row}
 use Rattle.tie.proofs.PollTold.{Told, told_is, told_entry, told_armed, told_uncleared, told_cleared, told_less, told_waits, told_waits_other, Cleared, cleared_is, clear_entry, cleared_uncleared, cleared_cleared, cleared_waits, cleared_waits_other}
 

@@ -1,16 +1,13 @@
 -- What a Tell and a Clear find, and what they leave.
-use Rattle.std.proofs.Common.{◌≡◌, ◌≢◌, ◌⊎◌, ℕ, ◌+◌, ◌<◌, ◌≤◌, Bool, true, false, cond, List, [], ◌∷◌, length, Option, Some, None, sym, refl, ap, ◌∙◌, inl, inr, ⊎_elim, subst, arith}
-use Rattle.std.specs.Prelude.{not, ◌||◌, ◌&&◌, ◌==◌, slice_get, filter}
-use Rattle.std.proofs.lemmas.Bool.{false≢true, and_parts, or_cases, eqb-true, eqb-false, eq-eqb, ne_eqb}
-use mathlib.Core.Logic.{dite}
-use native.Mathlib.Decide.{ℕ_discrete}
+use Rattle.std.proofs.Common.{◌≡◌, ◌≢◌, ℕ, ◌<◌, Bool, true, false, cond, List, [], ◌∷◌, length, Option, Some, None, sym, refl, ap, ◌∙◌, inl, inr, ⊎_elim, subst, arith}
+use Rattle.std.specs.Prelude.{not, ◌==◌, slice_get, filter}
+use Rattle.std.proofs.lemmas.Bool.{false≢true, and_parts, or_cases, eqb-true, eq-eqb, ne_eqb}
 use Rattle.operations.specs.Names.{among, is_empty}
 use Rattle.system.specs.declared.events.Act.TheVariants as act
-use Rattle.system.specs.declared.events.Event.{Event}
 use Rattle.system.specs.declared.events.Event.TheVariants as event
 use Rattle.system.specs.declared.answers.Answer.TheVariants as answer
 use Rattle.system.specs.Threads.{Thread}
-use Rattle.system.specs.Operations.{Requests, Opened, Mark, is_marked, with_mark, pending}
+use Rattle.system.specs.Operations.{Opened, is_marked, pending}
 use Rattle.system.specs.Log.{Entry}
 use Rattle.system.specs.World.{World, thread_at, found, is_live}
 use Rattle.system.specs.Facts.{IsSound}
@@ -20,7 +17,7 @@ use Rattle.system.proofs.Marks.{only_open, first_open}
 use Rattle.system.proofs.Polls.{waits}
 use Rattle.tie.specs.PollRow.{tells, clears, armed_at, uncleared_at, cleared_at, place_of}
 use Rattle.tie.proofs.PollMarks.{waits_none, waits_has, waits_told, waits_told_other, waits_cleared, waits_cleared_other, StandsThere, stands_there}
-use Rattle.tie.proofs.PollLog.{IsElsewhere, cleared_idle}
+use Rattle.tie.proofs.PollLog.{IsElsewhere}
 use Rattle.tie.proofs.PollKept.{pending_at, IsRow, IsLast}
 
 abbrev pub told_entry : ℕ → Entry
