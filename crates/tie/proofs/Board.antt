@@ -43,7 +43,7 @@ left_rank NotEntrant h = refl
 left_rank Zombie h = refl
 left_rank Freed h = refl
 
-rank_left : (s : CodeState) → is_in_use s ≡ false → 0 < rank (entry_state s)
+pub rank_left : (s : CodeState) → is_in_use s ≡ false → 0 < rank (entry_state s)
 rank_left InUse h = absurd (false≢true (sym h))
 rank_left NotEntrant h = omega arith
 rank_left Zombie h = omega arith
@@ -55,7 +55,7 @@ stand_rank NotEntrant h = omega arith
 stand_rank Zombie h = absurd (false≢true h)
 stand_rank Freed h = absurd (false≢true h)
 
-stand_takes : (s : CodeState) → may_stand s ≡ true → takes_slot s ≡ true
+pub stand_takes : (s : CodeState) → may_stand s ≡ true → takes_slot s ≡ true
 stand_takes InUse h = refl
 stand_takes NotEntrant h = refl
 stand_takes Zombie h = refl

@@ -9,3 +9,5 @@ pub mod PollKept
 pub mod PollTold
 pub mod PollRows
 pub mod PollLaws
+pub mod ThreadSteps
+pub mod EntrySteps
