@@ -1,6 +1,6 @@
 -- Enter with a code loads the entry of its slot.
-use Rattle.std.proofs.Common.{◌≡◌, ◌≢◌, ◌⊎◌, ℕ, zero, suc, ◌+◌, ◌<◌, ◌≤◌, Bool, true, false, cond, eqb, ltb, List, [], ◌∷◌, ◌++◌, length, Option, Some, None, sym, refl, ap, ◌∙◌, ⊎_elim, subst, arith}
-use Rattle.std.specs.Prelude.{◌||◌, ◌&&◌, ◌==◌, nat_lt}
+use Rattle.std.proofs.Common.{◌≡◌, ◌≢◌, ℕ, ◌<◌, Bool, true, false, cond, List, ◌∷◌, length, Some, sym, refl, ap, ◌∙◌, ⊎_elim, subst, arith}
+use Rattle.std.specs.Prelude.{◌||◌, ◌&&◌, ◌==◌}
 use Rattle.std.proofs.lemmas.Bool.{false≢true, and_right, eqb-true, eqb-false, eq-eqb, ne_eqb, lt-ltb, le-ltb}
 use mathlib.Core.Logic.{dite}
 use native.Mathlib.Decide.{ℕ_discrete}
@@ -12,7 +12,7 @@ use Rattle.system.specs.declared.events.Act.TheVariants as act
 use Rattle.system.specs.declared.events.Event.TheVariants as event
 use Rattle.system.specs.declared.answers.Answer.TheVariants as answer
 use Rattle.frames.specs.Stack.{same_code}
-use Rattle.frames.specs.BoardWords.{entry_of, pack, rank, says_in_use, says_gone}
+use Rattle.frames.specs.BoardWords.{entry_of, pack, says_in_use, says_gone}
 use Rattle.frames.specs.BoardRule.{SeatState}
 use Rattle.frames.specs.BoardStep.{thread, seat_entered, load_entry}
 use Rattle.method_table.specs.Codes.{id_of, is_in_use, takes_slot, code_of}
@@ -24,14 +24,14 @@ use Rattle.system.proofs.Outcomes.{Stands, entered, seated, Enters, Misses}
 use Rattle.system.proofs.Frames.{part_quiet}
 use Rattle.system.proofs.Table.{code_serial}
 use Rattle.tie.specs.BoardOf.{entry_state, stands_in, is_given, is_missed, seat_by, seat_at, word_by, slot_by, newest_in, board_of}
-use Rattle.tie.specs.Steps.{Made, GoesBy, of_thread, for_code, enter_steps}
+use Rattle.tie.specs.Steps.{GoesBy, of_thread, for_code, enter_steps}
 use Rattle.tie.proofs.Slots.{newest_code, newest_of, newer_than}
 use Rattle.tie.proofs.Tied.{IsReached}
 use Rattle.tie.proofs.Board.{rank_left}
 use Rattle.tie.proofs.Views.{IsAt, seat_becomes, loads}
 use Rattle.tie.proofs.ThreadSteps.{one, same_number, seat_there}
 
-eqb_sym : (a b : ℕ) → (a == b) ≡ (b == a)
+pub eqb_sym : (a b : ℕ) → (a == b) ≡ (b == a)
 eqb_sym a b = dite (ℕ_discrete a b) (λ e. eq-eqb a b e ∙ sym (eq-eqb b a (sym e))) (λ ne. ne_eqb a b ne ∙ sym (ne_eqb b a (λ x. ne (sym x))))
 
 and_true : (b : Bool) → (b && true) ≡ b

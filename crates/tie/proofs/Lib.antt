@@ -11,3 +11,7 @@ pub mod PollRows
 pub mod PollLaws
 pub mod ThreadSteps
 pub mod EntrySteps
+pub mod CountSteps
+pub mod KeeperSteps
+pub mod WeighSteps
+pub mod Events

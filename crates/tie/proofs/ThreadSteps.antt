@@ -1,46 +1,29 @@
 -- The acts of a thread as steps of its seat.
-use Rattle.std.proofs.Common.{◌≡◌, ◌≢◌, ◌⊎◌, ℕ, zero, suc, ◌+◌, ◌-◌, ◌<◌, ◌≤◌, nat_lt, Bool, true, false, cond, eqb, ltb, List, [], ◌∷◌, ◌++◌, length, Option, Some, None, sym, refl, ap, ◌∙◌, inl, inr, ⊎_elim, subst, arith, pos, negsuc, ◌-ℤ◌}
-use Rattle.std.specs.Prelude.{not, ◌||◌, ◌&&◌, ◌==◌, is_some, unwrap_or, slice_get}
-use Rattle.std.specs.List.{list_any}
-use Rattle.std.proofs.lemmas.Bool.{false≢true, not-true, and_parts, and_cases, and_from, and_right, or_cases, eqb-true, eqb-false, eq-eqb, ne_eqb, lt-ltb, le-ltb, false_from_ne_true}
-use mathlib.Core.Logic.{dite}
-use native.Mathlib.Decide.{ℕ_discrete}
+use Rattle.std.proofs.Common.{◌≡◌, ◌≢◌, ℕ, ◌<◌, Bool, true, false, cond, [], ◌∷◌, length, Some, None, sym, refl, ap, ◌∙◌, inl, inr, subst, arith}
+use Rattle.std.specs.Prelude.{not, ◌&&◌, ◌==◌}
+use Rattle.std.proofs.lemmas.Bool.{false≢true, and_right, eqb-true, eq-eqb, ne_eqb}
 use Rattle.frames.specs.declared.CodeId.{CodeId}
-use Rattle.frames.specs.declared.board_rule.EntryState.TheVariants as entry
-use Rattle.frames.specs.declared.board_rule.StepMade.{StepMade}
-use Rattle.frames.specs.declared.board_rule.StepMade.TheVariants.{LoadEntry, LoadMoment, StorePlace, AddCount, SubCount}
-use Rattle.method_table.specs.declared.Code.{Code}
-use Rattle.method_table.specs.declared.CodeState.{CodeState}
-use Rattle.method_table.specs.declared.CodeState.TheVariants.{InUse}
+use Rattle.frames.specs.declared.board_rule.StepMade.TheVariants.{LoadMoment, StorePlace}
 use Rattle.system.specs.declared.events.Act.TheVariants as act
 use Rattle.system.specs.declared.events.Event.TheVariants as event
-use Rattle.system.specs.declared.answers.Answer.{Answer}
 use Rattle.system.specs.declared.answers.Answer.TheVariants as answer
 use Rattle.frames.specs.Stack as stack
 use Rattle.frames.specs.Stack.{same_code}
-use Rattle.frames.specs.BoardWords.{entry_of, count_of, the_moment, pack, rank}
-use Rattle.frames.specs.BoardRule.{SeatState, BoardState, code, IsBoardKept}
-use Rattle.frames.specs.BoardStep.{BoardStep, thread, keeper, seat_entered, seat_read, seat_stored, seat_counted, load_entry, load_moment, store_place, add_count, sub_count}
+use Rattle.frames.specs.BoardStep.{BoardStep, thread, seat_read, seat_stored, load_moment, store_place}
 use Rattle.frames.proofs.BoardLaws.{step_keeps}
-use Rattle.method_table.specs.Codes.{id_of, is_in_use, takes_slot, code_of}
-use Rattle.operations.specs.Names.{is_empty}
-use Rattle.system.specs.Threads.{Thread, is_publishing, changed_codes, has_changed, is_left, next_change, part}
-use Rattle.system.specs.Log.{Entry, moment}
-use Rattle.system.specs.World.{World, found, part_at, walk, thread_at}
-use Rattle.system.specs.Facts.{IsLive}
+use Rattle.system.specs.Threads.{Thread, has_changed, next_change, part}
+use Rattle.system.specs.Log.{moment}
+use Rattle.system.specs.World.{World, found, part_at, thread_at}
 use Rattle.system.specs.Moments.{begun, ended, published_at, publishing_at, is_fresh}
-use Rattle.system.proofs.Outcomes.{Stands, begun as with_begun, changed_by, ended as with_ended, entered, seated, difference, Acts, Changes, Ends, Enters, Misses, Exits}
+use Rattle.system.proofs.Outcomes.{Stands, begun as with_begun, ended as with_ended, seated, Acts, Ends, Exits}
 use Rattle.system.proofs.ByCases.{empty_of}
-use Rattle.system.proofs.Frames.{same_is, same_refl, act_length, next_left, none_left, part_quiet, part_settled}
-use Rattle.system.proofs.Table.{code_serial}
+use Rattle.system.proofs.Frames.{none_left, part_quiet, part_settled}
 use Rattle.system.proofs.Reclaim.{IsThread}
-use Rattle.tie.specs.BoardOf.{stands_in, is_given, is_missed, seat_by, seat_at, word_by, slot_at, slot_by, newest_in, board_of}
-use Rattle.tie.specs.Steps.{Made, GoesBy, of_thread, for_code, count_by, change_steps}
-use Rattle.tie.proofs.Slots.{newest_code, newest_of, newer_than}
+use Rattle.tie.specs.BoardOf.{is_given, is_missed, seat_by, seat_at, board_of}
+use Rattle.tie.specs.Steps.{Made, GoesBy, of_thread}
 use Rattle.tie.proofs.Tied.{IsReached}
-use Rattle.tie.proofs.Quiet.{IsUnseen}
-use Rattle.tie.proofs.Board.{board_kept, stands_newest, rank_left, stand_takes}
-use Rattle.tie.proofs.Views.{IsAt, seat_becomes, walk_moves, loads, writes_place, writes_count}
+use Rattle.tie.proofs.Board.{board_kept}
+use Rattle.tie.proofs.Views.{IsAt, seat_becomes, loads, writes_place}
 
 -- One allowed step goes from a board to the next.
 pub one : (w v : World) (made : Made) → IsReached w → BoardStep w.slots (length w.places) (board_of w) (board_of v) made.actor made.step → GoesBy w.slots (length w.places) (board_of w) (made ∷ []) (board_of v)

@@ -1,5 +1,5 @@
 -- Which steps of the code board an accepted event is. Every other event, and every refused one, is none.
-use Rattle.std.specs.Prelude.{◌≡◌, ℕ, ◌+◌, ℤ, pos, negsuc, List, [], ◌∷◌, Option, Some, None}
+use Rattle.std.specs.Prelude.{◌≡◌, ℕ, ◌+◌, ℤ, pos, negsuc, Bool, true, false, List, [], ◌∷◌, Option, Some, None, if◌then◌else◌}
 use Rattle.frames.specs.declared.CodeId.{CodeId}
 use Rattle.frames.specs.declared.board_rule.EntryState.TheVariants.{InUse, NotEntrant, Zombie, Vacant}
 use Rattle.frames.specs.declared.board_rule.StepMade.{StepMade}
@@ -105,10 +105,13 @@ accepted_steps w (event.Count serial) given = []
 accepted_steps w (event.CodeState serial) given = []
 accepted_steps w (event.Resolve method) given = []
 
--- The steps of an event with its answer.
+-- The steps of an event with its answer; a refused event is none.
+abbrev pub is_refused : Answer → Bool
+is_refused (answer.Refused refusal) = true
+is_refused given = false
+
 abbrev pub steps_of : World → Event → Answer → List Made
-steps_of w event (answer.Refused refusal) = []
-steps_of w event given = accepted_steps w event given
+steps_of w event given = if is_refused given then [] else accepted_steps w event given
 
 -- The board goes from old to new by just these steps, one after the other, and meets the rule after each.
 abbrev pub GoesBy : ℕ → ℕ → BoardState → List Made → BoardState → Type 0

@@ -1,7 +1,15 @@
 // Laws of the board of a world.
 ghost use Rattle.tie.specs.BoardOf.{BoardsKeepTheRule};
+ghost use Rattle.tie.specs.Steps.{EventsAreTheirSteps};
 
 /// The board of a world meets the rule of a code board, whatever happened.
 pub fn boards_keep_the_rule()
     ensures { BoardsKeepTheRule }
+{}
+
+/// Whatever happened, the next event takes the board to that of the world after it by just the steps that the table names for
+/// it and its answer, each allowed where it is made. Where that are two, the board between them meets the rule too; where it is
+/// none, the board stays as it is.
+pub fn events_are_their_steps()
+    ensures { EventsAreTheirSteps }
 {}
