@@ -8,6 +8,7 @@ pub mod PollLog
 pub mod PollKept
 pub mod PollTold
 pub mod PollRows
+pub mod PollSteps
 pub mod PollLaws
 pub mod ThreadSteps
 pub mod EntrySteps

@@ -1,25 +1,33 @@
 -- What the marks and the log say of one another, which each event keeps.
 use Rattle.std.proofs.Common.{◌≡◌, ◌⊎◌, ℕ, ◌+◌, ◌<◌, ◌≤◌, true, List, [], ◌∷◌, length, Option, Some, None, sym, refl, ap, ap₂, ◌∙◌, inl, inr, subst, arith}
-use Rattle.std.specs.Prelude.{slice_get, slice_set}
+use Rattle.std.specs.Prelude.{slice_get, slice_set, unwrap_or}
 use mathlib.Core.Logic.{dite}
 use native.Mathlib.Decide.{ℕ_discrete}
 use Rattle.operations.specs.Names.{among}
 use Rattle.system.specs.declared.events.Event.{Event}
 use Rattle.system.specs.declared.answers.Answer.{Answer}
 use Rattle.system.specs.Threads.{Thread}
-use Rattle.system.specs.Operations.{Requests, Opened, Mark, is_marked, pending}
+use Rattle.system.specs.Operations.{Requests, Opened, Mark, is_marked, pending, greatest}
 use Rattle.system.specs.Log.{Entry, names_given, operations_given}
 use Rattle.system.specs.World.{found}
 use Rattle.system.specs.Ran.{name_in}
 use Rattle.system.proofs.Seats.{Each, each_some, each_none, get_set_same, get_set_other}
 use Rattle.system.proofs.Polls.{waits}
-use Rattle.tie.specs.PollRow.{armed_at, uncleared_at, cleared_at}
+use Rattle.tie.specs.PollRow.{word_of, armed_at, uncleared_at, cleared_at}
 use Rattle.tie.proofs.PollLog.{IsSilent, elsewhere, armed_rests, uncleared_rests, cleared_rests, names_rest, name_rests}
 
 -- What waits for the thread at a place; nothing at a vacant one.
 abbrev pub pending_at : Requests → Option Thread → List ℕ
 pending_at requests None = []
 pending_at requests (Some t) = pending requests t.name
+
+-- The word is the greatest number that waits.
+pub word_is : (requests : Requests) (o : Option Thread) → word_of requests o ≡ unwrap_or (greatest (pending_at requests o)) 0
+word_is requests None = refl
+word_is requests (Some t) = refl
+
+pub same_word : (a b : Requests) (o u : Option Thread) → pending_at a o ≡ pending_at b u → word_of a o ≡ word_of b u
+same_word a b o u h = word_is a o ∙ (ap (λ ns. unwrap_or (greatest ns) 0) h ∙ sym (word_is b u))
 
 -- Nothing is uncleared, or what was told last is, and alone.
 abbrev pub IsLast : List ℕ → ℕ → ℕ → Type 0

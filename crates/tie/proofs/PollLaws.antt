@@ -1,20 +1,21 @@
 -- The laws of the poll row.
-use Rattle.std.proofs.Common.{◌≡◌, ℕ, List, [], ◌∷◌, ◌++◌, Option, Some, None, sym, refl, ap, ◌∙◌, inl, inr, subst, arith}
+use Rattle.std.proofs.Common.{◌≡◌, ℕ, List, [], ◌∷◌, ◌++◌, length, Option, Some, None, sym, refl, ap, ◌∙◌, inl, inr, subst, arith}
 use Rattle.std.specs.Prelude.{slice_get, replicate, unwrap_or}
 use Rattle.std.proofs.lemmas.Bool.{eq-eqb, ne_eqb}
 use Rattle.thread_state.specs.PollRule.{IsPlaceKept}
 use Rattle.system.specs.declared.events.Event.{Event}
 use Rattle.system.specs.Threads.{Thread}
-use Rattle.system.specs.Operations.{Requests, greatest, no_requests}
+use Rattle.system.specs.Operations.{greatest, no_requests}
 use Rattle.system.specs.World.{World, thread_at, found, start_world}
 use Rattle.system.specs.Runs.{after, world_after}
 use Rattle.system.proofs.ByCases.{by_cases}
 use Rattle.system.proofs.Seats.{each_start}
 use Rattle.system.proofs.Worlds.{worlds_are_sound}
 use Rattle.system.proofs.Once.{run_at_most_once}
-use Rattle.tie.specs.PollRow.{word_of, row_of, armed_at, uncleared_at, cleared_at, RowsKeepTheRule}
-use Rattle.tie.proofs.PollKept.{pending_at, IsLast, IsToldTo}
+use Rattle.tie.specs.PollRow.{row_of, armed_at, uncleared_at, cleared_at, RowsKeepTheRule, polls_of, IsPolled, ChangesByItsStep, EventsAreTheirPolls}
+use Rattle.tie.proofs.PollKept.{word_is, pending_at, IsLast, IsToldTo}
 use Rattle.tie.proofs.PollRows.{RowIn, row_kept}
+use Rattle.tie.proofs.PollSteps.{steps}
 
 -- At the start nothing waits anywhere.
 nothing_waits : (n p : ℕ) → pending_at no_requests (found (slice_get (replicate {A = Option Thread} n None) p)) ≡ []
@@ -50,11 +51,6 @@ row_in places slots methods events = onward [] events (row_start places slots me
         subst (λ v. RowIn (world_after v events)) (one_more (start_world places slots methods) before e)
         (onward (before ++ e ∷ []) events (subst RowIn (sym (one_more (start_world places slots methods) before e)) next))
 
--- The word is the greatest number that waits.
-pub word_is : (requests : Requests) (o : Option Thread) → word_of requests o ≡ unwrap_or (greatest (pending_at requests o)) 0
-word_is requests None = refl
-word_is requests (Some t) = refl
-
 pub row_word : (w : World) → RowIn w → (p : ℕ) → (row_of w p).word ≡ unwrap_or (greatest (uncleared_at p w.log)) 0
 row_word w h p = word_is w.requests (thread_at w p) ∙ ap (λ ns. unwrap_or (greatest ns) 0) (h.waiting p)
 
@@ -73,3 +69,15 @@ kept_at w h p = by (h.last p)
 
 pub rows_keep_the_rule : RowsKeepTheRule
 rows_keep_the_rule places slots methods events p low = kept_at (world_after (start_world places slots methods) events) (row_in places slots methods events) p
+
+-- The event after others, in a row of as many places as the world has.
+event_is_its_poll : (places slots methods : ℕ) (events : List Event) (next : Event) → ChangesByItsStep (length (world_after (start_world places slots methods) events).places) (world_after (start_world places slots methods) events) next
+event_is_its_poll places slots methods events next =
+    let w : World = world_after (start_world places slots methods) events in
+    by_cases w (λ e a v. RowIn v → IsPolled (length w.places) (polls_of w e a) (row_of w) (row_of v))
+    (steps w (worlds_are_sound places slots methods events).0 (run_at_most_once places slots methods events) (row_in places slots methods events)) next
+    (subst RowIn (one_more (start_world places slots methods) events next) (row_in places slots methods (events ++ next ∷ [])))
+
+pub events_are_their_polls : EventsAreTheirPolls
+events_are_their_polls places slots methods events next =
+    subst (λ n. ChangesByItsStep n (world_after (start_world places slots methods) events) next) (worlds_are_sound places slots methods events).1.places_are (event_is_its_poll places slots methods events next)

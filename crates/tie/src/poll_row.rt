@@ -1,7 +1,13 @@
 //! Laws of the poll row of all worlds that events lead to.
-ghost use Rattle.tie.specs.PollRow.{RowsKeepTheRule};
+ghost use Rattle.tie.specs.PollRow.{RowsKeepTheRule, EventsAreTheirPolls};
 
 /// The poll row of the core's world meets the rule of the poll words, whatever happened.
 pub fn rows_keep_the_rule()
     ensures { RowsKeepTheRule }
+{}
+
+/// Each event changes the poll row by just the step that the table names for it: a load at a poll, an exchange at a Clear, a
+/// store at a Tell that is told; every other event, and each that is refused, by none.
+pub fn events_are_their_polls()
+    ensures { EventsAreTheirPolls }
 {}
