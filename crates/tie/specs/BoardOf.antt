@@ -69,7 +69,7 @@ misses_code place serial (event.At p (act.Enter method (Some s))) answer.WrongMe
 misses_code place serial event answer = false
 
 abbrev pub is_missed : ℕ → ℕ → List Entry → Bool
-is_missed place serial log = list_any (λ entry. misses_code place serial entry.event entry.answer) log
+is_missed place serial log = list_any (λ logged. misses_code place serial logged.event logged.answer) log
 
 -- What the seat of a place with this thread, or none, knows: how often each code is counted there, as last published code by
 -- code; the codes that its thread entered since its last ended publication; the moment of its open publication, and of its last

@@ -1,3 +1,4 @@
 pub mod BoardOf
 pub mod Steps
+pub mod BoardSamples
 pub mod PollRow

@@ -3,4 +3,5 @@
 #![tactic(auto)]
 
 pub mod board_laws;
+pub mod board_samples;
 pub mod poll_row;

@@ -1,0 +1,37 @@
+// Small runs: the definitions give these steps and words, by computation.
+ghost use Rattle.std.specs.Prelude.{◌≡◌, true, false, [], ◌∷◌, ◌++◌};
+ghost use Rattle.frames.specs.BoardRule.{first_slot};
+ghost use Rattle.system.specs.declared.events.Act.TheVariants as act;
+ghost use Rattle.system.specs.declared.events.Event.TheVariants as event;
+ghost use Rattle.tie.specs.BoardOf.{slot_at, seat_at};
+ghost use Rattle.tie.specs.BoardSamples.{Makes, Knows, core_after, steps_of_run, words_of, life_of_a_code, steps_of_a_life, words_after_a_life, one_frame_counted, place_given_up, amid_a_publication};
+
+/// The whole life of a code makes each kind of step, with these codes, places and numbers, in this order.
+pub fn life_of_a_code()
+    ensures { Makes life_of_a_code steps_of_a_life words_after_a_life }
+{}
+
+/// The words where one frame is counted: serial 1 not entrant, one frame, the moment 2 at place 0, nothing at place 1, the moment 2.
+pub fn one_frame_counted()
+    ensures { words_of (core_after one_frame_counted) ≡ 5 ∷ 1 ∷ 2 ∷ 0 ∷ 2 ∷ [] }
+{}
+
+/// A place that was given up holds no moment, lets every look pass, and the code is retired: serial 1, a zombie.
+pub fn place_given_up()
+    ensures { words_of (core_after place_given_up) ≡ 6 ∷ 0 ∷ 0 ∷ 0 ∷ 1 ∷ [] }
+{}
+
+/// What a seat knows in the middle of a publication, and what it no longer knows once it has ended.
+pub fn amid_a_publication()
+    ensures amid { Knows (seat_at (core_after amid_a_publication) 0) 2 true 2 1 true }
+    ensures ended { Knows (seat_at (core_after (amid_a_publication ++ event.At 0 act.End ∷ [])) 0) 2 false 0 2 true }
+{}
+
+/// What the keeper knows of a slot: nothing at first; the moment of the invalidation and the places that were found clear; and
+/// all of it, and that the code was weighed clear, still after the code was freed.
+pub fn what_the_keeper_knows()
+    ensures at_first { slot_at (core_after []) 0 ≡ first_slot }
+    ensures late { ((slot_at (core_after amid_a_publication) 0).left ≡ 1) × ((slot_at (core_after amid_a_publication) 0).looked 0 ≡ false) × ((slot_at (core_after amid_a_publication) 0).clear ≡ false) }
+    ensures freed { ((slot_at (core_after (place_given_up ++ event.Free 1 ∷ [])) 0).serial ≡ 1) × ((slot_at (core_after (place_given_up ++ event.Free 1 ∷ [])) 0).left ≡ 1)
+        × ((slot_at (core_after (place_given_up ++ event.Free 1 ∷ [])) 0).looked 0 ≡ true) × ((slot_at (core_after (place_given_up ++ event.Free 1 ∷ [])) 0).clear ≡ true) }
+{}
