@@ -1,5 +1,5 @@
 // Codes whose counts differ in two stacks: the frames as they are, and those that were shown.
-ghost use Rattle.std.specs.Prelude.{◌≡◌, ℕ, ◌+◌, ◌<◌, ◌≤◌, List, [], ◌∷◌, ◌++◌, length, take, drop, true, false, not, fold, filter, is_none, slice_get, Option, Some, None, ◌==◌, ◌&&◌, pos, ◌+ℤ◌};
+ghost use Rattle.std.specs.Prelude.{◌≡◌, ℕ, ◌+◌, ◌<◌, ◌≤◌, List, [], ◌∷◌, ◌++◌, length, take, drop, true, false, not, fold, filter, is_none, slice_get, Option, Some, None, if◌then◌else◌, ◌==◌, ◌&&◌, pos, ◌+ℤ◌};
 ghost use Rattle.frames.specs.Stack.{same_code, code_lt, is_of, act, codes_of};
 ghost use Rattle.frames.specs.Least.{lesser};
 ghost use Rattle.frames.specs.Kept.{upto, is_pending, next_pending};
@@ -43,13 +43,13 @@ pub(crate) fn difference(frames: &[Frame], shown: &[Frame], code: CodeId) -> i32
     count(frames, code) as i32 - count(shown, code) as i32
 }
 
-fn lesser(best: Option<CodeId>, code: CodeId) -> Option<CodeId>
-    ensures { result ≡ lesser best code }
+// Whether the code is less than the best so far.
+fn improves(best: Option<CodeId>, code: CodeId) -> bool
+    ensures { lesser best code ≡ (if result then Some code else best) }
 {
     match best {
-        Some(least) if is_less(code, least) => Some(code),
-        Some(least) => Some(least),
-        None => Some(code),
+        Some(least) => is_less(code, least),
+        None => true,
     }
 }
 
@@ -69,7 +69,8 @@ fn is_pending(frames: &[Frame], shown: &[Frame], last: Option<CodeId>, code: Cod
     !was_given(last, code) && count(frames, code) != count(shown, code)
 }
 
-// The least pending code among the best so far and those of the list.
+// The least pending code among the best so far and those of the list. A code is counted only where it would be less than the
+// best, since counting goes over both stacks.
 fn least_pending_of(
     list: &[Frame],
     frames: &[Frame],
@@ -83,9 +84,10 @@ fn least_pending_of(
     let mut found = best;
     for frame in list {
         if let Some(code) = frame.code
+            && improves(found, code)
             && is_pending(frames, shown, last, code)
         {
-            found = lesser(found, code);
+            found = Some(code);
         }
     }
     found
