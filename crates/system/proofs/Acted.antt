@@ -1,13 +1,9 @@
 -- A plain act at a place, by what the thread did.
-use Rattle.std.proofs.Common.{◌≡◌, ◌≢◌, ◌∙◌, ◌+◌, ◌<◌, ◌≤◌, sym, ap, ap₂, refl, subst, ℕ, zero, suc, Bool, true, false, not, ◌&&◌, ◌||◌, ◌==◌, eqb, cond, List, [], ◌∷◌, ◌++◌, Option, Some, None, Result, Ok, Err, length, map, filter, arith}
+use Rattle.std.proofs.Common.{◌≡◌, ◌≢◌, ◌∙◌, sym, ap, refl, subst, ℕ, Bool, true, false, eqb, List, ◌∷◌, Option, Some, arith}
 use Rattle.std.specs.Prelude.{slice_get, slice_set}
 use Rattle.std.proofs.lemmas.Bool.Decides.{nat_tests}
-use Rattle.std.proofs.lemmas.Option.{slice_get_within}
-use mathlib.Core.Logic.{dite}
-use native.Mathlib.Decide.{ℕ_discrete}
 use Rattle.frames.specs.declared.CodeId.{CodeId}
 use Rattle.frames.specs.ImageView.{SameBag}
-use Rattle.thread_state.specs.declared.State.TheVariants.{Vacant}
 use Rattle.system.specs.declared.events.Act.{Act}
 use Rattle.system.specs.declared.events.Act.TheVariants.{Begin, Change, End, Wake, Cross, Enter, Leave, Edge, ToVm, FromVm, ToNative, Block, Exit, Take, Finish, Clear, Hold, Release, Stack}
 use Rattle.system.specs.declared.events.Event.{Event}
@@ -15,27 +11,22 @@ use Rattle.system.specs.declared.events.Event.TheVariants as event
 use Rattle.system.specs.declared.answers.Answer.{Answer}
 use Rattle.system.specs.declared.answers.Answer.TheVariants as answer
 use Rattle.system.specs.declared.answers.Refusal.{Refusal}
-use Rattle.system.specs.declared.answers.Refusal.TheVariants.{NoSuchPlace, Illegal}
 use Rattle.system.specs.declared.thread.Thread.{Thread as Kept}
 use Rattle.system.specs.declared.thread.Moments.{Moments}
 use Rattle.system.specs.declared.keeping.Core.{Core}
-use Rattle.system.specs.Verdict.{Verdict, refused, accepted}
+use Rattle.system.specs.Verdict.{Verdict, refused}
 use Rattle.system.specs.Operations.{Requests}
 use Rattle.system.specs.Log.{Entry, moment, is_begin, is_end}
 use Rattle.system.specs.Threads.{Thread, part}
-use Rattle.system.specs.World.{World, thread_at, found}
-use Rattle.system.specs.Places.{Effect, becomes, leaves, marks, here}
-use Rattle.system.specs.Step.{outcome, lands, at}
+use Rattle.system.specs.World.{World}
+use Rattle.system.specs.Places.{Effect, becomes, leaves, here}
+use Rattle.system.specs.Step.{outcome, lands}
 use Rattle.system.specs.Runs.{after, answer_to}
-use Rattle.system.specs.Moments.{begun, ended}
-use Rattle.system.specs.Facts.{IsSound}
-use Rattle.system.specs.Keeps.{SameThread, Did, DidWith, Reach, seats, finishes, clears, reach_of, Lands, Becomes, marked_by, timed_by, number_of, is_plain, IsHere}
-use Rattle.system.specs.Steps.{DidAt, DidFound, ActedAt, answer_here}
-use Rattle.system.specs.Stands.{Matches, SamePlace, SamePlaces, SameAt, SameMarks, SameMoments, DoesIn, kept_at, held_at}
-use Rattle.system.proofs.Outcomes.{seated, asked}
+use Rattle.system.specs.Keeps.{SameThread, Reach, seats, finishes, clears, reach_of, Lands, Becomes, marked_by, timed_by, number_of}
+use Rattle.system.specs.Stands.{Matches, SameAt, SameMoments, DoesIn}
+use Rattle.system.proofs.Outcomes.{seated}
 use Rattle.system.proofs.Logs.{IsQuiet, IsElsewhere}
-use Rattle.system.proofs.Hereof.{is_here}
-use Rattle.system.proofs.Acting.{SameRest, Seats, seated_matches}
+use Rattle.system.proofs.Acting.{SameRest, seated_matches}
 
 -- an act is quiet in the log, and elsewhere at other places
 pub act_quiet : (p : ℕ) (act : Act) (a : Answer) → IsQuiet (record { event = event.At p act; answer = a })

@@ -1,27 +1,23 @@
 -- An act at a place: the system afterwards has what the world afterwards has.
-use Rattle.std.proofs.Common.{◌≡◌, ◌≢◌, ◌∙◌, ◌+◌, ◌<◌, ◌≤◌, sym, ap, ap₂, refl, subst, ℕ, zero, suc, Bool, true, false, not, ◌&&◌, ◌||◌, ◌==◌, eqb, cond, List, [], ◌∷◌, Option, Some, None, Result, Ok, Err, length, map, arith}
+use Rattle.std.proofs.Common.{◌≡◌, ◌≢◌, ◌∙◌, ◌<◌, sym, ap, refl, subst, ℕ, zero, suc, ◌||◌, ◌==◌, List, [], ◌∷◌, Option, Some, None, length, arith}
 use Rattle.std.specs.Prelude.{slice_get, slice_set, sum_by}
 use Rattle.std.proofs.lemmas.List.Sums.{sum_by-cons}
 use Rattle.std.proofs.lemmas.Option.{slice_get_within}
 use mathlib.Core.Logic.{dite}
 use native.Mathlib.Decide.{ℕ_discrete}
 use Rattle.frames.specs.declared.CodeId.{CodeId}
-use Rattle.frames.specs.Stack.{times}
-use Rattle.frames.specs.ImageView.{SameBag}
 use Rattle.method_table.specs.declared.Code.{Code}
 use Rattle.activation_index.specs.Counts.{count_in}
 use Rattle.method_table.specs.Codes.{code_of, id_of}
-use Rattle.system.specs.declared.events.Act.{Act}
 use Rattle.system.specs.declared.events.Event.{Event}
-use Rattle.system.specs.declared.events.Event.TheVariants as event
 use Rattle.system.specs.declared.answers.Answer.{Answer}
 use Rattle.system.specs.declared.thread.Thread.{Thread as Kept}
 use Rattle.system.specs.declared.keeping.Core.{Core}
-use Rattle.system.specs.Log.{Entry, names_given}
+use Rattle.system.specs.Log.{Entry}
 use Rattle.system.specs.Threads.{Thread, part}
-use Rattle.system.specs.World.{World, thread_at, found, threads, is_live, part_at, walk}
+use Rattle.system.specs.World.{World, thread_at, found, threads, part_at}
 use Rattle.system.specs.Keeps.{SameThread}
-use Rattle.system.specs.Stands.{Matches, SamePlace, SamePlaces, SameAt, SameMarks, SameMoments, SameOpen, kept_at, held_at, walk_of}
+use Rattle.system.specs.Stands.{Matches, SamePlace, SamePlaces, SameAt, SameMarks, SameMoments, kept_at, held_at, walk_of}
 use Rattle.system.proofs.Outcomes.{seated}
 use Rattle.system.proofs.Seats.{get_set_same, get_set_other}
 use Rattle.system.proofs.Logs.{IsQuiet, IsElsewhere, moments_next, place_over, records_next, opened_over, quiet_names, quiet_moment, quiet_operations}

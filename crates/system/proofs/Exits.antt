@@ -1,5 +1,5 @@
 -- A thread leaves its place, and a stack is shown.
-use Rattle.std.proofs.Common.{◌≡◌, ◌≢◌, ◌∙◌, ◌+◌, ◌<◌, ◌≤◌, sym, ap, refl, subst, ℕ, zero, suc, Bool, true, false, not, ◌&&◌, ◌||◌, ◌==◌, cond, List, [], ◌∷◌, Option, Some, None, Result, Ok, Err, length, arith}
+use Rattle.std.proofs.Common.{◌≡◌, ◌∙◌, sym, ap, refl, ℕ, zero, suc, Bool, true, false, not, ◌||◌, ◌==◌, List, [], ◌∷◌, Option, Some, None, Result, Ok, Err, length, arith}
 use Rattle.std.specs.Prelude.{slice_get, slice_set, sum_by, IfOk}
 use Rattle.std.specs.List.{list_any}
 use Rattle.std.proofs.lemmas.List.Sums.{sum_by-cons}
@@ -18,27 +18,26 @@ use Rattle.system.specs.declared.events.Event.TheVariants as event
 use Rattle.system.specs.declared.answers.Answer.{Answer}
 use Rattle.system.specs.declared.answers.Answer.TheVariants as answer
 use Rattle.system.specs.declared.answers.Refusal.{Refusal}
-use Rattle.system.specs.declared.answers.Refusal.TheVariants.{NoSuchPlace, Illegal, StackNotEmpty, Unpublished, OperationPending}
+use Rattle.system.specs.declared.answers.Refusal.TheVariants.{NoSuchPlace, Illegal, StackNotEmpty, Unpublished}
 use Rattle.system.specs.declared.thread.Thread.{Thread as Kept}
 use Rattle.system.specs.declared.keeping.Core.{Core}
-use Rattle.system.specs.Verdict.{Verdict, refused, accepted}
-use Rattle.system.specs.Operations.{poll_of}
+use Rattle.system.specs.Verdict.{accepted}
 use Rattle.system.specs.Log.{Entry}
 use Rattle.system.specs.Threads.{Thread, part, is_settled, is_publishing}
-use Rattle.system.specs.World.{World, threads, part_at, thread_at, found}
-use Rattle.system.specs.Places.{Effect, becomes, leaves, marks, here, does}
-use Rattle.system.specs.Step.{outcome, lands, with_place}
+use Rattle.system.specs.World.{World, threads, part_at}
+use Rattle.system.specs.Places.{becomes, leaves, here}
+use Rattle.system.specs.Step.{lands, with_place}
 use Rattle.system.specs.Facts.{IsSound}
-use Rattle.system.specs.Keeps.{SameThread, SaysExit, PollIs}
-use Rattle.system.specs.Steps.{DidExit, DidLeave, MayLeave, Left, frames_at}
-use Rattle.system.specs.Stands.{Matches, SamePlace, SameAt, DoesIn, Does, walk_of}
+use Rattle.system.specs.Keeps.{SaysExit}
+use Rattle.system.specs.Steps.{DidExit, DidLeave, Left, frames_at}
+use Rattle.system.specs.Stands.{Matches, SameAt, DoesIn, Does, walk_of}
 use Rattle.system.proofs.Outcomes.{seated}
 use Rattle.system.proofs.Frames.{part_settled}
-use Rattle.system.proofs.Logs.{IsQuiet, IsElsewhere, moments_next, records_next, opened_over, quiet_names, quiet_moment, quiet_operations, noted_matches}
+use Rattle.system.proofs.Logs.{IsQuiet, moments_next, records_next, opened_over, quiet_names, quiet_moment, quiet_operations}
 use Rattle.system.proofs.Hereof.{poll_here}
 use Rattle.system.proofs.Acting.{SameRest, places_set, length_set, seated_matches}
 use Rattle.system.proofs.Acted.{act_quiet, act_elsewhere, refused_in, timed}
-use Rattle.system.proofs.Plain.{AtPlace, nowhere, vacant, seat, at_place, accepted_in, here_yes}
+use Rattle.system.proofs.Plain.{nowhere, vacant, seat, at_place, accepted_in, here_yes}
 use Rattle.system.proofs.Marked.{unless_yes}
 
 -- what counts nothing leaves the counts as they are

@@ -1,5 +1,5 @@
 -- What a list of places has at a position.
-use Rattle.std.proofs.Common.{◌≡◌, ◌∙◌, ◌<◌, ◌≤◌, ◌+◌, sym, ap, refl, ℕ, zero, suc, List, [], ◌∷◌, Option, Some, None, Result, Ok, Err, length, get_or, set, arith, subst}
+use Rattle.std.proofs.Common.{◌≡◌, ◌<◌, sym, ap, refl, ℕ, zero, suc, List, [], ◌∷◌, Option, Some, None, Result, Err, length, get_or, set, arith}
 use Rattle.std.specs.Prelude.{slice_get, slice_set}
 use Rattle.frames.specs.declared.Change.{Change}
 use Rattle.method_table.specs.TableView.{TableView}
@@ -10,8 +10,8 @@ use Rattle.system.specs.declared.events.Act.{Act}
 use Rattle.system.specs.declared.answers.Answer.{Answer}
 use Rattle.system.specs.declared.answers.Answer.TheVariants.{Refused}
 use Rattle.system.specs.declared.answers.Refusal.{Refusal}
-use Rattle.system.specs.declared.answers.Refusal.TheVariants.{NoSuchPlace, Illegal}
-use Rattle.system.specs.Steps.{DidAt, DidFound, DidAct, DidChange, DidCountAt, DidCount, answer_here}
+use Rattle.system.specs.declared.answers.Refusal.TheVariants.{Illegal}
+use Rattle.system.specs.Steps.{DidAt, DidAct, DidChange, DidCount, answer_here}
 
 -- an index in range finds what is read there
 pub got : (ks : List (Option Kept)) (i : ℕ) (d k : Option Kept) → i < length ks → get_or ks i d ≡ k → slice_get ks i ≡ Some k

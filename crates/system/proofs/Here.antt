@@ -1,14 +1,12 @@
 -- The tests that all acts of a thread have in common.
-use Rattle.std.proofs.Common.{◌≡◌, ◌∙◌, sym, ap, refl, true, false, not, ◌&&◌, ◌||◌, Bool, cond, Option, Some, None, ℕ, List, [], ◌∷◌, subst, length, arith, ◌≤◌, ◌<◌}
-use Rattle.std.specs.Prelude.{is_some, is_none, nat_lt, nat_le}
-use Rattle.std.proofs.lemmas.Bool.Decides.{nat_tests}
+use Rattle.std.proofs.Common.{◌≡◌, ◌∙◌, ap, refl, true, false, not, ◌&&◌, ◌||◌, Bool, cond, Option, Some, None}
 use Rattle.thread_state.specs.declared.State.{State}
 use Rattle.system.specs.declared.thread.Thread.{Thread as Kept}
 use Rattle.system.specs.declared.events.Act.{Act}
 use Rattle.system.specs.declared.events.Act.TheVariants.{Begin, Change, End, Wake, Cross, Enter, Leave, Edge, ToVm, FromVm, ToNative, Block, Exit, Take, Finish, Clear, Hold, Release, Stack}
 use Rattle.system.specs.declared.answers.Refusal.{Refusal}
 use Rattle.system.specs.declared.answers.Refusal.TheVariants.{Illegal, Publishing}
-use Rattle.system.specs.Verdict.{Verdict, refused, accepted, unless◌refuse◌then◌}
+use Rattle.system.specs.Verdict.{Verdict, refused, unless◌refuse◌then◌}
 use Rattle.system.specs.Threads.{Thread}
 use Rattle.system.specs.World.{World}
 use Rattle.system.specs.Places.{Effect, here, does, is_lawful, may_while_publishing}

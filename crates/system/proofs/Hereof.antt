@@ -1,18 +1,16 @@
 -- What the system keeps of a thread says all that its acts ask.
-use Rattle.std.proofs.Common.{◌≡◌, ◌∙◌, ◌+◌, ◌<◌, ◌≤◌, sym, ap, refl, subst, ℕ, zero, suc, Bool, true, false, not, ◌&&◌, ◌||◌, eqb, ltb, ◌==◌, cond, List, [], ◌∷◌, Option, Some, None, length, arith}
+use Rattle.std.proofs.Common.{◌≡◌, ◌∙◌, ◌<◌, ◌≤◌, sym, ap, refl, subst, ℕ, Bool, true, false, eqb, ltb, ◌==◌, List, [], ◌∷◌, Option, Some, None, arith}
 use Rattle.std.specs.Prelude.{slice_get}
 use Rattle.std.proofs.lemmas.Bool.Decides.{nat_tests}
-use Rattle.operations.specs.Requests.{is_census}
 use Rattle.system.specs.declared.thread.Marks.{Marks}
 use Rattle.system.specs.declared.thread.Thread.{Thread as Kept}
 use Rattle.system.specs.declared.requests.Open.{Open}
 use Rattle.system.specs.declared.keeping.Core.{Core}
-use Rattle.system.specs.Operations.{Requests, Opened, Waiting, is_marked, poll_of}
-use Rattle.system.specs.Log.{names_given, operations_given}
+use Rattle.system.specs.Operations.{Requests, Opened, is_marked}
 use Rattle.system.specs.Threads.{Thread}
-use Rattle.system.specs.World.{World, thread_at}
-use Rattle.system.specs.Facts.{IsSound, MarksAreSound, NumbersAreSound}
-use Rattle.system.specs.Keeps.{SameThread, SameOpen, OpenBy, IsHere, PollIs, poll_by, was_told, is_done, is_cleared}
+use Rattle.system.specs.World.{World}
+use Rattle.system.specs.Facts.{IsSound}
+use Rattle.system.specs.Keeps.{SameOpen, OpenBy, IsHere, PollIs}
 use Rattle.system.specs.Stands as stands
 use Rattle.system.specs.Stands.{Matches, SameAt, SameMarks, SameOpened, done_by}
 use Rattle.system.proofs.Polls.{poll_is}

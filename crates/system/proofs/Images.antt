@@ -1,21 +1,20 @@
 -- What an image shows of a thread, through each change of its stack and publication.
-use Rattle.std.proofs.Common.{◌≡◌, ℕ, ◌+◌, ◌<◌, ◌∙◌, sym, Bool, true, false, not, ◌&&◌, ◌||◌, eqb, List, [], ◌∷◌, ◌++◌, Option, Some, None, Ok, Err, refl, ap, ap₂, subst, cond, arith, pos, ◌+ℤ◌, ◌-ℤ◌, take, length, ◌-◌}
-use Rattle.std.specs.Prelude.{fold, filter, is_some, is_none, unwrap_or, option_map, IfSome, IfNone}
-use Rattle.std.specs.List.{list_any}
+use Rattle.std.proofs.Common.{◌≡◌, ℕ, ◌+◌, ◌<◌, ◌∙◌, sym, Bool, true, false, not, ◌&&◌, ◌||◌, eqb, List, [], ◌∷◌, ◌++◌, Option, Some, None, refl, ap, ap₂, subst, cond, arith, pos, ◌-ℤ◌, take, length, ◌-◌}
+use Rattle.std.specs.Prelude.{filter, is_some, is_none}
 use Rattle.std.proofs.lemmas.Bool.Decides.{nat_tests}
 use Rattle.std.proofs.lemmas.Int.{ints}
 use Rattle.std.proofs.lemmas.Grind.{common_steps}
 use Rattle.frames.specs.declared.CodeId.{CodeId}
 use Rattle.frames.specs.declared.Frame.{Frame}
 use Rattle.frames.specs.declared.Change.{Change}
-use Rattle.frames.specs.Stack.{same_code, code_lt, act, codes_of, times}
+use Rattle.frames.specs.Stack.{same_code, act, codes_of, times}
 use Rattle.frames.specs.Least.{least}
-use Rattle.frames.specs.ImageView.{ImageView, SameBag, uncounted, next_code, IsCounted, HasFrames, Counts}
+use Rattle.frames.specs.ImageView.{ImageView, uncounted, next_code, IsCounted, HasFrames, Counts}
 use Rattle.frames.proofs.Bags.{times-append, times-filter, times-codes_of, same_code-equal}
 use Rattle.frames.proofs.Ordered.{IsLeast, least-is_least, least-unique}
 use Rattle.frames.proofs.Pending.{times-uncounted, there, back}
 use Rattle.system.specs.Threads.{Thread, has_changed, changed_codes, is_left, next_change, is_settled, part}
-use Rattle.system.specs.Keeps.{SameImage, SameThread}
+use Rattle.system.specs.Keeps.{SameImage}
 
 -- no publication is open
 pub closed_is_none : (o : Option (List CodeId)) → is_some o ≡ false → o ≡ None

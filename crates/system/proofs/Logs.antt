@@ -1,8 +1,5 @@
 -- What one more entry of the log changes.
-use Rattle.std.proofs.Common.{◌≡◌, ◌∙◌, ◌+◌, ◌<◌, ◌≤◌, sym, ap, ap₂, refl, subst, ℕ, zero, suc, Bool, true, false, not, ◌&&◌, ◌||◌, cond, List, [], ◌∷◌, Option, Some, None, length, map, arith}
-use Rattle.std.specs.Prelude.{count_by, slice_get, nat_le}
-use Rattle.std.specs.List.{list_any}
-use Rattle.method_table.specs.declared.Code.{Code}
+use Rattle.std.proofs.Common.{◌≡◌, ◌∙◌, ◌+◌, ◌<◌, ◌≤◌, sym, ap, refl, subst, ℕ, true, false, ◌&&◌, cond, List, [], ◌∷◌, Option, Some, None, length, arith}
 use Rattle.method_table.specs.Codes.{code_of}
 use Rattle.system.specs.declared.events.Event.{Event}
 use Rattle.system.specs.declared.answers.Answer.{Answer}
@@ -14,8 +11,8 @@ use Rattle.system.specs.Operations.{Opened}
 use Rattle.system.specs.Threads.{Thread}
 use Rattle.system.specs.Log.{Entry, is_start, is_ask, is_round, is_begin, is_end, is_invalidate, is_look, says_clear, names_given, operations_given, moment, is_looked}
 use Rattle.system.specs.World.{World, thread_at}
-use Rattle.system.specs.Moments.{starts, invalidated, left_at, begun, ended}
-use Rattle.system.specs.Stands.{Matches, SamePlace, SameAt, SameRecord, SameRecords, SamePlaces, SameOpen, SameOpened, SameMoments, kept_at}
+use Rattle.system.specs.Moments.{starts, left_at, begun, ended}
+use Rattle.system.specs.Stands.{Matches, SamePlace, SameAt, SameRecord, SameRecords, SameOpen, SameMoments, kept_at}
 use Rattle.system.proofs.Frames.{count_cons}
 use Rattle.system.proofs.Outcomes.{noted}
 

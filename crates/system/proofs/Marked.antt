@@ -1,14 +1,13 @@
 -- Marks of one thread that are added, against what the system keeps of each thread.
-use Rattle.std.proofs.Common.{◌≡◌, ◌≢◌, ◌∙◌, ◌+◌, ◌<◌, ◌≤◌, sym, ap, ap₂, refl, subst, ℕ, zero, suc, Bool, true, false, not, ◌&&◌, ◌||◌, ◌==◌, eqb, cond, List, [], ◌∷◌, Option, Some, None, arith}
+use Rattle.std.proofs.Common.{◌≡◌, ◌∙◌, sym, refl, subst, ℕ, Bool, true, false, ◌&&◌, ◌||◌, eqb, List, [], ◌∷◌, arith}
 use Rattle.std.proofs.lemmas.Bool.Decides.{nat_tests}
-use Rattle.operations.specs.Requests.{is_census, is_target, lists}
+use Rattle.operations.specs.Requests.{is_census}
 use Rattle.system.specs.declared.answers.Answer.{Answer}
 use Rattle.system.specs.declared.answers.Refusal.{Refusal}
 use Rattle.system.specs.declared.thread.Marks.{Marks}
-use Rattle.system.specs.Verdict.{Verdict, refused, accepted, unless◌refuse◌then◌}
+use Rattle.system.specs.Verdict.{Verdict, accepted, unless◌refuse◌then◌}
 use Rattle.system.specs.Operations.{Requests, Mark, Opened, is_marked, with_mark}
-use Rattle.system.specs.Threads.{Thread}
-use Rattle.system.specs.Places.{Effect, in_open, finish, clear}
+use Rattle.system.specs.Places.{Effect}
 use Rattle.system.specs.Stands.{SameMarks, done_by}
 
 name_not : (name other : ℕ) → (name ≡ other → ⊥) → eqb name other ≡ false

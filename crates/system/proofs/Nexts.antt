@@ -1,15 +1,14 @@
 -- The next change of an open publication.
-use Rattle.std.proofs.Common.{◌≡◌, ◌∙◌, sym, ap, refl, true, false, Bool, Option, Some, None, Result, Ok, Err, ℕ, List, [], ◌∷◌, subst, pos, ◌-ℤ◌}
-use Rattle.std.specs.Prelude.{is_some, option_map, IfSome, IfNone}
+use Rattle.std.proofs.Common.{◌≡◌, ◌∙◌, sym, ap, refl, true, Option, Some, None, Ok, subst}
+use Rattle.std.specs.Prelude.{option_map, IfSome, IfNone}
 use Rattle.frames.specs.declared.CodeId.{CodeId}
 use Rattle.frames.specs.declared.Change.{Change}
-use Rattle.frames.specs.Stack.{act}
 use Rattle.frames.specs.ImageView.{ImageView, next_code, Counts}
 use Rattle.system.specs.declared.thread.Thread.{Thread as Kept}
 use Rattle.system.specs.declared.answers.Answer.TheVariants.{Changed}
-use Rattle.system.specs.Threads.{Thread, changed_codes, next_change}
+use Rattle.system.specs.Threads.{Thread, next_change}
 use Rattle.system.specs.Places.{changes}
-use Rattle.system.specs.Keeps.{SameThread, DidNext, Counted, said_change}
+use Rattle.system.specs.Keeps.{SameThread, DidNext}
 use Rattle.system.proofs.Images.{next_is_left, counted_is_changed, counted_by_difference}
 
 none_next : (old : Kept) (image : ImageView) (t : Thread) (result : Option Change) → SameThread old t → option_map (λ change. change.code) result ≡ None → IfNone result (image ≡ old.image) → DidNext (changes t None) old (record old { image = image }) t (Ok result)

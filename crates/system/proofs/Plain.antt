@@ -1,14 +1,12 @@
 -- A plain act at a place does what the definitions say.
-use Rattle.std.proofs.Common.{◌≡◌, ◌≢◌, ◌∙◌, ◌<◌, ◌≤◌, sym, ap, refl, subst, ℕ, zero, suc, Bool, true, false, not, ◌&&◌, ◌||◌, List, [], ◌∷◌, Option, Some, None, Result, Ok, Err, length, arith}
+use Rattle.std.proofs.Common.{◌≡◌, ◌∙◌, sym, ap, refl, subst, ℕ, zero, suc, not, ◌||◌, List, [], ◌∷◌, Option, Some, None, Result, length, arith}
 use Rattle.std.specs.Prelude.{slice_get, slice_set, is_some}
-use Rattle.std.proofs.lemmas.Option.{slice_get_within, slice_get_past}
 use Rattle.thread_state.specs.declared.State.TheVariants.{Vacant}
 use Rattle.system.specs.declared.events.Act.{Act}
 use Rattle.system.specs.declared.events.Act.TheVariants.{Begin, Change, End, Wake, Cross, Enter, Leave, Edge, ToVm, FromVm, ToNative, Block, Exit, Take, Finish, Clear, Hold, Release, Stack}
 use Rattle.system.specs.declared.events.Event.{Event}
 use Rattle.system.specs.declared.events.Event.TheVariants as event
 use Rattle.system.specs.declared.answers.Answer.{Answer}
-use Rattle.system.specs.declared.answers.Answer.TheVariants as answer
 use Rattle.system.specs.declared.answers.Refusal.{Refusal}
 use Rattle.system.specs.declared.answers.Refusal.TheVariants.{NoSuchPlace, Illegal, Publishing}
 use Rattle.system.specs.declared.requests.Open.{Open}
@@ -17,15 +15,15 @@ use Rattle.system.specs.declared.keeping.Core.{Core}
 use Rattle.system.specs.Verdict.{Verdict, refused, accepted}
 use Rattle.system.specs.Operations.{Requests}
 use Rattle.system.specs.Threads.{Thread, is_publishing}
-use Rattle.system.specs.World.{World, thread_at, found}
-use Rattle.system.specs.Places.{Effect, becomes, leaves, marks, here, does, in_open, finish, clear, is_lawful, may_while_publishing}
-use Rattle.system.specs.Step.{outcome, lands, at}
-use Rattle.system.specs.Runs.{after, answer_to, answer_of, world_of}
+use Rattle.system.specs.World.{World, found}
+use Rattle.system.specs.Places.{Effect, becomes, leaves, marks, here, does, is_lawful, may_while_publishing}
+use Rattle.system.specs.Step.{outcome, lands}
+use Rattle.system.specs.Runs.{answer_of, world_of}
 use Rattle.system.specs.Facts.{IsSound}
-use Rattle.system.specs.Keeps.{SameThread, Did, DidWith, Reach, seats, finishes, clears, reach_of, Lands, Becomes, marked_by, timed_by, number_of, IsHere}
+use Rattle.system.specs.Keeps.{Did, Reach, seats, finishes, clears, reach_of, Lands, Becomes, marked_by, timed_by, number_of}
 use Rattle.system.specs.Steps.{DidAt, DidFound, ActedAt, answer_here}
-use Rattle.system.specs.Stands.{Matches, SamePlace, SamePlaces, SameAt, DoesIn, Does, SameSizes, kept_at, held_at}
-use Rattle.system.proofs.Outcomes.{seated, asked}
+use Rattle.system.specs.Stands.{Matches, SamePlace, SameAt, DoesIn, Does, held_at}
+use Rattle.system.proofs.Outcomes.{asked}
 use Rattle.system.proofs.Found.{put_back}
 use Rattle.system.proofs.Hereof.{is_here}
 use Rattle.system.proofs.Acting.{SameRest, length_set}

@@ -1,5 +1,5 @@
 -- A poll of a thread in Java always leads on or to a stop.
-use Rattle.std.proofs.Common.{◌≡◌, ◌∙◌, sym, ap, refl, true, false, Bool, Option, Some, None, Result, Ok, Err, ℕ, subst}
+use Rattle.std.proofs.Common.{◌≡◌, ◌∙◌, sym, refl, true, false, Bool, Option, Result, ℕ, subst}
 use Rattle.std.specs.Prelude.{is_none}
 use Rattle.thread_state.specs.declared.State.{State}
 use Rattle.thread_state.specs.declared.State.TheVariants.{Vacant, New, InJava, InVm, InNative, Blocked, NewTrans, NativeTrans, BlockedTrans, AtPoll, Serving}
@@ -8,11 +8,10 @@ use Rattle.frames.specs.ImageView.{SameBag}
 use Rattle.system.specs.declared.thread.Thread.{Thread as Kept}
 use Rattle.system.specs.declared.answers.Answer.{Answer}
 use Rattle.system.specs.declared.answers.Refusal.{Refusal}
-use Rattle.system.specs.Verdict.{Verdict, refused, accepted}
 use Rattle.system.specs.Operations.{Requests, poll_of}
 use Rattle.system.specs.Threads.{Thread}
-use Rattle.system.specs.Places.{Effect, becomes, leaves, marks, crosses, polls, go_or_stop}
-use Rattle.system.specs.Keeps.{SameThread, DidStay, DidWith, Becomes, Lands}
+use Rattle.system.specs.Places.{crosses, polls}
+use Rattle.system.specs.Keeps.{DidStay, Becomes}
 
 pub java_is : (s : State) → is_in_java s ≡ true → s ≡ InJava
 java_is InJava h = refl

@@ -1,10 +1,9 @@
 -- The poll of a thread, by the last operation told to it and the last cleared for it.
-use Rattle.std.proofs.Common.{◌≡◌, ◌∙◌, ◌+◌, ◌<◌, ◌≤◌, sym, ap, refl, subst, ℕ, zero, suc, Bool, true, false, not, ◌&&◌, ◌||◌, eqb, ltb, ◌==◌, cond, List, [], ◌∷◌, Option, Some, None, map, arith, ◌⊎◌, inl, inr}
-use Rattle.std.specs.Prelude.{filter, max}
-use Rattle.std.specs.List.{list_any}
+use Rattle.std.proofs.Common.{◌≡◌, ◌∙◌, ◌<◌, ap, refl, ℕ, Bool, true, false, not, ◌&&◌, ◌||◌, eqb, ltb, ◌==◌, cond, List, [], ◌∷◌, Some, None, map, arith, ◌⊎◌, inl, inr}
+use Rattle.std.specs.Prelude.{filter}
 use Rattle.std.proofs.lemmas.Bool.Decides.{nat_tests}
 use Rattle.system.specs.declared.thread.Marks.{Marks}
-use Rattle.system.specs.Operations.{Requests, Mark, is_marked, pending, poll_of, greatest, max_with}
+use Rattle.system.specs.Operations.{Requests, Mark, is_marked, poll_of, greatest, max_with}
 use Rattle.system.specs.Keeps.{poll_by}
 use Rattle.system.specs.Stands.{SameMarks}
 

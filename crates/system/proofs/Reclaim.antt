@@ -6,7 +6,7 @@ use native.Mathlib.Decide.{ℕ_discrete}
 use Rattle.frames.specs.declared.CodeId.{CodeId}
 use Rattle.method_table.specs.declared.Code.{Code}
 use Rattle.method_table.specs.declared.CodeState.{CodeState}
-use Rattle.method_table.specs.declared.CodeState.TheVariants.{InUse, NotEntrant}
+use Rattle.method_table.specs.declared.CodeState.TheVariants.{InUse}
 use Rattle.frames.specs.Stack.{act}
 use Rattle.method_table.specs.Codes.{id_of, is_in_use, code_of, in_state, with_state, with_code, next_serial}
 use Rattle.system.specs.Threads.{Thread, is_publishing, part}

@@ -1,11 +1,11 @@
 -- Where a frame may be pushed.
-use Rattle.std.proofs.Common.{◌≡◌, ◌∙◌, sym, ap, refl, true, false, Bool, Option, Some, None, cond, not, ℕ, length, arith}
+use Rattle.std.proofs.Common.{◌≡◌, refl, true, false, Bool, Option, Some, None, cond, not, ℕ, length, arith}
 use Rattle.std.specs.Prelude.{nat_lt, nat_le}
 use Rattle.std.proofs.lemmas.Bool.Decides.{nat_tests}
 use Rattle.system.specs.declared.thread.Thread.{Thread as Kept}
 use Rattle.system.specs.declared.answers.Refusal.{Refusal}
 use Rattle.system.specs.declared.answers.Refusal.TheVariants.{Unpublished, DepthFull}
-use Rattle.system.specs.Verdict.{Verdict, refused, accepted, unless◌refuse◌then◌}
+use Rattle.system.specs.Verdict.{Verdict, unless◌refuse◌then◌}
 use Rattle.system.specs.Places.{Effect}
 use Rattle.system.specs.Keeps.{frame_refusal}
 

@@ -1,21 +1,17 @@
 -- One more event, and a whole run.
-use Rattle.std.proofs.Common.{◌≡◌, ℕ, zero, suc, ◌+◌, ◌<◌, ◌≤◌, ◌∙◌, sym, Bool, true, false, List, [], ◌∷◌, ◌++◌, length, get_or, Option, Some, None, Result, Ok, Err, refl, ap, subst, arith, take, append_assoc, replicate, map}
+use Rattle.std.proofs.Common.{◌≡◌, ℕ, zero, suc, ◌+◌, ◌<◌, ◌∙◌, sym, List, [], ◌∷◌, ◌++◌, length, get_or, Option, Some, None, Result, Ok, Err, refl, ap, subst, arith, take, append_assoc, replicate}
 use Rattle.std.specs.Prelude.{IfOk, slice_get}
 use Rattle.std.specs.declared.alloc.AllocError.{AllocError}
 use Rattle.std.proofs.lemmas.List.{take_more, length-replicate}
-use Rattle.activation_index.specs.Counts.{count_in}
-use Rattle.method_table.specs.declared.Code.{Code}
-use Rattle.method_table.specs.TableView.{TableView}
 use Rattle.system.specs.declared.events.Event.{Event}
 use Rattle.system.specs.declared.answers.Answer.{Answer}
 use Rattle.system.specs.declared.thread.Thread.{Thread as Kept}
-use Rattle.system.specs.declared.records.Record.{Record}
 use Rattle.system.specs.declared.keeping.Core.{Core}
 use Rattle.system.specs.Threads.{Thread}
-use Rattle.system.specs.World.{World, start_world, thread_at, found}
+use Rattle.system.specs.World.{World, start_world, found}
 use Rattle.system.specs.Runs.{after, answer_to, world_after, answers}
 use Rattle.system.specs.Facts.{IsSound}
-use Rattle.system.specs.Stands.{Matches, SamePlace, SamePlaces, StandsFor, world_by, SameSizes, Next, Does, DoesIn, OfWorld, IsSized, places_of, slots_of, methods_of, kept_at, held_at}
+use Rattle.system.specs.Stands.{Matches, StandsFor, world_by, SameSizes, Next, Does, DoesIn, OfWorld, IsSized, places_of, slots_of, methods_of, kept_at, held_at}
 use Rattle.system.proofs.Worlds.{worlds_are_sound}
 
 pub world_after-push : (w : World) (events : List Event) (event : Event) → world_after w (events ++ event ∷ []) ≡ after (world_after w events) event

@@ -1,10 +1,9 @@
 -- What the open operation asks of a thread, by what the system keeps.
-use Rattle.std.proofs.Common.{◌≡◌, ◌∙◌, sym, ap, refl, true, false, not, ◌&&◌, Bool, cond, eqb, Option, Some, None, List, [], ◌∷◌, ℕ, subst, arith}
+use Rattle.std.proofs.Common.{◌≡◌, ◌∙◌, sym, ap, refl, true, false, not, ◌&&◌, Bool, eqb, Option, Some, None, List, [], ◌∷◌, ℕ, arith}
 use Rattle.std.specs.Prelude.{is_some, is_none, IsTrue, ◌↔◌}
 use Rattle.std.proofs.lemmas.Bool.Decides.{nat_tests}
 use Rattle.frames.specs.declared.CodeId.{CodeId}
-use Rattle.frames.specs.Stack.{act, times}
-use Rattle.frames.specs.ImageView.{ImageView, IsSettled, IsCounted, next_code}
+use Rattle.frames.specs.ImageView.{ImageView, IsSettled, next_code}
 use Rattle.frames.proofs.Fewer.{none_next}
 use Rattle.operations.specs.declared.Ask.{Ask}
 use Rattle.operations.specs.declared.Request.{Request}
@@ -15,12 +14,12 @@ use Rattle.system.specs.declared.requests.Open.{Open}
 use Rattle.system.specs.declared.thread.Thread.{Thread as Kept}
 use Rattle.system.specs.declared.answers.Answer.TheVariants.{Reply}
 use Rattle.system.specs.declared.answers.Refusal.TheVariants.{Unpublished}
-use Rattle.system.specs.Verdict.{Verdict, refused, accepted, unless◌refuse◌then◌}
+use Rattle.system.specs.Verdict.{accepted, unless◌refuse◌then◌}
 use Rattle.system.specs.Operations.{Requests, Opened, is_marked, with_mark}
 use Rattle.system.specs.Threads.{Thread, is_settled, next_change, is_publishing}
-use Rattle.system.specs.Places.{Effect, marks, in_open, finish}
-use Rattle.system.specs.Keeps.{SameImage, SameThread, SameOpen, OpenBy, IsHere, was_told, is_done}
-use Rattle.system.proofs.Images.{next_is_left, counted_none, none_is}
+use Rattle.system.specs.Places.{marks, in_open, finish}
+use Rattle.system.specs.Keeps.{SameImage, SameOpen, OpenBy, IsHere}
+use Rattle.system.proofs.Images.{next_is_left, counted_none}
 
 none_of : (o : Option CodeId) → is_none o ≡ true → o ≡ None
 none_of None h = refl

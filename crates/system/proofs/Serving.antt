@@ -1,31 +1,27 @@
 -- A Finish and a Clear at a place.
-use Rattle.std.proofs.Common.{◌≡◌, ◌≢◌, ◌∙◌, ◌+◌, ◌<◌, ◌≤◌, sym, ap, ap₂, refl, subst, ℕ, zero, suc, Bool, true, false, not, ◌&&◌, ◌||◌, ◌==◌, eqb, cond, List, [], ◌∷◌, Option, Some, None, length, arith}
+use Rattle.std.proofs.Common.{◌≡◌, ◌≢◌, ◌∙◌, ◌<◌, ◌≤◌, sym, ap, refl, subst, ℕ, zero, suc, true, false, List, [], ◌∷◌, Option, Some, None, length, arith}
 use Rattle.std.specs.Prelude.{slice_get, slice_set}
-use Rattle.std.proofs.lemmas.Bool.Decides.{nat_tests}
 use Rattle.std.proofs.lemmas.Option.{slice_get_within}
 use Rattle.operations.specs.declared.Request.{Request}
 use Rattle.operations.specs.declared.Request.TheVariants.{Handshake, Census}
-use Rattle.operations.specs.Requests.{is_census, is_target, lists, reply_to}
-use Rattle.method_table.specs.Codes.{code_of}
-use Rattle.system.specs.declared.events.Act.{Act}
+use Rattle.operations.specs.Requests.{is_census, is_target, lists}
 use Rattle.system.specs.declared.events.Act.TheVariants.{Finish, Clear}
 use Rattle.system.specs.declared.events.Event.{Event}
 use Rattle.system.specs.declared.events.Event.TheVariants as event
 use Rattle.system.specs.declared.answers.Answer.{Answer}
-use Rattle.system.specs.declared.answers.Answer.TheVariants as answer
-use Rattle.system.specs.declared.answers.Refusal.TheVariants.{NotOf, NotTold, AlreadyDone, NotDone, Unpublished, Publishing, Illegal}
+use Rattle.system.specs.declared.answers.Refusal.TheVariants.{NotOf, NotTold}
 use Rattle.system.specs.declared.requests.Open.{Open}
 use Rattle.system.specs.declared.thread.Thread.{Thread as Kept}
 use Rattle.system.specs.declared.thread.Marks.{Marks}
 use Rattle.system.specs.declared.keeping.Core.{Core}
-use Rattle.system.specs.Verdict.{Verdict, refused, accepted, unless◌refuse◌then◌}
-use Rattle.system.specs.Operations.{Requests, Opened, is_marked, with_mark}
+use Rattle.system.specs.Verdict.{accepted}
+use Rattle.system.specs.Operations.{Requests, Opened, is_marked}
 use Rattle.system.specs.Log.{Entry}
-use Rattle.system.specs.Threads.{Thread, is_publishing, is_settled}
-use Rattle.system.specs.World.{World, thread_at}
-use Rattle.system.specs.Places.{Effect, marks, in_open, finish, clear, here, does, is_lawful, may_while_publishing}
+use Rattle.system.specs.Threads.{Thread}
+use Rattle.system.specs.World.{World}
+use Rattle.system.specs.Places.{Effect, marks, in_open, finish, clear}
 use Rattle.system.specs.Facts.{IsSound}
-use Rattle.system.specs.Keeps.{SameThread, Reach, finishes, clears, reach_of, Lands, Becomes, marked_by, timed_by, number_of}
+use Rattle.system.specs.Keeps.{SameThread, finishes, clears, Lands, Becomes, marked_by, timed_by, number_of}
 use Rattle.system.specs.Stands as stands
 use Rattle.system.specs.Stands.{Matches, SamePlace, SamePlaces, SameAt, SameMarks, SameOpen, SameOpened, kept_at, held_at}
 use Rattle.system.proofs.Outcomes.{asked}

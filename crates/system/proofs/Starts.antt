@@ -1,5 +1,5 @@
 -- A thread starts in the least vacant place.
-use Rattle.std.proofs.Common.{◌≡◌, ◌≢◌, ◌∙◌, ◌+◌, ◌<◌, ◌≤◌, sym, ap, refl, subst, ℕ, zero, suc, Bool, true, false, not, ◌&&◌, ◌||◌, ◌==◌, eqb, cond, List, [], ◌∷◌, Option, Some, None, Result, Ok, Err, length, arith}
+use Rattle.std.proofs.Common.{◌≡◌, ◌≢◌, ◌∙◌, ◌+◌, ◌<◌, ◌≤◌, sym, ap, refl, subst, ℕ, zero, suc, Bool, true, false, ◌&&◌, ◌||◌, ◌==◌, eqb, List, [], ◌∷◌, Option, Some, None, length, arith}
 use Rattle.std.specs.Prelude.{slice_get, slice_set, sum_by, option_map, nat_lt, is_some}
 use Rattle.std.specs.List.{list_any}
 use Rattle.std.proofs.lemmas.Bool.Decides.{nat_tests}
@@ -8,7 +8,6 @@ use Rattle.std.proofs.lemmas.Option.{slice_get_within}
 use mathlib.Core.Logic.{dite}
 use native.Mathlib.Decide.{ℕ_discrete}
 use Rattle.frames.specs.declared.CodeId.{CodeId}
-use Rattle.frames.specs.Stack.{times, act}
 use Rattle.method_table.specs.declared.Code.{Code}
 use Rattle.method_table.specs.Numbers.{last_number}
 use Rattle.method_table.specs.Codes.{code_of, id_of}
@@ -22,20 +21,19 @@ use Rattle.system.specs.declared.answers.Refusal.TheVariants.{SafepointOpen, Pla
 use Rattle.system.specs.declared.requests.Open.{Open}
 use Rattle.system.specs.declared.thread.Thread.{Thread as Kept}
 use Rattle.system.specs.declared.keeping.Core.{Core}
-use Rattle.system.specs.Operations.{Requests, Opened, is_marked, is_safepoint}
+use Rattle.system.specs.Operations.{Opened, is_marked, is_safepoint}
 use Rattle.system.specs.Log.{Entry, names_given, operations_given, moment}
-use Rattle.system.specs.Threads.{Thread, part}
+use Rattle.system.specs.Threads.{Thread}
 use Rattle.system.specs.World.{World, threads, part_at, thread_at, found, vacant_place, is_live}
-use Rattle.system.specs.Step.{outcome, start_at, new_thread, with_place}
-use Rattle.system.specs.Moments.{begun, ended, starts}
+use Rattle.system.specs.Step.{new_thread, with_place}
 use Rattle.system.specs.Facts.{IsSound}
-use Rattle.system.specs.Keeps.{SameThread, SameImage, IsNew, safepoint_by}
+use Rattle.system.specs.Keeps.{IsNew, safepoint_by}
 use Rattle.system.specs.Steps.{vacant_kept}
-use Rattle.system.specs.Stands.{Matches, SamePlace, SamePlaces, SameAt, SameMarks, SameMoments, SameOpen, SameOpened, SameRecords, DoesIn, Does, walk_of, kept_at, held_at}
+use Rattle.system.specs.Stands.{Matches, SamePlace, SameAt, SameMarks, SameOpen, Does, walk_of, kept_at, held_at}
 use Rattle.system.proofs.Outcomes.{seated}
 use Rattle.system.proofs.Logs.{IsElsewhere, names_next, operations_next, moment_next, moments_next}
 use Rattle.system.proofs.Acting.{places_set, length_set}
-use Rattle.system.proofs.Plain.{AtPlace, nowhere, vacant, seat, at_place, accepted_in}
+use Rattle.system.proofs.Plain.{nowhere, vacant, seat, at_place, accepted_in}
 
 -- the least vacant place, in range and vacant
 pub vacant_there : (ks : List (Option Kept)) (p : ℕ) → vacant_kept ks ≡ Some p → slice_get ks p ≡ Some None

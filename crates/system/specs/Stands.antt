@@ -3,7 +3,7 @@ use Rattle.std.specs.Prelude.{Bool, true, false, nat_le, ◌&&◌, ◌==◌, ◌
 use Rattle.method_table.specs.declared.Code.{Code}
 use Rattle.method_table.specs.declared.CodeState.TheVariants.{NotEntrant}
 use Rattle.method_table.specs.Codes.{code_of, id_of}
-use Rattle.activation_index.specs.Counts.{count_in, IsRisingFrom}
+use Rattle.activation_index.specs.Counts.{count_in}
 use Rattle.operations.specs.declared.queue.Waiting.{Waiting as Queued}
 use Rattle.operations.specs.Names.{among}
 use Rattle.operations.specs.Requests.{is_census, is_target}
@@ -20,7 +20,7 @@ use Rattle.system.specs.declared.keeping.Core.{Core}
 use Rattle.system.specs.Operations.{Requests, Waiting, Opened, is_marked}
 use Rattle.system.specs.Log.{Entry, names_given, operations_given, moment, is_looked}
 use Rattle.system.specs.Threads.{Thread}
-use Rattle.system.specs.World.{World, start_world, found, thread_at, is_live, walk}
+use Rattle.system.specs.World.{World, start_world, thread_at, is_live, walk}
 use Rattle.system.specs.Runs.{world_after, answer_to, after}
 use Rattle.system.specs.Moments.{left_at, begun, ended}
 use Rattle.system.specs.Facts.{IsSound}

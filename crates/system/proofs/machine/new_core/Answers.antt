@@ -1,4 +1,4 @@
-use Rattle.std.proofs.Common.{◌≡◌, ◌∙◌, refl, rules, ap, length}
+use Rattle.std.proofs.Common.{◌∙◌, refl, ap, length}
 use Rattle.std.proofs.lemmas.List.{length-replicate}
 use Rattle.system.specs.Records.{new_record}
 use Rattle.system.proofs.Runs.{blank_stands}

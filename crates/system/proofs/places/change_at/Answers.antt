@@ -1,7 +1,6 @@
-use Rattle.std.proofs.Common.{◌≡◌, ◌<◌, ◌∙◌, sym, ap, refl, rules, Option, Some, None, length, arith}
+use Rattle.std.proofs.Common.{◌≡◌, ◌∙◌, sym, refl, rules, Some, None}
 use Rattle.std.specs.Prelude.{slice_get}
-use Rattle.system.specs.declared.thread.Thread.{Thread as Kept}
-use Rattle.system.proofs.Found.{got, put_back, vacant_at, acted_at, vacant_count, counted_at}
+use Rattle.system.proofs.Found.{got, put_back, vacant_count, counted_at}
 use Rattle.system.proofs.places.change_at.Goals as goal
 
 pub returns-in-None : goal.returns-in-None

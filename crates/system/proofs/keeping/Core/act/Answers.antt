@@ -1,4 +1,4 @@
-use Rattle.std.proofs.Common.{◌≡◌, refl, rules}
+use Rattle.std.proofs.Common.{refl}
 use Rattle.system.proofs.Plain.{act_does}
 use Rattle.system.proofs.keeping.Core.act.Goals as goal
 

@@ -1,4 +1,4 @@
-use Rattle.std.proofs.Common.{◌≡◌, refl}
+use Rattle.std.proofs.Common.{refl}
 use Rattle.system.proofs.Exits.{exit_does}
 use Rattle.system.proofs.keeping.Core.exit.Goals as goal
 

@@ -1,4 +1,4 @@
-use Rattle.std.proofs.Common.{◌≡◌, refl, subst}
+use Rattle.std.proofs.Common.{◌≡◌, subst}
 use Rattle.std.specs.Prelude.{slice_get, IfOk}
 use Rattle.system.specs.Steps.{frames_at}
 use Rattle.system.proofs.Exits.{stack_does}

@@ -1,5 +1,4 @@
-use Rattle.std.proofs.Common.{◌≡◌, refl, rules, Option, Some, None, false, true, sym, ap, ◌∙◌, ◌+◌, length, arith}
-use Rattle.system.specs.Keeps.{safepoint_by}
+use Rattle.std.proofs.Common.{◌≡◌, refl, rules, Some, sym, ap, ◌∙◌, ◌+◌, length, arith}
 use Rattle.system.specs.Steps.{vacant_kept}
 use Rattle.system.proofs.Starts.{refused_full, refused_spent, start_does, vacant_low}
 use Rattle.system.proofs.keeping.Core.start.Goals as goal

@@ -1,5 +1,4 @@
-use Rattle.std.proofs.Common.{◌≡◌, sym, refl, rules}
-use Rattle.system.proofs.Runs.{of_world, kept_after, next_of, sizes_of}
+use Rattle.system.proofs.Runs.{of_world, kept_after, next_of}
 use Rattle.system.proofs.machine.System.apply.Goals as goal
 
 pub apply_to-requires-clause-world : goal.apply_to-requires-clause-world

@@ -1,4 +1,4 @@
-use Rattle.std.proofs.Common.{◌≡◌, ◌∙◌, ◌<◌, ◌≤◌, ◌+◌, sym, ap, refl, rules, arith, List, length}
+use Rattle.std.proofs.Common.{rules, arith}
 use Rattle.system.proofs.Runs.{sizes_through, ran_on}
 use Rattle.system.proofs.Once.{run_at_most_once}
 use Rattle.system.proofs.Safely.{handshakes_run, censuses_run}

@@ -1,4 +1,4 @@
-use Rattle.std.proofs.Common.{◌≡◌, ◌≤◌, ◌+◌, ◌++◌, take, List, vec_len, vec_capacity, length}
+use Rattle.std.proofs.Common.{◌≡◌, ◌≤◌, ◌++◌, take, List, vec_len, vec_capacity, length}
 use Rattle.system.specs.declared.events.Event.{Event}
 use Rattle.system.specs.Runs.{answers}
 use Rattle.system.specs.Stands.{StandsFor, world_by, SameSizes}

@@ -1,4 +1,4 @@
-use Rattle.std.proofs.Common.{◌≡◌, ◌∙◌, sym, ap, refl, rules, Option, Some, None}
+use Rattle.std.proofs.Common.{◌≡◌, refl, rules, Some, None}
 use Rattle.system.specs.declared.events.Act.TheVariants.{Begin, End, Wake, Finish, Clear, Release}
 use Rattle.system.specs.Keeps.{common_refusal}
 use Rattle.system.proofs.Here.{here_passed, here_failed}

@@ -1,4 +1,4 @@
-use Rattle.std.proofs.Common.{◌≡◌, refl, rules}
+use Rattle.std.proofs.Common.{refl, rules}
 use Rattle.system.proofs.Images.{begun}
 use Rattle.system.proofs.thread.Thread.begin.Goals as goal
 

@@ -1,4 +1,4 @@
-use Rattle.std.proofs.Common.{◌≡◌, ◌∙◌, sym, refl, rules, true, false}
+use Rattle.std.proofs.Common.{◌≡◌, ◌∙◌, sym, rules, true}
 use Rattle.std.specs.Prelude.{is_some}
 use Rattle.system.proofs.Nexts.{did_next}
 use Rattle.system.proofs.thread.Thread.change.Goals as goal

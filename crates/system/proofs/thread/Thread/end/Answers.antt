@@ -1,10 +1,9 @@
-use Rattle.std.proofs.Common.{◌≡◌, ◌∙◌, sym, ap, refl, rules, true, false, not, cond, Bool, ℕ}
+use Rattle.std.proofs.Common.{◌≡◌, ◌∙◌, sym, ap, refl, true, false, not, cond, Bool}
 use Rattle.std.specs.Prelude.{is_some, is_none, Option, Some, None}
-use Rattle.frames.specs.declared.CodeId.{CodeId}
 use Rattle.frames.specs.declared.EndFault.{EndFault}
 use Rattle.frames.specs.declared.EndFault.TheVariants.{NotBegun, ChangesLeft}
-use Rattle.frames.specs.Stack.{act, times}
-use Rattle.frames.specs.ImageView.{end_fault, next_code, ImageView, IsCounted}
+use Rattle.frames.specs.Stack.{act}
+use Rattle.frames.specs.ImageView.{next_code, ImageView, IsCounted}
 use Rattle.frames.proofs.Fewer.{none_next}
 use Rattle.system.specs.Threads.{next_change}
 use Rattle.system.proofs.Images.{ended, next_is_left, none_is, some_is}

@@ -1,8 +1,6 @@
-use Rattle.std.proofs.Common.{◌≡◌, ◌∙◌, sym, ap, refl, rules, true, false, Bool, Option, Some, None, cond, not, List, ◌++◌, ◌∷◌, [], length, arith}
-use Rattle.std.specs.Prelude.{nat_lt, nat_le}
+use Rattle.std.proofs.Common.{◌≡◌, ◌∙◌, sym, ap, refl, rules, true, ◌++◌, ◌∷◌, [], length}
+use Rattle.std.specs.Prelude.{nat_lt}
 use Rattle.frames.specs.declared.Frame.{Frame}
-use Rattle.system.specs.declared.answers.Refusal.{Refusal}
-use Rattle.system.specs.declared.answers.Refusal.TheVariants.{Unpublished, DepthFull}
 use Rattle.system.specs.Places.{pushed}
 use Rattle.system.proofs.Images.{with_frames, stack_is}
 use Rattle.system.proofs.Rooms.{room_of, both_pass}

@@ -1,4 +1,4 @@
-use Rattle.std.proofs.Common.{◌≡◌, ◌∙◌, sym, ap, refl, rules, true, false, Bool, cond, not, eqb, length, List, ◌∷◌, [], arith, ℕ, Option, Some, None}
+use Rattle.std.proofs.Common.{◌≡◌, ◌∙◌, sym, ap, refl, rules, true, false, Bool, not, length, List, ◌∷◌, [], arith, ℕ, Option, Some, None}
 use Rattle.std.specs.Prelude.{is_none, is_some}
 use Rattle.frames.specs.declared.Frame.{Frame}
 use Rattle.operations.specs.Names.{is_empty}

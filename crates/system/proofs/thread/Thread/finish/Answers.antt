@@ -1,4 +1,4 @@
-use Rattle.std.proofs.Common.{◌≡◌, ◌∙◌, sym, ap, refl, rules, true, false, Some, Bool, cond, ℕ}
+use Rattle.std.proofs.Common.{◌≡◌, ◌∙◌, refl, rules, true, false, Some}
 use Rattle.system.proofs.Served.{settled_by, finish_by}
 use Rattle.system.proofs.thread.Thread.finish.Goals as goal
 

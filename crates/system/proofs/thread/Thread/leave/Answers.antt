@@ -1,13 +1,12 @@
-use Rattle.std.proofs.Common.{◌≡◌, ◌≢◌, ◌∙◌, sym, ap, refl, rules, true, false, Bool, cond, not, eqb, length, take, List, ◌++◌, ◌∷◌, [], ◌-◌, arith, ℕ}
+use Rattle.std.proofs.Common.{◌≡◌, ◌∙◌, sym, ap, refl, false, length, take, List, ◌∷◌, [], ◌-◌, ℕ}
 use Rattle.frames.specs.declared.Frame.{Frame}
 use Rattle.operations.specs.Names.{is_empty}
 use Rattle.thread_state.specs.States.{is_in_java}
 use Rattle.system.specs.declared.thread.Thread.{Thread as Kept}
 use Rattle.system.specs.Places.{popped}
-use Rattle.system.specs.Threads.{Thread}
 use Rattle.system.specs.Keeps.{SameThread}
 use Rattle.system.proofs.Images.{with_frames, stack_is, take_front}
-use Rattle.system.proofs.Polled.{Before, java_is, polled_before}
+use Rattle.system.proofs.Polled.{java_is, polled_before}
 use Rattle.system.proofs.thread.Thread.leave.Goals as goal
 
 some_frame : (s : List Frame) (n : ℕ) → length s ≡ n → (n ≡ 0 → ⊥) → is_empty s ≡ false

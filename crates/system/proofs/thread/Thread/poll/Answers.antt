@@ -1,5 +1,4 @@
-use Rattle.std.proofs.Common.{◌≡◌, Option, Some, cond, eqb, refl, arith, ap, ℕ, Bool, true, false}
-use Rattle.std.specs.Prelude.{None}
+use Rattle.std.proofs.Common.{◌≡◌, eqb, refl, arith, true, false}
 use Rattle.std.proofs.lemmas.Bool.Decides.{nat_tests}
 use Rattle.system.proofs.thread.Thread.poll.Goals as goal
 
