@@ -16,3 +16,4 @@ pub mod CountSteps
 pub mod KeeperSteps
 pub mod WeighSteps
 pub mod Events
+pub mod Covered

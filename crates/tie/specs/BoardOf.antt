@@ -1,5 +1,5 @@
 -- The board of a world: the words and the views that a running board would have where the core is in this world.
-use Rattle.std.specs.Prelude.{ℕ, Bool, false, ◌&&◌, ◌==◌, List, [], ◌∷◌, Option, Some, None, if◌then◌else◌}
+use Rattle.std.specs.Prelude.{◌≡◌, ℕ, Bool, false, ◌&&◌, ◌==◌, List, [], ◌∷◌, Option, Some, None, if◌then◌else◌}
 use Rattle.std.specs.List.{list_any}
 use Rattle.frames.specs.declared.CodeId.{CodeId}
 use Rattle.frames.specs.declared.board_rule.EntryState.{EntryState}
@@ -14,11 +14,12 @@ use Rattle.system.specs.declared.answers.Answer.{Answer}
 use Rattle.system.specs.declared.answers.Answer.TheVariants as answer
 use Rattle.frames.specs.BoardWords.{Word, entry_of, count_of, place_of, the_moment, pack}
 use Rattle.frames.specs.BoardRule.{SlotState, SeatState, BoardState, code, first_slot, IsBoardKept}
+use Rattle.frames.specs.BoardStep.{is_late}
 use Rattle.method_table.specs.Codes.{code_of}
 use Rattle.system.specs.Threads.{Thread}
 use Rattle.system.specs.Log.{Entry, moment, is_looked}
 use Rattle.system.specs.Moments.{left_at, published_at, publishing_at, is_fresh}
-use Rattle.system.specs.World.{World, start_world, part_at, walk, thread_at}
+use Rattle.system.specs.World.{World, start_world, part_at, walk, thread_at, covered}
 use Rattle.system.specs.Laws.{is_retired}
 use Rattle.system.specs.Runs.{world_after}
 
@@ -101,3 +102,13 @@ board_of w = record { word = word_by w; now = moment w.log; slot = slot_at w; se
 -- After any events, the board of the world meets the rule of a code board of so many slots and places.
 abbrev pub BoardsKeepTheRule : Type 0
 BoardsKeepTheRule = (places slots methods : ℕ) (events : List Event) → IsBoardKept slots places (board_of (world_after (start_world places slots methods) events))
+
+-- For a code that is not entrant, a place is covered exactly where its word lets it pass: it is 0, or above the moment at which the
+-- keeper invalidated the code of that slot.
+abbrev pub IsCoveredByWords : World → Type 0
+IsCoveredByWords w = (serial place : ℕ) (code : Code) → code_of w.codes serial ≡ Some code → code.state ≡ state.NotEntrant
+    → covered w place serial ≡ is_late ((board_of w).slot code.slot).left ((board_of w).word (place_of place))
+
+-- So it is after any events.
+abbrev pub CoveredComparesWords : Type 0
+CoveredComparesWords = (places slots methods : ℕ) (events : List Event) → IsCoveredByWords (world_after (start_world places slots methods) events)

@@ -1,5 +1,5 @@
 // Laws of the board of a world.
-ghost use Rattle.tie.specs.BoardOf.{BoardsKeepTheRule};
+ghost use Rattle.tie.specs.BoardOf.{BoardsKeepTheRule, CoveredComparesWords};
 ghost use Rattle.tie.specs.Steps.{EventsAreTheirSteps};
 
 /// The board of a world meets the rule of a code board, whatever happened.
@@ -12,4 +12,10 @@ pub fn boards_keep_the_rule()
 /// none, the board stays as it is.
 pub fn events_are_their_steps()
     ensures { EventsAreTheirSteps }
+{}
+
+/// Covered is a comparison of two words: for a code that is not entrant, the place's word is 0 or above the moment at which the
+/// keeper invalidated the code. It is what a look computes from the word that it loads.
+pub fn covered_compares_words()
+    ensures { CoveredComparesWords }
 {}
