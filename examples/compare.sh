@@ -1,6 +1,6 @@
 #!/usr/bin/env bash
 # Runs the program that is given on each example here, and compares what comes out with the .out file beside it.
-# A script's .out is what its reading or checking comes to; the program has no form for scripts yet, so these aren't run here.
+# What a script's check tells on standard error counts too.
 set -uo pipefail
 program=$(realpath "${1:-$(dirname "$0")/../crates/monitor/out/monitor}")
 cd "$(dirname "$0")"
@@ -17,5 +17,8 @@ compare() {
 
 for lines in *.lines; do
     compare "${lines%.lines}" < <("$program" replay < "$lines")
+done
+for script in *.json; do
+    compare "${script%.json}" < <("$program" check "$script" 2>&1)
 done
 exit "$different"

@@ -1,42 +1,40 @@
 // Why the program ends with another status than 0.
-ghost use Rattle.std.specs.Prelude.{◌≡◌};
+ghost use Rattle.std.specs.Prelude.{◌≡◌, Some};
 ghost use Rattle.std.specs.IoError.{error_kind};
 ghost use Rattle.monitor.specs.declared.fault.Fault.TheVariants as faults;
-ghost use Rattle.monitor.specs.Faults.{fault_text, status_of, of_words, of_replay};
+ghost use Rattle.monitor.specs.Faults.{fault_text, status_of, of_words, of_replay, of_script};
 
 use replay::stream::ReplayFault;
+use script::{Place, ScriptFault};
 use std::alloc::AllocError;
-use std::io;
+use std::{fmt, io};
 
-/// A fault, found in this order: the words, then those of the run as they come.
-#[derive(Clone, Copy, Debug, PartialEq, Eq, Drop)]
+/// A fault, found in this order: the words, the file, the script, then those of the run as they come.
+/// `{}` is what is told on standard error, behind the program's name.
+#[derive(Debug, Drop)]
 pub enum Fault {
     BadWords,
+    /// The file can't be opened, or a read of it failed.
+    FileNotRead,
+    /// What is wrong in the script, and where.
+    BadScript(script::Fault, Place),
     ReadFailed,
     WriteFailed,
     NoMemory,
 }
 
 impl Fault {
-    /// What is told on standard error, behind the program's name.
-    pub fn text(self) -> &'static str
-        ensures { result.now ≡ fault_text self }
-    {
-        match self {
-            Fault::BadWords => "bad words",
-            Fault::ReadFailed => "read failed",
-            Fault::WriteFailed => "write failed",
-            Fault::NoMemory => "no memory",
-        }
-    }
-
     /// The exit status: 2 for bad words, 1 for all others.
-    pub fn status(self) -> u8
-        ensures { result ≡ status_of self }
+    pub fn status(&self) -> u8
+        ensures { result ≡ status_of self.now }
     {
         match self {
             Fault::BadWords => 2,
-            Fault::ReadFailed | Fault::WriteFailed | Fault::NoMemory => 1,
+            Fault::FileNotRead
+            | Fault::BadScript(..)
+            | Fault::ReadFailed
+            | Fault::WriteFailed
+            | Fault::NoMemory => 1,
         }
     }
 
@@ -51,6 +49,21 @@ impl Fault {
     }
 }
 
+impl fmt::Display for Fault {
+    ghost output = { λ fault. Some (fault_text fault) };
+
+    fn fmt<W: fmt::Write>(&self, f: &mut fmt::Formatter<W>) -> fmt::Result {
+        match self {
+            Fault::BadWords => write!(f, "bad words"),
+            Fault::FileNotRead => write!(f, "file not read"),
+            Fault::BadScript(flaw, place) => write!(f, "{flaw} at {place}"),
+            Fault::ReadFailed => write!(f, "read failed"),
+            Fault::WriteFailed => write!(f, "write failed"),
+            Fault::NoMemory => write!(f, "no memory"),
+        }
+    }
+}
+
 impl From<ReplayFault> for Fault {
     ghost from_gives = { λ fault made. made ≡ of_replay fault };
 
@@ -59,6 +72,17 @@ impl From<ReplayFault> for Fault {
             ReplayFault::ReadFailed => Fault::ReadFailed,
             ReplayFault::WriteFailed => Fault::WriteFailed,
             ReplayFault::NoMemory => Fault::NoMemory,
+        }
+    }
+}
+
+impl From<ScriptFault> for Fault {
+    ghost from_gives = { λ fault made. made ≡ of_script fault };
+
+    fn from(fault: ScriptFault) -> Fault {
+        match fault {
+            ScriptFault::Refused { fault, place } => Fault::BadScript(fault, place),
+            ScriptFault::NoMemory => Fault::NoMemory,
         }
     }
 }

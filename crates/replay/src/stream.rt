@@ -39,8 +39,8 @@ pub(crate) enum Halt {
     NoMemory,
 }
 
-/// Writes all that waits.
-fn flush<W: Sink>(waits: &mut Vec<u8>, sink: &mut W) -> Result<(), Failed>
+/// Writes all that waits. No call that failed is made again.
+pub fn flush<W: Sink>(waits: &mut Vec<u8>, sink: &mut W) -> Result<(), Failed>
     requires { W.failures sink.old ≡ 0 }
     ensures done { OnOk result (Appends (W.got sink.old) (W.got sink.new) waits.old.items × (waits.new.items ≡ []) × (W.failures sink.new ≡ 0)) }
     ensures part { OnErr result (AppendsPart (W.got sink.old) (W.got sink.new) waits.old.items × (W.failures sink.new ≡ 1)) }

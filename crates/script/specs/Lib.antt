@@ -9,3 +9,4 @@ pub mod Reads
 pub mod Layout
 pub mod Checks
 pub mod Checked
+pub mod Texts

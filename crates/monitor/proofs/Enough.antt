@@ -1,0 +1,78 @@
+-- What was read of a file is enough to answer for all of it.
+use Rattle.std.proofs.Common.{◌≡◌, ◌≢◌, ◌∙◌, inl, inr, ℕ, zero, suc, ◌+◌, ◌<◌, ◌≤◌, ◌==◌, cond, false, List, [], ◌∷◌, ◌++◌, length, length-append, take, drop, IfSome, Option, Some, None, Err, refl, sym, ap, subst, append_assoc, arith}
+use Rattle.std.proofs.Math.Seq.{take-append_seam}
+use Rattle.std.proofs.lemmas.List.{length-take-le}
+use Rattle.std.specs.Io.KnownBytes.{Consumes, IsAtEnd}
+use Rattle.script.specs.declared.fault.ScriptFault.{ScriptFault}
+use Rattle.script.specs.declared.fault.ScriptFault.TheVariants.{Refused}
+use Rattle.monitor.specs.declared.fault.Fault.{Fault}
+use Rattle.monitor.specs.declared.fault.Fault.TheVariants.{BadWords, FileNotRead, BadScript, ReadFailed, WriteFailed, NoMemory}
+use Rattle.monitor.specs.Check.{longest, IsWrong, IsFaultOf, IsUnread, Told, ReadsEnough}
+
+append_none : (xs : List ℕ) → xs ++ [] ≡ xs
+append_none [] = refl
+append_none (x ∷ xs) = ap (λ z. x ∷ z) (append_none xs)
+
+pub nothing_taken : (left : Option (List ℕ)) → Consumes left left []
+nothing_taken None = tt
+nothing_taken (Some xs) = refl
+
+-- one piece after another
+pub taken_on : (a b c : Option (List ℕ)) (x y : List ℕ) → Consumes a b x → Consumes b c y → Consumes a c (x ++ y)
+taken_on None b c x y h k = tt
+taken_on (Some a) None c x y h k = absurd h
+taken_on (Some a) (Some b) None x y h k = absurd k
+taken_on (Some a) (Some b) (Some c) x y h k = h ∙ ap (λ z. x ++ z) k ∙ sym (append_assoc x y c)
+
+-- a read that gave nothing is at the end
+pub all_taken : (a b c : Option (List ℕ)) (x buf : List ℕ) (n : ℕ) → Consumes a b x → n ≡ 0 → Consumes b c (take n buf) → IsAtEnd c → ReadsEnough a c x
+all_taken a b c x buf n h e k end =
+    (subst (λ (z : List ℕ). Consumes a c z) (ap (λ (m : ℕ). x ++ take m buf) e ∙ append_none x) (taken_on a b c x (take n buf) h k), inl end)
+
+-- the block behind a read: what is taken of it is what was read
+pub block_is : (buf items : List ℕ) (len : ℕ) → length buf ≡ len → take len (buf ++ drop (length buf) items) ≡ buf
+block_is buf items len e = ap (λ k. take k (buf ++ drop (length buf) items)) (sym e) ∙ take-append_seam buf (drop (length buf) items)
+
+-- a read that gave bytes is one more
+pub more_read : (n before after text more : ℕ) (buf : List ℕ) → n ≢ 0 → after ≡ cond (n == 0) before (before + 1) → before ≤ text → n ≤ length buf → more ≡ text + length (take n buf) → after ≤ more
+more_read zero before after text more buf some e f b g = absurd (some refl)
+more_read (suc n) before after text more buf some e f b g =
+    let no : (suc n == 0) ≡ false = grind arith in
+    let one : after ≡ before + 1 = e ∙ ap (λ b. cond b before (before + 1)) no in
+    omega (arith, one, f, g, length-take-le (suc n) buf b)
+
+-- What a whole text is, where so much of it was read: it is that, or both are too long.
+pub data Part (input text : List ℕ) : Type 0 where
+  whole : input ≡ text → Part input text
+  long : longest < length text → longest < length input → Part input text
+
+pub part_of : (input text : List ℕ) (left : Option (List ℕ)) → ReadsEnough (Some input) left text → Part input text
+part_of input text None h = absurd h.0
+part_of input text (Some rest) (e, inl end) = whole (e ∙ ap (λ (z : List ℕ). text ++ z) end ∙ append_none text)
+part_of input text (Some rest) (e, inr more) =
+    let both : length input ≡ length text + length rest = ap length e ∙ length-append text rest in
+    long more (omega (arith, both, more))
+
+wrong_of : (input text : List ℕ) (fault : ScriptFault) → Part input text → IsWrong text fault → IsWrong input fault
+wrong_of input text fault (whole e) wrong = subst (λ (z : List ℕ). IsWrong z fault) (sym e) wrong
+wrong_of input text fault (long more all) (inl (short, is)) = inl (all, is)
+wrong_of input text fault (long more all) (inr (short, why)) = absurd (omega (arith, more, short))
+
+-- nothing is told of a text that isn't had
+pub told_unread : (A : Type 0) (left got : Option (List ℕ)) (fault : Fault) (reads : ℕ) → IsUnread fault reads → IfSome left (λ input. Told {A = A} input (Err fault) got got)
+told_unread A None got fault reads h = tt
+told_unread A (Some input) got BadWords reads h = absurd h
+told_unread A (Some input) got FileNotRead reads h = refl
+told_unread A (Some input) got (BadScript flaw place) reads h = absurd h
+told_unread A (Some input) got ReadFailed reads h = absurd h
+told_unread A (Some input) got WriteFailed reads h = absurd h
+told_unread A (Some input) got NoMemory reads h = refl
+
+pub told_fault : (A : Type 0) (left left' got : Option (List ℕ)) (text : List ℕ) (fault : Fault) → ReadsEnough left left' text → IsFaultOf text fault → IfSome left (λ input. Told {A = A} input (Err fault) got got)
+told_fault A None left' got text fault enough h = tt
+told_fault A (Some input) left' got text BadWords enough h = absurd h
+told_fault A (Some input) left' got text FileNotRead enough h = absurd h
+told_fault A (Some input) left' got text (BadScript flaw place) enough h = (wrong_of input text (Refused flaw place) (part_of input text left' enough) h, refl)
+told_fault A (Some input) left' got text ReadFailed enough h = absurd h
+told_fault A (Some input) left' got text WriteFailed enough h = absurd h
+told_fault A (Some input) left' got text NoMemory enough h = refl

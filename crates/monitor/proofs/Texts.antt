@@ -1,0 +1,23 @@
+-- What reading and checking a text come to.
+use Rattle.std.proofs.Common.{◌≡◌, inl, inr, ℕ, ◌<◌, ◌≤◌, List, length, Ok, Err, arith}
+use Rattle.script.specs.declared.fault.ScriptFault.{ScriptFault}
+use Rattle.script.specs.declared.fault.ScriptFault.TheVariants.{Refused, NoMemory}
+use Rattle.script.specs.declared.items.Script.{Script}
+use Rattle.script.specs.View.{bodies}
+use Rattle.script.specs.Reads.{Reads}
+use Rattle.script.specs.Checks.{script_faults}
+use Rattle.script.specs.Faults.{IsFirst}
+use Rattle.monitor.specs.Check.{longest, IsFaultOf}
+use Rattle.monitor.specs.Faults.{of_script}
+
+-- a text that is read isn't too long
+pub is_short : (text : List ℕ) (script : Script) (fault : ScriptFault) → (longest < length text → Ok script ≡ Err fault) → length text ≤ longest
+is_short text script fault h =
+    let no : longest < length text → ⊥ = λ l. absurd (cc (h l)) in
+    omega (arith, no)
+
+-- the first fault of a script is that of its text
+pub fault_of_script : (text : List ℕ) (script : Script) (fault : ScriptFault) → length text ≤ longest → Reads text (Ok script) → IsFirst (script_faults (bodies script)) fault → IsFaultOf text (of_script fault)
+fault_of_script text script (Refused flaw place) short read (inl none) = absurd (cc none)
+fault_of_script text script (Refused flaw place) short read (inr is) = inr (short, inr (record { script = script; read = read; faulty = is }))
+fault_of_script text script NoMemory short read first = tt

@@ -1,0 +1,260 @@
+// What no clause says: that checks come to an end with ample memory, and what serde_json takes a text for; and devices that give
+// and take little, or fail.
+use crate::check::{check_script, check_text};
+use crate::fault::Fault;
+use replay::device::{FromReader, IntoWriter};
+use std::alloc::{AllocError, Global};
+use std::io::{self, Read, Write};
+use std::process::Abort;
+use std::test::Fail;
+
+const LOOP_OF_CALLS: &[u8] =
+    b"{\"methods\":[[{\"loop\":3,\"body\":[{\"call\":1},\"native\"]}],[\"tick\"]]}";
+
+/// What is printed for a text, and the status.
+fn answer_to(alloc: Global, text: &[u8]) -> Result<(String, u8), AllocError> {
+    match check_text(alloc, text) {
+        Ok(line) => Ok((line, 0)),
+        Err(fault) => Ok((format!(in alloc; "monitor: {fault}\n")?, fault.status())),
+    }
+}
+
+fn expect(rt: &impl Abort, alloc: Global, text: &[u8], printed: &str) -> Result<(), AllocError> {
+    let (found, status) = answer_to(alloc, text)?;
+    assert_eq!(rt; found.as_str(), printed);
+    assert_eq!(rt; status == 0, printed.starts_with("ok"));
+    assert!(rt; status < 2);
+    Ok(())
+}
+
+/// `before`, the piece so many times, and `after`.
+fn text_of(
+    alloc: Global,
+    before: &[u8],
+    piece: &[u8],
+    times: usize,
+    after: &[u8],
+) -> Result<Vec<u8>, AllocError> {
+    let mut text = before.to_vec(alloc)?;
+    for _ in 0..times {
+        text.extend_from_slice(piece)?;
+    }
+    text.extend_from_slice(after)?;
+    Ok(text)
+}
+
+#[test]
+fn scripts_are_answered(rt: HostRuntime) -> Result<(), Fail> {
+    for (text, printed) in [
+        (LOOP_OF_CALLS, "ok 2\n"),
+        (b"{\"methods\":[[{\"call\":0}]]}".as_slice(), "ok 1\n"),
+        (
+            b"{\"methods\":[[{\"call\":1}]]}".as_slice(),
+            "monitor: BadCall at 0.0\n",
+        ),
+        (b"{\"methods\":[[".as_slice(), "monitor: NotJson at -\n"),
+        (
+            b"{\"methods\":[[],[\"tick\",{\"loop\":0,\"body\":[]}]]}".as_slice(),
+            "monitor: BadLoop at 1.1\n",
+        ),
+        (b"".as_slice(), "monitor: NotJson at -\n"),
+        (b"{\"methods\":[]}".as_slice(), "monitor: NoMethods at -\n"),
+        (
+            b"{\"methods\":[[\"tock\"]]}".as_slice(),
+            "monitor: BadShape at 0.0\n",
+        ),
+        (b"[]".as_slice(), "monitor: BadShape at -\n"),
+        // a fault of reading comes before each of checking
+        (
+            b"{\"methods\":[[{\"call\":9}],[\"tock\"]]}".as_slice(),
+            "monitor: BadShape at 1.0\n",
+        ),
+    ] {
+        expect(&rt, rt.alloc(), text, printed)?;
+    }
+    Ok(())
+}
+
+#[test]
+fn hostile_texts_are_answered(rt: HostRuntime) -> Result<(), Fail> {
+    let alloc = rt.alloc();
+    for end in 0..LOOP_OF_CALLS.len() {
+        expect(&rt, alloc, &LOOP_OF_CALLS[..end], "monitor: NotJson at -\n")?;
+    }
+    let half = text_of(alloc, b"", b"[", 200, b"")?;
+    let nested = text_of(alloc, &half, b"]", 200, b"")?;
+    expect(&rt, alloc, &nested, "monitor: NotJson at -\n")?;
+    let spaces = text_of(alloc, b"", b" ", 1_048_577, b"")?;
+    expect(&rt, alloc, &spaces, "monitor: TooLong at -\n")?;
+    let outer = text_of(
+        alloc,
+        b"{\"methods\":[[\"tick\",",
+        b"{\"loop\":1,\"body\":[",
+        9,
+        b"",
+    )?;
+    let loops = text_of(alloc, &outer, b"]}", 9, b"]]}")?;
+    expect(
+        &rt,
+        alloc,
+        &loops,
+        "monitor: TooDeep at 0.1.0.0.0.0.0.0.0.0\n",
+    )?;
+    let methods = text_of(alloc, b"{\"methods\":[[]", b",[]", 256, b"]}")?;
+    expect(&rt, alloc, &methods, "monitor: TooManyMethods at -\n")?;
+    let items = text_of(alloc, b"{\"methods\":[[\"vm\"", b",\"vm\"", 65_536, b"]]}")?;
+    expect(&rt, alloc, &items, "monitor: TooManyItems at 0.65536\n")?;
+    Ok(())
+}
+
+// Gives its bytes, at most `step` a call; the bytes of a file without an end, where there are none. The call of number
+// `bad_call` fails.
+#[derive(Drop)]
+struct Drip<'a> {
+    rest: &'a [u8],
+    step: usize,
+    calls: usize,
+    bad_call: usize,
+}
+
+impl<'a> Read for Drip<'a> {
+    fn read(&mut self, buf: &mut [u8]) -> io::Result<usize> {
+        self.calls = self.calls.saturating_add(1);
+        if self.calls == self.bad_call {
+            return Err(io::Error::from(io::ErrorKind::IsADirectory));
+        }
+        let n = self.step.min(buf.len()).min(self.rest.len());
+        let (given, rest) = self.rest.split_at(n);
+        buf[..n].copy_from_slice(given);
+        self.rest = rest;
+        Ok(n)
+    }
+}
+
+// Spaces without an end.
+#[derive(Drop)]
+struct Endless {
+    given: usize,
+}
+
+impl Read for Endless {
+    fn read(&mut self, buf: &mut [u8]) -> io::Result<usize> {
+        buf.fill(b' ');
+        self.given = self.given.saturating_add(buf.len());
+        Ok(buf.len())
+    }
+}
+
+// Keeps what it is given, at most `step` bytes a call. The call of number `bad_call` fails, or takes nothing.
+#[derive(Drop)]
+struct Basin {
+    got: Vec<u8>,
+    step: usize,
+    calls: usize,
+    bad_call: usize,
+    takes_nothing: bool,
+}
+
+impl Write for Basin {
+    fn write(&mut self, buf: &[u8]) -> io::Result<usize> {
+        self.calls = self.calls.saturating_add(1);
+        if self.calls == self.bad_call {
+            if self.takes_nothing {
+                return Ok(0);
+            }
+            return Err(io::Error::from(io::ErrorKind::BrokenPipe));
+        }
+        let n = self.step.min(buf.len());
+        self.got.extend_from_slice(&buf[..n])?;
+        Ok(n)
+    }
+
+    fn flush(&mut self) -> io::Result<()> {
+        Ok(())
+    }
+}
+
+fn new_basin(alloc: Global, step: usize, bad_call: usize, takes_nothing: bool) -> Basin {
+    Basin {
+        got: Vec::new(alloc),
+        step,
+        calls: 0,
+        bad_call,
+        takes_nothing,
+    }
+}
+
+fn run<R: Read>(alloc: Global, reader: &mut R, basin: &mut Basin) -> Result<(), Fault> {
+    check_script(
+        alloc,
+        &mut FromReader::new(reader),
+        &mut IntoWriter::new(basin),
+    )
+}
+
+#[test]
+fn devices_may_give_and_take_a_byte_a_call(rt: HostRuntime) -> Result<(), Fail> {
+    for step in [1, 7, 1_000_000] {
+        let mut drip = Drip {
+            rest: LOOP_OF_CALLS,
+            step,
+            calls: 0,
+            bad_call: 0,
+        };
+        let mut basin = new_basin(rt.alloc(), step, 0, false);
+        assert!(rt; run(rt.alloc(), &mut drip, &mut basin).is_ok());
+        assert_eq!(rt; basin.got.as_slice(), b"ok 2\n".as_slice());
+    }
+    Ok(())
+}
+
+#[test]
+fn a_failed_read_is_the_files_fault(rt: HostRuntime) -> Result<(), Fail> {
+    for bad_call in 1..4 {
+        let mut drip = Drip {
+            rest: LOOP_OF_CALLS,
+            step: 30,
+            calls: 0,
+            bad_call,
+        };
+        let mut basin = new_basin(rt.alloc(), 1, 0, false);
+        let found = run(rt.alloc(), &mut drip, &mut basin);
+        assert!(rt; matches!(found, Err(Fault::FileNotRead)));
+        assert_eq!(rt; drip.calls, bad_call);
+        assert!(rt; basin.got.is_empty());
+    }
+    Ok(())
+}
+
+#[test]
+fn a_failed_write_is_told(rt: HostRuntime) -> Result<(), Fail> {
+    for bad_call in 1..6 {
+        for takes_nothing in [false, true] {
+            let mut drip = Drip {
+                rest: LOOP_OF_CALLS,
+                step: 1000,
+                calls: 0,
+                bad_call: 0,
+            };
+            let mut basin = new_basin(rt.alloc(), 1, bad_call, takes_nothing);
+            let found = run(rt.alloc(), &mut drip, &mut basin);
+            assert!(rt; matches!(found, Err(Fault::WriteFailed)));
+            assert_eq!(rt; basin.calls, bad_call);
+            assert_eq!(rt; basin.got.len() + 1, bad_call);
+        }
+    }
+    Ok(())
+}
+
+#[test]
+fn a_file_without_an_end_is_too_long(rt: HostRuntime) -> Result<(), Fail> {
+    let mut endless = Endless { given: 0 };
+    let mut basin = new_basin(rt.alloc(), 1, 0, false);
+    let found = run(rt.alloc(), &mut endless, &mut basin);
+    let Err(fault) = found else {
+        return Err(Fail::from("no fault"));
+    };
+    assert_eq!(rt; fault.to_string(rt.alloc())?.as_str(), "TooLong at -");
+    assert!(rt; endless.given < 1_200_000);
+    Ok(())
+}
