@@ -5,3 +5,5 @@
 pub mod board_laws;
 pub mod board_samples;
 pub mod poll_row;
+#[cfg(test)]
+mod tests;
