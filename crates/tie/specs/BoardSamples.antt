@@ -26,10 +26,11 @@ words_of w =
     map (λ k. word_by w (entry_of k)) (below w.slots) ++ map (λ k. word_by w (count_of k)) (below w.slots)
     ++ map (λ p. word_by w (place_of p)) (below 2) ++ word_by w the_moment ∷ []
 
--- In a core of two places, one slot and two methods.
+-- A core of two places, one slot and two methods, after the events.
 abbrev pub core_after : List Event → World
 core_after events = world_after (start_world 2 1 2) events
 
+-- There the events are these steps, and leave these words.
 abbrev pub Makes : List Event → List Made → List ℕ → Type 0
 Makes events steps words = (steps_of_run (start_world 2 1 2) events ≡ steps) × (words_of (core_after events) ≡ words)
 
@@ -40,7 +41,7 @@ first_code = code 0 1
 abbrev pub second_code : CodeId
 second_code = code 0 2
 
--- The thread of place 0 publishes, and goes into Java; it enters the code; it leaves it.
+-- Acts of the thread at place 0.
 abbrev pub begin : Event
 begin = event.At 0 act.Begin
 
@@ -56,6 +57,7 @@ enter serial = event.At 0 (act.Enter 0 (Some serial))
 abbrev pub leave : Event
 leave = event.At 0 act.Leave
 
+-- A thread starts at place 0, publishes and goes into Java, and a code is installed.
 abbrev pub started : List Event
 started = event.Start ∷ begin ∷ end ∷ event.At 0 act.Wake ∷ event.At 0 act.Cross ∷ event.Install 0 ∷ []
 
@@ -112,6 +114,7 @@ place_given_up = started ++ event.Invalidate 1 ∷ event.Look 1 0 ∷ event.At 0
 abbrev pub amid_a_publication : List Event
 amid_a_publication = started ++ enter 1 ∷ enter 1 ∷ event.Invalidate 1 ∷ enter 1 ∷ event.Look 1 0 ∷ event.Round ∷ begin ∷ change ∷ []
 
+-- The seat knows this of the first code and of its publications.
 abbrev pub Knows : SeatState → ℕ → Bool → ℕ → ℕ → Bool → Type 0
 Knows t counted fresh moment stored gone =
     (t.counted first_code ≡ counted) × (t.fresh first_code ≡ fresh) × (t.moment ≡ moment) × (t.stored ≡ stored) × (t.gone first_code ≡ gone)
