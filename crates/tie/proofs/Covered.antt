@@ -11,7 +11,7 @@ use Rattle.tie.specs.BoardOf.{slot_by, IsCoveredByWords, CoveredComparesWords}
 use Rattle.tie.proofs.Slots.{newest_of}
 use Rattle.tie.proofs.Tied.{IsReached, reached}
 
-by_words : (w : World) → IsReached w → IsCoveredByWords w
+pub by_words : (w : World) → IsReached w → IsCoveredByWords w
 by_words w h serial place k is left =
     covered_is w h.reclaimed serial place k is (ap is_in_use left)
     ∙ (ap (λ n. is_late (left_at n w.log) (published_at w.log place (thread_at w place))) (sym (code_serial w.codes serial k is))

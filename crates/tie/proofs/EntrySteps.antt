@@ -101,7 +101,7 @@ module _ (w : World) (p : ℕ) (t : Thread) (method serial : ℕ) (k : Code) (h 
     others = λ q ne. (let a = ne_eqb p q (λ z. ne (sym z)) in record { starts_not = refl; exits_not = refl; begins_not = refl; ends_not = refl; enters_not = λ s. (rw a refl); misses_not = λ s. refl });
   }
 
-  word_is : word_by w (entry_of k.slot) ≡ pack k.serial entry.InUse
+  pub word_is : word_by w (entry_of k.slot) ≡ pack k.serial entry.InUse
   word_is = entry_is w k.slot k (newest_of w.slots w.methods w.codes h.kept.table h.tied.old_freed serial k i.code_is (ap takes_slot i.in_use)) ∙ ap (λ s. pack k.serial (entry_state s)) i.in_use
 
   fresh_is : (c : CodeId) → (is_given w.codes c && is_fresh p c.serial (entry_made ∷ w.log)) ≡ ((same_code c (id_of k) && says_in_use (word_by w (entry_of k.slot)) (id_of k)) || (is_given w.codes c && is_fresh p c.serial w.log))
@@ -148,7 +148,7 @@ module _ (w : World) (p : ℕ) (t : Thread) (method serial : ℕ) (k : Code) (h 
     others = λ q ne. (let a = ne_eqb p q (λ z. ne (sym z)) in record { starts_not = refl; exits_not = refl; begins_not = refl; ends_not = refl; enters_not = λ s. refl; misses_not = λ s. (rw a refl) });
   }
 
-  word_more : pack k.serial entry.InUse < word_by w (entry_of k.slot)
+  pub word_more : pack k.serial entry.InUse < word_by w (entry_of k.slot)
   word_more =
       let n = newer_than w.slots w.methods w.codes h.kept.table serial k i.code_is in let e = entry_is w k.slot n.0 n.1 in
       ⊎_elim (λ same. (let a : n.0.serial ≡ k.serial = ap (λ (y : Code). y.serial) same in let b = rank_left n.0.state (ap (λ (y : Code). is_in_use y.state) same ∙ i.not_in_use) in omega arith)) (λ later. omega arith) n.2

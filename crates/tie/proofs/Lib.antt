@@ -17,3 +17,4 @@ pub mod KeeperSteps
 pub mod WeighSteps
 pub mod Events
 pub mod Covered
+pub mod Answered

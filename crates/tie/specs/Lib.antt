@@ -1,4 +1,5 @@
 pub mod BoardOf
 pub mod Steps
+pub mod Answers
 pub mod BoardSamples
 pub mod PollRow

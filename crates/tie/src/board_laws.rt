@@ -1,6 +1,7 @@
 // Laws of the board of a world.
 ghost use Rattle.tie.specs.BoardOf.{BoardsKeepTheRule, CoveredComparesWords};
 ghost use Rattle.tie.specs.Steps.{EventsAreTheirSteps};
+ghost use Rattle.tie.specs.Answers.{AnswersAreReadOff};
 
 /// The board of a world meets the rule of a code board, whatever happened.
 pub fn boards_keep_the_rule()
@@ -18,4 +19,11 @@ pub fn events_are_their_steps()
 /// keeper invalidated the code. It is what a look computes from the word that it loads.
 pub fn covered_compares_words()
     ensures { CoveredComparesWords }
+{}
+
+/// The core answers what a running call reads off the word that the event's step loads. Enter is let in exactly where the entry
+/// says that the code is in use; Look is clear exactly where the place's word lets it pass; Weigh answers the count, and retires
+/// the code where that is 0.
+pub fn answers_are_read_off_the_words()
+    ensures { AnswersAreReadOff }
 {}
