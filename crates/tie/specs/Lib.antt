@@ -3,3 +3,4 @@ pub mod Steps
 pub mod Answers
 pub mod BoardSamples
 pub mod PollRow
+pub mod WorkedRuns

@@ -7,3 +7,4 @@ pub mod board_samples;
 pub mod poll_row;
 #[cfg(test)]
 mod tests;
+pub mod worked_runs;

@@ -1,0 +1,6 @@
+-- Both sides compute to the same numbers.
+use Rattle.std.specs.Prelude.{refl}
+use Rattle.tie.proofs.worked_runs.two_threads_count.Goals as goal
+
+pub returns : goal.returns
+returns c = (refl, refl)

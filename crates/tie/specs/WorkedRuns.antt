@@ -1,0 +1,87 @@
+-- The words of the worlds in worked runs, number by number. The tests find the same numbers in running words.
+use Rattle.std.specs.Prelude.{◌≡◌, ℕ, List, [], ◌∷◌, ◌++◌, length, map, take}
+use Rattle.method_table.specs.Numbers.{below}
+use Rattle.frames.specs.BoardWords.{entry_of, count_of, place_of, the_moment}
+use Rattle.thread_state.specs.PollRule.{PlaceState}
+use Rattle.system.specs.Log.{Entry}
+use Rattle.system.specs.World.{World, start_world}
+use Rattle.system.specs.Runs.{world_after}
+use Rattle.rows.specs.Rows.{look_before_a_round, reclaimed_after_use, publication_begun_before_the_round, slot_used_again, place_used_again, two_operations_in_turn, held_in_native, safepoint_of_two_threads}
+use Rattle.tie.specs.BoardOf.{word_by}
+use Rattle.tie.specs.PollRow.{row_of}
+
+-- The world of so many places and slots, and 2 methods, after the first n lines of a run.
+abbrev pub after_lines : ℕ → ℕ → ℕ → List Entry → World
+after_lines places slots n run = world_after (start_world places slots 2) (map (λ line. line.event) (take n run))
+
+-- 1. Poll words
+
+-- A place with this word, armed so last, cleared so last.
+abbrev pub at : ℕ → ℕ → ℕ → PlaceState
+at word armed cleared = record { word = word; armed = armed; cleared = cleared }
+
+-- After n lines of the run the places of the row are these.
+abbrev pub Polls : List Entry → ℕ → ℕ → List PlaceState → Type 0
+Polls run places n row = map (row_of (after_lines places 4 n run)) (below places) ≡ row
+
+-- A name that is gone isn't told, so the place of the next thread isn't armed.
+abbrev pub PlaceUsedAgain : Type 0
+PlaceUsedAgain = Polls place_used_again 1 12 (at 0 0 0 ∷ [])
+
+-- Before the first Tell, after it, before its Clear and after it, and after the second Tell and its Clear.
+abbrev pub TwoOperations : Type 0
+TwoOperations =
+    Polls two_operations_in_turn 1 9 (at 0 0 0 ∷ []) × Polls two_operations_in_turn 1 10 (at 1 1 0 ∷ [])
+    × Polls two_operations_in_turn 1 18 (at 1 1 0 ∷ []) × Polls two_operations_in_turn 1 19 (at 0 1 1 ∷ [])
+    × Polls two_operations_in_turn 1 23 (at 2 2 1 ∷ []) × Polls two_operations_in_turn 1 27 (at 0 2 2 ∷ [])
+
+-- A thread that is held in native code is told, and cleared for it.
+abbrev pub HeldInNative : Type 0
+HeldInNative =
+    Polls held_in_native 1 12 (at 1 1 0 ∷ []) × Polls held_in_native 1 19 (at 1 1 0 ∷ []) × Polls held_in_native 1 20 (at 0 1 1 ∷ [])
+
+-- A census is told to both threads, and each is cleared by itself; the vacant place stays as it was.
+abbrev pub TwoThreadsAtASafepoint : Type 0
+TwoThreadsAtASafepoint =
+    Polls safepoint_of_two_threads 3 18 (at 0 0 0 ∷ at 0 0 0 ∷ at 0 0 0 ∷ []) × Polls safepoint_of_two_threads 3 19 (at 1 1 0 ∷ at 0 0 0 ∷ at 0 0 0 ∷ [])
+    × Polls safepoint_of_two_threads 3 20 (at 1 1 0 ∷ at 1 1 0 ∷ at 0 0 0 ∷ []) × Polls safepoint_of_two_threads 3 37 (at 0 1 1 ∷ at 1 1 0 ∷ at 0 0 0 ∷ [])
+    × Polls safepoint_of_two_threads 3 44 (at 0 1 1 ∷ at 0 1 1 ∷ at 0 0 0 ∷ [])
+
+-- 2. Words of the board
+
+-- The entries, the counts, the places and the moment.
+abbrev pub board_words : World → List ℕ
+board_words w =
+    map (λ slot. word_by w (entry_of slot)) (below w.slots) ++ map (λ slot. word_by w (count_of slot)) (below w.slots)
+    ++ map (λ place. word_by w (place_of place)) (below (length w.places)) ++ word_by w the_moment ∷ []
+
+-- After n lines of the run the words of the board are these.
+abbrev pub Words : List Entry → ℕ → ℕ → ℕ → List ℕ → Type 0
+Words run places slots n words = board_words (after_lines places slots n run) ≡ words
+
+-- An entry is four times the serial, and 0 in use, 1 not entrant, 2 zombie, 3 vacant.
+abbrev pub LookBeforeARound : Type 0
+LookBeforeARound = Words look_before_a_round 1 4 13 (5 ∷ 3 ∷ 3 ∷ 3 ∷ 0 ∷ 0 ∷ 0 ∷ 0 ∷ 1 ∷ 1 ∷ [])
+
+-- After the first publication, the one that lets the look pass, the one after the frame was left, the weighing, and the end.
+abbrev pub ReclaimedAfterUse : Type 0
+ReclaimedAfterUse =
+    Words reclaimed_after_use 1 4 6 (4 ∷ 3 ∷ 3 ∷ 3 ∷ 0 ∷ 0 ∷ 0 ∷ 0 ∷ 1 ∷ 1 ∷ []) × Words reclaimed_after_use 1 4 18 (5 ∷ 3 ∷ 3 ∷ 3 ∷ 1 ∷ 0 ∷ 0 ∷ 0 ∷ 2 ∷ 2 ∷ [])
+    × Words reclaimed_after_use 1 4 25 (5 ∷ 3 ∷ 3 ∷ 3 ∷ 0 ∷ 0 ∷ 0 ∷ 0 ∷ 2 ∷ 2 ∷ []) × Words reclaimed_after_use 1 4 26 (6 ∷ 3 ∷ 3 ∷ 3 ∷ 0 ∷ 0 ∷ 0 ∷ 0 ∷ 2 ∷ 2 ∷ [])
+    × Words reclaimed_after_use 1 4 30 (7 ∷ 3 ∷ 3 ∷ 3 ∷ 0 ∷ 0 ∷ 0 ∷ 0 ∷ 2 ∷ 2 ∷ [])
+
+-- A publication that began before the round stores the moment of its begin.
+abbrev pub PublicationBegunBeforeTheRound : Type 0
+PublicationBegunBeforeTheRound =
+    Words publication_begun_before_the_round 1 4 10 (5 ∷ 3 ∷ 3 ∷ 3 ∷ 0 ∷ 0 ∷ 0 ∷ 0 ∷ 1 ∷ 2 ∷ [])
+    × Words publication_begun_before_the_round 1 4 15 (6 ∷ 3 ∷ 3 ∷ 3 ∷ 0 ∷ 0 ∷ 0 ∷ 0 ∷ 2 ∷ 2 ∷ [])
+
+-- A freed slot keeps the serial until the next code.
+abbrev pub SlotUsedAgain : Type 0
+SlotUsedAgain = Words slot_used_again 1 1 15 (7 ∷ 0 ∷ 2 ∷ 2 ∷ []) × Words slot_used_again 1 1 20 (8 ∷ 0 ∷ 2 ∷ 2 ∷ [])
+
+-- Two threads count frames of one code.
+abbrev pub TwoThreadsCount : Type 0
+TwoThreadsCount =
+    Words safepoint_of_two_threads 3 4 30 (4 ∷ 3 ∷ 3 ∷ 3 ∷ 1 ∷ 0 ∷ 0 ∷ 0 ∷ 1 ∷ 1 ∷ 0 ∷ 1 ∷ [])
+    × Words safepoint_of_two_threads 3 4 44 (4 ∷ 3 ∷ 3 ∷ 3 ∷ 3 ∷ 0 ∷ 0 ∷ 0 ∷ 1 ∷ 1 ∷ 0 ∷ 1 ∷ [])
