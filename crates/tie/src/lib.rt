@@ -2,6 +2,8 @@
 //! running tables are proved, and each accepted event changes it by just the steps that those rules let a seat make.
 #![tactic(auto)]
 
+#[cfg(test)]
+mod beside_core;
 pub mod board_laws;
 pub mod board_samples;
 pub mod poll_row;

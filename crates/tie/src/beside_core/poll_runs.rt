@@ -1,0 +1,128 @@
+// Poll words beside the core.
+ghost use Rattle.std.specs.Prelude.{◌≡◌, ◌∷◌, [], IfOk};
+
+use super::*;
+use operations::{Ask, Request, Targets};
+use poll::{Armer, PollRow, Poller};
+use std::process::Abort;
+use std::test::*;
+
+// The row of one place, its armer and its poller.
+fn one_place(alloc: Global) -> Result<(PollRow, Armer, Poller), AllocError>
+    ensures tables { IfOk result (λ t. (t.1.table ≡ t.0) × (t.2.table ≡ t.0)) }
+    ensures armed { IfOk result (λ t. t.1.seen.armed ≡ 0 ∷ []) }
+{
+    let (row, armer, mut pollers) = PollRow::new(alloc, 1)?;
+    let poller = pollers.swap_remove(0);
+    Ok((row, armer, poller))
+}
+
+// A handshake of one thread is asked for.
+fn asked(events: &mut Vec<Event>, alloc: Global, name: u64) -> Result<(), AllocError> {
+    let names = vec![in alloc; name]?;
+    events.push(Event::Ask(Request::Handshake {
+        targets: Targets::from_vec(names),
+        ask: Ask::Depth,
+    }))?;
+    Ok(())
+}
+
+// The thread stops for the operation at its next poll, serves it, and goes on.
+fn served(events: &mut Vec<Event>, name: u64) -> Result<(), AllocError> {
+    events.push(Event::Open)?;
+    acts(events, 0, &[Act::Edge])?;
+    events.push(Event::Tell(name))?;
+    acts(
+        events,
+        0,
+        &[Act::Edge, Act::Take, Act::Finish, Act::Clear, Act::Cross],
+    )?;
+    events.push(Event::Close)?;
+    Ok(())
+}
+
+// A place is armed for two operations, one after the other.
+#[test]
+fn two_operations_in_turn(rt: HostRuntime) -> Result<(), Fail> {
+    let mut events = Vec::new(rt.alloc());
+    started(&mut events, 0)?;
+    asked(&mut events, rt.alloc(), 1)?;
+    asked(&mut events, rt.alloc(), 1)?;
+    served(&mut events, 1)?;
+    served(&mut events, 1)?;
+    let Ok(mut core) = System::new(rt.alloc(), 1, 4, 2) else {
+        panic!(rt; "no system");
+    };
+    let Some(by_core) = core_says(&mut core, rt.alloc(), &events, Of::Row) else {
+        panic!(rt; "refused");
+    };
+    let (row, mut armer, mut poller) = one_place(rt.alloc())?;
+    let started = poller.poll(&row);
+    let before_first = poller.poll(&row);
+    armer.arm(&row, 0, 1);
+    let first = poller.poll(&row);
+    let first_cleared = poller.clear(&row, 1);
+    let after_first = poller.poll(&row);
+    let before_second = poller.poll(&row);
+    armer.arm(&row, 0, 2);
+    let second = poller.poll(&row);
+    let second_cleared = poller.clear(&row, 2);
+    let after_second = poller.poll(&row);
+    let polls = [
+        Said::Polled(started),
+        Said::Polled(before_first),
+        Said::Polled(first),
+        Said::Polled(after_first),
+        Said::Polled(before_second),
+        Said::Polled(second),
+        Said::Polled(after_second),
+    ];
+    assert!(rt; by_core.as_slice() == polls.as_slice());
+    assert!(rt; first_cleared && second_cleared);
+    assert!(rt; (first, after_first, second, after_second) == (1, 0, 2, 0));
+    assert!(rt; armer.last(0) == 2);
+    Ok(())
+}
+
+// A name that is gone isn't told, and the next thread at its place isn't armed by it.
+#[test]
+fn a_place_is_used_again(rt: HostRuntime) -> Result<(), Fail> {
+    let mut events = Vec::new(rt.alloc());
+    started(&mut events, 0)?;
+    asked(&mut events, rt.alloc(), 1)?;
+    acts(&mut events, 0, &[Act::Exit])?;
+    started(&mut events, 0)?;
+    asked(&mut events, rt.alloc(), 2)?;
+    events.push(Event::Open)?;
+    events.push(Event::Tell(1))?;
+    acts(&mut events, 0, &[Act::Edge])?;
+    events.push(Event::Close)?;
+    served(&mut events, 2)?;
+    let Ok(mut core) = System::new(rt.alloc(), 1, 4, 2) else {
+        panic!(rt; "no system");
+    };
+    let Some(by_core) = core_says(&mut core, rt.alloc(), &events, Of::Row) else {
+        panic!(rt; "refused");
+    };
+    let (row, mut armer, mut poller) = one_place(rt.alloc())?;
+    let first = poller.poll(&row);
+    let next = poller.poll(&row);
+    let after_gone = poller.poll(&row);
+    let before = poller.poll(&row);
+    armer.arm(&row, 0, 2);
+    let told = poller.poll(&row);
+    let cleared = poller.clear(&row, 2);
+    let after = poller.poll(&row);
+    let polls = [
+        Said::Polled(first),
+        Said::Polled(next),
+        Said::Polled(after_gone),
+        Said::Polled(before),
+        Said::Polled(told),
+        Said::Polled(after),
+    ];
+    assert!(rt; by_core.as_slice() == polls.as_slice());
+    assert!(rt; cleared);
+    assert!(rt; (after_gone, told, after) == (0, 2, 0));
+    Ok(())
+}
