@@ -10,6 +10,7 @@ pub mod PollTold
 pub mod PollRows
 pub mod PollSteps
 pub mod PollLaws
+pub mod PollAnswered
 pub mod ThreadSteps
 pub mod EntrySteps
 pub mod CountSteps

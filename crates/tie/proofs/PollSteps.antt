@@ -58,11 +58,11 @@ poll_step w v p low same = record {
   others = λ q ne. same q;
 }
 
-go_or_stop_accepted : (o : Option ℕ) → is_accepted (go_or_stop o) ≡ true
+pub go_or_stop_accepted : (o : Option ℕ) → is_accepted (go_or_stop o) ≡ true
 go_or_stop_accepted None = refl
 go_or_stop_accepted (Some n) = refl
 
-move_accepted : (w : World) (p : ℕ) (t : Thread) (a : Act) (state : State) (given : Answer) → Moves w p t a state given → is_accepted given ≡ true
+pub move_accepted : (w : World) (p : ℕ) (t : Thread) (a : Act) (state : State) (given : Answer) → Moves w p t a state given → is_accepted given ≡ true
 move_accepted w p t a state given i = ⊎_elim (λ (by : ByMove w a t state given). ap is_accepted by.done) (λ (by : ByPoll w t state given). ap is_accepted by.says ∙ go_or_stop_accepted (poll_of w.requests t.name)) i.way
 
 move_step : (w v : World) (p : ℕ) (a : Act) (given : Answer) → is_move a ≡ true → p < length w.places → SameRow w v → IsPolled (length w.places) (step_of w (event.At p a) given) (row_of w) (row_of v)
@@ -162,7 +162,7 @@ noted_quiet w e given h tells_not clears_not next = quiet w w.places w.requests 
 asked_quiet : (w : World) (requests : Requests) (e : Event) (given : Answer) → RowIn w → ((q : ℕ) → tells q e given w.log ≡ false) → ((q : ℕ) → clears q e ≡ false) → RowIn (asked w requests e given) → SameRow w (asked w requests e given)
 asked_quiet w requests e given h tells_not clears_not next = quiet w w.places requests e given h tells_not clears_not next
 
-code_accepted : (o : Option Code) → is_accepted (code_or_none o) ≡ true
+pub code_accepted : (o : Option Code) → is_accepted (code_or_none o) ≡ true
 code_accepted None = refl
 code_accepted (Some code) = refl
 

@@ -1,5 +1,6 @@
 //! Laws of the poll row of all worlds that events lead to.
 ghost use Rattle.tie.specs.PollRow.{RowsKeepTheRule, EventsAreTheirPolls};
+ghost use Rattle.tie.specs.PollAnswers.{PollsAnswerTheirWords};
 
 /// The poll row of the core's world meets the rule of the poll words, whatever happened.
 pub fn rows_keep_the_rule()
@@ -10,4 +11,10 @@ pub fn rows_keep_the_rule()
 /// store at a Tell that is told; every other event, and each that is refused, by none.
 pub fn events_are_their_polls()
     ensures { EventsAreTheirPolls }
+{}
+
+/// The core answers what a running call reads off the poll word that the event's step meets: a poll goes on exactly where the
+/// word is 0, and otherwise stops for it; an accepted Clear finds its number there.
+pub fn polls_answer_their_words()
+    ensures { PollsAnswerTheirWords }
 {}

@@ -1,0 +1,105 @@
+-- The answer to an event is read off the poll word that its step met.
+use Rattle.std.proofs.Common.{◌≡◌, ℕ, true, false, List, Some, None, sym, refl, ap, ◌∙◌, inl, inr, ⊎_elim, subst, arith}
+use Rattle.std.specs.Prelude.{◌==◌, unwrap_or, if◌then◌else◌}
+use Rattle.std.proofs.lemmas.Bool.{false≢true, ne_eqb}
+use Rattle.thread_state.specs.declared.State.{State}
+use Rattle.system.specs.declared.events.Act.{Act}
+use Rattle.system.specs.declared.events.Act.TheVariants as act
+use Rattle.system.specs.declared.events.Event.TheVariants as event
+use Rattle.system.specs.declared.answers.Answer.{Answer}
+use Rattle.system.specs.Threads.{Thread}
+use Rattle.system.specs.Operations.{Opened, poll_of, greatest}
+use Rattle.system.specs.World.{World, found, start_world}
+use Rattle.system.specs.Places.{go_or_stop}
+use Rattle.system.specs.Step.{code_or_none}
+use Rattle.system.specs.Ran.{RanAtMostOnce}
+use Rattle.system.specs.Runs.{world_after}
+use Rattle.method_table.specs.Codes.{in_use_for}
+use Rattle.system.proofs.Outcomes.{Stands, Moves, ByMove, ByPoll, Clears, move_of, is_move}
+use Rattle.system.proofs.Cases.{Cases}
+use Rattle.system.proofs.ByCases.{by_cases}
+use Rattle.system.proofs.Once.{run_at_most_once}
+use Rattle.tie.specs.PollRow.{row_of, armed_at, uncleared_at, cleared_at, number_of, load, step_of, polls_of}
+use Rattle.tie.specs.PollAnswers.{said_by, IsAnswered, PollsAnswerTheirWords}
+use Rattle.tie.proofs.PollKept.{pending_at, IsLast}
+use Rattle.tie.proofs.PollTold.{Cleared, cleared_is}
+use Rattle.tie.proofs.PollRows.{RowIn}
+use Rattle.tie.proofs.PollSteps.{go_or_stop_accepted, move_accepted, code_accepted}
+use Rattle.tie.proofs.PollLaws.{row_in, row_word}
+
+-- What a poll answers is read off the word.
+poll_said : (w : World) (p : ℕ) (t : Thread) → RowIn w → Stands w p t → go_or_stop (poll_of w.requests t.name) ≡ said_by (row_of w p).word
+poll_said w p t h s = ap go_or_stop poll ∙ (by (h.last p) ∙ sym (ap said_by (row_word w h p)))
+  where
+    poll : poll_of w.requests t.name ≡ greatest (uncleared_at p w.log)
+    poll = ap greatest (sym (ap (λ o. pending_at w.requests (found o)) s.there) ∙ h.waiting p)
+
+    by : IsLast (uncleared_at p w.log) (armed_at p w.log) (cleared_at p w.log) → go_or_stop (greatest (uncleared_at p w.log)) ≡ said_by (unwrap_or (greatest (uncleared_at p w.log)) 0)
+    by (inl a) = subst (λ us. go_or_stop (greatest us) ≡ said_by (unwrap_or (greatest us) 0)) (sym a.0) refl
+    by (inr a) =
+        let some : (armed_at p w.log == 0) ≡ false = ne_eqb (armed_at p w.log) 0 (λ is. (let less = a.1 in absurd (omega arith))) in
+        subst (λ us. go_or_stop (greatest us) ≡ said_by (unwrap_or (greatest us) 0)) (sym a.0) (rw some refl)
+
+-- An act that polls comes into another state by the poll.
+polled_said : (w : World) (p : ℕ) (t : Thread) (a : Act) (state : State) (given : Answer) → RowIn w → Moves w p t a state given → move_of a ≡ None → given ≡ said_by (row_of w p).word
+polled_said w p t a state given h i none = ⊎_elim (λ (by : ByMove w a t state given). (let is : None ≡ Some by.by = sym none ∙ by.is in cc))
+    (λ (by : ByPoll w t state given). by.says ∙ poll_said w p t h i.acts.stands) i.way
+
+move_said : (w : World) (p : ℕ) (t : Thread) (a : Act) (state : State) (given : Answer) → RowIn w → Moves w p t a state given → is_move a ≡ true → IsAnswered (step_of w (event.At p a) given) given
+move_said w p t act.Wake state given h i is = tt
+move_said w p t act.Cross state given h i is = polled_said w p t act.Cross state given h i refl
+move_said w p t act.Edge state given h i is = polled_said w p t act.Edge state given h i refl
+move_said w p t act.ToVm state given h i is = tt
+move_said w p t act.FromVm state given h i is = polled_said w p t act.FromVm state given h i refl
+move_said w p t act.ToNative state given h i is = tt
+move_said w p t act.Block state given h i is = tt
+move_said w p t act.Take state given h i is = tt
+move_said w p t a state given h i is = absurd (false≢true is)
+
+cleared_met : (w : World) (p : ℕ) (t : Thread) (opened : Opened) (os : List Opened) → RanAtMostOnce w → RowIn w → Clears w p t opened os → (row_of w p).word ≡ number_of w.requests.opened
+cleared_met w p t opened os ran h i = let d : Cleared w p t opened = cleared_is w p t opened os ran h i in
+    (row_word w h p ∙ ap (λ ns. unwrap_or (greatest ns) 0) d.uncleared_is) ∙ sym (ap number_of i.opened_is)
+
+said : (w : World) → RanAtMostOnce w → RowIn w → Cases w (λ e a v. IsAnswered (polls_of w e a) a)
+said w ran h = record {
+  refuses = λ e r. tt;
+  begins = λ p t i. tt;
+  changes = λ p t code i. tt;
+  rests = λ p t i. tt;
+  ends = λ p t i. tt;
+  moves = λ p t a state given i. subst (λ b. IsAnswered (if b then step_of w (event.At p a) given else None) given) (sym (move_accepted w p t a state given i)) (move_said w p t a state given h i i.is);
+  interprets = λ p t method i. tt;
+  enters = λ p t method serial code i. tt;
+  misses = λ p t method serial code i. tt;
+  leaves = λ p t state i. subst (λ b. IsAnswered (if b then load w p else None) (go_or_stop (poll_of w.requests t.name))) (sym (go_or_stop_accepted (poll_of w.requests t.name))) (poll_said w p t h i.acts.stands);
+  exits = λ p t i. tt;
+  finishes = λ p t opened others i. tt;
+  clears = λ p t opened others i. cleared_met w p t opened others ran h i;
+  holds = λ p t opened others i. tt;
+  releases = λ p t i. tt;
+  shows = λ p t i. tt;
+  starts = λ p i. tt;
+  installs = λ method slot i. tt;
+  invalidates = λ serial code i. tt;
+  goes_round = λ i. tt;
+  looks_clear = λ serial p code i. tt;
+  looks_late = λ serial p code i. tt;
+  finds_unlooked = λ serial code p i. tt;
+  finds_used = λ serial code i. tt;
+  retires = λ serial code i. tt;
+  frees = λ serial code i. tt;
+  asks = λ request i. tt;
+  opens = λ oldest others i. tt;
+  tells = λ name opened others i. refl;
+  finds_gone = λ name opened others i. tt;
+  operates = λ opened others i. tt;
+  closes = λ opened others i. tt;
+  counts = λ serial code i. tt;
+  says_state = λ serial code i. tt;
+  resolves = λ method i. subst (λ b. IsAnswered (if b then None else None) (code_or_none (in_use_for w.codes method))) (sym (code_accepted (in_use_for w.codes method))) tt;
+}
+
+pub polls_answer_their_words : PollsAnswerTheirWords
+polls_answer_their_words places slots methods events next =
+    let w : World = world_after (start_world places slots methods) events in
+    by_cases w (λ e a v. IsAnswered (polls_of w e a) a) (said w (run_at_most_once places slots methods events) (row_in places slots methods events)) next

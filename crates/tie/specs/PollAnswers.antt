@@ -1,0 +1,33 @@
+-- What the answer to an event says of the poll word that its step met.
+use Rattle.std.specs.Prelude.{◌≡◌, ℕ, ◌==◌, List, Option, Some, None, if◌then◌else◌}
+use Rattle.thread_state.specs.declared.poll_rule.Deed.{Deed}
+use Rattle.thread_state.specs.declared.poll_rule.Deed.TheVariants.{Nothing, Load, Store, Exchange}
+use Rattle.system.specs.declared.events.Event.{Event}
+use Rattle.system.specs.declared.answers.Answer.{Answer}
+use Rattle.system.specs.declared.answers.Answer.TheVariants as answer
+use Rattle.system.specs.World.{start_world}
+use Rattle.system.specs.Runs.{answer_to, world_after}
+use Rattle.tie.specs.PollRow.{PollDeed, polls_of}
+
+-- A poll that found 0 goes on, and one that found another number stops for it.
+abbrev pub said_by : ℕ → Answer
+said_by found = if found == 0 then answer.Go else answer.Stop found
+
+-- The answer is read off the deed: a poll's off what its load found; a store is a Tell that was told; and the exchange of an
+-- accepted Clear finds the number that it is to clear.
+abbrev pub IsToldBy : Deed → Answer → Type 0
+IsToldBy Nothing said = Unit {0}
+IsToldBy (Load found) said = said ≡ said_by found
+IsToldBy (Store place n) said = said ≡ answer.Told
+IsToldBy (Exchange n found) said = found ≡ n
+
+-- An event without a step has its answer elsewhere.
+abbrev pub IsAnswered : Option PollDeed → Answer → Type 0
+IsAnswered None said = Unit {0}
+IsAnswered (Some step) said = IsToldBy step.deed said
+
+-- So it is of every next event, after any events.
+abbrev pub PollsAnswerTheirWords : Type 0
+PollsAnswerTheirWords = (places slots methods : ℕ) (events : List Event) (next : Event)
+    → IsAnswered (polls_of (world_after (start_world places slots methods) events) next (answer_to (world_after (start_world places slots methods) events) next))
+    (answer_to (world_after (start_world places slots methods) events) next)
