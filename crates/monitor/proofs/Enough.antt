@@ -7,7 +7,8 @@ use Rattle.script.specs.declared.fault.ScriptFault.{ScriptFault}
 use Rattle.script.specs.declared.fault.ScriptFault.TheVariants.{Refused}
 use Rattle.monitor.specs.declared.fault.Fault.{Fault}
 use Rattle.monitor.specs.declared.fault.Fault.TheVariants.{BadWords, FileNotRead, BadScript, ReadFailed, WriteFailed, NoMemory}
-use Rattle.monitor.specs.Check.{longest, IsWrong, IsFaultOf, IsUnread, Told, ReadsEnough}
+use Rattle.script.specs.Reads.{longest}
+use Rattle.monitor.specs.Check.{IsWrong, IsFaultOf, IsUnread, Told, ReadsEnough}
 
 append_none : (xs : List ℕ) → xs ++ [] ≡ xs
 append_none [] = refl

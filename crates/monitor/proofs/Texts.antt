@@ -4,10 +4,10 @@ use Rattle.script.specs.declared.fault.ScriptFault.{ScriptFault}
 use Rattle.script.specs.declared.fault.ScriptFault.TheVariants.{Refused, NoMemory}
 use Rattle.script.specs.declared.items.Script.{Script}
 use Rattle.script.specs.View.{bodies}
-use Rattle.script.specs.Reads.{Reads}
+use Rattle.script.specs.Reads.{longest, Reads}
 use Rattle.script.specs.Checks.{script_faults}
 use Rattle.script.specs.Faults.{IsFirst}
-use Rattle.monitor.specs.Check.{longest, IsFaultOf}
+use Rattle.monitor.specs.Check.{IsFaultOf}
 use Rattle.monitor.specs.Faults.{of_script}
 
 -- a text that is read isn't too long

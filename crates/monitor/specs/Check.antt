@@ -7,15 +7,11 @@ use Rattle.script.specs.declared.fault.ScriptFault.{ScriptFault}
 use Rattle.script.specs.declared.fault.ScriptFault.TheVariants.{Refused}
 use Rattle.script.specs.declared.items.Script.{Script}
 use Rattle.script.specs.View.{bodies}
-use Rattle.script.specs.Reads.{Reads}
+use Rattle.script.specs.Reads.{longest, Reads}
 use Rattle.script.specs.Checks.{script_faults}
 use Rattle.script.specs.Faults.{first}
 use Rattle.monitor.specs.declared.fault.Fault.{Fault}
 use Rattle.monitor.specs.declared.fault.Fault.TheVariants.{BadWords, FileNotRead, BadScript, ReadFailed, WriteFailed, NoMemory}
-
--- The longest text, in bytes.
-abbrev pub longest : ℕ
-longest = 1048576
 
 -- A text is a script of so many methods, and nothing is wrong with it.
 pub record IsRight (text : List ℕ) (methods : ℕ) : Type 0 where

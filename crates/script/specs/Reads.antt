@@ -15,6 +15,10 @@ use Rattle.script.specs.View.{bodies}
 abbrev pub Spells : Data → List Body → Type 0
 Spells d bs = option_map method_outlines (methods_in d) ≡ Some (map some_sound bs)
 
+-- the longest text that is read, in bytes
+abbrev pub longest : ℕ
+longest = 1048576
+
 -- the script that a JSON value is, which has no fault, or its first fault, or a want of memory
 abbrev pub ReadsDocument : Data → Result Script ScriptFault → Type 0
 ReadsDocument d (Ok s) = Spells d (bodies s) × (document_faults d ≡ [])

@@ -5,7 +5,7 @@ ghost use Rattle.script.specs.Body.{Body};
 ghost use Rattle.script.specs.Outline.{Outline, sound, count};
 ghost use Rattle.script.specs.Json.{sketch, outline, method_outlines, methods_in, some_sound};
 ghost use Rattle.script.specs.Faults.{faults, method_faults, method_count, methods_faults, IsFirst};
-ghost use Rattle.script.specs.Reads.{Reads, ReadsDocument};
+ghost use Rattle.script.specs.Reads.{longest, Reads, ReadsDocument};
 ghost use Rattle.script.specs.View.{item_view, body_view, bodies};
 ghost use Rattle.script.specs.declared.fault.Fault.TheVariants.{TooLong};
 ghost use Rattle.script.specs.declared.fault.ScriptFault.TheVariants.{Refused};
@@ -28,8 +28,8 @@ pub const MAX_ITEMS: usize = 65_536;
 
 /// The script that a text of JSON is, or its first fault. `NoMemory` comes only where a growth was refused.
 pub fn read_script(alloc: Global, text: &[u8]) -> Result<Script, ScriptFault>
-    ensures too_long { MAX_BYTES < length text.now → result ≡ Err (Refused TooLong []) }
-    ensures reads { length text.now ≤ MAX_BYTES → Reads text.now result }
+    ensures too_long { longest < length text.now → result ≡ Err (Refused TooLong []) }
+    ensures reads { length text.now ≤ longest → Reads text.now result }
 {
     let mut walk = Walk::new(alloc);
     if text.len() > MAX_BYTES {
