@@ -109,6 +109,17 @@ one_frame_counted = started ++ enter 1 ∷ event.Round ∷ begin ∷ change ∷ 
 abbrev pub place_given_up : List Event
 place_given_up = started ++ event.Invalidate 1 ∷ event.Look 1 0 ∷ event.At 0 act.Exit ∷ event.Look 1 0 ∷ event.Look 1 1 ∷ event.Weigh 1 ∷ []
 
+-- A publication that began before the round doesn't let the place pass; the next one does.
+abbrev pub publication_begun_before_the_round : List Event
+publication_begun_before_the_round =
+    started ++ begin ∷ event.Invalidate 1 ∷ event.Round ∷ end ∷ event.Look 1 0 ∷ begin ∷ end ∷ event.Look 1 0 ∷ event.Look 1 1 ∷ event.Weigh 1 ∷ []
+
+-- Two threads count one code: two frames at place 0, one at place 1.
+abbrev pub two_threads : List Event
+two_threads =
+    started ++ event.Start ∷ event.At 1 act.Begin ∷ event.At 1 act.End ∷ event.At 1 act.Wake ∷ event.At 1 act.Cross
+    ∷ enter 1 ∷ enter 1 ∷ event.At 1 (act.Enter 0 (Some 1)) ∷ begin ∷ change ∷ end ∷ event.At 1 act.Begin ∷ event.At 1 act.Change ∷ event.At 1 act.End ∷ []
+
 -- What a seat and the keeper know in the middle of a publication: the code is invalidated, and was sent away once; the seat's
 -- open publication is of the moment 2, its last ended one of 1; it counts two frames; the place was looked at in vain.
 abbrev pub amid_a_publication : List Event

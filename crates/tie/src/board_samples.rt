@@ -4,7 +4,7 @@ ghost use Rattle.frames.specs.BoardRule.{first_slot};
 ghost use Rattle.system.specs.declared.events.Act.TheVariants as act;
 ghost use Rattle.system.specs.declared.events.Event.TheVariants as event;
 ghost use Rattle.tie.specs.BoardOf.{slot_at, seat_at};
-ghost use Rattle.tie.specs.BoardSamples.{Makes, Knows, core_after, steps_of_run, words_of, life_of_a_code, steps_of_a_life, words_after_a_life, one_frame_counted, place_given_up, amid_a_publication};
+ghost use Rattle.tie.specs.BoardSamples.{Makes, Knows, core_after, steps_of_run, words_of, life_of_a_code, steps_of_a_life, words_after_a_life, one_frame_counted, place_given_up, publication_begun_before_the_round, two_threads, amid_a_publication};
 
 /// The whole life of a code makes each kind of step, with these codes, places and numbers, in this order.
 pub fn life_of_a_code()
@@ -19,6 +19,17 @@ pub fn one_frame_counted()
 /// A place that was given up holds no moment, lets every look pass, and the code is retired: serial 1, a zombie.
 pub fn place_given_up()
     ensures { words_of (core_after place_given_up) ≡ 6 ∷ 0 ∷ 0 ∷ 0 ∷ 1 ∷ [] }
+{}
+
+/// A publication that began before the round is stored with its own moment, and the look is late; after the next one the code is
+/// retired: serial 1, a zombie, and the moment 2 at place 0.
+pub fn publication_begun_before_the_round()
+    ensures { words_of (core_after publication_begun_before_the_round) ≡ 6 ∷ 0 ∷ 2 ∷ 0 ∷ 2 ∷ [] }
+{}
+
+/// A count is the sum over the seats: serial 1 in use, three frames, the moment 1 at both places.
+pub fn two_threads()
+    ensures { words_of (core_after two_threads) ≡ 4 ∷ 3 ∷ 1 ∷ 1 ∷ 1 ∷ [] }
 {}
 
 /// What a seat knows in the middle of a publication, and what it no longer knows once it has ended.
