@@ -109,6 +109,10 @@ one_frame_counted = started ++ enter 1 ∷ event.Round ∷ begin ∷ change ∷ 
 abbrev pub place_given_up : List Event
 place_given_up = started ++ event.Invalidate 1 ∷ event.Look 1 0 ∷ event.At 0 act.Exit ∷ event.Look 1 0 ∷ event.Look 1 1 ∷ event.Weigh 1 ∷ []
 
+-- A code is invalidated while a frame of it stands unpublished, and looked for before any round.
+abbrev pub look_before_a_round : List Event
+look_before_a_round = started ++ enter 1 ∷ event.Invalidate 1 ∷ event.Weigh 1 ∷ event.Look 1 0 ∷ []
+
 -- A publication that began before the round doesn't let the place pass; the next one does.
 abbrev pub publication_begun_before_the_round : List Event
 publication_begun_before_the_round =

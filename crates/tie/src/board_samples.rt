@@ -4,7 +4,7 @@ ghost use Rattle.frames.specs.BoardRule.{first_slot};
 ghost use Rattle.system.specs.declared.events.Act.TheVariants as act;
 ghost use Rattle.system.specs.declared.events.Event.TheVariants as event;
 ghost use Rattle.tie.specs.BoardOf.{slot_at, seat_at};
-ghost use Rattle.tie.specs.BoardSamples.{Makes, Knows, core_after, steps_of_run, words_of, life_of_a_code, steps_of_a_life, words_after_a_life, one_frame_counted, place_given_up, publication_begun_before_the_round, two_threads, amid_a_publication};
+ghost use Rattle.tie.specs.BoardSamples.{Makes, Knows, core_after, steps_of_run, words_of, life_of_a_code, steps_of_a_life, words_after_a_life, one_frame_counted, place_given_up, look_before_a_round, publication_begun_before_the_round, two_threads, amid_a_publication};
 
 /// The whole life of a code makes each kind of step, with these codes, places and numbers, in this order.
 pub fn life_of_a_code()
@@ -19,6 +19,11 @@ pub fn one_frame_counted()
 /// A place that was given up holds no moment, lets every look pass, and the code is retired: serial 1, a zombie.
 pub fn place_given_up()
     ensures { words_of (core_after place_given_up) ≡ 6 ∷ 0 ∷ 0 ∷ 0 ∷ 1 ∷ [] }
+{}
+
+/// A frame that isn't published yet is in no count, and the place's moment isn't above that of the invalidation: serial 1 not entrant.
+pub fn look_before_a_round()
+    ensures { words_of (core_after look_before_a_round) ≡ 5 ∷ 0 ∷ 1 ∷ 0 ∷ 1 ∷ [] }
 {}
 
 /// A publication that began before the round is stored with its own moment, and the look is late; after the next one the code is

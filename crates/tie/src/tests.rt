@@ -143,6 +143,30 @@ fn place_given_up(rt: HostRuntime) -> Result<(), Fail> {
 }
 
 #[test]
+fn look_before_a_round(rt: HostRuntime) -> Result<(), Fail> {
+    let (board, mut keeper, mut seat) = two_places(rt.alloc())?;
+    seat.read_moment(&board);
+    seat.end_publication(&board);
+    keeper.install(&board, C);
+    assert!(rt; seat.enter(&board, C));
+    keeper.invalidate(&board, C);
+    assert!(rt; matches!(keeper.weigh(&board, C), Weighed::NotLooked(0)));
+    assert!(rt; !keeper.look(&board, C, 0));
+    let closed = board.close(keeper);
+    let (entry, count, first, second, moment) = words(&closed);
+    closed.free();
+    assert!(rt;
+        entry
+            == Entry {
+                serial: 1,
+                state: EntryState::NotEntrant
+            }
+    );
+    assert!(rt; (count, first, second, moment) == (0, 1, 0, 1));
+    Ok(())
+}
+
+#[test]
 fn publication_begun_before_the_round(rt: HostRuntime) -> Result<(), Fail> {
     let (board, mut keeper, mut seat) = two_places(rt.alloc())?;
     seat.read_moment(&board);
