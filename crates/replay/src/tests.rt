@@ -200,7 +200,7 @@ fn the_last_line_needs_no_newline(rt: HostRuntime) -> Result<(), Fail> {
 // `ask depth` with 78 names, the first and the last of 13 digits: a line of so many bytes more than 1023.
 fn long_ask(alloc: Global, more: usize) -> Result<Vec<u8>, Fail> {
     let mut input = b"size 1 1 1\nask depth 1".to_vec(alloc)?;
-    push_times(&mut input, b"0", 10 + more)?;
+    push_times(&mut input, b"0", more.saturating_add(10))?;
     push_times(&mut input, b" 100000000001", 76)?;
     input.extend_from_slice(b" 1000000000000\n")?;
     Ok(input)
