@@ -59,6 +59,14 @@ slot_used_again =
     look 1 0 ⇒ is_clear ∷ weigh 1 ⇒ retired ∷ free 1 ⇒ ok ∷ install 0 ⇒ code 2 ∷ enter_code 0 0 1 ⇒ wrong_method ∷
     enter_code 0 0 2 ⇒ entered ∷ enter_code 0 0 3 ⇒ refused Unknown ∷ resolve 0 ⇒ code 2 ∷ []
 
+-- A method has its next code while a frame of the old one stands; a call of the old code is sent away. (1 place, 4 slots, 2 methods)
+abbrev pub next_code_of_a_method : List Entry
+next_code_of_a_method =
+    start ⇒ thread 1 0 ∷ begin 0 ⇒ ok ∷ end 0 ⇒ ok ∷ wake 0 ⇒ ok ∷ cross 0 ⇒ go ∷ install 0 ⇒ code 1 ∷
+    enter_code 0 0 1 ⇒ entered ∷ invalidate 1 ⇒ ok ∷ install 0 ⇒ code 2 ∷ state 1 ⇒ not_entrant ∷ resolve 0 ⇒ code 2 ∷
+    enter_code 0 0 1 ⇒ wrong_method ∷ enter_code 0 0 2 ⇒ entered ∷ look 1 0 ⇒ late ∷ round ⇒ ok ∷ begin 0 ⇒ ok ∷
+    change 0 ⇒ changes 1 (pos 1) ∷ change 0 ⇒ changes 2 (pos 1) ∷ end 0 ⇒ ok ∷ look 1 0 ⇒ is_clear ∷ weigh 1 ⇒ used 1 ∷ []
+
 -- A handshake goes by names: the next thread at the place isn't its target. (1 place, 4 slots, 2 methods)
 abbrev pub place_used_again : List Entry
 place_used_again =

@@ -37,6 +37,11 @@ pub fn slot_used_again()
     ensures { Plays 1 1 1 Rows.slot_used_again }
 {}
 
+/// A method has its next code while a frame of the old one stands; a call of the old code is sent away.
+pub fn next_code_of_a_method()
+    ensures { Plays 1 4 2 Rows.next_code_of_a_method }
+{}
+
 /// A handshake goes by names: the next thread at the place isn't its target.
 pub fn place_used_again()
     ensures { Plays 1 4 2 Rows.place_used_again }

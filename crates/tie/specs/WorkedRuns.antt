@@ -6,7 +6,7 @@ use Rattle.thread_state.specs.PollRule.{PlaceState}
 use Rattle.system.specs.Log.{Entry}
 use Rattle.system.specs.World.{World, start_world}
 use Rattle.system.specs.Runs.{world_after}
-use Rattle.rows.specs.Rows.{look_before_a_round, reclaimed_after_use, publication_begun_before_the_round, slot_used_again, place_used_again, two_operations_in_turn, held_in_native, safepoint_of_two_threads}
+use Rattle.rows.specs.Rows.{look_before_a_round, reclaimed_after_use, publication_begun_before_the_round, slot_used_again, next_code_of_a_method, place_used_again, two_operations_in_turn, held_in_native, safepoint_of_two_threads}
 use Rattle.tie.specs.BoardOf.{word_by}
 use Rattle.tie.specs.PollRow.{row_of}
 
@@ -79,6 +79,12 @@ PublicationBegunBeforeTheRound =
 -- A freed slot keeps the serial until the next code.
 abbrev pub SlotUsedAgain : Type 0
 SlotUsedAgain = Words slot_used_again 1 1 15 (7 ∷ 0 ∷ 2 ∷ 2 ∷ []) × Words slot_used_again 1 1 20 (8 ∷ 0 ∷ 2 ∷ 2 ∷ [])
+
+-- Both codes of a method stand: after the calls, in the middle of the publication, and after it.
+abbrev pub NextCodeOfAMethod : Type 0
+NextCodeOfAMethod =
+    Words next_code_of_a_method 1 4 13 (5 ∷ 8 ∷ 3 ∷ 3 ∷ 0 ∷ 0 ∷ 0 ∷ 0 ∷ 1 ∷ 1 ∷ []) × Words next_code_of_a_method 1 4 17 (5 ∷ 8 ∷ 3 ∷ 3 ∷ 1 ∷ 0 ∷ 0 ∷ 0 ∷ 1 ∷ 2 ∷ [])
+    × Words next_code_of_a_method 1 4 21 (5 ∷ 8 ∷ 3 ∷ 3 ∷ 1 ∷ 1 ∷ 0 ∷ 0 ∷ 2 ∷ 2 ∷ [])
 
 -- Two threads count frames of one code.
 abbrev pub TwoThreadsCount : Type 0

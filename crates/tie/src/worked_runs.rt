@@ -1,5 +1,5 @@
 // The words of worked runs, computed on the definitions.
-ghost use Rattle.tie.specs.WorkedRuns.{PlaceUsedAgain, TwoOperations, HeldInNative, TwoThreadsAtASafepoint, LookBeforeARound, ReclaimedAfterUse, PublicationBegunBeforeTheRound, SlotUsedAgain, TwoThreadsCount};
+ghost use Rattle.tie.specs.WorkedRuns.{PlaceUsedAgain, TwoOperations, HeldInNative, TwoThreadsAtASafepoint, LookBeforeARound, ReclaimedAfterUse, PublicationBegunBeforeTheRound, SlotUsedAgain, NextCodeOfAMethod, TwoThreadsCount};
 
 /// A name that is gone isn't told, so the next thread at its place polls 0.
 pub fn place_used_again()
@@ -39,6 +39,11 @@ pub fn publication_begun_before_the_round()
 /// A freed slot, and its next code.
 pub fn slot_used_again()
     ensures { SlotUsedAgain }
+{}
+
+/// The two codes of a method, while a frame of each stands.
+pub fn next_code_of_a_method()
+    ensures { NextCodeOfAMethod }
 {}
 
 /// The count of a code over two threads, after the first and after both have published.

@@ -126,3 +126,65 @@ fn a_place_is_used_again(rt: HostRuntime) -> Result<(), Fail> {
     assert!(rt; (after_gone, told, after) == (0, 2, 0));
     Ok(())
 }
+
+// The row of three places, its armer, and the pollers of places 0 and 1.
+fn three_places(alloc: Global) -> Result<(PollRow, Armer, Poller, Poller), AllocError>
+    ensures tables { IfOk result (λ t. (t.1.table ≡ t.0) × (t.2.table ≡ t.0) × (t.3.table ≡ t.0)) }
+    ensures armed { IfOk result (λ t. t.1.seen.armed ≡ 0 ∷ 0 ∷ 0 ∷ []) }
+{
+    let (row, armer, mut pollers) = PollRow::new(alloc, 3)?;
+    let second = pollers.swap_remove(1);
+    let first = pollers.swap_remove(0);
+    Ok((row, armer, first, second))
+}
+
+// A census is told to a thread in native code and to one in Java, which are held and let go.
+fn census_by_core(alloc: Global) -> Result<Option<Vec<Said>>, AllocError> {
+    let mut events = Vec::new(alloc);
+    started(&mut events, 0)?;
+    started(&mut events, 1)?;
+    acts(&mut events, 0, &[Act::ToNative])?;
+    events.push(Event::Ask(Request::Census))?;
+    events.push(Event::Open)?;
+    events.push(Event::Tell(1))?;
+    events.push(Event::Tell(2))?;
+    acts(&mut events, 0, &[Act::Hold])?;
+    acts(&mut events, 1, &[Act::Edge, Act::Hold])?;
+    events.push(Event::Operate)?;
+    acts(&mut events, 0, &[Act::Clear, Act::Release])?;
+    acts(&mut events, 1, &[Act::Clear, Act::Release])?;
+    events.push(Event::Close)?;
+    acts(&mut events, 1, &[Act::Take, Act::Cross])?;
+    let Ok(mut core) = System::new(alloc, 3, 4, 2) else {
+        return Ok(None);
+    };
+    Ok(core_says(&mut core, alloc, &events, Of::Row))
+}
+
+// A census arms both places, and each is cleared by itself.
+#[test]
+fn two_threads_at_a_safepoint(rt: HostRuntime) -> Result<(), Fail> {
+    let Some(by_core) = census_by_core(rt.alloc())? else {
+        panic!(rt; "refused");
+    };
+    let (row, mut armer, mut first, mut second) = three_places(rt.alloc())?;
+    let first_started = first.poll(&row);
+    let second_started = second.poll(&row);
+    armer.arm(&row, 0, 1);
+    armer.arm(&row, 1, 1);
+    let stopped = second.poll(&row);
+    let first_cleared = first.clear(&row, 1);
+    let second_cleared = second.clear(&row, 1);
+    let crossed = second.poll(&row);
+    let polls = [
+        Said::Polled(first_started),
+        Said::Polled(second_started),
+        Said::Polled(stopped),
+        Said::Polled(crossed),
+    ];
+    assert!(rt; by_core.as_slice() == polls.as_slice());
+    assert!(rt; first_cleared && second_cleared);
+    assert!(rt; (armer.last(0), armer.last(1), armer.last(2)) == (1, 1, 0));
+    assert!(rt; (first.poll(&row), stopped) == (0, 1));
+    Ok(())
+}
