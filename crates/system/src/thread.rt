@@ -76,12 +76,12 @@ impl Thread {
         &mut self,
         act: Act,
         table: &MethodTable,
-        open: &Option<Open>,
+        operation: &Option<Open>,
         now: u64,
     ) -> Result<Answer, Refusal>
         requires plain { is_plain act ≡ true }
         requires few { table.now.methods ≤ 256 }
-        ensures { (w : World) (t : _) → table.now.codes ≡ w.codes → table.now.methods ≡ w.methods → IsHere open.now self.old w.requests t → Did act open.now w.requests now (acts.here w act t) self.old self.new t result }
+        ensures { (w : World) (t : _) → table.now.codes ≡ w.codes → table.now.methods ≡ w.methods → IsHere operation.now self.old w.requests t → Did act operation.now w.requests now (acts.here w act t) self.old self.new t result }
     {
         if let Some(refusal) = self.common_refusal(act) {
             return Err(refusal);
@@ -96,10 +96,10 @@ impl Thread {
             Act::ToVm => self.moves(Move::ToVm),
             Act::ToNative => self.moves(Move::ToNative),
             Act::Block => self.moves(Move::Block),
-            Act::Take => self.take(open),
-            Act::Finish => self.finish(open),
-            Act::Clear => self.clear(open),
-            Act::Hold => self.hold(open),
+            Act::Take => self.take(operation),
+            Act::Finish => self.finish(operation),
+            Act::Clear => self.clear(operation),
+            Act::Hold => self.hold(operation),
             Act::Release => self.release(),
             Act::Change | Act::Exit | Act::Stack => unreachable!(),
         }
@@ -260,22 +260,22 @@ impl Thread {
     }
 
     // A census is open that was told to the thread and isn't operated.
-    fn awaits_census(&self, open: &Option<Open>) -> bool
-        ensures { (requests : Asked) → OpenBy open.now self.now requests requests.opened → result ≡ awaits_census requests self.now.name }
+    fn awaits_census(&self, operation: &Option<Open>) -> bool
+        ensures { (requests : Asked) → OpenBy operation.now self.now requests requests.opened → result ≡ awaits_census requests self.now.name }
     {
-        match open {
+        match operation {
             None => false,
             Some(open) => open.is_census() && !open.operated && self.marks.told == open.number,
         }
     }
 
-    fn take(&mut self, open: &Option<Open>) -> Result<Answer, Refusal>
-        ensures { (w : World) (t : _) → IsHere open.now self.old w.requests t → DidStay (acts.does w TheActs.Take t) self.old self.new t result }
+    fn take(&mut self, operation: &Option<Open>) -> Result<Answer, Refusal>
+        ensures { (w : World) (t : _) → IsHere operation.now self.old w.requests t → DidStay (acts.does w TheActs.Take t) self.old self.new t result }
     {
         if self.held {
             return Err(Refusal::Held);
         }
-        if self.awaits_census(open) {
+        if self.awaits_census(operation) {
             return Err(Refusal::NotDone);
         }
         self.moves(Move::Take)
@@ -325,10 +325,10 @@ impl Thread {
     }
 
     // The callback of a handshake, once for each target, on a published stack. (JEP 312)
-    fn finish(&mut self, open: &Option<Open>) -> Result<Answer, Refusal>
-        ensures { (w : World) (now : ℕ) (t : _) → IsHere open.now self.old w.requests t → Did TheActs.Finish open.now w.requests now (acts.does w TheActs.Finish t) self.old self.new t result }
+    fn finish(&mut self, operation: &Option<Open>) -> Result<Answer, Refusal>
+        ensures { (w : World) (now : ℕ) (t : _) → IsHere operation.now self.old w.requests t → Did TheActs.Finish operation.now w.requests now (acts.does w TheActs.Finish t) self.old self.new t result }
     {
-        let Some(open) = open else {
+        let Some(open) = operation else {
             return Err(Refusal::NothingOpen);
         };
         let Request::Handshake { ask, .. } = &open.request else {
@@ -351,10 +351,10 @@ impl Thread {
     }
 
     // The thread may go on once its own work is done. (JEP 312)
-    fn clear(&mut self, open: &Option<Open>) -> Result<Answer, Refusal>
-        ensures { (w : World) (now : ℕ) (t : _) → IsHere open.now self.old w.requests t → Did TheActs.Clear open.now w.requests now (acts.does w TheActs.Clear t) self.old self.new t result }
+    fn clear(&mut self, operation: &Option<Open>) -> Result<Answer, Refusal>
+        ensures { (w : World) (now : ℕ) (t : _) → IsHere operation.now self.old w.requests t → Did TheActs.Clear operation.now w.requests now (acts.does w TheActs.Clear t) self.old self.new t result }
     {
-        let Some(open) = open else {
+        let Some(open) = operation else {
             return Err(Refusal::NothingOpen);
         };
         if !open.request.is_target(self.name) {
@@ -374,10 +374,10 @@ impl Thread {
     }
 
     // The coordinator keeps a thread blocked in a safe state. (JEP 312)
-    fn hold(&mut self, open: &Option<Open>) -> Result<Answer, Refusal>
-        ensures { (w : World) (t : _) → IsHere open.now self.old w.requests t → DidStay (acts.does w TheActs.Hold t) self.old self.new t result }
+    fn hold(&mut self, operation: &Option<Open>) -> Result<Answer, Refusal>
+        ensures { (w : World) (t : _) → IsHere operation.now self.old w.requests t → DidStay (acts.does w TheActs.Hold t) self.old self.new t result }
     {
-        let Some(open) = open else {
+        let Some(open) = operation else {
             return Err(Refusal::NothingOpen);
         };
         if !open.request.is_target(self.name) {
