@@ -1,10 +1,10 @@
 -- A body of which some items are checked and laid out.
-use Rattle.std.proofs.Common.{◌≡◌, ℕ, zero, suc, ◌+◌, ◌<◌, ◌≤◌, List, [], ◌∷◌, ◌++◌, length, drop, get_or, map, refl, sym, ap, subst, ◌∙◌, append-nil, add-one, drop-cons, arith}
+use Rattle.std.proofs.Common.{◌≡◌, ℕ, ◌+◌, ◌<◌, ◌≤◌, List, [], ◌++◌, length, drop, get_or, sym, ap, subst, ◌∙◌, append-nil, add-one, drop-cons}
 use Rattle.std.proofs.lemmas.List.{drop_all}
 use Rattle.script.specs.declared.code.Op.{Op}
 use Rattle.script.specs.declared.items.Item.{Item}
 use Rattle.script.specs.declared.fault.ScriptFault.{ScriptFault}
-use Rattle.script.specs.Body.{Body, finish}
+use Rattle.script.specs.Body.{Body}
 use Rattle.script.specs.Checks.{body_faults}
 use Rattle.script.specs.Faults.{IsFirst}
 use Rattle.script.specs.Layout.{ops}

@@ -1,12 +1,12 @@
 -- One item that was checked and laid out.
-use Rattle.std.proofs.Common.{◌≡◌, ℕ, suc, ◌+◌, ◌<◌, ◌≤◌, List, [], ◌∷◌, ◌++◌, Vec, Global, length, nat_lt, nat_le, true, cond, ◌&&◌, refl, sym, ap, subst, ◌∙◌, append_assoc, length-append, arith}
+use Rattle.std.proofs.Common.{◌≡◌, ℕ, ◌+◌, ◌<◌, ◌≤◌, List, [], ◌∷◌, ◌++◌, Vec, Global, length, nat_lt, nat_le, true, sym, ap, subst, ◌∙◌, append_assoc, length-append, arith}
 use Rattle.std.proofs.lemmas.Bool.Decides.{nat_tests}
 use Rattle.script.specs.declared.items.Action.{Action}
 use Rattle.script.specs.declared.items.Item as item
 use Rattle.script.specs.declared.code.Op.{Op}
 use Rattle.script.specs.declared.code.Op.TheVariants as op
 use Rattle.script.specs.declared.fault.ScriptFault.{ScriptFault}
-use Rattle.script.specs.Body.{Body, act, loop}
+use Rattle.script.specs.Body.{Body}
 use Rattle.script.specs.Checks.{action_faults, loop_faults, body_faults}
 use Rattle.script.specs.Faults.{IsFirst}
 use Rattle.script.specs.Layout.{ops}

@@ -1,12 +1,12 @@
 -- One item that was read, by its shape.
-use Rattle.std.proofs.Common.{◌≡◌, ℕ, suc, ◌+◌, ◌<◌, List, [], ◌∷◌, ◌++◌, Some, None, Vec, Global, inl, inr, nat_lt, true, cond, refl, sym, ap, subst, ◌∙◌, arith, rules}
+use Rattle.std.proofs.Common.{◌≡◌, ℕ, ◌+◌, ◌<◌, List, [], ◌∷◌, ◌++◌, Some, Vec, Global, inl, inr, nat_lt, true, sym, ap, subst, ◌∙◌, arith, rules}
 use Rattle.std.proofs.lemmas.Bool.Decides.{nat_tests}
 use Rattle.serde_json.specs.Data.{Data, Items}
 use Rattle.script.specs.declared.items.Action.{Action}
 use Rattle.script.specs.declared.items.Item as item
 use Rattle.script.specs.declared.fault.ScriptFault.{ScriptFault}
 use Rattle.script.specs.Body.{Body, act, loop}
-use Rattle.script.specs.Outline.{Outline, action, turns, sound, count}
+use Rattle.script.specs.Outline.{Outline, turns, sound, count}
 use Rattle.script.specs.Shape.{one, many, shape}
 use Rattle.script.specs.Json.{sketch, outline}
 use Rattle.script.specs.Faults.{faults, crowded, first, IsFirst}

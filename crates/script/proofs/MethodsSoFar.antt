@@ -1,5 +1,5 @@
 -- A script of which some methods are read.
-use Rattle.std.proofs.Common.{◌≡◌, ℕ, suc, ◌+◌, ◌<◌, ◌≤◌, List, [], ◌∷◌, ◌++◌, length, drop, get_or, map, Option, option_map, refl, sym, ap, ◌∙◌, append_assoc, append-nil, subst, add-one, drop-cons, arith}
+use Rattle.std.proofs.Common.{◌≡◌, ℕ, suc, ◌+◌, ◌<◌, ◌≤◌, List, [], ◌∷◌, ◌++◌, length, drop, get_or, map, option_map, refl, sym, ap, ◌∙◌, append-nil, subst, add-one, drop-cons}
 use Rattle.std.proofs.lemmas.List.{drop_all}
 use Rattle.serde_json.specs.Events.{items_len}
 use Rattle.serde_json.specs.Find.{as_array}
@@ -8,7 +8,6 @@ use Rattle.serde_json.specs.declared.value.Value.{Value}
 use Rattle.script.specs.declared.items.Method.{Method}
 use Rattle.script.specs.declared.fault.ScriptFault.{ScriptFault}
 use Rattle.script.specs.Body.{Body}
-use Rattle.script.specs.Outline.{Outline}
 use Rattle.script.specs.Json.{outline, method_outlines, some_sound}
 use Rattle.script.specs.Faults.{method_faults, method_count, methods_faults, IsFirst}
 use Rattle.script.specs.View.{body_view}

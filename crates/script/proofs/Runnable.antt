@@ -1,14 +1,12 @@
 -- A script without a fault is laid out as code that runs without a test.
-use Rattle.std.proofs.Common.{◌≡◌, ℕ, zero, suc, ◌+◌, ◌<◌, ◌≤◌, List, [], ◌∷◌, ◌++◌, length, map, nat_lt, nat_le, Bool, true, false, cond, ◌&&◌, IfSome, Option, Some, None, refl, sym, ap, subst, ◌∙◌, add-zero, zero-add, length-append, slice_get, arith}
-use Rattle.std.specs.Prelude.{⊤, option_and_then}
+use Rattle.std.proofs.Common.{◌≡◌, ℕ, zero, suc, ◌+◌, ◌<◌, ◌≤◌, List, [], ◌∷◌, ◌++◌, length, map, nat_lt, nat_le, Bool, true, false, cond, ◌&&◌, IfSome, refl, sym, ap, subst, add-zero, zero-add, slice_get, arith}
+use Rattle.std.specs.Prelude.{option_and_then}
 use Rattle.std.proofs.lemmas.Bool.Decides.{nat_tests}
 use Rattle.script.specs.declared.items.Action.{Action}
 use Rattle.script.specs.declared.items.Action.TheVariants.{Native, Vm, Block, Tick, Call}
 use Rattle.script.specs.declared.code.Op.{Op}
 use Rattle.script.specs.declared.code.Op.TheVariants as op
 use Rattle.script.specs.declared.fault.ScriptFault.{ScriptFault}
-use Rattle.script.specs.declared.fault.Fault.{Fault}
-use Rattle.script.specs.declared.fault.ScriptFault.TheVariants.{Refused}
 use Rattle.script.specs.Body.{Body, finish, act, loop}
 use Rattle.script.specs.Checks.{action_faults, loop_faults, body_faults, bodies_faults, script_faults}
 use Rattle.script.specs.Checked.{IsChecked, AllChecked, AreChecked}

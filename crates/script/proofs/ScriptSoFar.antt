@@ -1,10 +1,9 @@
 -- A script of which some methods are checked and laid out.
-use Rattle.std.proofs.Common.{◌≡◌, ℕ, suc, ◌+◌, ◌<◌, ◌≤◌, List, [], ◌∷◌, ◌++◌, length, drop, get_or, map, refl, sym, ap, subst, ◌∙◌, append_assoc, append-nil, add-one, drop-cons, arith}
+use Rattle.std.proofs.Common.{◌≡◌, ℕ, suc, ◌+◌, ◌<◌, ◌≤◌, List, [], ◌∷◌, ◌++◌, length, drop, get_or, map, refl, sym, ap, subst, ◌∙◌, append_assoc, append-nil, add-one, drop-cons}
 use Rattle.std.proofs.lemmas.List.{drop_all}
 use Rattle.script.specs.declared.code.Op.{Op}
 use Rattle.script.specs.declared.items.Method.{Method}
 use Rattle.script.specs.declared.fault.ScriptFault.{ScriptFault}
-use Rattle.script.specs.Body.{Body}
 use Rattle.script.specs.Checks.{body_faults, bodies_faults}
 use Rattle.script.specs.Faults.{IsFirst}
 use Rattle.script.specs.Layout.{routine}

@@ -1,11 +1,11 @@
 -- The shape of an object whose members are counted.
-use Rattle.std.proofs.Common.{◌≡◌, ◌≢◌, ℕ, suc, List, [], ◌∷◌, length, Option, None, refl, ap, sym, ◌∙◌, eqb, cond, false, true, codes, arith, rules, BTreeMap, String, Global}
+use Rattle.std.proofs.Common.{◌≡◌, ◌≢◌, ℕ, suc, List, [], ◌∷◌, length, None, refl, ap, ◌∙◌, eqb, cond, codes, rules, BTreeMap, String, Global}
 use Rattle.std.proofs.lemmas.Bool.{ne_eqb}
 use Rattle.serde_json.specs.Data.{Data, object, Members}
 use Rattle.serde_json.specs.Events.{members_len}
 use Rattle.serde_json.specs.View.{view, members_view}
 use Rattle.serde_json.specs.declared.value.Value.{Value, Object, the_lemmas}
-use Rattle.script.specs.Shape.{Shape, shape, call_in, loop_in, array_at}
+use Rattle.script.specs.Shape.{shape, call_in, loop_in, array_at}
 use Rattle.script.specs.Json.{methods_in}
 
 members_len-members_view : (es : List (String Global × Value)) → members_len (members_view es) ≡ length es

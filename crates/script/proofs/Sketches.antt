@@ -1,5 +1,5 @@
 -- What a value's shape says of its sketch.
-use Rattle.std.proofs.Common.{◌≡◌, ℕ, ◌+◌, ◌*◌, ◌<◌, ◌≤◌, List, [], ◌∷◌, ◌++◌, Option, Some, None, option_map, option_and_then, Ordering, Less, Equal, Greater, cond, true, false, Bool, codes, nat_cmp, refl, sym, ap, subst, ◌∙◌, ◌==◌, arith}
+use Rattle.std.proofs.Common.{◌≡◌, ℕ, ◌+◌, ◌<◌, List, Option, Some, None, option_map, option_and_then, Ordering, Less, Equal, Greater, cond, true, false, Bool, codes, nat_cmp, refl, ap, subst, ◌∙◌, ◌==◌, arith}
 use Rattle.std.specs.Ordering.{match_ordering}
 use Rattle.std.specs.Cmp.Lexicographic.{slice_cmp}
 use Rattle.serde_json.specs.Data.{Data, null, boolean, number, string, array, object, Items, Members, no_members, member, depth, items_depth, members_depth}
@@ -8,7 +8,7 @@ use Rattle.script.specs.declared.items.Action.{Action}
 use Rattle.script.specs.declared.items.Action.TheVariants.{Call}
 use Rattle.serde_json.specs.Find.{get_member, as_array}
 use Rattle.script.specs.Outline.{Outline, end, action, turns, wrong}
-use Rattle.script.specs.Shape.{Shape, one, many, shape, object_shape, call_in, loop_in, number_at, array_at, action_named}
+use Rattle.script.specs.Shape.{one, many, shape, call_in, loop_in, number_at, array_at, action_named}
 use Rattle.script.specs.Json.{drawn, sketch, inner_outline, array_outline, outline}
 
 -- the body inside, where there is one

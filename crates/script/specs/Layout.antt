@@ -1,5 +1,5 @@
 -- A body as flat steps. A loop is the steps of its body and then its edge; entering a loop is no step.
-use Rattle.std.specs.Prelude.{◌≡◌, ℕ, ◌+◌, ◌<◌, ◌≤◌, List, [], ◌∷◌, ◌++◌, length, ⊤}
+use Rattle.std.specs.Prelude.{ℕ, ◌+◌, ◌<◌, ◌≤◌, List, [], ◌∷◌, ◌++◌, length, ⊤}
 use Rattle.script.specs.declared.items.Action.{Action}
 use Rattle.script.specs.declared.items.Action.TheVariants.{Native, Vm, Block, Tick, Call}
 use Rattle.script.specs.declared.code.Op.{Op}

@@ -1,8 +1,8 @@
 -- What reading a text as a script answers.
-use Rattle.std.specs.Prelude.{◌≡◌, ℕ, ◌<◌, ◌≤◌, ◌⊎◌, List, [], length, map, Option, Some, None, option_map, Result, Ok, Err, IsUtf8}
+use Rattle.std.specs.Prelude.{◌≡◌, ℕ, ◌⊎◌, List, [], map, Some, None, option_map, Result, Ok, Err, IsUtf8}
 use Rattle.serde_json.specs.Data.{Data}
 use Rattle.serde_json.specs.Read.{read}
-use Rattle.script.specs.declared.fault.Fault.TheVariants.{TooLong, NotJson}
+use Rattle.script.specs.declared.fault.Fault.TheVariants.{NotJson}
 use Rattle.script.specs.declared.fault.ScriptFault.{ScriptFault}
 use Rattle.script.specs.declared.fault.ScriptFault.TheVariants.{Refused, NoMemory}
 use Rattle.script.specs.declared.items.Script.{Script}

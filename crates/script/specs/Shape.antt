@@ -1,5 +1,5 @@
 -- What one JSON value is as an item, by its words and keys.
-use Rattle.std.specs.Prelude.{ℕ, suc, ◌==◌, List, Bool, Option, Some, None, option_map, option_and_then, if◌then◌else◌, codes, bytes_eq}
+use Rattle.std.specs.Prelude.{ℕ, ◌==◌, List, Option, Some, None, option_map, option_and_then, if◌then◌else◌, codes, bytes_eq}
 use Rattle.serde_json.specs.Data.{Data, null, boolean, number, string, array, object, Items, Members}
 use Rattle.serde_json.specs.Find.{get, as_number, as_u64, as_array}
 use Rattle.serde_json.specs.Events.{members_len}

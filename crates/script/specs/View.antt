@@ -1,10 +1,8 @@
 -- The script that the types of `src/` hold.
-use Rattle.std.specs.Prelude.{ℕ, List, [], ◌∷◌, map}
-use Rattle.serde_json.specs.View.{items_view}
+use Rattle.std.specs.Prelude.{List, [], ◌∷◌, map}
 use Rattle.script.specs.declared.items.Item.{Item}
 use Rattle.script.specs.declared.items.Item.TheOpen.{Item-F}
 use Rattle.script.specs.declared.items.Item.TheFolds.{fold-Item}
-use Rattle.script.specs.declared.items.Method.{Method}
 use Rattle.script.specs.declared.items.Script.{Script}
 use Rattle.script.specs.Body.{Body, finish, act, loop}
 

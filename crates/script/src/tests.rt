@@ -275,6 +275,39 @@ fn code_is_flat(rt: HostRuntime) -> Result<(), Fail> {
     Ok(())
 }
 
+// With each allocation failing in turn, this shows that a text is answered as ever, or with NoMemory.
+#[test]
+fn refused_memory_is_told(rt: HostRuntime) -> Result<(), Fail> {
+    let alloc = rt.alloc();
+    for (text, wanted) in [
+        (LOOP_OF_CALLS, None),
+        (
+            b"{\"methods\":[[],[\"tick\",{\"loop\":2,\"body\":[\"tock\"]}]]}".as_slice(),
+            Some((Fault::BadShape, [1, 1, 0].as_slice())),
+        ),
+        (
+            b"{\"methods\":[[],[{\"loop\":2,\"body\":[{\"call\":2}]}]]}".as_slice(),
+            Some((Fault::BadCall, [1, 0, 0].as_slice())),
+        ),
+    ] {
+        let found = match read_script(alloc, text) {
+            Ok(script) => match check(alloc, &script) {
+                Ok(_) => None,
+                Err(fault) => Some(fault),
+            },
+            Err(fault) => Some(fault),
+        };
+        match found {
+            Some(ScriptFault::NoMemory) => (),
+            Some(ScriptFault::Refused { fault, place }) => {
+                assert!(rt; wanted == Some((fault, place.numbers())));
+            }
+            None => assert!(rt; wanted.is_none()),
+        }
+    }
+    Ok(())
+}
+
 #[test]
 fn places_are_lists_of_numbers(rt: HostRuntime) -> Result<(), Fail> {
     let alloc = rt.alloc();

@@ -29,7 +29,8 @@ impl Walk {
 
     /// That fault at this place. It takes no memory.
     pub fn refuse(&mut self, fault: Fault) -> ScriptFault
-        ensures { result ≡ Refused fault self.old.place }
+        ensures fault { result ≡ Refused fault self.old.place }
+        ensures items { self.new.items ≡ self.old.items }
     {
         let place = mem::replace(&mut self.place, Place::document(self.alloc));
         ScriptFault::Refused { fault, place }

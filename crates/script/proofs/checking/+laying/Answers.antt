@@ -1,7 +1,6 @@
-use Rattle.std.proofs.Common.{◌≡◌, ℕ, ◌+◌, ◌<◌, ◌≤◌, ◌∷◌, ◌++◌, [], length, get_or, sym, ap, ◌∙◌, arith, rules}
-use Rattle.std.proofs.lemmas.Result.{err_from_is_err_and}
+use Rattle.std.proofs.Common.{◌≡◌, ℕ, ◌∷◌, ◌++◌, [], length, ap, ◌∙◌, arith}
 use Rattle.script.specs.declared.code.Op.TheVariants.{Edge}
-use Rattle.script.proofs.CheckedSoFar.{checked_next, checked_refused, checked_whole}
+use Rattle.script.proofs.CheckedSoFar.{checked_next, checked_whole}
 use Rattle.script.proofs.ItemChecked.{ItemChecked, checked_action, checked_loop}
 use Rattle.script.proofs.checking.+laying.Goals as goal
 use Rattle.script.proofs.checking.+laying.Goals.{lay_item-in-Action+in_ok-lay_action-in-Action, lay_item-in-Loop+else-turns-eq0+else-turns-gt-MAX_TURNS+else-level-ge-MAX_LEVELS+in_ok-lay_items-in-Loop+in_ok-push-in-Loop}

@@ -1,7 +1,6 @@
-use Rattle.std.proofs.Common.{◌≡◌, [], length, map, sym, subst, ◌∙◌, arith}
-use Rattle.script.specs.View.{bodies}
+use Rattle.std.proofs.Common.{◌≡◌, [], length, map, sym, subst, arith}
 use Rattle.script.specs.Checks.{bodies_faults, script_faults}
-use Rattle.script.specs.Layout.{routine, IsRunnable}
+use Rattle.script.specs.Layout.{IsRunnable}
 use Rattle.script.proofs.MethodsSoFar.{method_view}
 use Rattle.script.proofs.Runnable.{runnable, checked}
 use Rattle.script.proofs.ScriptSoFar.{script_whole, length-bodies}

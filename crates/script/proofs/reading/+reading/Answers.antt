@@ -1,4 +1,4 @@
-use Rattle.std.proofs.Common.{◌≡◌, ℕ, Some, ◌+◌, ◌<◌, ◌≤◌, ◌∷◌, ◌++◌, [], length, get_or, sym, ap, ◌∙◌, arith, rules}
+use Rattle.std.proofs.Common.{◌≡◌, ℕ, Some, ◌∷◌, ◌++◌, [], sym, ap, ◌∙◌, arith}
 use Rattle.std.proofs.lemmas.Result.{err_from_is_err_and}
 use Rattle.script.proofs.Sketches.{is_loop}
 use Rattle.serde_json.specs.Data.{Data}
@@ -9,7 +9,7 @@ use Rattle.script.specs.declared.shape.Shape.{Shape}
 use Rattle.script.specs.declared.shape.Shape.TheVariants.{Action, Loop}
 use Rattle.script.proofs.ItemRead.{ItemRead, item_one, item_many, inside_first}
 use Rattle.script.proofs.reading.+reading.Goals.{read_item-in-Action, read_item-in-Loop+in_ok-read_items-in-Loop}
-use Rattle.script.proofs.SoFar.{SoFar, so_far_start, so_far_next, so_far_refused, so_far_whole, item_depth}
+use Rattle.script.proofs.SoFar.{so_far_start, so_far_next, so_far_refused, so_far_whole, item_depth}
 use Rattle.script.proofs.reading.+reading.Goals as goal
 
 shape_is : (d : Data) (s x : Shape) → Some (shape_view s) ≡ shape d → s ≡ x → shape d ≡ Some (shape_view x)

@@ -1,11 +1,6 @@
-use Rattle.std.proofs.Common.{◌≡◌, ℕ, ◌+◌, ◌*◌, drop}
+use Rattle.std.proofs.Common.{◌+◌, ◌*◌}
 use Rattle.serde_json.specs.Data.{depth, items_depth}
 use Rattle.serde_json.specs.View.{view, items_view}
-use Rattle.script.specs.Body.{Body}
-use Rattle.script.specs.Outline.{sound, count}
-use Rattle.script.specs.Json.{outline}
-use Rattle.script.specs.Faults.{faults}
-use Rattle.script.specs.View.{items_before}
 use Rattle.script.proofs.SoFar.{SoFar}
 use Rattle.script.proofs.reading.+reading.Given as goal
 

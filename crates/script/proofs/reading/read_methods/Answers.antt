@@ -1,4 +1,3 @@
-use Rattle.std.proofs.Common.{arith}
 use Rattle.std.proofs.lemmas.Result.{err_from_is_err_and}
 use Rattle.script.proofs.MethodsSoFar.{methods_start, methods_next, methods_refused, methods_whole}
 use Rattle.script.proofs.reading.read_methods.Goals as goal

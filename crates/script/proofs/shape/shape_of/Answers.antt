@@ -1,4 +1,4 @@
-use Rattle.std.proofs.Common.{◌≡◌, sym, ◌∙◌, arith, rules}
+use Rattle.std.proofs.Common.{sym, ◌∙◌, arith}
 use Rattle.script.proofs.Shapes.{shape_of_one, shape_of_two, shape_of_other}
 use Rattle.script.proofs.shape.shape_of.Goals as goal
 

@@ -1,5 +1,5 @@
 use Rattle.std.proofs.Common.{IfSome, length, sym, subst}
-use Rattle.script.specs.Layout.{IsRunnable, IsInRange}
+use Rattle.script.specs.Layout.{IsInRange}
 use Rattle.script.proofs.Runnable.{runs}
 use Rattle.script.proofs.code.Code.op.Goals as goal
 
