@@ -1,12 +1,12 @@
 -- How a run goes on: each move makes the first mark of what is left.
-use Rattle.std.proofs.Common.{◌≡◌, ℕ, zero, suc, ◌+◌, ◌-◌, ◌<◌, ◌≤◌, List, [], ◌∷◌, ◌++◌, length, map, get_or, set, nat_lt, Bool, true, false, cond, Option, Some, None, inl, inr, slice_get, unwrap_or, option_and_then, refl, sym, ap, subst, ◌∙◌, zero-add, length-set, arith}
+use Rattle.std.proofs.Common.{◌≡◌, ℕ, zero, suc, ◌+◌, ◌-◌, ◌<◌, ◌≤◌, List, [], ◌∷◌, length, map, get_or, set, nat_lt, Bool, true, false, cond, Option, Some, None, inl, inr, slice_get, option_and_then, refl, sym, ap, subst, ◌∙◌, length-set, arith}
 use Rattle.std.specs.Prelude.{⊤}
 use Rattle.std.proofs.lemmas.Bool.Decides.{nat_tests}
 use Rattle.script.specs.declared.items.Action.{Action}
 use Rattle.script.specs.declared.items.Action.TheVariants as does
 use Rattle.script.specs.declared.code.Op.{Op}
 use Rattle.script.specs.declared.code.Op.TheVariants as op
-use Rattle.script.specs.Body.{Body, finish}
+use Rattle.script.specs.Body.{Body}
 use Rattle.script.specs.Checked.{IsChecked, AllChecked, AreChecked}
 use Rattle.script.specs.Layout.{ops, routine}
 use Rattle.interp.specs.declared.mark.Mark.{Mark}
@@ -14,13 +14,12 @@ use Rattle.interp.specs.declared.mark.Mark.TheVariants as mark
 use Rattle.interp.specs.declared.frame.Frame.{Frame}
 use Rattle.interp.specs.declared.frame.Phase.{Phase}
 use Rattle.interp.specs.declared.frame.Phase.TheVariants as phase
-use Rattle.interp.specs.declared.frame.Move.{Move}
 use Rattle.interp.specs.declared.frame.Move.TheVariants as move
 use Rattle.interp.specs.declared.frame.Ahead.{Ahead}
 use Rattle.interp.specs.declared.frame.Ahead.TheVariants as ahead
-use Rattle.interp.specs.Trace.{Trace, finished, overflowed, made, followed, action_trace, body_trace, body_of, method_trace, trace}
+use Rattle.interp.specs.Trace.{Trace, finished, overflowed, made, followed, action_trace, body_trace, body_of, method_trace}
 use Rattle.interp.specs.Left.{IsQuiet, At, FrameAt, Stand, LeftIn}
-use Rattle.interp.specs.Moves.{fresh, passed, turned_frame, Moved, action_ahead, op_ahead, op_at, ahead_of}
+use Rattle.interp.specs.Moves.{fresh, passed, Moved, action_ahead, op_ahead, op_at, ahead_of}
 use Rattle.interp.proofs.Sequence.{followed-assoc}
 use Rattle.interp.proofs.Next.{start, Turns, Next, next}
 use Rattle.interp.proofs.Stands.{stand-length, stand-push, stand-pop}

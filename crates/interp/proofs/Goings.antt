@@ -1,19 +1,14 @@
 -- What comes next of a runner, for whatever it stands for.
-use Rattle.std.proofs.Common.{◌≡◌, ℕ, ◌+◌, ◌-◌, ◌^◌, ◌≤◌, min, List, [], ◌∷◌, ◌++◌, length, map, refl, sym, ap, subst, ◌∙◌, length-append, arith}
-use Rattle.script.specs.Body.{Body}
-use Rattle.script.specs.Checked.{AreChecked}
-use Rattle.script.specs.Layout.{routine}
+use Rattle.std.proofs.Common.{◌≡◌, ℕ, ◌+◌, ◌-◌, ◌^◌, min, List, [], ◌∷◌, ◌++◌, length, refl, sym, ap, subst, ◌∙◌, length-append, arith}
 use Rattle.interp.specs.declared.mark.Mark.{Mark}
 use Rattle.interp.specs.declared.frame.Ahead.{Ahead}
 use Rattle.interp.specs.declared.frame.Ahead.TheVariants as ahead
 use Rattle.interp.specs.declared.frame.Move.{Move}
-use Rattle.interp.specs.declared.frame.Phase.TheVariants as phase
 use Rattle.interp.specs.declared.runner.Runner.{Runner}
-use Rattle.interp.specs.Trace.{Trace, finished, overflowed, made, after, trace}
+use Rattle.interp.specs.Trace.{Trace, finished, overflowed, made, after}
 use Rattle.interp.specs.Chain.{Chain}
-use Rattle.interp.specs.Left.{Left, LeftIn, made_by}
-use Rattle.interp.specs.Moves.{fresh, Moved, ahead_of}
-use Rattle.interp.specs.Stepped.{IsEnd}
+use Rattle.interp.specs.Left.{Left, made_by}
+use Rattle.interp.specs.Moves.{Moved, ahead_of}
 use Rattle.interp.proofs.Goes.{GoesOn, goes_on}
 
 went : (r : Runner) (w : Trace) (h : Left r w) (a : Ahead) → a ≡ ahead_of r.code.now r.phase r.frame r.callers.items → GoesOn h.0 r.phase r.frame r.callers.items w a

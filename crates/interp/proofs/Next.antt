@@ -1,9 +1,8 @@
 -- What a step of a body's flat code does to what is left of the body.
-use Rattle.std.proofs.Common.{◌≡◌, ℕ, zero, suc, ◌+◌, ◌-◌, ◌<◌, ◌≤◌, ◌≢◌, List, [], ◌∷◌, ◌++◌, length, get_or, set, Option, Some, None, inl, inr, refl, sym, ap, subst, ◌∙◌, add-zero, add-one, zero-add, slice_get, get_or-set_other, get_or-set_same, length-append, arith}
+use Rattle.std.proofs.Common.{◌≡◌, ℕ, zero, suc, ◌+◌, ◌-◌, ◌<◌, ◌≤◌, ◌≢◌, List, [], ◌∷◌, ◌++◌, length, get_or, set, Option, Some, None, inl, inr, refl, sym, ap, subst, ◌∙◌, zero-add, slice_get, get_or-set_other, get_or-set_same, length-append, arith}
 use Rattle.std.specs.Prelude.{◌⊎◌}
 use Rattle.std.proofs.Math.Nat.{eq-or-lt_of_le}
 use Rattle.std.proofs.lemmas.Option.{slice_get_cases}
-use Rattle.script.specs.declared.items.Action.{Action}
 use Rattle.script.specs.declared.code.Op.{Op}
 use Rattle.script.specs.declared.code.Op.TheVariants as op
 use Rattle.script.specs.Body.{Body, finish, act, loop}

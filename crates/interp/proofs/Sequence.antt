@@ -1,5 +1,5 @@
 -- Traces one after another.
-use Rattle.std.proofs.Common.{◌≡◌, ℕ, zero, suc, refl, ap, sym, ◌∙◌}
+use Rattle.std.proofs.Common.{◌≡◌, ℕ, suc, refl, ap, ◌∙◌}
 use Rattle.interp.specs.declared.mark.Mark.TheVariants as mark
 use Rattle.interp.specs.Trace.{Trace, finished, overflowed, made, followed, times}
 

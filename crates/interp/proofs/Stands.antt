@@ -1,5 +1,5 @@
 -- Calls that stand, as one begins and as one ends.
-use Rattle.std.proofs.Common.{◌≡◌, ℕ, zero, suc, ◌+◌, ◌-◌, ◌<◌, ◌≤◌, List, [], ◌∷◌, ◌++◌, length, refl, sym, ap, subst, ◌∙◌, arith}
+use Rattle.std.proofs.Common.{◌≡◌, ℕ, suc, ◌+◌, List, [], ◌∷◌, ◌++◌, length, refl, sym, ap, subst, ◌∙◌, arith}
 use Rattle.script.specs.Body.{Body}
 use Rattle.interp.specs.declared.mark.Mark.TheVariants as mark
 use Rattle.interp.specs.declared.frame.Frame.{Frame}

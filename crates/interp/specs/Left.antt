@@ -1,5 +1,5 @@
 -- What a runner still has to make.
-use Rattle.std.specs.Prelude.{◌≡◌, ℕ, suc, ◌+◌, ◌<◌, ◌≤◌, ◌⊎◌, List, [], ◌∷◌, length, map, slice_index}
+use Rattle.std.specs.Prelude.{◌≡◌, ℕ, suc, ◌+◌, ◌≤◌, ◌⊎◌, List, [], ◌∷◌, length, map, slice_index}
 use Rattle.script.specs.Body.{Body, finish, act, loop}
 use Rattle.script.specs.Checked.{AreChecked}
 use Rattle.script.specs.Layout.{routine}

@@ -1,5 +1,5 @@
 -- What a runner does next, and how it stands then.
-use Rattle.std.specs.Prelude.{◌≡◌, ◌⊎◌, ℕ, suc, ◌+◌, ◌-◌, ◌<◌, ◌^◌, nat_lt, List, [], ◌∷◌, ◌++◌, length, slice_index, slice_set, slice_get, Option, Some, None, option_and_then, if◌then◌else◌, ⊤}
+use Rattle.std.specs.Prelude.{◌≡◌, ◌⊎◌, ℕ, ◌+◌, ◌-◌, ◌<◌, ◌^◌, nat_lt, List, [], ◌∷◌, ◌++◌, length, slice_index, slice_set, slice_get, Option, Some, None, option_and_then, if◌then◌else◌, ⊤}
 use Rattle.script.specs.declared.items.Action.{Action}
 use Rattle.script.specs.declared.items.Action.TheVariants as does
 use Rattle.script.specs.declared.code.Op.{Op}

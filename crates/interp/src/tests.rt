@@ -136,3 +136,47 @@ fn a_refused_mark_is_made_later(rt: HostRuntime) -> Result<(), Fail> {
     assert_eq!(rt; tape.marks.as_slice(), [Mark::Vm, Mark::Out(0)].as_slice());
     Ok(())
 }
+
+const TWO_TURNS: &[u8] = b"{\"methods\":[[{\"loop\":2,\"body\":[{\"call\":1}]}],[\"tick\"]]}";
+
+const MARKS_OF_TWO_TURNS: [Mark; 10] = [
+    Mark::In(0),
+    Mark::In(1),
+    Mark::Tick,
+    Mark::Out(1),
+    Mark::Edge,
+    Mark::In(1),
+    Mark::Tick,
+    Mark::Out(1),
+    Mark::Edge,
+    Mark::Out(0),
+];
+
+// With each allocation failing in turn, this shows that the marks are a beginning of the trace, and the whole once memory is
+// there again.
+#[test]
+fn refused_memory_leaves_a_beginning(rt: HostRuntime) -> Result<(), Fail> {
+    let alloc = rt.alloc();
+    let Ok(script) = read_script(alloc, TWO_TURNS) else {
+        return Ok(());
+    };
+    let Ok(code) = check(alloc, &script) else {
+        return Ok(());
+    };
+    let Ok(mut runner) = Runner::new(alloc, &code) else {
+        return Ok(());
+    };
+    let mut tape = Tape::new(alloc);
+    let first = runner.run(&mut tape, 100);
+    assert!(rt; MARKS_OF_TWO_TURNS.starts_with(&tape.marks));
+    assert!(rt; runner.made() == tape.marks.len() as u64);
+    match first {
+        Outcome::Finished => (),
+        Outcome::Refused(_) => {
+            assert!(rt; matches!(runner.run(&mut tape, 100), Outcome::Finished));
+        }
+        _ => return Err(Fail::from("neither finished nor refused")),
+    }
+    assert!(rt; tape.marks.as_slice() == MARKS_OF_TWO_TURNS.as_slice());
+    Ok(())
+}
