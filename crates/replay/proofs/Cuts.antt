@@ -1,5 +1,5 @@
 -- Words, cut at the first space.
-use Rattle.std.proofs.Common.{◌≡◌, ◌≢◌, ℕ, ◌+◌, ◌-◌, ◌*◌, ◌^◌, ◌<◌, ◌≤◌, ◌∙◌, zero, suc, sym, Bool, true, false, not, List, [], ◌∷◌, ◌++◌, length, take, drop, Option, Some, None, refl, ap, cond, arith}
+use Rattle.std.proofs.Common.{◌≡◌, ℕ, ◌∙◌, suc, sym, Bool, true, false, List, [], ◌∷◌, length, take, drop, refl, ap, cond, arith}
 use Rattle.std.specs.Prelude.{◌==◌}
 use Rattle.replay.specs.Words.{words, words_after, onto_first, is_nil}
 use Rattle.replay.specs.Scanned.{first_at}

@@ -1,6 +1,6 @@
 -- One line more, out of a stream.
-use Rattle.std.proofs.Common.{◌≡◌, ℕ, ◌+◌, ◌<◌, ◌≤◌, ◌∙◌, sym, List, [], ◌∷◌, ◌++◌, length, take, drop, Option, Some, None, refl, ap, subst, arith, append_assoc}
-use Rattle.std.specs.List.{flat_map, AllByRecursion}
+use Rattle.std.proofs.Common.{◌≡◌, ℕ, ◌+◌, ◌<◌, ◌≤◌, ◌∙◌, sym, List, [], ◌∷◌, ◌++◌, length, take, drop, Option, refl, ap, subst, arith, append_assoc}
+use Rattle.std.specs.List.{flat_map}
 use Rattle.std.proofs.lemmas.List.{take-append-drop}
 use Rattle.system.specs.World.{World}
 use Rattle.replay.specs.declared.grammar.Command.{Command}
@@ -9,10 +9,10 @@ use Rattle.replay.specs.Scanned.{first_at}
 use Rattle.replay.specs.Printed.{reply_text}
 use Rattle.replay.specs.Known.{AppendsPart, Grows}
 use Rattle.replay.specs.Text.{SystemView, IsAt, reply_to, world_after_command, line_text, after_line, told}
-use Rattle.replay.specs.Streams.{Turned, IsPiece, ended, Front, Splits, after_lines, FedTo, Fed, ForEachStart, StoppedIn, BrokenIn}
+use Rattle.replay.specs.Streams.{Turned, IsPiece, ended, Front, after_lines, FedTo, Fed, ForEachStart, StoppedIn, BrokenIn}
 use Rattle.replay.proofs.Lists.{append_none, take_plus, take_all}
 use Rattle.replay.proofs.Growth.{grows_none, grows_on, grows_waits, broken}
-use Rattle.replay.proofs.Splitting.{told_both, after_both, flat_both, all_both, front_on, front_piece, join_pieces, then_newline}
+use Rattle.replay.proofs.Splitting.{told_both, after_both, front_on, front_piece, join_pieces, then_newline}
 use Rattle.replay.proofs.Streams.{enough, take_front}
 
 pub fed_none : (world : Option World) (tail bytes waits : List ℕ) (got : Option (List ℕ)) (old : Option SystemView) (held : List ℕ) → IsAt old world → IsPiece tail → held ≡ take 1025 tail → FedTo world tail (take 0 bytes) waits got old held waits got

@@ -2,7 +2,7 @@
 use Rattle.std.proofs.Common.{◌≡◌, ℕ, ◌+◌, ◌∙◌, sym, List, [], ◌++◌, length, take, Option, Some, None, refl, ap, append_assoc}
 use Rattle.std.proofs.Math.Seq.{take-append-add}
 use Rattle.std.specs.Io.KnownBytes.{Appends}
-use Rattle.replay.specs.Known.{AppendsPart, Grows, GrowsBy}
+use Rattle.replay.specs.Known.{AppendsPart, Grows}
 use Rattle.replay.proofs.Lists.{append_none, take_front_part}
 
 pub grows_none : (got : Option (List ℕ)) (waits : List ℕ) → Grows got waits got waits []

@@ -1,5 +1,5 @@
 -- Beginnings and ends of lists.
-use Rattle.std.proofs.Common.{◌≡◌, ℕ, ◌+◌, ◌-◌, ◌≤◌, ◌∙◌, zero, suc, sym, List, [], ◌∷◌, ◌++◌, length, take, drop, refl, ap, arith, length-drop}
+use Rattle.std.proofs.Common.{◌≡◌, ℕ, ◌+◌, ◌-◌, ◌≤◌, zero, suc, List, [], ◌∷◌, ◌++◌, length, take, drop, refl, ap, arith, length-drop}
 
 pub append_none : (xs : List ℕ) → xs ++ [] ≡ xs
 append_none [] = refl

@@ -1,5 +1,5 @@
 -- A keyword among those of its length.
-use Rattle.std.proofs.Common.{◌≡◌, ◌≢◌, ℕ, ◌+◌, ◌<◌, ◌≤◌, ◌∙◌, drop, get_or, sym, Bool, true, false, List, [], ◌∷◌, length, Option, Some, None, refl, ap, cond, arith, map}
+use Rattle.std.proofs.Common.{◌≡◌, ℕ, ◌+◌, ◌<◌, ◌≤◌, ◌∙◌, drop, get_or, sym, Bool, true, false, List, [], ◌∷◌, length, Option, Some, None, refl, ap, cond, arith, map}
 use Rattle.std.specs.Prelude.{◌==◌, bytes_eq, find, filter, option_map}
 use Rattle.std.proofs.lemmas.List.{at_drop_more, at_drop_all}
 use Rattle.std.proofs.lemmas.Slice.Eq.{bytes_eq-Decides}

@@ -1,6 +1,6 @@
 -- A number, read digit by digit.
-use Rattle.std.proofs.Common.{◌≡◌, ℕ, ◌+◌, ◌-◌, ◌*◌, ◌^◌, ◌<◌, ◌≤◌, ◌∙◌, zero, suc, sym, Bool, true, false, not, List, [], ◌∷◌, length, take, drop, Option, Some, None, refl, ap, cond, arith}
-use Rattle.std.specs.Prelude.{◌==◌, ◌&&◌, nat_lt, nat_le, option_map, option_and_then}
+use Rattle.std.proofs.Common.{◌≡◌, ℕ, ◌+◌, ◌-◌, ◌*◌, ◌^◌, ◌<◌, ◌≤◌, ◌∙◌, suc, sym, Bool, true, false, not, List, [], ◌∷◌, length, take, drop, Option, Some, None, refl, ap, cond, arith}
+use Rattle.std.specs.Prelude.{◌==◌, ◌&&◌, nat_lt, option_map, option_and_then}
 use Rattle.std.proofs.Common.{Bor}
 use Rattle.replay.proofs.Lists.{rest_all}
 use Rattle.replay.specs.Words.{words, words_after, is_nil, is_digit, are_digits, value_from, value, number, starts_well}

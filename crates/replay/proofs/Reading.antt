@@ -1,5 +1,5 @@
 -- A line spells a command exactly where it is its spelling.
-use Rattle.std.proofs.Common.{◌≡◌, ℕ, ◌^◌, ◌<◌, ◌≤◌, ◌∙◌, sym, Bool, true, false, List, [], ◌∷◌, ◌++◌, length, Option, Some, None, refl, ap, subst, cond, arith, map}
+use Rattle.std.proofs.Common.{◌≡◌, ℕ, ◌^◌, ◌<◌, ◌∙◌, sym, Bool, true, false, List, [], ◌∷◌, ◌++◌, length, Option, Some, None, refl, ap, subst, cond, arith, map}
 use Rattle.std.specs.Prelude.{nat_le, decimal, codes, bytes_eq, find, option_map, option_and_then}
 use Rattle.std.specs.List.{AllByRecursion}
 use Rattle.std.proofs.lemmas.Option.{same_Some, option_and_then_some}
@@ -21,7 +21,7 @@ use Rattle.replay.specs.declared.keywords.AskWord.TheVariants as ask
 use Rattle.replay.specs.Words.{words, spaced, number}
 use Rattle.replay.specs.Keywords.{word_text, keywords, word_of, ask_text, ask_of, act_text}
 use Rattle.replay.specs.Grammar.{took, none_after, last_number, numbers, alone, of_one, of_two, entered, enter_of, size_of, handshake, asked, asking, of_word, of_words, command_of}
-use Rattle.replay.specs.Spelling.{act_numbers, ask_words, request_words, event_words, command_words, spelling, request_numbers, event_numbers, command_numbers, AreSmall, IsSpelledBy}
+use Rattle.replay.specs.Spelling.{act_numbers, ask_words, request_words, event_words, command_words, request_numbers, event_numbers, command_numbers, AreSmall, IsSpelledBy}
 use Rattle.replay.proofs.Spellings.{IsWord, decimal_word, number_of_decimal, decimal_of_number, spaced_words, words_spaced, decimals_words}
 
 -- The words are those of the command, and its numbers are small.

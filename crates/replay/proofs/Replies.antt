@@ -1,6 +1,5 @@
 -- An event of the system is one of the world.
 use Rattle.std.proofs.Common.{◌≡◌, ◌∙◌, ◌++◌, sym, ap, List, [], ◌∷◌, Option, Some, None, refl}
-use Rattle.std.specs.Prelude.{length}
 use Rattle.system.specs.declared.events.Event.{Event}
 use Rattle.system.specs.declared.answers.Answer.{Answer}
 use Rattle.system.specs.World.{World, start_world}

@@ -1,13 +1,12 @@
 -- Words and numbers, both ways.
-use Rattle.std.proofs.Common.{◌≡◌, ◌≢◌, ℕ, ◌+◌, ◌-◌, ◌*◌, ◌^◌, ◌<◌, ◌≤◌, ◌∙◌, zero, suc, sym, Bool, true, false, not, List, [], ◌∷◌, ◌++◌, length, get_or, Option, Some, None, refl, ap, subst, cond, arith, rules, map}
-use Rattle.std.specs.Prelude.{◌==◌, ◌&&◌, nat_lt, nat_le, decimal, option_map, option_and_then}
+use Rattle.std.proofs.Common.{◌≡◌, ◌≢◌, ℕ, ◌^◌, ◌<◌, ◌∙◌, zero, suc, sym, Bool, true, false, not, List, [], ◌∷◌, ◌++◌, length, get_or, Some, None, refl, ap, cond, arith, rules, map}
+use Rattle.std.specs.Prelude.{◌==◌, ◌&&◌, nat_lt, nat_le, decimal}
 use Rattle.std.specs.List.{AllByRecursion}
 use Rattle.std.proofs.lemmas.Str.Parse.{IsNumeralModel, numerals_by_fold}
 use Rattle.std.proofs.lemmas.Fmt.{digits_decimal, digits_value-decimal, decimal-digits_value, decimal_nonempty, decimal_digit, first_decimal}
 use Rattle.std.proofs.lemmas.Option.{cond_some}
 use Rattle.replay.specs.Words.{words, spaced, onto_first, is_digit, are_digits, is_numeral, starts_well, value_from, value, number}
 use Rattle.replay.specs.Scanned.{first_at}
-use Rattle.replay.specs.Grammar.{took, numbers, last_number}
 use Rattle.replay.specs.Spelling.{AreSmall}
 
 own : IsNumeralModel (λ ds. are_digits ds ≡ true) (value_from 0)

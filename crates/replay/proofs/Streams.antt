@@ -4,7 +4,6 @@ use Rattle.std.proofs.Math.Seq.{take-append-add}
 use Rattle.std.proofs.lemmas.List.{take-append-le}
 use Rattle.std.specs.Prelude.{nat_le}
 use Rattle.std.specs.Io.KnownBytes.{Appends}
-use Rattle.system.specs.World.{World}
 use Rattle.replay.specs.declared.grammar.Command.{Command}
 use Rattle.replay.specs.Words.{words}
 use Rattle.replay.specs.Grammar.{command_of, of_words}

@@ -1,5 +1,5 @@
 -- Block after block, and how a call ends.
-use Rattle.std.proofs.Common.{◌≡◌, ◌≢◌, ℕ, ◌+◌, ◌-◌, ◌∙◌, zero, suc, sym, cond, Bool, true, false, List, [], ◌∷◌, ◌++◌, length, take, drop, Option, Some, None, refl, ap, subst, arith, append_assoc}
+use Rattle.std.proofs.Common.{◌≡◌, ◌≢◌, ℕ, ◌+◌, ◌∙◌, zero, suc, sym, cond, true, false, List, [], ◌∷◌, ◌++◌, length, take, drop, Option, Some, None, refl, ap, subst, arith, append_assoc}
 use Rattle.std.specs.Prelude.{◌==◌, IfSome, Result, Ok, Err}
 use Rattle.replay.specs.declared.stream.Halt.{Halt}
 use Rattle.replay.specs.declared.stream.Halt.TheVariants as halt
@@ -12,7 +12,7 @@ use Rattle.replay.specs.Words.{lines}
 use Rattle.replay.specs.Printed.{reply_text}
 use Rattle.replay.specs.Known.{AppendsPart, Grows}
 use Rattle.replay.specs.Text.{SystemView, IsAt, line_text, told, text, reply_to}
-use Rattle.replay.specs.Streams.{IsPiece, Front, Splits, after_lines, last_of, FedTo, Fed, ForEachStart, StoppedIn, BrokenIn, Turned, Ended, Finished, FedBy, GaveUp}
+use Rattle.replay.specs.Streams.{Front, after_lines, last_of, FedTo, Fed, ForEachStart, StoppedIn, BrokenIn, Turned, Ended, Finished, FedBy, GaveUp}
 use Rattle.replay.specs.Outcome.{SoFar, WroteAll, WroteLines, WrotePart, WroteFront, Wrote}
 use Rattle.replay.proofs.Lists.{append_none}
 use Rattle.replay.proofs.Streams.{same_line}

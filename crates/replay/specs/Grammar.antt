@@ -1,5 +1,5 @@
 -- The grammar of a line.
-use Rattle.std.specs.Prelude.{ℕ, suc, ◌+◌, ◌-◌, ◌*◌, ◌^◌, Bool, true, false, ◌==◌, ◌&&◌, nat_le, nat_lt, length, List, [], ◌∷◌, Option, Some, None, option_map, option_and_then, if◌then◌else◌}
+use Rattle.std.specs.Prelude.{ℕ, nat_le, length, List, [], ◌∷◌, Option, Some, None, option_map, option_and_then, if◌then◌else◌}
 use Rattle.operations.specs.declared.Ask.{Ask as AskKind}
 use Rattle.operations.specs.declared.Ask.TheVariants.{Depth, CountOf, Top}
 use Rattle.operations.specs.declared.Request.TheVariants.{Handshake, Census}

@@ -1,4 +1,4 @@
-use Rattle.std.proofs.Common.{◌≡◌, ◌∙◌, ◌++◌, sym, ap, List, ℕ}
+use Rattle.std.proofs.Common.{◌∙◌, ◌++◌, sym, ap, List, ℕ}
 use Rattle.std.specs.Prelude.{option_map}
 use Rattle.replay.specs.Words.{words_after}
 use Rattle.replay.proofs.Cuts.{none_left}

@@ -1,4 +1,4 @@
-use Rattle.std.proofs.Common.{◌≡◌, ◌++◌, length, option_map, List, ℕ}
+use Rattle.std.proofs.Common.{◌≡◌, ◌++◌, length, option_map}
 use Rattle.replay.specs.Words.{words_after}
 use Rattle.replay.specs.Grammar.{numbers}
 use Rattle.replay.proofs.grammar.numbers.Given as goal

@@ -1,6 +1,4 @@
-use Rattle.std.proofs.Common.{◌≡◌, ◌∙◌, sym, arith}
-use Rattle.replay.specs.declared.keywords.Keyword.{Keyword}
-use Rattle.replay.specs.declared.keywords.Word.TheVariants.{Size}
+use Rattle.std.proofs.Common.{◌∙◌, sym, arith}
 use Rattle.replay.proofs.Lookup.{found_at, none_found}
 use Rattle.replay.proofs.keywords.among.Goals as goal
 

@@ -1,4 +1,4 @@
-use Rattle.std.proofs.Common.{◌≡◌, ◌∙◌, sym}
+use Rattle.std.proofs.Common.{◌∙◌, sym}
 use Rattle.replay.proofs.Lookup.{by_length}
 use Rattle.replay.proofs.keywords.word_of.Goals as goal
 

@@ -1,5 +1,5 @@
-use Rattle.std.proofs.Common.{◌≡◌, ◌++◌, ◌<◌, ℕ, List, length, take, drop, subst, arith}
-use Rattle.replay.specs.Streams.{Fed, FedBy}
+use Rattle.std.proofs.Common.{◌<◌, ℕ, List, length, take, subst, arith}
+use Rattle.replay.specs.Streams.{FedBy}
 use Rattle.replay.proofs.Whole.{so_far_more, more_read, unwritten, fed_all, finished_wrote, gave_up_wrote, unread, too_many, read_end, block_is}
 use Rattle.replay.proofs.stream.answer_all.Goals as goal
 

@@ -1,4 +1,4 @@
-use Rattle.std.proofs.Common.{◌≡◌, ◌∙◌, ◌++◌}
+use Rattle.std.proofs.Common.{◌∙◌, ◌++◌}
 use Rattle.replay.proofs.Streams.{turned_long}
 use Rattle.replay.proofs.stream.end_line.Goals as goal
 

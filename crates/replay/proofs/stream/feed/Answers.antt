@@ -1,4 +1,4 @@
-use Rattle.std.proofs.Common.{◌≡◌, ◌∙◌, ◌-◌, take, drop, length, arith, refl, ℕ, List, length-drop, length-take}
+use Rattle.std.proofs.Common.{◌≡◌, ◌-◌, take, drop, length, arith, ℕ, List, length-drop, length-take}
 use Rattle.replay.proofs.Lists.{rest_all}
 use Rattle.replay.proofs.Feeds.{fed_none, next_line, last_piece, all_fed, stopped_at, broken_at}
 use Rattle.replay.proofs.stream.feed.Goals as goal

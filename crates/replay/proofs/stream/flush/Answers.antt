@@ -1,4 +1,4 @@
-use Rattle.std.proofs.Common.{◌≡◌, refl, arith}
+use Rattle.std.proofs.Common.{refl, arith}
 use Rattle.replay.proofs.Streams.{appends_rest}
 use Rattle.replay.proofs.stream.flush.Goals as goal
 

@@ -1,4 +1,4 @@
-use Rattle.std.proofs.Common.{◌≡◌, ◌∙◌, sym, ◌<◌, ◌≤◌, ℕ, List, length, arith, length-take, length-drop}
+use Rattle.std.proofs.Common.{◌∙◌, sym, ℕ, arith, length-take, length-drop}
 use Rattle.std.proofs.lemmas.Option.{IfSome_then}
 use Rattle.replay.proofs.Numbers.{next_taken, next_missing}
 use Rattle.replay.proofs.words.next.Goals as goal
