@@ -258,3 +258,24 @@ fn a_file_without_an_end_is_too_long(rt: HostRuntime) -> Result<(), Fail> {
     assert!(rt; endless.given < 1_200_000);
     Ok(())
 }
+
+// With each allocation failing in turn, this shows that the whole line is written, or nothing.
+#[test]
+fn refused_memory_writes_nothing(rt: HostRuntime) -> Result<(), Fail> {
+    let mut drip = Drip {
+        rest: LOOP_OF_CALLS,
+        step: 10,
+        calls: 0,
+        bad_call: 0,
+    };
+    let mut basin = new_basin(rt.alloc(), 100, 0, false);
+    if basin.got.reserve(10).is_err() {
+        return Ok(());
+    }
+    match run(rt.alloc(), &mut drip, &mut basin) {
+        Ok(()) => assert_eq!(rt; basin.got.as_slice(), b"ok 2\n".as_slice()),
+        Err(Fault::NoMemory) => assert!(rt; basin.got.is_empty()),
+        Err(_) => return Err(Fail::from("another fault")),
+    }
+    Ok(())
+}
