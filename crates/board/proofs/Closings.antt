@@ -20,8 +20,8 @@ found_at [] i x e = absurd (some-ne-none x (sym e))
 found_at (y ∷ ys) zero x e = some-injective y x e
 found_at (y ∷ ys) (suc i) x e = found_at ys i x e
 
-pub left_by : (n : ℕ × ℕ) (k : KeeperSeen) (id : ℕ) (v : BoardView) (ws : List ℕ) (xs : List (Unit {0})) → v ≡ Keeper k.seen → Final (Seen (IsBoard n) id v) ws xs → IsLeftBy k (words_left n.0 n.1 ws)
-left_by n k id v ws xs is f = let s = f.0 in let at : get_elem? s.views id ≡ some (Keeper k.seen) = f.1.1 ∙ ap some is in let r = (at_keeper n s id k.seen f.1.0 at).1 in record {
+pub left_by : (n : ℕ × ℕ) (k : KeeperSeen) (id : ℕ) (v : BoardView) (ws : List ℕ) (xs : List (Unit {0})) → v ≡ Keeper k.seen k.stamp → Final (Seen (IsBoard n) id v) ws xs → IsLeftBy k (words_left n.0 n.1 ws)
+left_by n k id v ws xs is f = let s = f.0 in let at : get_elem? s.views id ≡ some (Keeper k.seen k.stamp) = f.1.1 ∙ ap some is in let r = (at_keeper n s id k.seen k.stamp f.1.0 at).1 in record {
   state = of_table n s k.seen;
   kept = r.kept;
   keeper = record { now_is = refl; slot_is = λ i. refl };

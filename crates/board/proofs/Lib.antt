@@ -6,3 +6,4 @@ pub mod Keepers
 pub mod Openings
 pub mod Notes
 pub mod Closings
+pub mod Answered

@@ -48,6 +48,11 @@ WeighSteps b old new (NotLooked p) = Unit {0}
 WeighSteps b old new (Used n) = KeeperSteps b old new
 WeighSteps b old new Clear = KeeperSteps b old new
 
+abbrev pub WeighStamps : ℕ → ℕ → Weighed → Type 0
+WeighStamps old new (NotLooked p) = Unit {0}
+WeighStamps old new (Used n) = old < new
+WeighStamps old new Clear = old < new
+
 -- In a board that met the rule, and that the keeper knows so, no seat counts the code, and none has it fresh.
 pub record IsNowhere (board : BoardId) (k : KeeperView) (c : CodeId) : Type 0 where
   pub state : BoardState

@@ -11,7 +11,7 @@ use Rattle.frames.specs.declared.board_rule.BoardView.TheVariants.{Keeper, Threa
 use Rattle.frames.specs.BoardWords.{pack}
 use Rattle.frames.specs.BoardRule.{code}
 use Rattle.frames.specs.BoardViews.{has_code, IsHeld, IsStandingWord, slot_of, entered, moment_read, stored_as, counted_up, counted_down, went_round, entry_stored, in_use, not_entrant, in_state, looked_at, weighed}
-use Rattle.board.specs.Boards.{BoardId, keeper_of, thread_of, ThreadSteps, KeeperSteps}
+use Rattle.board.specs.Boards.{BoardId, stamp_of, keeper_of, thread_of, ThreadSteps, KeeperSteps}
 
 -- what a step is about: its board, and the code and place that are asked for
 pub record Asked : Type 0 where
@@ -31,10 +31,10 @@ Sat = Me (Unit {0}) BoardView
 
 -- the thread's seat knows t afterwards, by one step
 abbrev pub ThreadTells : Asked → Sat → SeatView → Sat → Type 0
-ThreadTells a m t n = (n.0 ≡ Thread t) × ThreadSteps a.board (thread_of m.0) (thread_of n.0)
+ThreadTells a m t n = (n.0 ≡ Thread t (stamp_of n.0)) × ThreadSteps a.board (thread_of m.0) (thread_of n.0) × (stamp_of m.0 < stamp_of n.0)
 
 abbrev pub KeeperTells : Asked → Sat → KeeperView → Sat → Type 0
-KeeperTells a m k n = (n.0 ≡ Keeper k) × KeeperSteps a.board (keeper_of m.0) (keeper_of n.0)
+KeeperTells a m k n = (n.0 ≡ Keeper k (stamp_of n.0)) × KeeperSteps a.board (keeper_of m.0) (keeper_of n.0) × (stamp_of m.0 < stamp_of n.0)
 
 -- A code that was found gone is never found in use again, and one that the seat holds is found standing.
 abbrev pub Enters : Asked → Step (Unit {0}) → Sat → ℕ → Sat → Type 0

@@ -1,5 +1,5 @@
 //! The keeper of the codes.
-ghost use Rattle.std.specs.Prelude.{◌≡◌, ◌≢◌, ℕ, true, false, replicate, length, IfSome, IfNone, ◌+◌, ◌*◌, ◌^◌, ◌<◌, ◌≤◌, OnOk, OnErr};
+ghost use Rattle.std.specs.Prelude.{◌≡◌, ◌≢◌, ℕ, true, false, nat_le, replicate, length, IfSome, IfNone, ◌+◌, ◌*◌, ◌^◌, ◌<◌, ◌≤◌, OnOk, OnErr};
 ghost use Rattle.frames.specs.declared.board_rule.BoardView.TheVariants.{Keeper as IsKeepers};
 ghost use Rattle.frames.specs.declared.board_rule.EntryState.TheVariants.{InUse, NotEntrant, Zombie, Vacant};
 ghost use Rattle.frames.specs.BoardWords.{pack};
@@ -7,7 +7,7 @@ ghost use Rattle.frames.specs.BoardStep.{is_late};
 ghost use Rattle.frames.specs.BoardViews.{slot_of, IsIn, keeper_view, went_round, entry_stored, in_use, not_entrant, in_state, looked_at, weighed, has_place};
 ghost use Rattle.board.specs.Boards.{KeeperSeen, board_id, of_keeper, IsKeeper, keeper_of, words_at, first_keeper, KeeperSteps};
 ghost use Rattle.board.specs.Plays.{asked, asked_of};
-ghost use Rattle.board.specs.Notes.{AreNoted, IsLooked, IsWeighed, WeighSteps, WeighTells, blank};
+ghost use Rattle.board.specs.Notes.{AreNoted, IsLooked, IsWeighed, WeighSteps, WeighStamps, WeighTells, blank};
 
 use crate::board::Board;
 use crate::note::Note;
@@ -64,7 +64,7 @@ impl Keeper {
         places: usize,
         notes: Vec<Note>,
     ) -> Keeper
-        requires keeper { seat.me.0 ≡ IsKeepers (keeper_view slots places) }
+        requires keeper { seat.me.0 ≡ IsKeepers (keeper_view slots places) 0 }
         requires notes { notes.items ≡ replicate slots blank }
         requires board { (seat.table_id.words ≡ words_at slots places) × (slots ≤ 1024) × (places ≤ 64) × (0 < places) }
         ensures { result ≡ first_keeper (board_id seat.table_id slots places) }
@@ -80,7 +80,7 @@ impl Keeper {
 
     pub(crate) fn into_seat(self) -> Seat<(), BoardView>
         ensures table { result.table_id ≡ self.board.table }
-        ensures view { result.me.0 ≡ IsKeepers self.seen }
+        ensures view { result.me.0 ≡ IsKeepers self.seen self.stamp }
     {
         let Keeper {
             seat,
@@ -110,6 +110,7 @@ impl Keeper {
         ensures board { self.new.board ≡ self.old.board }
         ensures step { self.new.seen ≡ entry_stored self.old.seen code (in_use code) }
         ensures made { KeeperSteps self.old.board self.old.seen self.new.seen }
+        ensures stamp { self.old.stamp < self.new.stamp }
     {
         let word = word_of(code, EntryState::InUse);
         board
@@ -129,6 +130,7 @@ impl Keeper {
         ensures board { self.new.board ≡ self.old.board }
         ensures step { self.new.seen ≡ entry_stored self.old.seen code (in_use code) }
         ensures made { KeeperSteps self.old.board self.old.seen self.new.seen }
+        ensures stamp { self.old.stamp < self.new.stamp }
         ensures code { slot_of self.new.seen code.slot ≡ in_use code }
         ensures slots { length self.new.seen.slots ≡ self.new.board.slots }
     {
@@ -145,6 +147,7 @@ impl Keeper {
         ensures board { self.new.board ≡ self.old.board }
         ensures step { self.new.seen ≡ entry_stored self.old.seen code (not_entrant code self.old.seen.moment) }
         ensures made { KeeperSteps self.old.board self.old.seen self.new.seen }
+        ensures stamp { self.old.stamp < self.new.stamp }
     {
         let word = word_of(code, EntryState::NotEntrant);
         board
@@ -162,6 +165,7 @@ impl Keeper {
         ensures board { self.new.board ≡ self.old.board }
         ensures step { self.new.seen ≡ entry_stored self.old.seen code (not_entrant code self.old.seen.moment) }
         ensures made { KeeperSteps self.old.board self.old.seen self.new.seen }
+        ensures stamp { self.old.stamp < self.new.stamp }
         ensures code { slot_of self.new.seen code.slot ≡ not_entrant code self.old.seen.moment }
         ensures slots { length self.new.seen.slots ≡ self.new.board.slots }
     {
@@ -176,6 +180,7 @@ impl Keeper {
         ensures board { self.new.board ≡ self.old.board }
         ensures step { self.new.seen ≡ went_round self.old.seen self.old.seen.moment }
         ensures made { KeeperSteps self.old.board self.old.seen self.new.seen }
+        ensures stamp { self.old.stamp < self.new.stamp }
     {
         board
             .table
@@ -184,11 +189,20 @@ impl Keeper {
         self.moment += 1;
     }
 
+    /// Whether the last moment was reached. It makes no step.
+    pub fn is_last_moment(&self) -> bool
+        ensures { result ≡ nat_le (2 ^ 40) (self.now.seen.moment + 1) }
+    {
+        let _ = &self.seat;
+        self.moment >= LAST_MOMENT
+    }
+
     /// Begins the next moment: one fetch-add. `Spent`, without a step, where the last moment was reached.
     pub fn round(&mut self, board: &Board) -> Result<(), Spent>
         requires board { self.old.board ≡ board.now }
         ensures board { self.new.board ≡ self.old.board }
         ensures ok { OnOk result ((self.new.seen ≡ went_round self.old.seen self.old.seen.moment) × KeeperSteps self.old.board self.old.seen self.new.seen) }
+        ensures stamp { OnOk result (self.old.stamp < self.new.stamp) }
         ensures spent { OnErr result ((self.new.seen ≡ self.old.seen) × (2 ^ 40 ≤ self.old.seen.moment + 1)) }
         ensures slots { length self.new.seen.slots ≡ self.new.board.slots }
     {
@@ -208,6 +222,7 @@ impl Keeper {
         ensures board { self.new.board ≡ self.old.board }
         ensures step { (found : ℕ) × (self.new.seen ≡ looked_at self.old.seen code place found) × (result ≡ is_late (slot_of self.old.seen code.slot).left found) }
         ensures made { KeeperSteps self.old.board self.old.seen self.new.seen }
+        ensures stamp { self.old.stamp < self.new.stamp }
     {
         let word = place_at(self.slots, place);
         let found = board.table.shared.load::<Look<A>>(&mut self.seat, word);
@@ -226,6 +241,7 @@ impl Keeper {
         ensures board { self.new.board ≡ self.old.board }
         ensures step { (found : ℕ) × (self.new.seen ≡ looked_at self.old.seen code place found) × (result ≡ is_late (slot_of self.old.seen code.slot).left found) }
         ensures made { KeeperSteps self.old.board self.old.seen self.new.seen }
+        ensures stamp { self.old.stamp < self.new.stamp }
         ensures looked { result ≡ true → IsLooked self.new.seen code place }
         ensures code { IsIn self.new.seen code NotEntrant }
         ensures slots { length self.new.seen.slots ≡ self.new.board.slots }
@@ -258,6 +274,7 @@ impl Keeper {
         ensures board { self.new.board ≡ self.old.board }
         ensures step { self.new.seen ≡ weighed self.old.seen code result }
         ensures made { KeeperSteps self.old.board self.old.seen self.new.seen }
+        ensures stamp { self.old.stamp < self.new.stamp }
     {
         board
             .table
@@ -274,6 +291,7 @@ impl Keeper {
         ensures board { self.new.board ≡ self.old.board }
         ensures step { IsWeighed self.old.board.places code self.old.seen self.new.seen result }
         ensures made { WeighSteps self.old.board self.old.seen self.new.seen result }
+        ensures stamp { WeighStamps self.old.stamp self.new.stamp result }
         ensures clear { WeighTells self.old.board self.new.seen code result }
         ensures code { IsIn self.new.seen code NotEntrant }
         ensures slots { length self.new.seen.slots ≡ self.new.board.slots }
@@ -298,6 +316,7 @@ impl Keeper {
         ensures board { self.new.board ≡ self.old.board }
         ensures step { self.new.seen ≡ entry_stored self.old.seen code (in_state (slot_of self.old.seen code.slot) Zombie) }
         ensures made { KeeperSteps self.old.board self.old.seen self.new.seen }
+        ensures stamp { self.old.stamp < self.new.stamp }
     {
         let word = word_of(code, EntryState::Zombie);
         board
@@ -315,6 +334,7 @@ impl Keeper {
         ensures board { self.new.board ≡ self.old.board }
         ensures step { self.new.seen ≡ entry_stored self.old.seen code (in_state (slot_of self.old.seen code.slot) Zombie) }
         ensures made { KeeperSteps self.old.board self.old.seen self.new.seen }
+        ensures stamp { self.old.stamp < self.new.stamp }
         ensures code { IsIn self.new.seen code Zombie }
         ensures slots { length self.new.seen.slots ≡ self.new.board.slots }
     {
@@ -331,6 +351,7 @@ impl Keeper {
         ensures board { self.new.board ≡ self.old.board }
         ensures step { self.new.seen ≡ entry_stored self.old.seen code (in_state (slot_of self.old.seen code.slot) Vacant) }
         ensures made { KeeperSteps self.old.board self.old.seen self.new.seen }
+        ensures stamp { self.old.stamp < self.new.stamp }
     {
         let word = word_of(code, EntryState::Vacant);
         board
@@ -347,6 +368,7 @@ impl Keeper {
         ensures board { self.new.board ≡ self.old.board }
         ensures step { self.new.seen ≡ entry_stored self.old.seen code (in_state (slot_of self.old.seen code.slot) Vacant) }
         ensures made { KeeperSteps self.old.board self.old.seen self.new.seen }
+        ensures stamp { self.old.stamp < self.new.stamp }
         ensures code { IsIn self.new.seen code Vacant }
         ensures slots { length self.new.seen.slots ≡ self.new.board.slots }
     {

@@ -20,6 +20,9 @@ mod words;
 pub use board::Board;
 pub use closed::ClosedBoard;
 pub use keeper::{Keeper, Spent};
-pub use rule::BoardRule;
+pub use rule::{
+    BoardRule, answers_stand_in_the_words, no_entry_is_of_another_word,
+    no_moment_is_of_another_word,
+};
 pub use thread_seat::ThreadSeat;
 pub use weighed::Weighed;

@@ -50,7 +50,7 @@ impl ThreadSeat {
         places: usize,
         place: usize,
     ) -> ThreadSeat
-        requires seat { seat.me.0 ≡ IsThreads (seat_view place) }
+        requires seat { seat.me.0 ≡ IsThreads (seat_view place) 0 }
         requires board { (place < places) × (seat.table_id.words ≡ words_at slots places) × (slots ≤ 1024) × (places ≤ 64) }
         ensures { result ≡ first_seat (board_id seat.table_id slots places) place }
     {
@@ -63,6 +63,15 @@ impl ThreadSeat {
         }
     }
 
+    /// Its place.
+    pub fn place(&self) -> usize
+        ensures value { result ≡ self.now.seen.place }
+        ensures bound { result < self.now.board.places }
+    {
+        let _ = &self.seat;
+        self.place
+    }
+
     fn load_entry<A: About>(&mut self, board: &Board, code: CodeId) -> u64
         requires about { A.asked ≡ asked self.old.board code 0 }
         requires board { self.old.board ≡ board.now }
@@ -71,6 +80,7 @@ impl ThreadSeat {
         ensures board { self.new.board ≡ self.old.board }
         ensures step { self.new.seen ≡ entered self.old.seen code result }
         ensures made { ThreadSteps self.old.board self.old.seen self.new.seen }
+        ensures stamp { self.old.stamp < self.new.stamp }
         ensures gone { has_code self.old.seen.gone code ≡ true → result ≢ pack code.serial InUse }
         ensures stands { IsHeld self.old.seen code → IsStandingWord code result }
     {
@@ -92,6 +102,7 @@ impl ThreadSeat {
         ensures board { self.new.board ≡ self.old.board }
         ensures step { (found : ℕ) × (self.new.seen ≡ entered self.old.seen code found) × (result ≡ (found == pack code.serial InUse)) × (IsHeld self.old.seen code → IsStandingWord code found) }
         ensures made { ThreadSteps self.old.board self.old.seen self.new.seen }
+        ensures stamp { self.old.stamp < self.new.stamp }
         ensures fresh { result ≡ true → has_code self.new.seen.fresh code ≡ true }
         ensures gone { has_code self.old.seen.gone code ≡ true → result ≡ false }
     {
@@ -104,6 +115,7 @@ impl ThreadSeat {
         ensures board { self.new.board ≡ self.old.board }
         ensures step { self.new.seen ≡ moment_read self.old.seen self.new.seen.moment }
         ensures made { ThreadSteps self.old.board self.old.seen self.new.seen }
+        ensures stamp { self.old.stamp < self.new.stamp }
         ensures some { 0 < self.new.seen.moment }
     {
         self.moment = board.table.shared.load::<Read<A>>(&mut self.seat, MOMENT);
@@ -115,6 +127,7 @@ impl ThreadSeat {
         ensures board { self.new.board ≡ self.old.board }
         ensures step { self.new.seen ≡ moment_read self.old.seen self.new.seen.moment }
         ensures made { ThreadSteps self.old.board self.old.seen self.new.seen }
+        ensures stamp { self.old.stamp < self.new.stamp }
         ensures some { 0 < self.new.seen.moment }
     {
         self.load_moment::<Brand>(board)
@@ -127,6 +140,7 @@ impl ThreadSeat {
         ensures board { self.new.board ≡ self.old.board }
         ensures step { self.new.seen ≡ stored_as self.old.seen self.old.seen.moment }
         ensures made { ThreadSteps self.old.board self.old.seen self.new.seen }
+        ensures stamp { self.old.stamp < self.new.stamp }
     {
         let word = place_at(self.slots, self.place);
         let moment = self.moment;
@@ -144,6 +158,7 @@ impl ThreadSeat {
         ensures board { self.new.board ≡ self.old.board }
         ensures step { self.new.seen ≡ stored_as self.old.seen self.old.seen.moment }
         ensures made { ThreadSteps self.old.board self.old.seen self.new.seen }
+        ensures stamp { self.old.stamp < self.new.stamp }
     {
         self.store_read::<Brand>(board)
     }
@@ -155,6 +170,7 @@ impl ThreadSeat {
         ensures board { self.new.board ≡ self.old.board }
         ensures step { self.new.seen ≡ stored_as self.old.seen 0 }
         ensures made { ThreadSteps self.old.board self.old.seen self.new.seen }
+        ensures stamp { self.old.stamp < self.new.stamp }
     {
         let word = place_at(self.slots, self.place);
         board
@@ -171,6 +187,7 @@ impl ThreadSeat {
         ensures board { self.new.board ≡ self.old.board }
         ensures step { self.new.seen ≡ stored_as self.old.seen 0 }
         ensures made { ThreadSteps self.old.board self.old.seen self.new.seen }
+        ensures stamp { self.old.stamp < self.new.stamp }
     {
         self.store_vacant::<Brand>(board)
     }
@@ -185,6 +202,7 @@ impl ThreadSeat {
         ensures board { self.new.board ≡ self.old.board }
         ensures step { self.new.seen ≡ counted_up self.old.seen code by result }
         ensures made { ThreadSteps self.old.board self.old.seen self.new.seen }
+        ensures stamp { self.old.stamp < self.new.stamp }
     {
         board
             .table
@@ -200,6 +218,7 @@ impl ThreadSeat {
         ensures board { self.new.board ≡ self.old.board }
         ensures step { self.new.seen ≡ counted_down self.old.seen code by result }
         ensures made { ThreadSteps self.old.board self.old.seen self.new.seen }
+        ensures stamp { self.old.stamp < self.new.stamp }
     {
         board
             .table
@@ -221,6 +240,7 @@ impl ThreadSeat {
         ensures board { self.new.board ≡ self.old.board }
         ensures step { (found : ℕ) × (self.new.seen ≡ count_changed self.old.seen code by found) }
         ensures made { ThreadSteps self.old.board self.old.seen self.new.seen }
+        ensures stamp { self.old.stamp < self.new.stamp }
     {
         if by > 0 {
             self.add_count::<Brand>(board, code, by as u64);

@@ -141,10 +141,11 @@ pub struct SeatView {
     pub last: StepMade,
 }
 
-/// What a seat of a board's table knows.
+/// What a seat of a board's table knows. The number is its stamp, which rises at each step of the seat: of two seats the one whose
+/// stamp is greater stepped later.
 pub enum BoardView {
-    Keeper(KeeperView),
-    Thread(SeatView),
+    Keeper(KeeperView, u64),
+    Thread(SeatView, u64),
 }
 
 /// A law: whatever step a seat makes, where it is allowed, a board that meets the rule meets it afterwards.

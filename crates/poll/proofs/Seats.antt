@@ -13,74 +13,86 @@ use Rattle.thread_state.specs.declared.poll_rule.Watching.{Watching}
 use Rattle.thread_state.specs.PollRule.{IsPlaceKept, IsPollKept, first_arming, first_watching}
 use Rattle.poll.specs.declared.views.Watch.{Watch}
 use Rattle.poll.specs.declared.views.Watch.TheVariants.{Armer, Poller, Ended}
-use Rattle.poll.specs.Rows.{IsRow, IsSeatedAt, IsLive, arming_of, ended_of, watching_of, watching_or, watching_at, cleared_of, word_at, words_of, place_of, left_of, right_of, both_of, fewer, IsArmer, IsPoller, IsClosing, RowId, PollerSeen, first_poller}
+use Rattle.poll.specs.Rows.{IsRow, IsSeatedAt, IsLive, arming_of, ended_of, watching_of, watching_or, watching_at, cleared_of, word_at, words_of, place_of, left_of, right_of, both_of, fewer, IsArmer, IsPoller, IsClosing, RowId, PollerSeen, first_poller, stamp_of, IsTold, IsLatest}
 use Rattle.poll.proofs.Steps.{Whole, set_found, at_end, no_poller, armer_same, cleared_same, cleared_other, its_place, place}
 
 -- 1. A poller is split off
 
 -- a poller that is split off knows what it was taken to know
-one_more : (l : List Watch) (j q k : ℕ) → (watching_or q (get_elem? (l ++ Poller (first_watching k) ∷ []) j)).cleared ≡ (watching_or q (get_elem? l j)).cleared
+one_more : (l : List Watch) (j q k : ℕ) → (watching_or q (get_elem? (l ++ Poller (first_watching k) 0 ∷ []) j)).cleared ≡ (watching_or q (get_elem? l j)).cleared
 one_more [] zero q k = refl
 one_more [] (suc j) q k = refl
 one_more (x ∷ xs) zero q k = refl
 one_more (x ∷ xs) (suc j) q k = one_more xs j q k
 
-splits_at : (places id : ℕ) (a : Arming) → a.split < places → Splits (IsRow places) id (Armer a []) (Armer (fewer a) []) (Poller (first_watching a.split))
-splits_at places id a room s r at =
-    let first : id ≡ 0 = r.seated id (Armer a []) at in
-    let same : Armer r.arming r.ended ≡ Armer a [] = armer_same places s id a [] r at in
+splits_at : (places id k : ℕ) (a : Arming) → a.split < places → Splits (IsRow places) id (Armer a [] k) (Armer (fewer a) [] k) (Poller (first_watching a.split) 0)
+splits_at places id k a room s r at =
+    let first : id ≡ 0 = r.seated id (Armer a [] k) at in
+    let same : Armer r.arming r.ended r.stamp ≡ Armer a [] k = armer_same places s id a [] k r at in
     let alike : r.arming ≡ a = ap arming_of same in
-    let l : List Watch = set s.views id (Armer (fewer a) []) in
-    let long : length l ≡ suc a.split = length-set s.views id (Armer (fewer a) []) ∙ (r.split.0 ∙ ap (λ (t : Arming). suc t.split) alike) in record {
+    let l : List Watch = set s.views id (Armer (fewer a) [] k) in
+    let long : length l ≡ suc a.split = length-set s.views id (Armer (fewer a) [] k) ∙ (r.split.0 ∙ ap (λ (t : Arming). suc t.split) alike) in record {
       arming = fewer a;
       ended = [];
-      armer = at_longer l (Poller (first_watching a.split) ∷ []) 0 (Armer (fewer a) []) (subst (λ j. get_elem? l j ≡ some (Armer (fewer a) [])) first (set_found s.views id (Armer a []) (Armer (fewer a) []) at));
+      stamp = k;
+      armer = at_longer l (Poller (first_watching a.split) 0 ∷ []) 0 (Armer (fewer a) [] k) (subst (λ j. get_elem? l j ≡ some (Armer (fewer a) [] k)) first (set_found s.views id (Armer a [] k) (Armer (fewer a) [] k) at));
       seated = λ j v e. ⊎_elim
-          (λ old. ⊎_elim (λ t. subst (IsSeatedAt j) t.1 (t.0 ∙ first)) (λ t. r.seated j v t.1) (at_set s.views id j (Armer (fewer a) []) v old))
+          (λ old. ⊎_elim (λ t. subst (IsSeatedAt j) t.1 (t.0 ∙ first)) (λ t. r.seated j v t.1) (at_set s.views id j (Armer (fewer a) [] k) v old))
           (λ new. subst (IsSeatedAt j) new.1 (new.0 ∙ long))
-          (at_end l (Poller (first_watching a.split)) v j e);
-      split = (omega (arith, length-append l (Poller (first_watching a.split) ∷ [])), omega arith);
+          (at_end l (Poller (first_watching a.split) 0) v j e);
+      split = (omega (arith, length-append l (Poller (first_watching a.split) 0 ∷ [])), omega arith);
       armed_at = subst (λ (t : Arming). length t.armed ≡ places) alike r.armed_at;
       words_at = r.words_at;
-      live = λ j u e c. refl;
+      live = λ j u t e c. refl;
       kept = λ q h.
           let before : IsPlaceKept (place_of s.words a [] s.views q) = subst (λ v. IsPlaceKept (place_of s.words (arming_of v) (ended_of v) s.views q)) same (r.kept q h) in
-          let there : get_elem? l (suc q) ≡ get_elem? s.views (suc q) = set_else s.views id (suc q) (Armer (fewer a) []) (λ e. omega arith) in
-          subst (λ k. IsPlaceKept (place (get_or s.words (word_at q) 0) (get_or a.armed q 0) k)) (sym (one_more l (suc q) q a.split ∙ ap (λ o. (watching_or q o).cleared) there)) before;
+          let there : get_elem? l (suc q) ≡ get_elem? s.views (suc q) = set_else s.views id (suc q) (Armer (fewer a) [] k) (λ e. omega arith) in
+          subst (λ n. IsPlaceKept (place (get_or s.words (word_at q) 0) (get_or a.armed q 0) n)) (sym (one_more l (suc q) q a.split ∙ ap (λ o. (watching_or q o).cleared) there)) before;
+      told = λ j v e latest.
+          let was : IsLatest s.views (stamp_of v) = λ i u h. dite (ℕ_discrete i id)
+          (λ e. subst (λ x. x ≤ stamp_of v) (ap stamp_of (some-injective (Armer a [] k) u (sym at ∙ (ap (get_elem? s.views) (sym e) ∙ h)))) (latest id (Armer (fewer a) [] k) (at_longer l (Poller (first_watching a.split) 0 ∷ []) id (Armer (fewer a) [] k) (set_found s.views id (Armer a [] k) (Armer (fewer a) [] k) at))))
+          (λ ne. latest i u (at_longer l (Poller (first_watching a.split) 0 ∷ []) i u (set_else s.views id i (Armer (fewer a) [] k) ne ∙ h))) in
+          ⊎_elim (λ old. ⊎_elim
+          (λ t. subst (IsTold s.words) t.1 (r.told id (Armer a [] k) at (subst (IsLatest s.views) (ap stamp_of (sym t.1)) was)))
+          (λ t. r.told j v t.1 was)
+          (at_set s.views id j (Armer (fewer a) [] k) v old))
+          (λ new. subst (IsTold s.words) new.1 tt)
+          (at_end l (Poller (first_watching a.split) 0) v j e);
     }
 
 pub splits : (places id : ℕ) (v : Watch) → IsArmer v → (arming_of v).split < places → Splits (IsRow places) id v (left_of v) (right_of v)
-splits places id v is room = subst (λ u. Splits (IsRow places) id u (left_of u) (right_of u)) (sym is) (splits_at places id (arming_of v) room)
+splits places id v is room = subst (λ u. Splits (IsRow places) id u (left_of u) (right_of u)) (sym is) (splits_at places id (stamp_of v) (arming_of v) room)
 
 -- 2. A poller ends
 
-joins_at : (places id other : ℕ) (a : Arming) (ended : List (ℕ × ℕ)) (w : Watching) → Joins (IsRow places) id (Armer a ended) other (Poller w) (both_of (Armer a ended) (Poller w)) Ended
-joins_at places id other a ended w s r at apart at_other =
-    let b : Watch = both_of (Armer a ended) (Poller w) in let l : List Watch = set s.views id b in
-    let first : id ≡ 0 = r.seated id (Armer a ended) at in
-    let was : get_elem? s.views other ≡ some (Poller w) = sym (set_else s.views id other b apart) ∙ at_other in
-    let mine : other ≡ suc w.place = r.seated other (Poller w) was in
-    let same : Armer r.arming r.ended ≡ Armer a ended = armer_same places s id a ended r at in
+joins_at : (places id other k k' : ℕ) (a : Arming) (ended : List (ℕ × ℕ)) (w : Watching) → Joins (IsRow places) id (Armer a ended k) other (Poller w k') (both_of (Armer a ended k) (Poller w k')) Ended
+joins_at places id other k k' a ended w s r at apart at_other =
+    let b : Watch = both_of (Armer a ended k) (Poller w k') in let l : List Watch = set s.views id b in
+    let first : id ≡ 0 = r.seated id (Armer a ended k) at in
+    let was : get_elem? s.views other ≡ some (Poller w k') = sym (set_else s.views id other b apart) ∙ at_other in
+    let mine : other ≡ suc w.place = r.seated other (Poller w k') was in
+    let same : Armer r.arming r.ended r.stamp ≡ Armer a ended k = armer_same places s id a ended k r at in
     let alike : r.arming ≡ a = ap arming_of same in
     let its : place_of s.words a ended s.views w.place ≡ place (get_or s.words (word_at w.place) 0) (get_or a.armed w.place 0) w.cleared
-    = subst (λ v. place_of s.words (arming_of v) (ended_of v) s.views w.place ≡ place (get_or s.words (word_at w.place) 0) (get_or (arming_of v).armed w.place 0) w.cleared) same (its_place places s other w r was) in
+    = subst (λ v. place_of s.words (arming_of v) (ended_of v) s.views w.place ≡ place (get_or s.words (word_at w.place) 0) (get_or (arming_of v).armed w.place 0) w.cleared) same (its_place places s other w k' r was) in
     let kept : IsPollKept places (place_of s.words a ended s.views) = subst (λ v. IsPollKept places (place_of s.words (arming_of v) (ended_of v) s.views)) same r.kept in
-    let live : (j : ℕ) (u : Watching) → get_elem? s.views j ≡ some (Poller u) → IsLive ended u.place = λ j u e. subst (λ v. IsLive (ended_of v) u.place) same (r.live j u e) in record {
+    let live : (j : ℕ) (u : Watching) (t : ℕ) → get_elem? s.views j ≡ some (Poller u t) → IsLive ended u.place = λ j u t e. subst (λ v. IsLive (ended_of v) u.place) same (r.live j u t e) in record {
       arming = a;
       ended = (w.place, w.cleared) ∷ ended;
-      armer = set_else l other 0 Ended (λ e. omega arith) ∙ subst (λ j. get_elem? l j ≡ some b) first (set_found s.views id (Armer a ended) b at);
+      stamp = k + k';
+      armer = set_else l other 0 Ended (λ e. omega arith) ∙ subst (λ j. get_elem? l j ≡ some b) first (set_found s.views id (Armer a ended k) b at);
       seated = λ j v e. ⊎_elim (λ t. subst (IsSeatedAt j) t.1 (let here = t.0 in omega arith))
           (λ t. ⊎_elim (λ u. subst (IsSeatedAt j) u.1 (u.0 ∙ first)) (λ u. r.seated j v u.1) (at_set s.views id j b v t.1))
           (at_set l other j Ended v e);
       split = (length-set l other Ended ∙ (length-set s.views id b ∙ (r.split.0 ∙ ap (λ (t : Arming). suc t.split) alike)), subst (λ (t : Arming). t.split ≤ places) alike r.split.1);
       armed_at = subst (λ (t : Arming). length t.armed ≡ places) alike r.armed_at;
       words_at = r.words_at;
-      live = λ j u e. ⊎_elim (λ t. absurd (no_poller Ended u t.1))
-          (λ t. ⊎_elim (λ k. absurd (no_poller b u k.1))
-          (λ k c. let there : j ≡ suc u.place = r.seated j (Poller u) k.1 in let other_seat = t.0 in
-          cleared_other ended w.place u.place w.cleared c (λ q. other_seat (omega arith)) ∙ live j u k.1 c)
-          (at_set s.views id j b (Poller u) t.1))
-          (at_set l other j Ended (Poller u) e);
+      live = λ j u n e. ⊎_elim (λ t. absurd (no_poller Ended u n t.1))
+          (λ t. ⊎_elim (λ h. absurd (no_poller b u n h.1))
+          (λ h c. let there : j ≡ suc u.place = r.seated j (Poller u n) h.1 in let other_seat = t.0 in
+          cleared_other ended w.place u.place w.cleared c (λ q. other_seat (omega arith)) ∙ live j u n h.1 c)
+          (at_set s.views id j b (Poller u n) t.1))
+          (at_set l other j Ended (Poller u n) e);
       kept = λ q h. dite (ℕ_discrete w.place q)
           (λ e. subst (λ k. IsPlaceKept (place (get_or s.words (word_at q) 0) (get_or a.armed q 0) k))
           (sym (cleared_same ended w.place q w.cleared (watching_at (set l other Ended) q).cleared e))
@@ -88,30 +100,46 @@ joins_at places id other a ended w s r at apart at_other =
           (λ ne. let there : get_elem? (set l other Ended) (suc q) ≡ get_elem? s.views (suc q) = set_else l other (suc q) Ended (λ e. ne (omega arith)) ∙ set_else s.views id (suc q) b (λ e. omega arith) in
           subst (λ k. IsPlaceKept (place (get_or s.words (word_at q) 0) (get_or a.armed q 0) k))
           (sym (cleared_other ended w.place q w.cleared (watching_at (set l other Ended) q).cleared ne ∙ ap (λ o. cleared_of ended q (watching_or q o).cleared) there)) (kept q h));
+      told = λ j v e latest.
+          let mine : k + k' ≤ stamp_of v = latest id b (set_else l other id Ended (λ q. apart (sym q)) ∙ set_found s.views id (Armer a ended k) b at) in
+          let before : IsLatest s.views (stamp_of v) = λ i u h. dite (ℕ_discrete i id)
+          (λ q. let is : k ≡ stamp_of u = ap stamp_of (some-injective (Armer a ended k) u (sym at ∙ (ap (get_elem? s.views) (sym q) ∙ h))) in omega arith)
+          (λ ni. dite (ℕ_discrete i other)
+          (λ q. let is : k' ≡ stamp_of u = ap stamp_of (some-injective (Poller w k') u (sym was ∙ (ap (get_elem? s.views) (sym q) ∙ h))) in omega arith)
+          (λ no. latest i u (set_else l other i Ended no ∙ (set_else s.views id i b ni ∙ h)))) in
+          ⊎_elim (λ t. subst (IsTold s.words) t.1 tt)
+          (λ t. ⊎_elim (λ h. subst (IsTold s.words) h.1 tt) (λ h. r.told j v h.1 before) (at_set s.views id j b v t.1))
+          (at_set l other j Ended v e);
     }
 
 pub joins : (places id other : ℕ) (v u : Watch) → IsClosing v → IsPoller u → Joins (IsRow places) id v other u (both_of v u) Ended
 joins places id other v u is poller = subst (λ x. Joins (IsRow places) id x other u (both_of x u) Ended) (sym is)
-    (subst (λ y. Joins (IsRow places) id (Armer (arming_of v) (ended_of v)) other y (both_of (Armer (arming_of v) (ended_of v)) y) Ended) (sym poller) (joins_at places id other (arming_of v) (ended_of v) (watching_of 0 u)))
+    (subst (λ y. Joins (IsRow places) id (Armer (arming_of v) (ended_of v) (stamp_of v)) other y (both_of (Armer (arming_of v) (ended_of v) (stamp_of v)) y) Ended) (sym poller) (joins_at places id other (stamp_of v) (stamp_of u) (arming_of v) (ended_of v) (watching_of 0 u)))
 
 -- 3. The row is made, and ends
 
-only_armer : (a : Arming) (id : ℕ) (v : Watch) → get_elem? (Armer a [] ∷ []) id ≡ some v → IsSeatedAt id v
-only_armer a zero v e = subst (IsSeatedAt 0) (some-injective (Armer a []) v e) refl
+only_armer : (a : Arming) (id : ℕ) (v : Watch) → get_elem? (Armer a [] 0 ∷ []) id ≡ some v → IsSeatedAt id v
+only_armer a zero v e = subst (IsSeatedAt 0) (some-injective (Armer a [] 0) v e) refl
 only_armer a (suc id) v e = absurd (some-ne-none v (sym e))
 
+only_told : (places : ℕ) (ws : List ℕ) (id : ℕ) (v : Watch) → get_elem? (Armer (first_arming places) [] 0 ∷ []) id ≡ some v → IsTold ws v
+only_told places ws zero v e = subst (IsTold ws) (some-injective (Armer (first_arming places) [] 0) v e) tt
+only_told places ws (suc id) v e = absurd (some-ne-none v (sym e))
+
 -- the row as it is made
-pub opens : (places : ℕ) (words : List ℕ) → words ≡ replicate (words_of places) 0 → IsRow places record { words = words; homes = []; views = Armer (first_arming places) [] ∷ [] }
+pub opens : (places : ℕ) (words : List ℕ) → words ≡ replicate (words_of places) 0 → IsRow places record { words = words; homes = []; views = Armer (first_arming places) [] 0 ∷ [] }
 opens places words is = rw is record {
   arming = first_arming places;
   ended = [];
+  stamp = 0;
   armer = refl;
   seated = only_armer (first_arming places);
   split = (refl, omega arith);
   armed_at = length-replicate {A = ℕ} places 0;
   words_at = length-replicate {A = ℕ} (words_of places) 0;
-  live = λ j u e c. refl;
+  live = λ j u t e c. refl;
   kept = λ q h. rw (get_or-replicate {A = ℕ} (words_of places) (word_at q) 0 0 (omega arith), get_or-replicate {A = ℕ} places q 0 0 h) record { cleared_by = omega arith; word_is = refl };
+  told = λ j v e latest. only_told places (replicate (words_of places) 0) j v e;
 }
 
 found_or : (l : List ℕ) (i x : ℕ) → get_elem? l i ≡ some x → get_or l i 0 ≡ x
@@ -136,8 +164,8 @@ pub leaves : (places id : ℕ) (v : Watch) (ws out : List ℕ) (xs : List (Unit 
     → (k : ℕ) (p : PollerSeen) → slice_get pollers k ≡ Some p → k < length out → p.seen.place ≡ k → IsPlaceKept (place (get_or out p.seen.place 0) (get_or (arming_of v).armed p.seen.place 0) p.seen.cleared)
 leaves places id v ws out xs pollers is end len taken ended k p there low here =
     let s : Whole = end.0 in let r : IsRow places s = end.1.0 in let a : Arming = arming_of v in
-    let at : get_elem? s.views id ≡ some (Armer a (ended_of v)) = end.1.1 ∙ ap some is in
-    let same : Armer r.arming r.ended ≡ Armer a (ended_of v) = armer_same places s id a (ended_of v) r at in
+    let at : get_elem? s.views id ≡ some (Armer a (ended_of v) (stamp_of v)) = end.1.1 ∙ ap some is in
+    let same : Armer r.arming r.ended r.stamp ≡ Armer a (ended_of v) (stamp_of v) = armer_same places s id a (ended_of v) (stamp_of v) r at in
     let wide : length a.armed ≡ places = subst (λ u. length (arming_of u).armed ≡ places) same r.armed_at in
     let kept : IsPollKept places (place_of s.words a (ended_of v) s.views) = subst (λ u. IsPollKept places (place_of s.words (arming_of u) (ended_of u) s.views)) same r.kept in
     let word : get_or s.words (word_at k) 0 ≡ get_or out k 0 = ap (λ l. get_or l (word_at k) 0) end.2 ∙ sym (taken k low) in

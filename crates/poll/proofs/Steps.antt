@@ -1,5 +1,5 @@
 -- Each step of a seat keeps the rule of the row.
-use Rattle.std.proofs.Common.{◌≡◌, ◌≢◌, ◌⊎◌, ℕ, zero, suc, ◌<◌, ◌≤◌, eqb, List, [], ◌∷◌, ◌++◌, length, get_or, set, sym, refl, ap, ◌∙◌, inl, inr, ⊎_elim, subst, arith, length-set, get_or-set_same, get_or-set_other, eq-eqb, ne_eqb}
+use Rattle.std.proofs.Common.{◌≡◌, ◌≢◌, ◌⊎◌, ℕ, zero, suc, ◌+◌, ◌<◌, ◌≤◌, eqb, List, [], ◌∷◌, ◌++◌, length, get_or, set, sym, refl, ap, ◌∙◌, inl, inr, ⊎_elim, subst, arith, length-set, get_or-set_same, get_or-set_other, eq-eqb, ne_eqb}
 use mathlib.Core.Option.{none, some, some-injective, some-ne-none}
 use prog.Atomic.{either}
 use lib.ListN.{get_elem?}
@@ -12,7 +12,7 @@ use Rattle.thread_state.specs.PollRule.{PlaceState, IsPlaceKept, IsPollKept, Pol
 use Rattle.thread_state.proofs.PollSteps.{found_is, row_step_keeps}
 use Rattle.poll.specs.declared.views.Watch.{Watch}
 use Rattle.poll.specs.declared.views.Watch.TheVariants.{Armer, Poller, Ended}
-use Rattle.poll.specs.Rows.{IsRow, IsSeatedAt, IsMet, IsLive, arming_of, ended_of, watching_of, watching_or, watching_at, cleared_of, word_at, words_of, place_of, Polls, Clears, Arms, IsArmer, IsPoller}
+use Rattle.poll.specs.Rows.{IsRow, IsSeatedAt, IsMet, IsLive, arming_of, ended_of, watching_of, watching_or, watching_at, cleared_of, word_at, words_of, place_of, Polls, Clears, Arms, IsArmer, IsPoller, stamp_of, IsToldBy, IsTold, IsLatest}
 
 abbrev pub Whole : Type 0
 Whole = State (Unit {0}) Watch
@@ -33,19 +33,19 @@ at_end (x ∷ xs) a b (suc j) e = ⊎_elim (λ t. inl t) (λ t. inr (ap suc t.0,
 
 -- the views that have a poller
 abbrev HasPoller : Watch → Type 0
-HasPoller (Armer a ended) = ⊥
-HasPoller (Poller w) = Unit {0}
+HasPoller (Armer a ended t) = ⊥
+HasPoller (Poller w t) = Unit {0}
 HasPoller Ended = ⊥
 
-pub no_poller : (v : Watch) (w : Watching) → v ≡ Poller w → HasPoller v
-no_poller v w e = subst HasPoller (sym e) tt
+pub no_poller : (v : Watch) (w : Watching) (t : ℕ) → v ≡ Poller w t → HasPoller v
+no_poller v w t e = subst HasPoller (sym e) tt
 
 view_same : (l : List Watch) (u v : Watch) → get_elem? l 0 ≡ some u → get_elem? l 0 ≡ some v → u ≡ v
 view_same l u v e f = some-injective u v (sym e ∙ f)
 
 -- the armer that the rule speaks of is the one whose seat steps
-pub armer_same : (places : ℕ) (s : Whole) (id : ℕ) (a : Arming) (ended : List (ℕ × ℕ)) (r : IsRow places s) → get_elem? s.views id ≡ some (Armer a ended) → Armer r.arming r.ended ≡ Armer a ended
-armer_same places s id a ended r at = view_same s.views (Armer r.arming r.ended) (Armer a ended) r.armer (subst (λ j. get_elem? s.views j ≡ some (Armer a ended)) (r.seated id (Armer a ended) at) at)
+pub armer_same : (places : ℕ) (s : Whole) (id : ℕ) (a : Arming) (ended : List (ℕ × ℕ)) (t : ℕ) (r : IsRow places s) → get_elem? s.views id ≡ some (Armer a ended t) → Armer r.arming r.ended r.stamp ≡ Armer a ended t
+armer_same places s id a ended t r at = view_same s.views (Armer r.arming r.ended r.stamp) (Armer a ended t) r.armer (subst (λ j. get_elem? s.views j ≡ some (Armer a ended t)) (r.seated id (Armer a ended t) at) at)
 
 pub cleared_same : (ended : List (ℕ × ℕ)) (p q c d : ℕ) → p ≡ q → cleared_of ((p, c) ∷ ended) q d ≡ c
 cleared_same ended p q c d e = rw (eq-eqb p q e) refl
@@ -57,56 +57,76 @@ cleared_other ended p q c d ne = rw (ne_eqb p q ne) refl
 abbrev pub place : ℕ → ℕ → ℕ → PlaceState
 place x a c = record { word = x; armed = a; cleared = c }
 
+-- no stamp is above the sum of all
+abbrev pub stamps : List Watch → ℕ
+stamps [] = 0
+stamps (v ∷ vs) = stamp_of v + stamps vs
+
+stamp_by : (l : List Watch) (i : ℕ) (v : Watch) → get_elem? l i ≡ some v → stamp_of v ≤ stamps l
+stamp_by [] i v e = absurd (some-ne-none v (sym e))
+stamp_by (x ∷ xs) zero v e = let is : stamp_of x ≡ stamp_of v = ap stamp_of (some-injective x v e) in omega arith
+stamp_by (x ∷ xs) (suc i) v e = let below = stamp_by xs i v e in omega arith
+
+-- a seat steps last, and its last step left the words so
+told_after : (l : List Watch) (ws : List ℕ) (id : ℕ) (old new : Watch) → get_elem? l id ≡ some old → stamps l < stamp_of new → IsTold ws new
+    → (j : ℕ) (v : Watch) → get_elem? (set l id new) j ≡ some v → IsLatest (set l id new) (stamp_of v) → IsTold ws v
+told_after l ws id old new at later told j v e latest = ⊎_elim (λ t. subst (IsTold ws) t.1 told)
+    (λ t. let below = stamp_by l j v t.1 in let above = latest id new (set_found l id old new at) in absurd (omega arith))
+    (at_set l id j new v e)
+
 -- 2. Steps of a poller
 
 -- the place of the poller w, whose seat is split off
-pub its_place : (places : ℕ) (s : Whole) (id : ℕ) (w : Watching) (r : IsRow places s) → get_elem? s.views id ≡ some (Poller w)
+pub its_place : (places : ℕ) (s : Whole) (id : ℕ) (w : Watching) (t : ℕ) (r : IsRow places s) → get_elem? s.views id ≡ some (Poller w t)
     → place_of s.words r.arming r.ended s.views w.place ≡ place (get_or s.words (word_at w.place) 0) (get_or r.arming.armed w.place 0) w.cleared
-its_place places s id w r at = let was : get_elem? s.views (suc w.place) ≡ some (Poller w) = subst (λ j. get_elem? s.views j ≡ some (Poller w)) (r.seated id (Poller w) at) at in
+its_place places s id w t r at = let was : get_elem? s.views (suc w.place) ≡ some (Poller w t) = subst (λ j. get_elem? s.views j ≡ some (Poller w t)) (r.seated id (Poller w t) at) at in
     ap (λ o. place (get_or s.words (word_at w.place) 0) (get_or r.arming.armed w.place 0) (cleared_of r.ended w.place (watching_or w.place o).cleared)) was
-    ∙ ap (place (get_or s.words (word_at w.place) 0) (get_or r.arming.armed w.place 0)) (r.live id w at w.cleared)
+    ∙ ap (place (get_or s.words (word_at w.place) 0) (get_or r.arming.armed w.place 0)) (r.live id w t at w.cleared)
 
 -- a step of the poller w, after which it knows w'
-poller_steps : (places : ℕ) (s : Whole) (id : ℕ) (c : List (ℕ × Unit {0})) (w w' : Watching) (n : ℕ) (r : IsRow places s) → get_elem? s.views id ≡ some (Poller w) → w'.place ≡ w.place → w.place < places
+poller_steps : (places : ℕ) (s : Whole) (id : ℕ) (c : List (ℕ × Unit {0})) (w w' : Watching) (k k' n : ℕ) (r : IsRow places s) → get_elem? s.views id ≡ some (Poller w k) → stamps s.views < k' → IsToldBy (set s.words (word_at w.place) n) w'.place w'.last → w'.place ≡ w.place → w.place < places
     → PollStep w.place w'.last (place (get_or s.words (word_at w.place) 0) (get_or r.arming.armed w.place 0) w.cleared) (place n (get_or r.arming.armed w.place 0) w'.cleared)
-    → IsRow places (stepped s (word_at w.place) n id c (Poller w') keeps)
-poller_steps places s id c w w' n r at same low made =
-    let mine : id ≡ suc w.place = r.seated id (Poller w) at in
+    → IsRow places (stepped s (word_at w.place) n id c (Poller w' k') keeps)
+poller_steps places s id c w w' k k' n r at later told same low made =
+    let mine : id ≡ suc w.place = r.seated id (Poller w k) at in
     let armed : ℕ = get_or r.arming.armed w.place 0 in
-    let here : get_elem? (set s.views id (Poller w')) (suc w.place) ≡ some (Poller w') = subst (λ j. get_elem? (set s.views id (Poller w')) j ≡ some (Poller w')) mine (set_found s.views id (Poller w) (Poller w') at) in
+    let here : get_elem? (set s.views id (Poller w' k')) (suc w.place) ≡ some (Poller w' k') = subst (λ j. get_elem? (set s.views id (Poller w' k')) j ≡ some (Poller w' k')) mine (set_found s.views id (Poller w k) (Poller w' k') at) in
     let word : get_or (set s.words (word_at w.place) n) (word_at w.place) 0 ≡ n = get_or-set_same s.words (word_at w.place) n 0 (subst (λ k. word_at w.place < k) (sym r.words_at) (omega arith)) in
-    let after : place_of (set s.words (word_at w.place) n) r.arming r.ended (set s.views id (Poller w')) w.place ≡ place n armed w'.cleared
-    = ap (λ x. place x armed (cleared_of r.ended w.place (watching_at (set s.views id (Poller w')) w.place).cleared)) word
-    ∙ (ap (λ o. place n armed (cleared_of r.ended w.place (watching_or w.place o).cleared)) here ∙ ap (place n armed) (r.live id w at w'.cleared)) in record {
+    let after : place_of (set s.words (word_at w.place) n) r.arming r.ended (set s.views id (Poller w' k')) w.place ≡ place n armed w'.cleared
+    = ap (λ x. place x armed (cleared_of r.ended w.place (watching_at (set s.views id (Poller w' k')) w.place).cleared)) word
+    ∙ (ap (λ o. place n armed (cleared_of r.ended w.place (watching_or w.place o).cleared)) here ∙ ap (place n armed) (r.live id w k at w'.cleared)) in record {
       arming = r.arming;
       ended = r.ended;
-      armer = set_else s.views id 0 (Poller w') (λ e. omega arith) ∙ r.armer;
-      seated = λ j v e. ⊎_elim (λ t. subst (IsSeatedAt j) t.1 (t.0 ∙ (mine ∙ ap suc (sym same)))) (λ t. r.seated j v t.1) (at_set s.views id j (Poller w') v e);
-      split = (length-set s.views id (Poller w') ∙ r.split.0, r.split.1);
+      stamp = r.stamp;
+      armer = set_else s.views id 0 (Poller w' k') (λ e. omega arith) ∙ r.armer;
+      seated = λ j v e. ⊎_elim (λ t. subst (IsSeatedAt j) t.1 (t.0 ∙ (mine ∙ ap suc (sym same)))) (λ t. r.seated j v t.1) (at_set s.views id j (Poller w' k') v e);
+      split = (length-set s.views id (Poller w' k') ∙ r.split.0, r.split.1);
       armed_at = r.armed_at;
       words_at = length-set s.words (word_at w.place) n ∙ r.words_at;
-      live = λ j u e. ⊎_elim (λ t. subst (IsLive r.ended) (sym same ∙ ap (λ v. (watching_of 0 v).place) t.1) (r.live id w at)) (λ t. r.live j u t.1) (at_set s.views id j (Poller w') (Poller u) e);
-      kept = row_step_keeps places w.place w'.last (place_of s.words r.arming r.ended s.views) (place_of (set s.words (word_at w.place) n) r.arming r.ended (set s.views id (Poller w'))) record {
+      live = λ j u t e. ⊎_elim (λ h. subst (IsLive r.ended) (sym same ∙ ap (λ v. (watching_of 0 v).place) h.1) (r.live id w k at)) (λ h. r.live j u t h.1) (at_set s.views id j (Poller w' k') (Poller u t) e);
+      kept = row_step_keeps places w.place w'.last (place_of s.words r.arming r.ended s.views) (place_of (set s.words (word_at w.place) n) r.arming r.ended (set s.views id (Poller w' k'))) record {
         in_range = low;
-        step = subst (λ t. PollStep w.place w'.last (place_of s.words r.arming r.ended s.views w.place) t) (sym after) (subst (λ t. PollStep w.place w'.last t (place n armed w'.cleared)) (sym (its_place places s id w r at)) made);
-        others = λ q ne. ap (λ x. place x (get_or r.arming.armed q 0) (cleared_of r.ended q (watching_at (set s.views id (Poller w')) q).cleared)) (get_or-set_other s.words (word_at w.place) (word_at q) n 0 (λ e. ne (omega arith)))
-            ∙ ap (λ o. place (get_or s.words (word_at q) 0) (get_or r.arming.armed q 0) (cleared_of r.ended q (watching_or q o).cleared)) (set_else s.views id (suc q) (Poller w') (λ e. ne (omega arith)));
+        step = subst (λ t. PollStep w.place w'.last (place_of s.words r.arming r.ended s.views w.place) t) (sym after) (subst (λ t. PollStep w.place w'.last t (place n armed w'.cleared)) (sym (its_place places s id w k r at)) made);
+        others = λ q ne. ap (λ x. place x (get_or r.arming.armed q 0) (cleared_of r.ended q (watching_at (set s.views id (Poller w' k')) q).cleared)) (get_or-set_other s.words (word_at w.place) (word_at q) n 0 (λ e. ne (omega arith)))
+            ∙ ap (λ o. place (get_or s.words (word_at q) 0) (get_or r.arming.armed q 0) (cleared_of r.ended q (watching_or q o).cleared)) (set_else s.views id (suc q) (Poller w' k') (λ e. ne (omega arith)));
       } r.kept;
+      told = told_after s.views (set s.words (word_at w.place) n) id (Poller w k) (Poller w' k') at later told;
     }
 
 -- what the rule says of the word that the poller w finds
-met : (places : ℕ) (s : Whole) (id : ℕ) (w : Watching) (r : IsRow places s) → get_elem? s.views id ≡ some (Poller w) → w.place < places → IsMet w.cleared (get_or s.words (word_at w.place) 0)
-met places s id w r at low = (get_or r.arming.armed w.place 0, found_is (place (get_or s.words (word_at w.place) 0) (get_or r.arming.armed w.place 0) w.cleared) (subst IsPlaceKept (its_place places s id w r at) (r.kept w.place low)))
+met : (places : ℕ) (s : Whole) (id : ℕ) (w : Watching) (k : ℕ) (r : IsRow places s) → get_elem? s.views id ≡ some (Poller w k) → w.place < places → IsMet w.cleared (get_or s.words (word_at w.place) 0)
+met places s id w k r at low = (get_or r.arming.armed w.place 0, found_is (place (get_or s.words (word_at w.place) 0) (get_or r.arming.armed w.place 0) w.cleared) (subst IsPlaceKept (its_place places s id w k r at) (r.kept w.place low)))
 
 polls_at : (places slots id : ℕ) (me : Me (Unit {0}) Watch) → IsPoller me.0 → (watching_of 0 me.0).place < places
     → Allows (IsRow places) slots id me (word_at (watching_of 0 me.0).place) (λ n. n) (Polls (step slots (word_at (watching_of 0 me.0).place) 0 0 none) me)
-polls_at places slots id me is low s r _ at _ = let w : Watching = watching_of 0 me.0 in let x : ℕ = get_or s.words (word_at w.place) 0 in let at' : get_elem? s.views id ≡ some (Poller w) = at ∙ ap some is in (
-  Poller (polled w x),
-  keeps,
-  tt,
-  poller_steps places s id me.1 w (polled w x) x r at' refl low (loads (place x (get_or r.arming.armed w.place 0) w.cleared)),
-  (refl, met places s id w r at' low),
-)
+polls_at places slots id me is low s r _ at _ = let w : Watching = watching_of 0 me.0 in let x : ℕ = get_or s.words (word_at w.place) 0 in let k : ℕ = stamp_of me.0 in let at' : get_elem? s.views id ≡ some (Poller w k) = at ∙ ap some is in let below = stamp_by s.views id (Poller w k) at' in
+    let here : word_at w.place < length s.words = subst (λ n. word_at w.place < n) (sym r.words_at) (omega arith) in (
+      Poller (polled w x) (suc (stamps s.views)),
+      keeps,
+      tt,
+      poller_steps places s id me.1 w (polled w x) k (suc (stamps s.views)) x r at' (omega arith) (get_or-set_same s.words (word_at w.place) x 0 here) refl low (loads (place x (get_or r.arming.armed w.place 0) w.cleared)),
+      (refl, omega arith, met places s id w k r at' low),
+    )
 
 pub polls : (places slots id i : ℕ) (me : Me (Unit {0}) Watch) → IsPoller me.0 → i ≡ word_at (watching_of 0 me.0).place → i < words_of places
     → Allows (IsRow places) slots id me i (λ n. n) (Polls (step slots i 0 0 none) me)
@@ -114,13 +134,14 @@ polls places slots id i me is here low = subst (λ k. Allows (IsRow places) slot
 
 clears_at : (places slots id n : ℕ) (me : Me (Unit {0}) Watch) → IsPoller me.0 → (watching_of 0 me.0).place < places → n ≢ 0
     → Allows (IsRow places) slots id me (word_at (watching_of 0 me.0).place) (λ x. either (eqb x n) 0 x) (Clears (step slots (word_at (watching_of 0 me.0).place) n 0 none) me)
-clears_at places slots id n me is low some_n s r _ at _ = let w : Watching = watching_of 0 me.0 in let x : ℕ = get_or s.words (word_at w.place) 0 in let at' : get_elem? s.views id ≡ some (Poller w) = at ∙ ap some is in (
-  Poller (exchanged w n x),
-  keeps,
-  tt,
-  poller_steps places s id me.1 w (exchanged w n x) (either (eqb x n) 0 x) r at' refl low (exchanges (place x (get_or r.arming.armed w.place 0) w.cleared) n some_n),
-  (refl, met places s id w r at' low),
-)
+clears_at places slots id n me is low some_n s r _ at _ = let w : Watching = watching_of 0 me.0 in let x : ℕ = get_or s.words (word_at w.place) 0 in let k : ℕ = stamp_of me.0 in let at' : get_elem? s.views id ≡ some (Poller w k) = at ∙ ap some is in let below = stamp_by s.views id (Poller w k) at' in
+    let here : word_at w.place < length s.words = subst (λ n. word_at w.place < n) (sym r.words_at) (omega arith) in (
+      Poller (exchanged w n x) (suc (stamps s.views)),
+      keeps,
+      tt,
+      poller_steps places s id me.1 w (exchanged w n x) k (suc (stamps s.views)) (either (eqb x n) 0 x) r at' (omega arith) (get_or-set_same s.words (word_at w.place) (either (eqb x n) 0 x) 0 here) refl low (exchanges (place x (get_or r.arming.armed w.place 0) w.cleared) n some_n),
+      (refl, omega arith, met places s id w k r at' low),
+    )
 
 pub clears : (places slots id i n : ℕ) (me : Me (Unit {0}) Watch) → IsPoller me.0 → i ≡ word_at (watching_of 0 me.0).place → i < words_of places → n ≢ 0
     → Allows (IsRow places) slots id me i (λ x. either (eqb x n) 0 x) (Clears (step slots i n 0 none) me)
@@ -132,37 +153,40 @@ arms_at : (places slots id p n : ℕ) (me : Me (Unit {0}) Watch) → IsArmer me.
     → Allows (IsRow places) slots id me (word_at p) (λ _. n) (λ _. Arms (step slots (word_at p) n 0 none) me n)
 arms_at places slots id p n me is low later s r _ at _ =
     let a : Arming = arming_of me.0 in let b : Arming = armed_with a p n in
-    let at' : get_elem? s.views id ≡ some (Armer a []) = at ∙ ap some is in
-    let first : id ≡ 0 = r.seated id (Armer a []) at' in
-    let same : Armer r.arming r.ended ≡ Armer a [] = armer_same places s id a [] r at' in
+    let k : ℕ = stamp_of me.0 in let k' : ℕ = suc (stamps s.views) in
+    let at' : get_elem? s.views id ≡ some (Armer a [] k) = at ∙ ap some is in
+    let first : id ≡ 0 = r.seated id (Armer a [] k) at' in
+    let same : Armer r.arming r.ended r.stamp ≡ Armer a [] k = armer_same places s id a [] k r at' in
     let alike : r.arming ≡ a = ap arming_of same in
     let wide : length a.armed ≡ places = subst (λ (t : Arming). length t.armed ≡ places) alike r.armed_at in
     let kept : IsPollKept places (place_of s.words a [] s.views) = subst (λ v. IsPollKept places (place_of s.words (arming_of v) (ended_of v) s.views)) same r.kept in
-    let views : List Watch = set s.views id (Armer b []) in
-    let there : (q : ℕ) → get_elem? views (suc q) ≡ get_elem? s.views (suc q) = λ q. set_else s.views id (suc q) (Armer b []) (λ e. omega arith) in
+    let views : List Watch = set s.views id (Armer b [] k') in
+    let there : (q : ℕ) → get_elem? views (suc q) ≡ get_elem? s.views (suc q) = λ q. set_else s.views id (suc q) (Armer b [] k') (λ e. omega arith) in
     let after : place_of (set s.words (word_at p) n) b [] views p ≡ place n n (watching_at s.views p).cleared
     = ap (λ x. place x (get_or b.armed p 0) (watching_at views p).cleared) (get_or-set_same s.words (word_at p) n 0 (subst (λ k. word_at p < k) (sym r.words_at) (omega arith)))
     ∙ (ap (λ x. place n x (watching_at views p).cleared) (get_or-set_same a.armed p n 0 (subst (λ k. p < k) (sym wide) low)) ∙ ap (λ o. place n n (watching_or p o).cleared) (there p)) in (
-      Armer b [],
+      Armer b [] k',
       keeps,
       tt,
       record {
         arming = b;
         ended = [];
-        armer = subst (λ j. get_elem? (set s.views id (Armer b [])) j ≡ some (Armer b [])) first (set_found s.views id (Armer a []) (Armer b []) at');
-        seated = λ j v e. ⊎_elim (λ t. subst (IsSeatedAt j) t.1 (t.0 ∙ first)) (λ t. r.seated j v t.1) (at_set s.views id j (Armer b []) v e);
-        split = (length-set s.views id (Armer b []) ∙ (r.split.0 ∙ ap (λ (t : Arming). suc t.split) alike), subst (λ (t : Arming). t.split ≤ places) alike r.split.1);
+        stamp = k';
+        armer = subst (λ j. get_elem? (set s.views id (Armer b [] k')) j ≡ some (Armer b [] k')) first (set_found s.views id (Armer a [] k) (Armer b [] k') at');
+        seated = λ j v e. ⊎_elim (λ t. subst (IsSeatedAt j) t.1 (t.0 ∙ first)) (λ t. r.seated j v t.1) (at_set s.views id j (Armer b [] k') v e);
+        split = (length-set s.views id (Armer b [] k') ∙ (r.split.0 ∙ ap (λ (t : Arming). suc t.split) alike), subst (λ (t : Arming). t.split ≤ places) alike r.split.1);
         armed_at = length-set a.armed p n ∙ wide;
         words_at = length-set s.words (word_at p) n ∙ r.words_at;
-        live = λ j u e c. refl;
+        live = λ j u t e c. refl;
         kept = row_step_keeps places p (Store p n) (place_of s.words a [] s.views) (place_of (set s.words (word_at p) n) b [] views) record {
           in_range = low;
           step = subst (λ t. PollStep p (Store p n) (place_of s.words a [] s.views p) t) (sym after) (stores (place_of s.words a [] s.views p) n later);
           others = λ q ne. ap (λ x. place x (get_or b.armed q 0) (watching_at views q).cleared) (get_or-set_other s.words (word_at p) (word_at q) n 0 (λ e. ne (omega arith)))
               ∙ (ap (λ x. place (get_or s.words (word_at q) 0) x (watching_at views q).cleared) (get_or-set_other a.armed p q n 0 ne) ∙ ap (λ o. place (get_or s.words (word_at q) 0) (get_or a.armed q 0) (watching_or q o).cleared) (there q));
         } kept;
+        told = told_after s.views (set s.words (word_at p) n) id (Armer a [] k) (Armer b [] k') at' (omega arith) (get_or-set_same s.words (word_at p) n 0 (subst (λ m. word_at p < m) (sym r.words_at) (omega arith)));
       },
-      (p, refl, refl),
+      (p, refl, refl, let below = stamp_by s.views id (Armer a [] k) at' in omega arith),
     )
 
 pub arms : (places slots id i p n : ℕ) (me : Me (Unit {0}) Watch) → IsArmer me.0 → i ≡ word_at p → p < places → get_or (arming_of me.0).armed p 0 < n

@@ -1,15 +1,17 @@
 -- A row of poll words as a table: which word is which place's, which view is which seat's, and that they meet the poll rule.
 -- The first seat is the armer's, and the pollers are split off in the order of their places.
-use Rattle.std.specs.Prelude.{◌≡◌, ℕ, suc, ◌+◌, ◌*◌, ◌<◌, ◌≤◌, ◌==◌, if◌then◌else◌, List, [], ◌∷◌, length, slice_index}
+use Rattle.std.specs.Prelude.{◌≡◌, ◌≢◌, ℕ, suc, ◌+◌, ◌*◌, ◌<◌, ◌≤◌, ◌==◌, if◌then◌else◌, List, [], ◌∷◌, length, slice_index}
 use mathlib.Core.Option.{Option, none, some}
 use lib.ListN.{get_elem?}
-use Rattle.atomic_table.specs.Table.{State, Me, Step}
+use Rattle.atomic_table.specs.Table.{State, Me, Step, Allows}
 use Rattle.atomic_table.specs.Seated.{TableId}
+use Rattle.thread_state.specs.declared.poll_rule.Deed.{Deed}
+use Rattle.thread_state.specs.declared.poll_rule.Deed.TheVariants.{Nothing, Load, Store, Exchange}
 use Rattle.thread_state.specs.declared.poll_rule.Arming.{Arming}
 use Rattle.thread_state.specs.declared.poll_rule.Watching.{Watching}
 use Rattle.poll.specs.declared.views.Watch.{Watch}
 use Rattle.poll.specs.declared.views.Watch.TheVariants.{Armer, Poller, Ended}
-use Rattle.thread_state.specs.PollRule.{PlaceState, IsPollKept, IsFound, first_arming, first_watching, armed_with, polled, exchanged}
+use Rattle.thread_state.specs.PollRule.{PlaceState, IsPollKept, IsFound, first_arming, first_watching, armed_with, polled, exchanged, word_after}
 
 -- 1. What contracts see
 
@@ -17,14 +19,16 @@ use Rattle.thread_state.specs.PollRule.{PlaceState, IsPollKept, IsFound, first_a
 abbrev pub RowId : Type 0
 RowId = TableId
 
--- An armer and a poller: which row each is of, and what it knows.
+-- An armer and a poller: which row each is of, what it knows, and its stamp, which rises at each of its steps.
 pub record ArmerSeen : Type 0 where
   pub table : RowId
   pub seen : Arming
+  pub stamp : ℕ
 
 pub record PollerSeen : Type 0 where
   pub table : RowId
   pub seen : Watching
+  pub stamp : ℕ
 
 -- At a step of a poller that had cleared a number last, its word was found so: there is the number that the place was armed
 -- with last at that step. The word is 0 where that number is cleared, otherwise it is that number, which is above the one cleared.
@@ -37,13 +41,13 @@ place_left words armer p = record { word = slice_index words p.seen.place; armed
 
 -- The poller of the place p as it is made, and the armer of so many places.
 abbrev pub first_poller : RowId → ℕ → PollerSeen
-first_poller row p = record { table = row; seen = first_watching p }
+first_poller row p = record { table = row; seen = first_watching p; stamp = 0 }
 
 abbrev pub armer_at : ℕ → ℕ → Arming
 armer_at places split = record { armed = (first_arming places).armed; split = split; steps = 0; last = (first_arming places).last }
 
 abbrev pub full_armer : RowId → ℕ → ArmerSeen
-full_armer row places = record { table = row; seen = armer_at places places }
+full_armer row places = record { table = row; seen = armer_at places places; stamp = 0 }
 
 -- 2. Words and views
 
@@ -55,26 +59,31 @@ abbrev pub words_of : ℕ → ℕ
 words_of places = 8 * places + 8
 
 abbrev pub arming_of : Watch → Arming
-arming_of (Armer a ended) = a
-arming_of (Poller w) = first_arming 0
+arming_of (Armer a ended t) = a
+arming_of (Poller w t) = first_arming 0
 arming_of Ended = first_arming 0
 
 abbrev pub ended_of : Watch → List (ℕ × ℕ)
-ended_of (Armer a ended) = ended
-ended_of (Poller w) = []
+ended_of (Armer a ended t) = ended
+ended_of (Poller w t) = []
 ended_of Ended = []
 
 abbrev pub watching_of : ℕ → Watch → Watching
-watching_of p (Armer a ended) = first_watching p
-watching_of p (Poller w) = w
+watching_of p (Armer a ended t) = first_watching p
+watching_of p (Poller w t) = w
 watching_of p Ended = first_watching p
+
+abbrev pub stamp_of : Watch → ℕ
+stamp_of (Armer a ended t) = t
+stamp_of (Poller w t) = t
+stamp_of Ended = 0
 
 -- A seat as contracts see it: which row it is of, and its view.
 abbrev pub of_armer : RowId → Watch → ArmerSeen
-of_armer row v = record { table = row; seen = arming_of v }
+of_armer row v = record { table = row; seen = arming_of v; stamp = stamp_of v }
 
 abbrev pub of_poller : RowId → Watch → PollerSeen
-of_poller row v = record { table = row; seen = watching_of 0 v }
+of_poller row v = record { table = row; seen = watching_of 0 v; stamp = stamp_of v }
 
 -- The view of the poller of the place p: the opening one where it isn't split off yet.
 abbrev pub watching_or : ℕ → Option Watch → Watching
@@ -86,8 +95,8 @@ watching_at views p = watching_or p (get_elem? views (suc p))
 
 -- The armer has the seat 0, and the poller of the place p the seat p + 1.
 abbrev pub IsSeatedAt : ℕ → Watch → Type 0
-IsSeatedAt id (Armer a ended) = id ≡ 0
-IsSeatedAt id (Poller w) = id ≡ suc w.place
+IsSeatedAt id (Armer a ended t) = id ≡ 0
+IsSeatedAt id (Poller w t) = id ≡ suc w.place
 IsSeatedAt id Ended = 0 < id
 
 -- What the poller of the place p cleared last: as it is noted where that poller has ended, otherwise as its view says.
@@ -104,40 +113,61 @@ abbrev pub place_of : List ℕ → Arming → List (ℕ × ℕ) → List Watch �
 place_of words arming ended views p
     = record { word = slice_index words (word_at p); armed = slice_index arming.armed p; cleared = cleared_of ended p (watching_at views p).cleared }
 
+-- What a deed says of the words as it left them. A seat whose poll word is that of the place p did it.
+abbrev pub IsToldBy : List ℕ → ℕ → Deed → Type 0
+IsToldBy words p Nothing = Unit {0}
+IsToldBy words p (Load found) = slice_index words (word_at p) ≡ found
+IsToldBy words p (Store q n) = slice_index words (word_at q) ≡ n
+IsToldBy words p (Exchange n found) = slice_index words (word_at p) ≡ word_after n found
+
+-- The last step of the seat left the words so. Of the armer it isn't said once the row is being closed.
+abbrev pub IsTold : List ℕ → Watch → Type 0
+IsTold words (Armer a [] t) = IsToldBy words 0 a.last
+IsTold words (Armer a (x ∷ xs) t) = Unit {0}
+IsTold words (Poller w t) = IsToldBy words w.place w.last
+IsTold words Ended = Unit {0}
+
+-- No view has a greater stamp.
+abbrev pub IsLatest : List Watch → ℕ → Type 0
+IsLatest views stamp = (id : ℕ) (v : Watch) → get_elem? views id ≡ some v → stamp_of v ≤ stamp
+
 -- 3. The rule of the table
 
 pub record IsRow (places : ℕ) (s : State (Unit {0}) Watch) : Type 0 where
   -- what the armer knows, and the pollers that have ended
   pub arming : Arming
   pub ended : List (ℕ × ℕ)
-  pub armer : get_elem? s.views 0 ≡ some (Armer arming ended)
+  pub stamp : ℕ
+  pub armer : get_elem? s.views 0 ≡ some (Armer arming ended stamp)
   pub seated : (id : ℕ) (v : Watch) → get_elem? s.views id ≡ some v → IsSeatedAt id v
   -- there are the armer and the pollers that are split off, at most one a place
   pub split : (length s.views ≡ suc arming.split) × (arming.split ≤ places)
   pub armed_at : length arming.armed ≡ places
   pub words_at : length s.words ≡ words_of places
   -- a poller that has its seat hasn't ended
-  pub live : (id : ℕ) (w : Watching) → get_elem? s.views id ≡ some (Poller w) → IsLive ended w.place
+  pub live : (id : ℕ) (w : Watching) (t : ℕ) → get_elem? s.views id ≡ some (Poller w t) → IsLive ended w.place
   -- the words and views meet the poll rule
   pub kept : IsPollKept places (place_of s.words arming ended s.views)
+  -- the seat that stepped last met or left what its word holds
+  pub told : (id : ℕ) (v : Watch) → get_elem? s.views id ≡ some v → IsLatest s.views (stamp_of v) → IsTold s.words v
 
 -- The armer after a poller is split off, and that poller.
 abbrev pub fewer : Arming → Arming
 fewer a = record { armed = a.armed; split = a.split + 1; steps = a.steps; last = a.last }
 
 abbrev pub left_of : Watch → Watch
-left_of (Armer a ended) = Armer (fewer a) ended
-left_of (Poller w) = Poller w
+left_of (Armer a ended t) = Armer (fewer a) ended t
+left_of (Poller w t) = Poller w t
 left_of Ended = Ended
 
 abbrev pub right_of : Watch → Watch
-right_of (Armer a ended) = Poller (first_watching a.split)
-right_of (Poller w) = Poller w
+right_of (Armer a ended t) = Poller (first_watching a.split) 0
+right_of (Poller w t) = Poller w t
 right_of Ended = Ended
 
 -- The armer after a poller has ended.
 abbrev pub both_of : Watch → Watch → Watch
-both_of v u = Armer (arming_of v) (((watching_of 0 u).place, (watching_of 0 u).cleared) ∷ ended_of v)
+both_of v u = Armer (arming_of v) (((watching_of 0 u).place, (watching_of 0 u).cleared) ∷ ended_of v) (stamp_of v + stamp_of u)
 
 -- 4. What each kind of step tells the seat that makes it
 
@@ -145,21 +175,33 @@ abbrev SeatState : Type 0
 SeatState = Me (Unit {0}) Watch
 
 abbrev pub Polls : Step (Unit {0}) → SeatState → ℕ → SeatState → Type 0
-Polls st old found new = (new ≡ (Poller (polled (watching_of 0 old.0) found), old.1)) × IsMet (watching_of 0 old.0).cleared found
+Polls st old found new = (new ≡ (Poller (polled (watching_of 0 old.0) found) (stamp_of new.0), old.1)) × (stamp_of old.0 < stamp_of new.0) × IsMet (watching_of 0 old.0).cleared found
 
 abbrev pub Clears : Step (Unit {0}) → SeatState → ℕ → SeatState → Type 0
-Clears st old found new = (new ≡ (Poller (exchanged (watching_of 0 old.0) st.first found), old.1)) × IsMet (watching_of 0 old.0).cleared found
+Clears st old found new = (new ≡ (Poller (exchanged (watching_of 0 old.0) st.first found) (stamp_of new.0), old.1)) × (stamp_of old.0 < stamp_of new.0) × IsMet (watching_of 0 old.0).cleared found
 
 -- A step names a word by its index, so the place is the one whose word it is.
 abbrev pub Arms : Step (Unit {0}) → SeatState → ℕ → SeatState → Type 0
-Arms st old found new = (p : ℕ) × (st.word ≡ word_at p) × (new.0 ≡ Armer (armed_with (arming_of old.0) p st.first) [])
+Arms st old found new = (p : ℕ) × (st.word ≡ word_at p) × (new.0 ≡ Armer (armed_with (arming_of old.0) p st.first) [] (stamp_of new.0)) × (stamp_of old.0 < stamp_of new.0)
 
 abbrev pub IsArmer : Watch → Type 0
-IsArmer v = v ≡ Armer (arming_of v) []
+IsArmer v = v ≡ Armer (arming_of v) [] (stamp_of v)
 
 -- An armer whose row is being closed.
 abbrev pub IsClosing : Watch → Type 0
-IsClosing v = v ≡ Armer (arming_of v) (ended_of v)
+IsClosing v = v ≡ Armer (arming_of v) (ended_of v) (stamp_of v)
 
 abbrev pub IsPoller : Watch → Type 0
-IsPoller v = v ≡ Poller (watching_of 0 v)
+IsPoller v = v ≡ Poller (watching_of 0 v) (stamp_of v)
+
+-- 5. Steps elsewhere
+
+-- The seat says that it polled, with the answer that g makes of what the step found, and its stamp rose.
+abbrev pub PollTold : Watching → ℕ → (ℕ → ℕ) → ℕ → SeatState → Type 0
+PollTold w t g found new = (watching_of 0 new.0 ≡ polled w (g found)) × (t < stamp_of new.0)
+
+-- No step at a word that isn't the place's own lets its poller say so, whatever the step does to that word and whatever is
+-- answered.
+abbrev pub PollsElsewhereRefused : Type 0
+PollsElsewhereRefused = (places i t : ℕ) (w : Watching) (f g : ℕ → ℕ) → w.place < places → i < words_of places → i ≢ word_at w.place
+    → ¬ Allows (IsRow places) 0 (suc w.place) (Poller w t, []) i f (PollTold w t g)

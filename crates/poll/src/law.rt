@@ -2,7 +2,7 @@
 ghost use Rattle.std.specs.Prelude.{[]};
 ghost use Rattle.thread_state.specs.PollRule.{first_arming};
 ghost use Rattle.poll.specs.declared.views.Watch.TheVariants.{Armer as IsArming, Ended as HasEnded};
-ghost use Rattle.poll.specs.Rows.{IsRow, left_of, right_of, both_of, Polls, Clears, Arms};
+ghost use Rattle.poll.specs.Rows.{IsRow, left_of, right_of, both_of, Polls, Clears, Arms, PollsElsewhereRefused};
 
 use crate::views::Watch;
 use atomic_table::{Join, Play, Split, TableRule};
@@ -13,7 +13,7 @@ pub struct PollLaw;
 impl TableRule<(), Watch, usize> for PollLaw {
     ghost holds = { IsRow };
 
-    ghost first = { λ places. IsArming (first_arming places) [] };
+    ghost first = { λ places. IsArming (first_arming places) [] 0 };
 }
 
 // The armer's seat is cut, and the new seat is the next place's poller.
@@ -51,3 +51,10 @@ pub struct ArmPlay;
 impl Play<(), Watch> for ArmPlay {
     ghost then = { Arms };
 }
+
+/// A law: a poller's answer is of the word of its own place. Whatever a `Play` tells, the rule of the row allows no step at
+/// another word after which the poller has polled.
+#[tactic(auto, using(crate::proofs::Refused::elsewhere_refused))]
+pub fn no_poll_is_of_another_word()
+    ensures { PollsElsewhereRefused }
+{}

@@ -8,5 +8,5 @@ mod tests;
 pub mod views;
 mod words;
 
-pub use law::PollLaw;
+pub use law::{PollLaw, no_poll_is_of_another_word};
 pub use row::{Armer, PollRow, Poller};

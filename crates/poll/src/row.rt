@@ -110,6 +110,7 @@ impl Poller {
         requires row { self.old.table ≡ row.now }
         ensures row { self.new.table ≡ self.old.table }
         ensures step { self.new.seen ≡ polled self.old.seen result }
+        ensures stamp { self.old.stamp < self.new.stamp }
         ensures met { IsMet self.old.seen.cleared result }
         ensures later { (result ≡ 0) ⊎ (self.old.seen.cleared < result) }
     {
@@ -124,6 +125,7 @@ impl Poller {
         requires number { n ≢ 0 }
         ensures row { self.new.table ≡ self.old.table }
         ensures step { (found : ℕ) × IsMet self.old.seen.cleared found × (self.new.seen ≡ exchanged self.old.seen n found) × (result ≡ (found == n)) }
+        ensures stamp { self.old.stamp < self.new.stamp }
         ensures later { result ≡ true → self.old.seen.cleared < n }
     {
         let word = self.word;
@@ -143,6 +145,7 @@ impl Armer {
         requires small { n < 2 ^ 40 }
         ensures row { self.new.table ≡ self.old.table }
         ensures step { self.new.seen ≡ armed_with self.old.seen place n }
+        ensures stamp { self.old.stamp < self.new.stamp }
     {
         row.table
             .shared

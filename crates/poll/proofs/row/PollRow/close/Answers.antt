@@ -3,7 +3,7 @@ use Rattle.std.proofs.lemmas.Option.{slice_get_within}
 use Rattle.std.specs.Slots.{slots_items}
 use Rattle.thread_state.specs.PollRule.{IsPlaceKept}
 use Rattle.poll.specs.declared.views.Watch.TheVariants.{Armer}
-use Rattle.poll.specs.Rows.{arming_of, ended_of, both_of, PollerSeen}
+use Rattle.poll.specs.Rows.{arming_of, ended_of, both_of, PollerSeen, stamp_of}
 use Rattle.poll.proofs.Seats.{joins, one_taken, one_ended, still_there, last_there, leaves, AreEnded}
 use Rattle.poll.proofs.row.PollRow.close.Goals as goal
 
@@ -27,7 +27,7 @@ loop-poller-preserved c =
     let it = c.requires.pollers n c.in-Some.poller there in
     let after : c.join_seat.new.seat.me.0 ≡ both_of c.loop-poller.seat.me.0 c.poller.inside.seat.me.0 = ap (λ m. m.0) j.2 in record {
       table = j.0 ∙ i.table;
-      closing = after ∙ sym (ap (λ v. Armer (arming_of v) (ended_of v)) after);
+      closing = after ∙ sym (ap (λ v. Armer (arming_of v) (ended_of v) (stamp_of v)) after);
       armed = ap arming_of after ∙ i.armed;
       rest = λ k p e. i.rest k p (subst (λ xs. slice_get xs k ≡ Some p) (sym items) (still_there c.pop.new.self.items c.in-Some.poller p k e));
       ended = subst (λ v. AreEnded (ended_of v) n c.args.pollers.items) (sym after)

@@ -1,0 +1,114 @@
+-- No step at another word than its own can tell a poller that it polled.
+use Rattle.std.proofs.Common.{◌≡◌, ◌≢◌, ◌⊎◌, ℕ, zero, suc, ◌+◌, ◌*◌, ◌<◌, ◌≤◌, eqb, List, [], ◌∷◌, length, get_or, set, sym, refl, ap, ◌∙◌, inl, inr, ⊎_elim, subst, arith, length-set, get_or-set_same, get_or-set_other, ne_eqb, replicate}
+use Rattle.std.proofs.lemmas.List.{length-replicate, get_or-replicate}
+use mathlib.Core.Logic.{dite}
+use mathlib.Core.Option.{none, some, some-injective, some-ne-none}
+use native.Mathlib.Decide.{ℕ_discrete}
+use lib.ListN.{get_elem?}
+use Rattle.atomic_table.specs.Table.{Allows}
+use Rattle.atomic_table.proofs.Lists.{at_set}
+use Rattle.thread_state.specs.declared.poll_rule.Deed.{Deed}
+use Rattle.thread_state.specs.declared.poll_rule.Deed.TheVariants.{Nothing, Load}
+use Rattle.thread_state.specs.declared.poll_rule.Arming.{Arming}
+use Rattle.thread_state.specs.declared.poll_rule.Watching.{Watching}
+use Rattle.thread_state.specs.PollRule.{IsPlaceKept, polled}
+use Rattle.poll.specs.declared.views.Watch.{Watch}
+use Rattle.poll.specs.declared.views.Watch.TheVariants.{Armer, Poller, Ended}
+use Rattle.poll.specs.Rows.{IsRow, IsSeatedAt, IsToldBy, IsTold, IsLatest, watching_of, watching_or, watching_at, stamp_of, word_at, words_of, PollTold, PollsElsewhereRefused}
+use Rattle.poll.proofs.Steps.{Whole, set_found, place}
+
+-- the pollers below the place p have ended, and its own knows w
+abbrev pollers : ℕ → Watching → ℕ → List Watch
+pollers zero w t = Poller w t ∷ []
+pollers (suc p) w t = Ended ∷ pollers p w t
+
+many : (p : ℕ) (w : Watching) (t : ℕ) → length (pollers p w t) ≡ suc p
+many zero w t = refl
+many (suc p) w t = ap suc (many p w t)
+
+own : (p : ℕ) (w : Watching) (t : ℕ) → get_elem? (pollers p w t) p ≡ some (Poller w t)
+own zero w t = refl
+own (suc p) w t = own p w t
+
+one_of : (p j : ℕ) (w : Watching) (t : ℕ) (v : Watch) → get_elem? (pollers p w t) j ≡ some v → ((j ≡ p) × (Poller w t ≡ v)) ⊎ (Ended ≡ v)
+one_of zero zero w t v e = inl (refl, some-injective (Poller w t) v e)
+one_of zero (suc j) w t v e = absurd (some-ne-none v (sym e))
+one_of (suc p) zero w t v e = inr (some-injective Ended v e)
+one_of (suc p) (suc j) w t v e = ⊎_elim (λ h. inl (ap suc h.0, h.1)) (λ h. inr h) (one_of p j w t v e)
+
+others : (p j q : ℕ) (w : Watching) (t : ℕ) → j ≢ p → (watching_or q (get_elem? (pollers p w t) j)).cleared ≡ 0
+others zero zero q w t ne = absurd (ne refl)
+others zero (suc j) q w t ne = refl
+others (suc p) zero q w t ne = refl
+others (suc p) (suc j) q w t ne = others p j q w t (λ e. ne (ap suc e))
+
+-- the place of w is armed with n, and the armer stepped after it
+abbrev arming_with : ℕ → ℕ → ℕ → Arming
+arming_with places p n = record { armed = set (replicate places 0) p n; split = suc p; steps = 0; last = Nothing }
+
+abbrev row_with : ℕ → Watching → ℕ → ℕ → Whole
+row_with places w t n = record {
+  words = set (replicate (words_of places) 0) (word_at w.place) n;
+  homes = [];
+  views = Armer (arming_with places w.place n) [] (suc t) ∷ pollers w.place w t;
+}
+
+view_is : (places p n k : ℕ) (w : Watching) (t id : ℕ) (v : Watch) → get_elem? (Armer (arming_with places p n) [] k ∷ pollers p w t) id ≡ some v
+    → ((id ≡ 0) × (Armer (arming_with places p n) [] k ≡ v)) ⊎ (((id ≡ suc p) × (Poller w t ≡ v)) ⊎ ((0 < id) × (Ended ≡ v)))
+view_is places p n k w t zero v e = inl (refl, some-injective (Armer (arming_with places p n) [] k) v e)
+view_is places p n k w t (suc id) v e = inr (⊎_elim (λ h. inl (ap suc h.0, h.1)) (λ h. inr (omega arith, h)) (one_of p id w t v e))
+
+poller_told : (ws : List ℕ) (p : ℕ) (v : Watch) (w : Watching) → IsSeatedAt (suc p) v → 0 < w.steps → watching_of 0 v ≡ w → IsTold ws v → IsToldBy ws w.place w.last
+poller_told ws p (Armer a ended t) w seat stepped is told = absurd (omega arith)
+poller_told ws p (Poller u t) w seat stepped is told = subst (λ (x : Watching). IsToldBy ws x.place x.last) is told
+poller_told ws p Ended w seat stepped is told = let e : 0 ≡ w.steps = ap (λ (x : Watching). x.steps) is in absurd (omega arith)
+
+is_row : (places n t : ℕ) (w : Watching) → w.place < places → w.cleared < n → IsRow places (row_with places w t n)
+is_row places n t w low later = let p : ℕ = w.place in let s : Whole = row_with places w t n in record {
+  arming = arming_with places p n;
+  ended = [];
+  stamp = suc t;
+  armer = refl;
+  seated = λ id v e. ⊎_elim (λ h. subst (IsSeatedAt id) h.1 h.0) (⊎_elim (λ h. subst (IsSeatedAt id) h.1 h.0) (λ h. subst (IsSeatedAt id) h.1 h.0)) (view_is places p n (suc t) w t id v e);
+  split = (ap suc (many p w t), omega arith);
+  armed_at = length-set (replicate places 0) p n ∙ length-replicate {A = ℕ} places 0;
+  words_at = length-set (replicate (words_of places) 0) (word_at p) n ∙ length-replicate {A = ℕ} (words_of places) 0;
+  live = λ id u k e c. refl;
+  kept = λ q h. dite (ℕ_discrete q p)
+      (λ e. subst IsPlaceKept (ap (λ x. place x (get_or (arming_with places p n).armed p 0) (watching_at s.views p).cleared) (sym (get_or-set_same (replicate (words_of places) 0) (word_at p) n 0 (let l : length (replicate (words_of places) 0) ≡ words_of places = length-replicate {A = ℕ} (words_of places) 0 in omega arith)))
+      ∙ ap (λ j. place (get_or s.words (word_at j) 0) (get_or (arming_with places p n).armed j 0) (watching_at s.views j).cleared) (sym e))
+      (subst IsPlaceKept (ap (λ x. place n x (watching_at s.views p).cleared) (sym (get_or-set_same (replicate places 0) p n 0 (let l : length (replicate places 0) ≡ places = length-replicate {A = ℕ} places 0 in omega arith))))
+      (subst IsPlaceKept (ap (λ o. place n n (watching_or p o).cleared) (sym (own p w t)))
+      (record { cleared_by = omega arith; word_is = rw (ne_eqb w.cleared n (λ x. omega arith)) refl }))))
+      (λ ne. subst IsPlaceKept (ap (λ x. place x (get_or (arming_with places p n).armed q 0) (watching_at s.views q).cleared) (sym (get_or-set_other (replicate (words_of places) 0) (word_at p) (word_at q) n 0 (λ x. ne (omega arith)) ∙ get_or-replicate {A = ℕ} (words_of places) (word_at q) 0 0 (omega arith))))
+      (subst IsPlaceKept (ap (λ x. place 0 x (watching_at s.views q).cleared) (sym (get_or-set_other (replicate places 0) p q n 0 ne ∙ get_or-replicate {A = ℕ} places q 0 0 h)))
+      (subst IsPlaceKept (ap (place 0 0) (sym (others p q q w t ne)))
+      (record { cleared_by = omega arith; word_is = refl }))));
+  told = λ id v e latest. ⊎_elim (λ h. subst (IsTold s.words) h.1 tt)
+      (⊎_elim (λ h. let above = latest 0 (Armer (arming_with places p n) [] (suc t)) refl in let is : t ≡ stamp_of v = ap stamp_of h.1 in absurd (omega arith)) (λ h. subst (IsTold s.words) h.1 tt))
+      (view_is places p n (suc t) w t id v e);
+}
+
+-- what the seat would have to answer
+forced : (places i t n : ℕ) (w : Watching) (f g : ℕ → ℕ) → w.place < places → w.cleared < n → i < words_of places → i ≢ word_at w.place
+    → Allows (IsRow places) 0 (suc w.place) (Poller w t, []) i f (PollTold w t g) → g 0 ≡ n
+forced places i t n w f g low later inside apart allowed =
+    let p : ℕ = w.place in let s : Whole = row_with places w t n in
+    let x : ℕ = get_or s.words i 0 in
+    let found : x ≡ 0 = get_or-set_other (replicate (words_of places) 0) (word_at p) i n 0 apart ∙ get_or-replicate {A = ℕ} (words_of places) i 0 0 inside in
+    let a = allowed s (is_row places n t w low later) refl (own p w t) (omega arith) in
+    let v : Watch = a.0 in let r = a.3 in let told = a.4 in
+    let after = set s.views (suc p) v in let ws = set s.words i (f x) in
+    let here : get_elem? after (suc p) ≡ some v = set_found s.views (suc p) (Poller w t) v (own p w t) in
+    let above : IsLatest after (stamp_of v) = λ id u e. ⊎_elim (λ h. let is : stamp_of v ≡ stamp_of u = ap stamp_of h.1 in omega arith)
+    (λ h. ⊎_elim (λ k. let is : suc t ≡ stamp_of u = ap stamp_of k.1 in let past = told.1 in omega arith)
+    (⊎_elim (λ k. let is : t ≡ stamp_of u = ap stamp_of k.1 in let past = told.1 in omega arith) (λ k. let is : 0 ≡ stamp_of u = ap stamp_of k.1 in omega arith))
+    (view_is places p n (suc t) w t id u h.1))
+    (at_set s.views (suc p) id v u e) in
+    let says : IsToldBy ws p (Load (g x)) = poller_told ws p v (polled w (g x)) (r.seated (suc p) v here) (omega arith) told.0 (r.told (suc p) v here above) in
+    ap g (sym found) ∙ (sym says ∙ (get_or-set_other s.words i (word_at p) (f x) 0 (λ e. apart (sym e)) ∙ get_or-set_same (replicate (words_of places) 0) (word_at p) n 0 (let l : length (replicate (words_of places) 0) ≡ words_of places = length-replicate {A = ℕ} (words_of places) 0 in omega arith)))
+
+pub elsewhere_refused : PollsElsewhereRefused
+elsewhere_refused places i t w f g low inside apart allowed =
+    let one = forced places i t (w.cleared + 1) w f g low (omega arith) inside apart allowed in
+    let two = forced places i t (w.cleared + 2) w f g low (omega arith) inside apart allowed in omega arith
