@@ -10,6 +10,7 @@ ghost use Rattle.activation_index.specs.Counts.{IndexView, count_in, entries_for
 use std::alloc::{AllocError, Global};
 use std::marker::Model;
 
+pub mod dense;
 #[cfg(test)]
 mod tests;
 

@@ -1,5 +1,6 @@
 // What no clause says: that calls succeed, and a worked example.
 use super::Index;
+use super::dense::DenseIndex;
 use std::test::Fail;
 
 #[test]
@@ -33,4 +34,22 @@ fn a_count_of_zero_leaves_room(rt: HostRuntime) -> Result<(), Fail> {
 #[test]
 fn too_many_slots_are_refused(rt: HostRuntime) {
     assert!(rt; Index::new(rt.alloc(), usize::MAX).is_err());
+}
+
+#[test]
+fn cells_go_by_slot_and_a_census_by_serial(rt: HostRuntime) -> Result<(), Fail> {
+    let mut index = DenseIndex::new(rt.alloc(), 2)?;
+    index.place(0, 1);
+    index.add(0, 1, 2);
+    index.place(1, 2);
+    index.add(1, 2, 1);
+    let census = index.census(rt.alloc())?;
+    assert_eq!(rt; census.as_slice(), [(1, 2), (2, 1)].as_slice());
+    index.add(0, 1, -2);
+    index.place(0, 3);
+    index.add(0, 3, 1);
+    let census = index.census(rt.alloc())?;
+    assert_eq!(rt; census.as_slice(), [(2, 1), (3, 1)].as_slice());
+    assert_eq!(rt; index.count(0, 1), 0);
+    Ok(())
 }

@@ -1,12 +1,11 @@
 -- How often a code is in a bag.
-use Rattle.std.proofs.Common.{◌≡◌, ℕ, ◌+◌, ◌∙◌, sym, Bool, true, false, not, ◌&&◌, ◌||◌, eqb, List, [], ◌∷◌, ◌++◌, Option, Some, None, refl, ap, ap₂, cond, arith}
+use Rattle.std.proofs.Common.{◌≡◌, ℕ, ◌+◌, ◌∙◌, sym, Bool, true, false, not, ◌||◌, eqb, List, [], ◌∷◌, ◌++◌, Option, Some, None, refl, ap, ap₂, cond, arith}
 use Rattle.std.proofs.lemmas.List.Sums.{sum_by-cons, sum_by-append}
 use Rattle.std.specs.Prelude.{filter}
 use Rattle.std.proofs.lemmas.Bool.Decides.{nat_tests}
 use Rattle.frames.specs.declared.CodeId.{CodeId}
 use Rattle.frames.specs.declared.Frame.{Frame}
 use Rattle.frames.specs.Stack.{same_code, is_code, is_of, act, code_or, codes_of, times, is_among}
-use Rattle.frames.specs.Kept.{upto, counted_by, changed_by}
 
 pub same_code-equal : (a b : CodeId) → same_code a b ≡ true → a ≡ b
 same_code-equal a b h =
@@ -60,23 +59,6 @@ times-filter p code (x ∷ xs) =
     ∙ (filtered_step (p x) (same_code x code) (p code) (times code (filter p xs)) (times code xs) (λ h. same_pass p x code h) (times-filter p code xs)
     ∙ ap (λ n. cond (p code) n 0) (sym (times-cons code x xs)))
 
-not_cases : (b : Bool) (m n : ℕ) → cond (not b) m 0 + cond b n 0 ≡ cond b n m
-not_cases true m n = omega arith
-not_cases false m n = omega arith
-
--- a code that was given counts as in the frames, another as in what was shown
-pub times-counted_by : (frames shown : List Frame) (last : Option CodeId) (code : CodeId) → times code (counted_by frames shown last) ≡ cond (upto last code) (act code frames) (act code shown)
-times-counted_by frames shown last code =
-    times-append code (filter (λ c. not (upto last c)) (codes_of shown)) (filter (upto last) (codes_of frames))
-    ∙ (ap₂ (λ m n. m + n)
-    (times-filter (λ c. not (upto last c)) code (codes_of shown) ∙ ap (λ n. cond (not (upto last code)) n 0) (times-codes_of code shown))
-    (times-filter (upto last) code (codes_of frames) ∙ ap (λ n. cond (upto last code) n 0) (times-codes_of code frames))
-    ∙ not_cases (upto last code) (act code shown) (act code frames))
-
--- before anything was given, the frames don't matter
-pub same_bag_at_none : (frames other shown : List Frame) (code : CodeId) → times code (counted_by frames shown None) ≡ times code (counted_by other shown None)
-same_bag_at_none frames other shown code = times-counted_by frames shown None code ∙ sym (times-counted_by other shown None code)
-
 among_step : (b : Bool) (n : ℕ) (rest : Bool) → rest ≡ not (eqb n 0) → (b || rest) ≡ not (eqb (cond b 1 0 + n) 0)
 among_step true n rest e = grind (arith, nat_tests)
 among_step false n rest e = e ∙ ap (λ m. not (eqb m 0)) (omega arith)
@@ -86,25 +68,3 @@ pub among-times : (code : CodeId) (xs : List CodeId) → is_among code xs ≡ no
 among-times code [] = refl
 among-times code (x ∷ xs) =
     among_step (same_code x code) (times code xs) (is_among code xs) (among-times code xs) ∙ ap (λ n. not (eqb n 0)) (sym (times-cons code x xs))
-
-differing_some : (given : Bool) (f s : ℕ) → not (eqb (cond (given && not (eqb f s)) (f + s) 0) 0) ≡ (given && not (eqb f s))
-differing_some true f s = grind (arith, nat_tests)
-differing_some false f s = refl
-
--- the changed codes, by the counts
-pub among-changed_by : (frames shown : List Frame) (last : Option CodeId) (code : CodeId) → is_among code (changed_by frames shown last) ≡ (upto last code && not (eqb (act code frames) (act code shown)))
-among-changed_by frames shown last code =
-    among-times code (changed_by frames shown last)
-    ∙ (ap (λ n. not (eqb n 0))
-    (times-filter (λ c. upto last c && not (eqb (act c frames) (act c shown))) code (codes_of frames ++ codes_of shown)
-    ∙ ap (λ n. cond (upto last code && not (eqb (act code frames) (act code shown))) n 0)
-    (times-append code (codes_of frames) (codes_of shown) ∙ ap₂ (λ m n. m + n) (times-codes_of code frames) (times-codes_of code shown)))
-    ∙ differing_some (upto last code) (act code frames) (act code shown))
-
-none_pass : (xs : List CodeId) → filter (λ code. false) xs ≡ []
-none_pass [] = refl
-none_pass (x ∷ xs) = none_pass xs
-
--- nothing is changed before anything was given
-pub changed_at_none : (frames shown : List Frame) → changed_by frames shown None ≡ []
-changed_at_none frames shown = none_pass (codes_of frames ++ codes_of shown)

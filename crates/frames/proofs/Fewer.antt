@@ -1,21 +1,26 @@
 -- A bag that is a part of another has no more elements, and each change leaves fewer codes uncounted.
-use Rattle.std.proofs.Common.{◌≡◌, ◌≢◌, ℕ, zero, suc, ◌+◌, ◌<◌, ◌≤◌, ◌∙◌, sym, Bool, true, false, not, eqb, List, [], ◌∷◌, length, Some, None, refl, ap, subst, cond, arith}
+use Rattle.std.proofs.Common.{◌≡◌, ◌≢◌, ℕ, zero, suc, ◌+◌, ◌<◌, ◌≤◌, ◌∙◌, sym, Bool, true, false, not, eqb, List, [], ◌∷◌, ◌++◌, length, Some, None, refl, ap, subst, cond, arith}
 use Rattle.std.specs.Prelude.{filter}
 use Rattle.std.proofs.lemmas.Bool.Decides.{nat_tests}
 use Rattle.frames.specs.declared.CodeId.{CodeId}
+use Rattle.frames.specs.declared.Frame.{Frame}
 use Rattle.frames.specs.declared.Change.{Change}
-use Rattle.frames.specs.Stack.{same_code, act, times}
-use Rattle.frames.specs.ImageView.{ImageView, uncounted, next_code, Counts, IsCounted}
-use Rattle.frames.proofs.Bags.{same_code-equal, same_code-refl, times-cons, times-filter}
+use Rattle.frames.specs.Stack.{same_code, act, codes_of, times}
+use Rattle.frames.specs.ImageView.{ImageView, is_uncounted, uncounted, next_code, Counts, IsCounted}
+use Rattle.frames.proofs.Bags.{same_code-equal, same_code-refl, times-cons, times-filter, times-append, times-codes_of}
 use Rattle.frames.proofs.Ordered.{IsLeast, least-is_least}
-use Rattle.frames.proofs.Pending.{times-uncounted}
+
+pub times-uncounted : (frames : List Frame) (counted : List CodeId) (code : CodeId) → times code (uncounted frames counted) ≡ cond (not (eqb (act code frames) (times code counted))) (act code frames + times code counted) 0
+times-uncounted frames counted code =
+    times-filter (is_uncounted frames counted) code (codes_of frames ++ counted)
+    ∙ ap (λ n. cond (is_uncounted frames counted code) n 0) (times-append code (codes_of frames) counted ∙ ap (λ n. n + times code counted) (times-codes_of code frames))
 
 apart_step : (b : Bool) (x : CodeId) (rest : List CodeId) (n t : ℕ) → n ≡ t + length rest → suc n ≡ (cond b 1 0 + t) + length (cond (not b) (x ∷ rest) rest)
 apart_step true x rest n t e = omega arith
 apart_step false x rest n t e = omega arith
 
 -- a bag is one of its codes and the others
-apart : (c : CodeId) (xs : List CodeId) → length xs ≡ times c xs + length (filter (λ d. not (same_code d c)) xs)
+pub apart : (c : CodeId) (xs : List CodeId) → length xs ≡ times c xs + length (filter (λ d. not (same_code d c)) xs)
 apart c [] = refl
 apart c (x ∷ xs) =
     apart_step (same_code x c) x (filter (λ d. not (same_code d c)) xs) (length xs) (times c xs) (apart c xs)
@@ -40,7 +45,7 @@ part_filter p xs ys part c =
     let b : times c (filter p ys) ≡ cond (p c) (times c ys) 0 = times-filter p c ys in
     let w : cond (p c) (times c xs) 0 ≤ cond (p c) (times c ys) 0 = part_where (p c) (times c xs) (times c ys) (part c) in omega arith
 
-part_fits : (n : ℕ) (xs ys : List CodeId) → length ys ≤ n → ((c : CodeId) → times c xs ≤ times c ys) → length xs ≤ length ys
+pub part_fits : (n : ℕ) (xs ys : List CodeId) → length ys ≤ n → ((c : CodeId) → times c xs ≤ times c ys) → length xs ≤ length ys
 part_fits n xs [] h part = nothing_in xs part
 part_fits zero xs (y ∷ ys) h part = absurd (omega arith)
 part_fits (suc n) xs (y ∷ ys) h part =
@@ -58,14 +63,14 @@ smaller_part c xs ys none some part =
     let b : length ys ≡ times c ys + length (filter p ys) = apart c ys in
     let rest : length (filter p xs) ≤ length (filter p ys) = part_fits (length (filter p ys)) (filter p xs) (filter p ys) (omega arith) (part_filter p xs ys part) in omega arith
 
-same_none : (m n : ℕ) → m ≡ n → cond (not (eqb m n)) (m + n) 0 ≡ 0
+pub same_none : (m n : ℕ) → m ≡ n → cond (not (eqb m n)) (m + n) 0 ≡ 0
 same_none m n e = grind (arith, nat_tests)
 
-differ_some : (m n : ℕ) → 0 < cond (not (eqb m n)) (m + n) 0 → m ≢ n
+pub differ_some : (m n : ℕ) → 0 < cond (not (eqb m n)) (m + n) 0 → m ≢ n
 differ_some m n h e = grind (arith, nat_tests)
 
 -- the next code is there among the uncounted ones
-next_there : (image : ImageView) (c : CodeId) → next_code image ≡ Some c → 0 < times c (uncounted image.frames image.counted)
+pub next_there : (image : ImageView) (c : CodeId) → next_code image ≡ Some c → 0 < times c (uncounted image.frames image.counted)
 next_there image c e = (subst (IsLeast (uncounted image.frames image.counted)) e (least-is_least (uncounted image.frames image.counted))).0
 
 pub next_differs : (image : ImageView) (c : CodeId) → next_code image ≡ Some c → act c image.frames ≢ times c image.counted

@@ -1,8 +1,9 @@
 pub mod Bags
+pub mod Moves
 pub mod Ordered
-pub mod Pending
 pub mod BoardWords
 pub mod BoardParts
 pub mod BoardSteps
 pub mod BoardLaws
 pub mod Fewer
+pub mod Settling

@@ -1,5 +1,5 @@
 -- What a contract sees of an image of a stack.
-use Rattle.std.specs.Prelude.{◌≡◌, pos, ◌+ℤ◌, nat_le, length, is_some, Bool, false, not, ◌||◌, ◌==◌, List, ◌++◌, filter, Option, Some, None, if◌then◌else◌}
+use Rattle.std.specs.Prelude.{◌≡◌, ◌≢◌, ℕ, [], ◌∷◌, count_by, pos, ◌+ℤ◌, nat_le, length, is_some, Bool, false, not, ◌||◌, ◌==◌, List, ◌++◌, filter, Option, Some, None, if◌then◌else◌}
 use Rattle.frames.specs.declared.CodeId.{CodeId}
 use Rattle.frames.specs.declared.Frame.{Frame}
 use Rattle.frames.specs.declared.Change.{Change}
@@ -9,7 +9,7 @@ use Rattle.frames.specs.declared.PopFault.{PopFault}
 use Rattle.frames.specs.declared.PopFault.TheVariants as pop
 use Rattle.frames.specs.declared.EndFault.{EndFault}
 use Rattle.frames.specs.declared.EndFault.TheVariants as ends
-use Rattle.frames.specs.Stack.{same_code, act, codes_of, times, is_among}
+use Rattle.frames.specs.Stack.{same_code, code_lt, act, codes_of, times, is_among}
 use Rattle.frames.specs.Least.{least}
 
 -- The frames; the counted codes as a bag (only how often each code is in it matters); the codes
@@ -39,6 +39,28 @@ next_code image = least (uncounted image.frames image.counted)
 -- every code has as many frames as are counted
 abbrev pub IsCounted : ImageView → Type 0
 IsCounted image = (code : CodeId) → act code image.frames ≡ times code image.counted
+
+-- the code's counts differ
+abbrev pub Differs : ImageView → CodeId → Type 0
+Differs image code = act code image.frames ≢ times code image.counted
+
+-- the code is the least whose counts differ, and where there is none every code is counted
+abbrev pub IsNext : ImageView → Option CodeId → Type 0
+IsNext image None = IsCounted image
+IsNext image (Some code) = Differs image code × ((other : CodeId) → Differs image other → code_lt other code ≡ false)
+
+-- the codes without their repetitions
+abbrev pub distinct : List CodeId → List CodeId
+distinct [] = []
+distinct (code ∷ codes) = if is_among code codes then distinct codes else code ∷ distinct codes
+
+-- how many codes have counts that differ
+abbrev pub unsettled : ImageView → ℕ
+unsettled image = length (distinct (uncounted image.frames image.counted))
+
+-- how often a code of the serial is in a bag
+abbrev pub serial_times : ℕ → List CodeId → ℕ
+serial_times serial bag = count_by (λ code. code.serial == serial) bag
 
 -- the image has the same bag and the same publication, and other frames
 pub record HasFrames (old new : ImageView) (frames : List Frame) : Type 0 where

@@ -6,3 +6,4 @@ pub mod BoardWords
 pub mod BoardRule
 pub mod BoardStep
 pub mod BoardViews
+pub mod Nets

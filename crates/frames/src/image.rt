@@ -1,10 +1,10 @@
 //! The image of one thread's stack.
-ghost use Rattle.std.specs.Prelude.{◌≡◌, ℕ, ◌+◌, ◌<◌, ◌≤◌, List, [], ◌∷◌, ◌++◌, length, true, false, IfOk, OnOk, OnErr, IfErr, IfSome, IfNone, IsTrue, option_map, Some, None, ◌↔◌, vec_capacity};
+ghost use Rattle.std.specs.Prelude.{◌≡◌, ◌≢◌, pos, ◌+ℤ◌, ℕ, ◌+◌, ◌<◌, ◌≤◌, List, [], ◌∷◌, ◌++◌, length, true, false, IfOk, OnOk, OnErr, IfErr, IfSome, IfNone, IsTrue, option_map, Some, None, ◌↔◌, vec_capacity};
 ghost use Rattle.frames.specs.Stack.{act, times, is_among, top_serial_of, has_serial, serial_count};
-ghost use Rattle.frames.specs.ImageView.{SameBag, next_code, IsCounted, HasFrames, Counts, IsSettled, push_fault, pop_fault, end_fault};
-ghost use Rattle.frames.specs.Kept.{counted_by, changed_by, next_pending};
+ghost use Rattle.frames.specs.ImageView.{SameBag, next_code, IsNext, unsettled, serial_times, IsCounted, HasFrames, Counts, IsSettled, push_fault, pop_fault, end_fault};
+ghost use Rattle.frames.specs.Nets.{net_sum};
 
-use crate::differences::{difference, is_none_pending, least_pending};
+use crate::nets::{add, net_sum};
 use crate::{Change, CodeId, EndFault, Frame, PopFault, Publishing, PushFault};
 use std::alloc::{AllocError, Global};
 use std::marker::Model;
@@ -22,33 +22,38 @@ pub const DEPTH: usize = 256;
 #[derive(Drop)]
 pub struct Image {
     frames: Vec<Frame>,
-    // The frames as they were at the end of the last publication.
-    shown: Vec<Frame>,
-    // The last code that the open publication gave. Codes are given in rising order.
-    last: Option<CodeId>,
+    // How many more frames each code has than are counted, rising by serial and then by slot, none of them 0. In an open
+    // publication those in front were given already, and are no longer left.
+    nets: Vec<Change>,
+    given: usize,
+    // Where a net was moved last.
+    last: usize,
     publishing: bool,
-    // Known: no code's counts differ. Where it is false, nothing is known.
-    all_counted: bool,
 }
 
 impl Model for Image {
-    ghost use Rattle.std.specs.Prelude.{◌≤◌, ◌≡◌, vec_len, vec_capacity, true, false, None};
+    ghost use Rattle.std.specs.Prelude.{◌≤◌, ◌≡◌, vec_len, vec_capacity, true, false, None, length, take, drop};
+    ghost use Rattle.frames.specs.declared.CodeId.{CodeId};
+    ghost use Rattle.frames.specs.Stack.{act};
     ghost use Rattle.frames.specs.ImageView.{ImageView};
-    ghost use Rattle.frames.specs.Kept.{counted_by, changed_by, next_pending};
+    ghost use Rattle.frames.specs.Nets.{counted_by, codes_in, net_in, IsRising, IsWithin};
 
     ghost Value = { ImageView };
 
     ghost view = { λ i. record {
       frames = i.frames.items;
-      counted = counted_by i.frames.items i.shown.items i.last;
-      changed = changed_by i.frames.items i.shown.items i.last;
+      counted = counted_by i.frames.items (drop i.given i.nets.items);
+      changed = codes_in (take i.given i.nets.items);
       publishing = i.publishing;
     } };
 
-    ghost invariant = { λ i. (vec_len i.frames ≤ 256) × (vec_len i.shown ≤ 256)
-        × (256 ≤ vec_capacity i.frames) × (256 ≤ vec_capacity i.shown)
-        × (i.publishing ≡ false → i.last ≡ None)
-        × (i.all_counted ≡ true → next_pending i.frames.items i.shown.items i.last ≡ None) };
+    ghost invariant = { λ i. (vec_len i.frames ≤ 256) × (256 ≤ vec_capacity i.frames) × (512 ≤ vec_capacity i.nets)
+        × (i.given ≤ length i.nets.items)
+        × (i.publishing ≡ false → i.given ≡ 0)
+        × IsRising None i.nets.items
+        × ((code : CodeId) → IsWithin (net_in (drop i.given i.nets.items) code) (act code i.frames.items))
+        × (i.publishing ≡ false → length (counted_by i.frames.items i.nets.items) ≤ 256)
+        × (length i.nets.items ≤ 512) };
 }
 
 impl Image {
@@ -63,10 +68,10 @@ impl Image {
     {
         Ok(Image {
             frames: Vec::with_capacity(alloc, DEPTH)?,
-            shown: Vec::with_capacity(alloc, DEPTH)?,
-            last: None,
+            nets: Vec::with_capacity(alloc, 2 * DEPTH)?,
+            given: 0,
+            last: 0,
             publishing: false,
-            all_counted: true,
         })
     }
 
@@ -111,7 +116,9 @@ impl Image {
         }
         match self.frames.push(frame) {
             Ok(()) => {
-                self.all_counted = false;
+                if let Some(code) = frame.code {
+                    self.last = add(&mut self.nets, self.last, code, 1);
+                }
                 Ok(())
             }
             Err(_) => unreachable!(),
@@ -137,7 +144,9 @@ impl Image {
         }
         match self.frames.pop() {
             Some(frame) => {
-                self.all_counted = false;
+                if let Some(code) = frame.code {
+                    self.last = add(&mut self.nets, self.last, code, -1);
+                }
                 Ok(frame)
             }
             None => unreachable!(),
@@ -172,20 +181,20 @@ impl Image {
         ensures fresh { IfSome result (λ change. is_among change.code self.old.changed ≡ false) }
         ensures counts { IfSome result (λ change. Counts self.old self.new change) }
         ensures none { IfNone result (self.new ≡ self.old) }
+        ensures next { self.old.publishing ≡ true
+            → IsNext self.old (option_map (λ change. change.code) result) }
+        ensures by { IfSome result (λ change. change.by ≢ pos 0) }
+        ensures fewer { IfSome result (λ change. unsettled self.old ≡ unsettled self.new + 1) }
     {
         if !self.publishing {
             return None;
         }
-        if self.all_counted {
-            return None;
-        }
-        let Some(code) = least_pending(&self.frames, &self.shown, self.last) else {
-            self.all_counted = true;
+        let Some(change) = self.nets.get(self.given) else {
             return None;
         };
-        let by = difference(&self.frames, &self.shown, code);
-        self.last = Some(code);
-        Some(Change { code, by })
+        let change = *change;
+        self.given += 1;
+        Some(change)
     }
 
     /// Ends the publication. Every frame is counted then.
@@ -203,13 +212,12 @@ impl Image {
         if !self.publishing {
             return Err(EndFault::NotBegun);
         }
-        if !is_none_pending(self.all_counted, &self.frames, &self.shown, self.last) {
+        if self.given < self.nets.len() {
             return Err(EndFault::ChangesLeft);
         }
-        show(&self.frames, &mut self.shown);
-        self.last = None;
+        self.nets.clear();
+        self.given = 0;
         self.publishing = false;
-        self.all_counted = true;
         Ok(())
     }
 
@@ -217,7 +225,21 @@ impl Image {
     pub fn is_settled(&self) -> bool
         ensures { IsTrue result ↔ IsSettled self.now }
     {
-        !self.publishing && is_none_pending(self.all_counted, &self.frames, &self.shown, self.last)
+        !self.publishing && self.nets.is_empty()
+    }
+
+    /// How many codes have other numbers of frames than are counted.
+    pub fn unsettled(&self) -> usize
+        ensures { result ≡ unsettled self.now }
+    {
+        self.nets.len() - self.given
+    }
+
+    /// How many more frames than are counted have a code of the serial.
+    pub fn net(&self, serial: u64) -> i32
+        ensures { pos (serial_times serial self.now.counted) +ℤ result ≡ pos (serial_count serial self.now.frames) }
+    {
+        net_sum(&self.nets[self.given..], serial)
     }
 
     /// The number of frames whose code has the serial.
@@ -250,18 +272,5 @@ fn has_serial(frame: &Frame, serial: u64) -> bool
     match frame.code {
         Some(code) => code.serial == serial,
         None => false,
-    }
-}
-
-// What is shown becomes the frames.
-fn show(frames: &[Frame], shown: &mut Vec<Frame>)
-    requires { length frames.now ≤ vec_capacity shown.old }
-    ensures items { shown.new.items ≡ frames.now }
-    ensures capacity { vec_capacity shown.old ≤ vec_capacity shown.new }
-{
-    shown.clear();
-    match shown.extend_from_slice(frames) {
-        Ok(()) => {}
-        Err(_) => unreachable!(),
     }
 }

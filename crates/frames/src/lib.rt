@@ -3,8 +3,8 @@
 #![tactic(auto)]
 
 pub mod board_rule;
-mod differences;
 pub mod image;
+mod nets;
 #[cfg(test)]
 mod tests;
 

@@ -142,3 +142,19 @@ fn a_stack_has_256_frames_at_most(rt: HostRuntime) -> Result<(), Fail> {
     assert_eq!(rt; image.end(), Ok(()));
     Ok(())
 }
+
+#[test]
+fn nets_follow_pushes_and_pops(rt: HostRuntime) -> Result<(), Fail> {
+    let mut image = Image::new(rt.alloc())?;
+    for serial in [1, 2, 1] {
+        assert_eq!(rt; image.push(compiled(0, code(0, serial))), Ok(()));
+    }
+    assert_eq!(rt; image.pop(), Ok(compiled(0, code(0, 1))));
+    assert_eq!(rt; image.net(1), 1);
+    assert_eq!(rt; image.net(2), 1);
+    assert_eq!(rt; image.unsettled(), 2);
+    assert_eq!(rt; image.pop(), Ok(compiled(0, code(0, 2))));
+    assert_eq!(rt; image.net(2), 0);
+    assert_eq!(rt; image.unsettled(), 1);
+    Ok(())
+}

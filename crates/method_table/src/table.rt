@@ -138,6 +138,26 @@ impl MethodTable {
         })
     }
 
+    /// Why the method gets no code, but for want of memory.
+    pub fn refusal(&self, method: u64) -> Option<InstallFault>
+        ensures { result ≡ install_fault self.now method }
+    {
+        if method >= self.current.len() as u64 {
+            return Some(InstallFault::NoSuchMethod);
+        }
+        if self.current[method as usize].is_some() {
+            return Some(InstallFault::HasCode);
+        }
+        let Some(slot) = least_free(&self.records, self.slots, self.taken) else {
+            return Some(InstallFault::TableFull);
+        };
+        if self.next > LAST_SERIAL {
+            return Some(InstallFault::SerialsSpent);
+        }
+        let _ = slot;
+        None
+    }
+
     /// A new code for the method, in use: it has the next serial and the least free slot.
     pub fn install(&mut self, method: u64) -> Result<CodeId, InstallFault>
         ensures slot { IfOk result (λ id. free_slot self.old.codes self.old.slots ≡ Some id.slot) }

@@ -12,7 +12,7 @@ use Rattle.frames.specs.Least.{least}
 use Rattle.frames.specs.ImageView.{ImageView, uncounted, next_code, IsCounted, HasFrames, Counts}
 use Rattle.frames.proofs.Bags.{times-append, times-filter, times-codes_of, same_code-equal}
 use Rattle.frames.proofs.Ordered.{IsLeast, least-is_least, least-unique}
-use Rattle.frames.proofs.Pending.{times-uncounted, there, back}
+use Rattle.frames.proofs.Fewer.{times-uncounted}
 use Rattle.system.specs.Threads.{Thread, has_changed, changed_codes, is_left, next_change, is_settled, part}
 use Rattle.system.specs.Keeps.{SameImage}
 
@@ -51,6 +51,14 @@ pub times-left : (t : Thread) (code : CodeId) → times code (filter (is_left t)
 times-left t code =
     times-filter (is_left t) code (codes_of t.stack ++ codes_of t.shown)
     ∙ ap (λ n. cond (is_left t code) n 0) (times-append code (codes_of t.stack) (codes_of t.shown) ∙ ap₂ (λ m n. m + n) (times-codes_of code t.stack) (times-codes_of code t.shown))
+
+there : (given : Bool) (f s : ℕ) → 0 < cond (not (eqb f (cond given f s))) (f + cond given f s) 0 → 0 < cond (not given && not (eqb f s)) (f + s) 0
+there true f s h = grind (arith, nat_tests)
+there false f s h = h
+
+back : (given : Bool) (f s : ℕ) → 0 < cond (not given && not (eqb f s)) (f + s) 0 → 0 < cond (not (eqb f (cond given f s))) (f + cond given f s) 0
+back true f s h = grind (arith, nat_tests)
+back false f s h = h
 
 -- what the image changes next is what the thread has left
 pub next_is_left : (image : ImageView) (t : Thread) → SameImage image t → next_code image ≡ next_change t

@@ -1,35 +1,36 @@
-use Rattle.std.proofs.Common.{refl, ◌≡◌, true, rules, arith}
-use Rattle.frames.proofs.Bags.{changed_at_none}
-use Rattle.frames.proofs.Pending.{left_is, counted_shown, none_pending_shown}
+use Rattle.std.proofs.Common.{◌≡◌, ◌<◌, ◌≤◌, sym, refl, rules, arith, length, true}
+use Rattle.frames.proofs.Bags.{times-codes_of}
+use Rattle.frames.proofs.Settling.{is_left, none_left, within_none, length-codes_of}
 use Rattle.frames.proofs.image.Image.end.Goals as goal
 
-pub returns-then-not-is_none_pending-clause-refused : goal.returns-then-not-is_none_pending-clause-refused
-returns-then-not-is_none_pending-clause-refused c =
-    let pending = rw (c.deref.ensures.value, c.deref-2.ensures.value) at c.is_none_pending.ensures in
-    let left = left_is c.self.inside.frames.items c.self.inside.shown.items c.self.inside.last c.is_none_pending.result pending in
+pub returns-then-self-len-clause-refused : goal.returns-then-self-len-clause-refused
+returns-then-self-len-clause-refused c =
     let open_ : c.self.inside.publishing ≡ true = search rules in
-    rw (← c.self.view_is, open_, left, c.if-not-is_none_pending.true) refl
+    let more : c.self.inside.given < length c.self.inside.nets.items = omega (arith, c.if-self-len.true, c.len.ensures) in
+    let left = is_left c.self.inside.frames.items c.self.inside.nets.items c.self.inside.given c.self.invariant.5 c.self.invariant.6 more in
+    rw (← c.self.view_is, open_, left) refl
 
 pub invariant_of-self : goal.invariant_of-self
-invariant_of-self c = (
-  search rules,
-  search rules,
-  search rules,
-  omega (arith, c.show.ensures.capacity, c.self.invariant.3),
-  λ closed. refl,
-  λ known. rw (c.show.ensures.items, c.deref-3.ensures.value) (none_pending_shown c.self.inside.frames.items),
-)
+invariant_of-self c =
+    rw c.clear.ensures.items (
+      search rules,
+      search rules,
+      omega (arith, c.clear.ensures.capacity, c.self.invariant.2),
+      omega arith,
+      λ _. refl,
+      tt,
+      within_none c.self.inside.frames.items,
+      λ _. (let n = length-codes_of c.self.inside.frames.items in let few : length c.self.inside.frames.items ≤ 256 = search rules in omega arith),
+      omega arith,
+    )
 
 pub returns-clause-ok : goal.returns-clause-ok
 returns-clause-ok c =
-    rw (← c.self.view_is) (refl, refl, λ code. rw (c.show.ensures.items, c.deref-3.ensures.value) (counted_shown c.self.inside.frames.items code))
+    rw (← c.self.view_is, c.clear.ensures.items) (refl, refl, λ code. sym (times-codes_of code c.self.inside.frames.items))
 
 pub returns-clause-accepted : goal.returns-clause-accepted
 returns-clause-accepted c =
-    let pending = rw (c.deref.ensures.value, c.deref-2.ensures.value) at c.is_none_pending.ensures in
-    let left = left_is c.self.inside.frames.items c.self.inside.shown.items c.self.inside.last c.is_none_pending.result pending in
     let open_ : c.self.inside.publishing ≡ true = search rules in
-    rw (← c.self.view_is, open_, left, c.if-not-is_none_pending.false) refl
-
-pub returns-clause-closed : goal.returns-clause-closed
-returns-clause-closed c = changed_at_none c.self.inside.frames.items c.show.new.shown.items
+    let all : length c.self.inside.nets.items ≤ c.self.inside.given = omega (arith, c.if-self-len.false, c.len.ensures) in
+    let left = none_left c.self.inside.frames.items c.self.inside.nets.items c.self.inside.given c.self.invariant.5 c.self.invariant.6 all in
+    rw (← c.self.view_is, open_, left) refl

@@ -1,38 +1,125 @@
-use Rattle.std.proofs.Common.{refl, sym, ◌∙◌, arith}
-use Rattle.std.proofs.lemmas.Int.{ints}
-use Rattle.frames.proofs.Pending.{least_pending_is_next, found_is, counted_before, counted_after, counted_others, changed_grown, found_unchanged}
+use Rattle.std.proofs.Common.{◌≡◌, ◌∙◌, ◌<◌, ◌≤◌, ◌+◌, sym, ap, refl, rules, arith, length, drop, take, true, false, [], ◌∷◌, None, subst}
+use Rattle.std.proofs.lemmas.Bool.Decides.{nat_tests}
+use Rattle.frames.specs.declared.CodeId.{CodeId}
+use Rattle.frames.specs.Stack.{act}
+use Rattle.frames.specs.Nets.{codes_in, first_of, net_in, IsRising, IsWithin}
+use Rattle.frames.proofs.Moves.{zero_not}
+use Rattle.frames.proofs.Settling.{next_of_left, is_next_of, drop_all, left_is, rising_drop, within_rest, first_by, first_moved, first_others, among_taken, fresh_at, unsettled_fewer}
 use Rattle.frames.proofs.image.Image.next_change.Goals as goal
-
-pub returns-then-self-clause-code : goal.returns-then-self-clause-code
-returns-then-self-clause-code c = λ publishing.
-    let none = c.self.invariant.5 c.if-self.true in
-    rw (← c.self.view_is) (sym none ∙ least_pending_is_next c.self.inside.frames.items c.self.inside.shown.items c.self.inside.last)
 
 pub returns-in_default-clause-code : goal.returns-in_default-clause-code
 returns-in_default-clause-code c = λ publishing.
-    let found = rw (c.deref.ensures.value, c.deref-2.ensures.value) at c.least_pending.ensures in
-    rw (← c.self.view_is) (sym c.in_default.is ∙ (found ∙ least_pending_is_next c.self.inside.frames.items c.self.inside.shown.items c.self.inside.last))
+    let all : length c.self.inside.nets.items ≤ c.self.inside.given = grind (arith, nat_tests, c.in_default.ensures.lookup.0, c.deref.ensures.len) in
+    rw (← c.self.view_is) (sym (next_of_left c.self.inside.frames.items c.self.inside.nets.items c.self.inside.given c.self.invariant.5 c.self.invariant.6 ∙ ap first_of (drop_all c.self.inside.given c.self.inside.nets.items all)))
+
+pub returns-in_default-clause-next : goal.returns-in_default-clause-next
+returns-in_default-clause-next c = λ publishing.
+    let all : length c.self.inside.nets.items ≤ c.self.inside.given = grind (arith, nat_tests, c.in_default.ensures.lookup.0, c.deref.ensures.len) in
+    let none = drop_all c.self.inside.given c.self.inside.nets.items all in
+    let changed = codes_in (take c.self.inside.given c.self.inside.nets.items) in
+    let within = subst (λ xs. (code : CodeId) → IsWithin (net_in xs code) (act code c.self.inside.frames.items)) none c.self.invariant.6 in
+    rw (← c.self.view_is, none) (is_next_of c.self.inside.frames.items [] changed c.self.inside.publishing tt within)
+
+pub returns-clause-by : goal.returns-clause-by
+returns-clause-by c =
+    let frames = c.self.inside.frames.items in
+    let nets = c.self.inside.nets.items in
+    let n = c.self.inside.given in
+    let x = c.in-Some.change.now in
+    let look = rw c.deref.ensures.value at c.in-Some.ensures.lookup in
+    let left : drop n nets ≡ x ∷ drop (n + 1) nets = left_is n nets x _ look.0 look.1 in
+    let rising : IsRising None (x ∷ drop (n + 1) nets) = subst (IsRising None) left (rising_drop n nets c.self.invariant.5) in
+    let within = subst (λ xs. (code : CodeId) → IsWithin (net_in xs code) (act code frames)) left c.self.invariant.6 in
+    zero_not x.by rising.1
 
 pub returns-clause-code : goal.returns-clause-code
 returns-clause-code c = λ publishing.
-    let found = rw (c.deref.ensures.value, c.deref-2.ensures.value) at c.least_pending.ensures in
-    rw (← c.self.view_is) (sym c.in-Some.is ∙ (found ∙ least_pending_is_next c.self.inside.frames.items c.self.inside.shown.items c.self.inside.last))
+    let frames = c.self.inside.frames.items in
+    let nets = c.self.inside.nets.items in
+    let n = c.self.inside.given in
+    let x = c.in-Some.change.now in
+    let look = rw c.deref.ensures.value at c.in-Some.ensures.lookup in
+    let left : drop n nets ≡ x ∷ drop (n + 1) nets = left_is n nets x _ look.0 look.1 in
+    let rising : IsRising None (x ∷ drop (n + 1) nets) = subst (IsRising None) left (rising_drop n nets c.self.invariant.5) in
+    let within = subst (λ xs. (code : CodeId) → IsWithin (net_in xs code) (act code frames)) left c.self.invariant.6 in
+    rw (← c.self.view_is) (sym (next_of_left frames nets n c.self.invariant.5 c.self.invariant.6 ∙ ap first_of left))
 
-pub returns-clause-counts : goal.returns-clause-counts
-returns-clause-counts c =
-    let found = rw (c.deref.ensures.value, c.deref-2.ensures.value) at c.least_pending.ensures in
-    let is = found_is c.self.inside.frames.items c.self.inside.shown.items c.self.inside.last c.in-Some.code (sym found ∙ c.in-Some.is) in
-    rw (← c.self.view_is) (record {
-      frames_stay = refl;
-      publishing_stays = refl;
-      by = rw (counted_before c.self.inside.frames.items c.self.inside.shown.items c.self.inside.last c.in-Some.code is) (omega (arith, ints, rw (c.deref-3.ensures.value, c.deref-4.ensures.value) at c.difference-by.ensures));
-      moved = counted_after c.self.inside.frames.items c.self.inside.shown.items c.in-Some.code;
-      others = counted_others c.self.inside.frames.items c.self.inside.shown.items c.self.inside.last c.in-Some.code is;
-      grown = changed_grown c.self.inside.frames.items c.self.inside.shown.items c.self.inside.last c.in-Some.code (sym found ∙ c.in-Some.is);
-    })
+pub returns-clause-next : goal.returns-clause-next
+returns-clause-next c = λ publishing.
+    let frames = c.self.inside.frames.items in
+    let nets = c.self.inside.nets.items in
+    let n = c.self.inside.given in
+    let x = c.in-Some.change.now in
+    let look = rw c.deref.ensures.value at c.in-Some.ensures.lookup in
+    let left : drop n nets ≡ x ∷ drop (n + 1) nets = left_is n nets x _ look.0 look.1 in
+    let rising : IsRising None (x ∷ drop (n + 1) nets) = subst (IsRising None) left (rising_drop n nets c.self.invariant.5) in
+    let within = subst (λ xs. (code : CodeId) → IsWithin (net_in xs code) (act code frames)) left c.self.invariant.6 in
+    rw (← c.self.view_is, left) (is_next_of frames (x ∷ drop (n + 1) nets) (codes_in (take n nets)) c.self.inside.publishing rising within)
 
 pub returns-clause-fresh : goal.returns-clause-fresh
 returns-clause-fresh c =
-    let found = rw (c.deref.ensures.value, c.deref-2.ensures.value) at c.least_pending.ensures in
-    let is = found_is c.self.inside.frames.items c.self.inside.shown.items c.self.inside.last c.in-Some.code (sym found ∙ c.in-Some.is) in
-    rw (← c.self.view_is) (found_unchanged c.self.inside.frames.items c.self.inside.shown.items c.self.inside.last c.in-Some.code is)
+    let frames = c.self.inside.frames.items in
+    let nets = c.self.inside.nets.items in
+    let n = c.self.inside.given in
+    let x = c.in-Some.change.now in
+    let look = rw c.deref.ensures.value at c.in-Some.ensures.lookup in
+    let left : drop n nets ≡ x ∷ drop (n + 1) nets = left_is n nets x _ look.0 look.1 in
+    let rising : IsRising None (x ∷ drop (n + 1) nets) = subst (IsRising None) left (rising_drop n nets c.self.invariant.5) in
+    let within = subst (λ xs. (code : CodeId) → IsWithin (net_in xs code) (act code frames)) left c.self.invariant.6 in
+    let more : n < length nets = grind (arith, nat_tests, look.0) in
+    rw (← c.self.view_is, look.1) (fresh_at n nets None _ c.self.invariant.5 more).0
+
+pub returns-clause-fewer : goal.returns-clause-fewer
+returns-clause-fewer c =
+    let frames = c.self.inside.frames.items in
+    let nets = c.self.inside.nets.items in
+    let n = c.self.inside.given in
+    let x = c.in-Some.change.now in
+    let look = rw c.deref.ensures.value at c.in-Some.ensures.lookup in
+    let left : drop n nets ≡ x ∷ drop (n + 1) nets = left_is n nets x _ look.0 look.1 in
+    let rising : IsRising None (x ∷ drop (n + 1) nets) = subst (IsRising None) left (rising_drop n nets c.self.invariant.5) in
+    let within = subst (λ xs. (code : CodeId) → IsWithin (net_in xs code) (act code frames)) left c.self.invariant.6 in
+    rw (← c.self.view_is) (unsettled_fewer frames nets n x (codes_in (take n nets)) (codes_in (take (n + 1) nets)) c.self.inside.publishing c.self.invariant.5 c.self.invariant.6 left)
+
+pub returns-clause-counts : goal.returns-clause-counts
+returns-clause-counts c =
+    let frames = c.self.inside.frames.items in
+    let nets = c.self.inside.nets.items in
+    let n = c.self.inside.given in
+    let x = c.in-Some.change.now in
+    let look = rw c.deref.ensures.value at c.in-Some.ensures.lookup in
+    let left : drop n nets ≡ x ∷ drop (n + 1) nets = left_is n nets x _ look.0 look.1 in
+    let rising : IsRising None (x ∷ drop (n + 1) nets) = subst (IsRising None) left (rising_drop n nets c.self.invariant.5) in
+    let within = subst (λ xs. (code : CodeId) → IsWithin (net_in xs code) (act code frames)) left c.self.invariant.6 in
+    let more : n < length nets = grind (arith, nat_tests, look.0) in
+    rw (← c.self.view_is, left) (record {
+      frames_stay = refl;
+      publishing_stays = refl;
+      by = first_by frames x (drop (n + 1) nets) (within x.code);
+      moved = first_moved frames x (drop (n + 1) nets) rising;
+      others = first_others frames x (drop (n + 1) nets);
+      grown = λ code. rw look.1 (among_taken n nets _ code more);
+    })
+
+pub invariant_of-self : goal.invariant_of-self
+invariant_of-self c =
+    let frames = c.self.inside.frames.items in
+    let nets = c.self.inside.nets.items in
+    let n = c.self.inside.given in
+    let x = c.in-Some.change.now in
+    let look = rw c.deref.ensures.value at c.in-Some.ensures.lookup in
+    let left : drop n nets ≡ x ∷ drop (n + 1) nets = left_is n nets x _ look.0 look.1 in
+    let rising : IsRising None (x ∷ drop (n + 1) nets) = subst (IsRising None) left (rising_drop n nets c.self.invariant.5) in
+    let within = subst (λ xs. (code : CodeId) → IsWithin (net_in xs code) (act code frames)) left c.self.invariant.6 in
+    let more : n < length nets = grind (arith, nat_tests, look.0) in
+    let open_ : c.self.inside.publishing ≡ true = search rules in (
+      c.self.invariant.0,
+      c.self.invariant.1,
+      c.self.invariant.2,
+      omega arith,
+      λ closed. (let no : true ≡ false = sym open_ ∙ closed in cc),
+      c.self.invariant.5,
+      within_rest frames x (drop (n + 1) nets) rising within,
+      λ closed. (let no : true ≡ false = sym open_ ∙ closed in cc),
+      c.self.invariant.8,
+    )

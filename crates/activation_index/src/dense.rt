@@ -1,0 +1,108 @@
+//! Counts by slot: a cell for each, with the serial of the code that stands there and its count.
+ghost use Rattle.std.specs.Prelude.{◌≡◌, ◌≢◌, ℕ, ◌+◌, ◌<◌, ◌≤◌, ◌==◌, List, [], ◌∷◌, length, true, false, IfOk, pos, ℤ, ◌+ℤ◌, ◌≤ℤ◌, map, slice_set, slice_get, replicate, OnErr, Some, None, if◌then◌else◌};
+ghost use Rattle.std.specs.List.Sorted.{IsPermutation, IsNonDecreasingBy};
+ghost use Rattle.activation_index.specs.Cells.{count_at, cell_of, counted, pair_of};
+ghost use Rattle.activation_index.specs.Pairs.{of_serial, IsRisingPairs};
+
+use crate::{Entry, moved};
+use std::alloc::{AllocError, Global};
+use std::marker::Model;
+
+/// The counts of codes by slot. Contracts see it as its cells, each a serial with its count.
+#[derive(Drop)]
+pub struct DenseIndex {
+    cells: Vec<Entry>,
+}
+
+impl Model for DenseIndex {
+    ghost use Rattle.std.specs.Prelude.{List};
+    ghost use Rattle.activation_index.specs.declared.Entry.{Entry};
+
+    ghost Value = { List Entry };
+
+    ghost view = { λ i. i.cells.items };
+}
+
+impl DenseIndex {
+    /// Cells for so many slots, with serial 0 and count 0 in each.
+    ///
+    /// # Errors
+    /// The allocator has no room for so many cells.
+    pub fn new(alloc: Global, slots: usize) -> Result<DenseIndex, AllocError>
+        ensures empty { IfOk result (λ index. index ≡ replicate slots (cell_of 0 0)) }
+    {
+        let cell = Entry {
+            serial: 0,
+            count: 0,
+        };
+        Ok(DenseIndex {
+            cells: vec![in alloc; cell; slots]?,
+        })
+    }
+
+    /// The slot's cell is that of the serial from now on. The caller sees to it that its count is 0 and its serial less.
+    pub fn place(&mut self, slot: usize, serial: u64)
+        requires slot { slot < length self.old }
+        requires free { (cell : _) → slice_get self.old slot ≡ Some cell → (cell.count ≡ 0) × (cell.serial < serial) }
+        ensures { self.new ≡ slice_set self.old slot (cell_of serial 0) }
+    {
+        self.cells[slot] = Entry { serial, count: 0 };
+    }
+
+    /// Adds `by` to the count of the slot's cell, whose serial is this one. The caller sees to it that the new count is
+    /// from 0 to 16,384, which is 64 stacks of 256 frames.
+    pub fn add(&mut self, slot: usize, serial: u64, by: i32)
+        requires slot { slot < length self.old }
+        requires serial { (cell : _) → slice_get self.old slot ≡ Some cell → cell.serial ≡ serial }
+        requires low { pos 0 ≤ℤ (pos (count_at self.old slot serial) +ℤ by) }
+        requires high { (pos (count_at self.old slot serial) +ℤ by) ≤ℤ pos 16384 }
+        ensures here { pos (count_at self.new slot serial) ≡ pos (count_at self.old slot serial) +ℤ by }
+        ensures others { self.new ≡ slice_set self.old slot (cell_of serial (count_at self.new slot serial)) }
+    {
+        let count = moved(self.cells[slot].count, by);
+        self.cells[slot] = Entry { serial, count };
+    }
+
+    /// The count of the slot's cell where its serial is this one, else 0.
+    pub fn count(&self, slot: usize, serial: u64) -> u32
+        ensures { result ≡ count_at self.now slot serial }
+    {
+        match self.cells.get(slot) {
+            Some(cell) => { if cell.serial == serial { cell.count } else { 0 } }
+            None => 0,
+        }
+    }
+
+    /// The serials that have counts, rising, each with its count.
+    ///
+    /// # Errors
+    /// The allocator has no room for the list.
+    pub fn census(&self, alloc: Global) -> Result<Vec<(u64, u32)>, AllocError>
+        ensures census { IfOk result (λ census. IsPermutation (counted self.now) census.items) }
+        ensures sorted { IfOk result (λ census. IsNonDecreasingBy (λ pair. pair.0) census.items) }
+        ensures rising { IfOk result (λ census. ((serial : ℕ) → of_serial serial (counted self.now) ≤ 1)
+            → IsRisingPairs 0 census.items) }
+    {
+        let mut census = counted_cells(alloc, &self.cells)?;
+        census.sort_unstable_by_key(|pair| pair.0);
+        Ok(census)
+    }
+}
+
+// The cell as a serial and its count, where it counts something.
+fn pair_of(cell: &Entry) -> Option<(u64, u32)>
+    ensures { result ≡ pair_of cell.now }
+{
+    if cell.count == 0 {
+        None
+    } else {
+        Some((cell.serial, cell.count))
+    }
+}
+
+// The cells that count something, by slot.
+fn counted_cells(alloc: Global, cells: &[Entry]) -> Result<Vec<(u64, u32)>, AllocError>
+    ensures { IfOk result (λ list. list.items ≡ counted cells.now) }
+{
+    cells.iter().filter_map(|cell| pair_of(cell)).collect(alloc)
+}
