@@ -79,15 +79,17 @@ fn a_code_is_counted_looked_for_weighed_and_freed(rt: HostRuntime) -> Result<(),
 fn a_board_that_ends_shows_its_words(rt: HostRuntime) -> Result<(), Fail> {
     let (board, mut keeper, mut seat) = one_slot(rt.alloc(), 2)?;
     keeper.install(&board, C);
+    assert!(rt; keeper.moment() == 1 && seat.place() == 0);
     seat.read_moment(&board);
     seat.end_publication(&board);
     assert!(rt; seat.enter(&board, C));
     assert!(rt; keeper.round(&board).is_ok());
+    assert!(rt; keeper.moment() == 2 && !keeper.is_last_moment());
     seat.read_moment(&board);
     seat.count_change(&board, C, 1);
     seat.end_publication(&board);
     keeper.invalidate(&board, C);
-    let closed = board.close(keeper);
+    let closed = board.close(keeper, vec![in rt.alloc(); seat]?);
     let entry = closed.entry(0);
     let (count, first, second, moment) = (
         closed.count(0),
@@ -250,7 +252,7 @@ fn a_board_is_made_whole_or_not_at_all(rt: HostRuntime) -> Result<(), Fail> {
         return Ok(());
     };
     assert!(rt; seats.len() == 3);
-    let closed = board.close(keeper);
+    let closed = board.close(keeper, seats);
     let moment = closed.moment();
     closed.free();
     assert!(rt; moment == 1);

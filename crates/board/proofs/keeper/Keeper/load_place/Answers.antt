@@ -1,4 +1,4 @@
-use Rattle.std.proofs.Common.{arith, ◌≡◌, ◌≢◌, ◌⊎◌, ℕ, ◌+◌, ◌*◌, ◌^◌, ◌<◌, ◌≤◌, true, set, length, sym, refl, ap, ◌∙◌, subst, inl, inr, length-set, get_or-set_same}
+use Rattle.std.proofs.Common.{[], arith, ◌≡◌, ◌≢◌, ◌⊎◌, ℕ, ◌+◌, ◌*◌, ◌^◌, ◌<◌, ◌≤◌, true, set, length, sym, refl, ap, ◌∙◌, subst, inl, inr, length-set, get_or-set_same}
 use Rattle.frames.specs.declared.CodeId.{CodeId}
 use Rattle.frames.specs.declared.board_rule.SlotView.{SlotView}
 use Rattle.frames.specs.declared.board_rule.KeeperView.{KeeperView}
@@ -46,7 +46,7 @@ invariant_of-self g c =
     let low = c.requires.slot.0 in let low' = c.requires.slot.1 in let load = c.load-found.ensures in let after = load.2.0 in let k = keeper_of c.self.inside.seat.me.0 in let small = mine.4 in
     let notes = mine.6 in let long = notes.notes_are in
     let after' : keeper_of c.load-found.new.seat.me.0 ≡ Rattle.frames.specs.BoardViews.looked_at k c.args.code c.args.place c.load-found.result = ap keeper_of after ∙ rw c.requires.about refl in (
-      after ∙ ap (λ v. Keeper (keeper_of v) (stamp_of v)) (sym after),
+      after ∙ ap (λ v. Keeper (keeper_of v) [] (stamp_of v)) (sym after),
       mine.1 ∙ sym (ap (λ (v : KeeperView). v.moment) after'),
       ap (λ z. z.words) load.0 ∙ mine.2,
       mine.3,

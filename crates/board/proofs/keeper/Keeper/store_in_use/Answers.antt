@@ -1,4 +1,4 @@
-use Rattle.std.proofs.Common.{arith, ◌≡◌, ◌≢◌, ◌⊎◌, ℕ, ◌+◌, ◌*◌, ◌^◌, ◌<◌, ◌≤◌, true, set, length, sym, refl, ap, ◌∙◌, subst, inl, inr, length-set, get_or-set_same}
+use Rattle.std.proofs.Common.{[], arith, ◌≡◌, ◌≢◌, ◌⊎◌, ℕ, ◌+◌, ◌*◌, ◌^◌, ◌<◌, ◌≤◌, true, set, length, sym, refl, ap, ◌∙◌, subst, inl, inr, length-set, get_or-set_same}
 use Rattle.frames.specs.declared.CodeId.{CodeId}
 use Rattle.frames.specs.declared.board_rule.SlotView.{SlotView}
 use Rattle.frames.specs.declared.board_rule.KeeperView.{KeeperView}
@@ -45,7 +45,7 @@ invariant_of-self g c =
     let now_places : c.args.self.now.board.places ≡ c.self.inside.places = sym (ap (λ t. t.board.places) c.self.view_is) in
     let low = c.requires.slot in let after = c.store.ensures.2.0 in let notes = mine.6 in let k = keeper_of c.self.inside.seat.me.0 in
     let after' : keeper_of c.store.new.seat.me.0 ≡ entry_stored k c.args.code (in_use c.args.code) = ap keeper_of after ∙ rw c.requires.about refl in (
-      after ∙ ap (λ v. Keeper (keeper_of v) (stamp_of v)) (sym after),
+      after ∙ ap (λ v. Keeper (keeper_of v) [] (stamp_of v)) (sym after),
       mine.1 ∙ sym (ap (λ (v : KeeperView). v.moment) after'),
       ap (λ z. z.words) c.store.ensures.0 ∙ mine.2,
       mine.3,

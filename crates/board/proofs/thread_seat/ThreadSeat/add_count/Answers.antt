@@ -19,7 +19,7 @@ fetch_add-requires g c =
     let seen = ap (λ t. t.seen) c.self.view_is in
     let now_slots : c.args.self.now.board.slots ≡ c.self.inside.slots = sym (ap (λ t. t.board.slots) c.self.view_is) in
     let now_places : c.args.self.now.board.places ≡ c.self.inside.places = sym (ap (λ t. t.board.places) c.self.view_is) in
-    let low = c.requires.slot in let small = mine.6 in (
+    let low = c.requires.slot in let small = mine.7 in (
       ap (λ (b : BoardId). b.table) same,
       omega arith,
       rw c.requires.about (adds_count _ _ _ _ (asked c.args.self.now.board c.args.code 0) mine.0 sizes _ _ (omega arith) (omega arith) c.requires.some
