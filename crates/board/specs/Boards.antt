@@ -222,31 +222,3 @@ pub record AreFirst (slots places : ℕ) (ws : List ℕ) : Type 0 where
   pub moment : slice_index ws (index_of slots the_moment) ≡ 1
   pub entries : (k : ℕ) → k < slots → slice_index ws (index_of slots (entry_of k)) ≡ 3
   pub others : (j : ℕ) → 16 + slots ≤ j → slice_index ws j ≡ 0
-
--- What the rule asks of steps, whatever play is told of them
-
--- The thread's seat has the view that u makes of what the step found, and its stamp rose.
-abbrev pub StepTold : ℕ → (ℕ → SeatView) → ℕ → Me (Unit {0}) BoardView → Type 0
-StepTold stamp u found new = (thread_of new.0 ≡ u found) × (stamp < stamp_of new.0)
-
--- Where the rule allows a thread's seat a step at the word i after which it knows u of what it found, the last step that this
--- view tells left the words so: on each board where no stamp is more than one above the seat's own.
-abbrev pub AnswersStand : Type 0
-AnswersStand = (n : ℕ × ℕ) (slots id i stamp : ℕ) (t : SeatView) (u : ℕ → SeatView) (f : ℕ → ℕ) (s : State (Unit {0}) BoardView) → IsBoard n s → length s.homes ≡ slots
-    → get_elem? s.views id ≡ some (Thread t stamp) → IsLatest s.views (suc stamp) → slice_index s.words i < 18446744073709551616
-    → Allows (IsBoard n) slots id (Thread t stamp, []) i f (StepTold stamp u)
-    → IsToldBy (word_in n.0 (slice_set s.words i (f (slice_index s.words i)))) (u (slice_index s.words i)).place (u (slice_index s.words i)).last
-
--- No step at a word that isn't the board's moment lets a thread's seat say that it read the moment, whatever the step does to
--- that word and whatever is taken for the moment: where there is a board on which the seat stepped last and another round may be made.
-abbrev pub MomentsElsewhereRefused : Type 0
-MomentsElsewhereRefused = (n : ℕ × ℕ) (slots id i stamp : ℕ) (t : SeatView) (f h : ℕ → ℕ) (s : State (Unit {0}) BoardView) (b : IsBoard n s) → length s.homes ≡ slots
-    → get_elem? s.views id ≡ some (Thread t stamp) → IsLatest s.views stamp → slice_index s.words i < 18446744073709551616 → b.0.moment + 1 < 2 ^ 40 → i ≢ index_of n.0 the_moment
-    → ¬ Allows (IsBoard n) slots id (Thread t stamp, []) i f (StepTold stamp (λ found. moment_read t (h found)))
-
--- The same of an entry: two boards that differ there and agree at the word i give one step two answers.
-abbrev pub EntriesElsewhereRefused : Type 0
-EntriesElsewhereRefused = (n : ℕ × ℕ) (slots id i stamp : ℕ) (t : SeatView) (c : CodeId) (f h : ℕ → ℕ) (s s' : State (Unit {0}) BoardView) → IsBoard n s → IsBoard n s' → length s.homes ≡ slots → length s'.homes ≡ slots
-    → get_elem? s.views id ≡ some (Thread t stamp) → get_elem? s'.views id ≡ some (Thread t stamp) → IsLatest s.views (suc stamp) → IsLatest s'.views (suc stamp) → slice_index s.words i < 18446744073709551616
-    → slice_index s.words i ≡ slice_index s'.words i → i ≢ index_of n.0 (entry_of c.slot) → word_in n.0 s.words (entry_of c.slot) ≢ word_in n.0 s'.words (entry_of c.slot)
-    → ¬ Allows (IsBoard n) slots id (Thread t stamp, []) i f (StepTold stamp (λ found. entered t c (h found)))

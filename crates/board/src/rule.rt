@@ -4,7 +4,7 @@ ghost use Rattle.frames.specs.declared.board_rule.EntryState.TheVariants.{Zombie
 ghost use Rattle.frames.specs.BoardViews.{keeper_view};
 ghost use Rattle.frames.specs.BoardRule.{code};
 ghost use Rattle.std.specs.Prelude.{[]};
-ghost use Rattle.board.specs.Boards.{IsBoard, left_of, right_of, both_of, AnswersStand, MomentsElsewhereRefused, EntriesElsewhereRefused};
+ghost use Rattle.board.specs.Boards.{IsBoard, left_of, right_of, both_of};
 ghost use Rattle.board.specs.Plays.{Asked, Enters, Reads, Stores, GoesRound, Installs, Invalidates, CountsUp, CountsDown, Looks, Weighs, GoesOn};
 
 use atomic_table::{Join, Play, Split, TableRule};
@@ -142,19 +142,3 @@ pub struct Free<A> {
 impl<A: About> Play<(), BoardView> for Free<A> {
     ghost then = { GoesOn Vacant A.asked };
 }
-
-/// A law: what a thread's seat says of its step stands in the words. Whatever a `Play` tells, the rule of the board allows no step
-/// after which it doesn't.
-pub fn answers_stand_in_the_words()
-    ensures { AnswersStand }
-{}
-
-/// A law: no step at another word is told as a load of the board's moment.
-pub fn no_moment_is_of_another_word()
-    ensures { MomentsElsewhereRefused }
-{}
-
-/// A law: no step at another word is told as a load of an entry.
-pub fn no_entry_is_of_another_word()
-    ensures { EntriesElsewhereRefused }
-{}
