@@ -1,5 +1,6 @@
 pub mod Walks
 pub mod Searches
 pub mod Serials
+pub mod Newest
 pub mod Ties
 pub mod KeptLemmas

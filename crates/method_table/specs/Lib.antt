@@ -1,5 +1,6 @@
 pub mod Numbers
 pub mod Codes
+pub mod Entries
 pub mod Stored
 pub mod Edited
 pub mod TableView
