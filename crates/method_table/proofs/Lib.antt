@@ -4,3 +4,4 @@ pub mod Serials
 pub mod Newest
 pub mod Ties
 pub mod KeptLemmas
+pub mod Forward

@@ -4,5 +4,6 @@ pub mod Entries
 pub mod Stored
 pub mod Edited
 pub mod TableView
+pub mod Forward
 pub mod Kept
 pub mod Slots
