@@ -1,7 +1,7 @@
 // The events of the core.
 ghost use Rattle.std.specs.Prelude.{◌≡◌, IfOk};
 
-use operations::{Request, Targets};
+use operations::Request;
 use std::alloc::{AllocError, Global};
 
 /// What happens at one place.
@@ -63,7 +63,7 @@ impl Event {
             Event::Look(serial, place) => Event::Look(*serial, *place),
             Event::Weigh(serial) => Event::Weigh(*serial),
             Event::Free(serial) => Event::Free(*serial),
-            Event::Ask(request) => Event::Ask(copied_request(request, alloc)?),
+            Event::Ask(request) => Event::Ask(request.copied(alloc)?),
             Event::Open => Event::Open,
             Event::Tell(name) => Event::Tell(*name),
             Event::Operate => Event::Operate,
@@ -72,17 +72,5 @@ impl Event {
             Event::CodeState(serial) => Event::CodeState(*serial),
             Event::Resolve(method) => Event::Resolve(*method),
         })
-    }
-}
-
-fn copied_request(request: &Request, alloc: Global) -> Result<Request, AllocError>
-    ensures { IfOk result (λ copy. copy ≡ request.now) }
-{
-    match request {
-        Request::Census => Ok(Request::Census),
-        Request::Handshake { targets, ask } => Ok(Request::Handshake {
-            targets: Targets::from_vec(Vec::from_slice(alloc, targets.as_slice())?),
-            ask: *ask,
-        }),
     }
 }

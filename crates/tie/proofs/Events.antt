@@ -24,7 +24,8 @@ use Rattle.system.proofs.Outcomes.{noted, asked, seated, entered, moved, held, r
 use Rattle.system.proofs.Cases.{Cases}
 use Rattle.system.proofs.ByCases.{by_cases}
 use Rattle.system.proofs.Frames.{part_quiet}
-use Rattle.tie.specs.BoardOf.{newest_in, is_given, is_missed, seat_by, board_of}
+use Rattle.method_table.specs.Entries.{newest_in}
+use Rattle.tie.specs.BoardOf.{is_given, is_missed, seat_by, board_of}
 use Rattle.tie.specs.Steps.{Made, for_code, weigh_steps, is_refused, accepted_steps, act_steps, steps_of, GoesBy, EventsAreTheirSteps}
 use Rattle.tie.proofs.Tied.{IsReached, reached, sizes_are}
 use Rattle.tie.proofs.Quiet.{IsUnseen, each_move, move_unseen}
