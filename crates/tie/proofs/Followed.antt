@@ -12,7 +12,7 @@ use Rattle.system.specs.Runs.{after, answer_to, world_after}
 use Rattle.tie.specs.BoardOf.{seat_by, board_of}
 use Rattle.tie.specs.Steps.{Made, steps_of, GoesBy}
 use Rattle.tie.specs.Determined.{HasSameWords, IsSameBoard, unmet}
-use Rattle.tie.specs.Followed.{steps_of_run, RunsAreTheirSteps, BoardSteps, unmet_made, unmet_steps, BoardsFollowTheEvents, NewBoardsAreNewWorlds}
+use Rattle.tie.specs.Followed.{steps_of_run, RunsAreTheirSteps, BoardSteps, unmet_made, unmet_steps, BoardsFollowTheEvents, WordsFollowTheEvents, NewBoardsAreNewWorlds}
 use Rattle.tie.proofs.Determined.{board_steps_are_determined, board_steps_meet_the_words}
 use Rattle.tie.proofs.Events.{events_are_their_steps}
 use Rattle.tie.proofs.Board.{boards_keep_the_rule}
@@ -73,6 +73,18 @@ boards_follow_the_events places slots methods before events steps old new same m
     let w : World = world_after (start_world places slots methods) before in
     follows slots places steps (steps_of_run w events) old new (board_of w) (board_of (world_after w events)) (boards_keep_the_rule places slots methods before)
     (runs_are_their_steps places slots methods before events) same made is
+
+-- The words alone.
+words_follow : (slots places : ℕ) (made : List Made) (old new other last : BoardState) → GoesBy slots places other made last → HasSameWords slots places old other → BoardSteps slots places old made new → HasSameWords slots places new last
+words_follow slots places [] old new other last goes same steps = subst (λ b. HasSameWords slots places b last) (sym steps) (subst (λ b. HasSameWords slots places old b) (sym goes) same)
+words_follow slots places (m ∷ made) old new other last goes same steps =
+    let one = board_steps_are_determined slots places old steps.0 other goes.0 m.actor m.step steps.1 goes.1 in
+    words_follow slots places made steps.0 new goes.0 last goes.3 (one.0 same) steps.2
+
+pub words_follow_the_events : WordsFollowTheEvents
+words_follow_the_events places slots methods before events old new same made =
+    let w : World = world_after (start_world places slots methods) before in
+    words_follow slots places (steps_of_run w events) old new (board_of w) (board_of (world_after w events)) (runs_are_their_steps places slots methods before events) same made
 
 -- 3. A new board
 

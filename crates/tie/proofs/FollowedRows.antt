@@ -7,8 +7,8 @@ use Rattle.system.specs.Operations.{no_requests}
 use Rattle.system.specs.World.{World, start_world, found}
 use Rattle.system.specs.Runs.{after, answer_to, world_after}
 use Rattle.tie.specs.PollRow.{PollDeed, row_of, word_of, polls_of, IsPolled}
-use Rattle.tie.specs.Determined.{IsSameRow, unmet_deed}
-use Rattle.tie.specs.Followed.{listed, polls_of_run, RowSteps, RunsAreTheirPolls, unmet_poll, unmet_polls, RowsFollowTheEvents, NewRowsAreNewWorlds}
+use Rattle.tie.specs.Determined.{HasSamePolls, IsSameRow, unmet_deed}
+use Rattle.tie.specs.Followed.{listed, polls_of_run, RowSteps, RunsAreTheirPolls, unmet_poll, unmet_polls, RowsFollowTheEvents, PollWordsFollowTheEvents, NewRowsAreNewWorlds}
 use Rattle.tie.proofs.DeterminedRows.{row_steps_are_determined}
 use Rattle.tie.proofs.PollLaws.{one_more, events_are_their_polls}
 
@@ -59,6 +59,18 @@ pub rows_follow_the_events : RowsFollowTheEvents
 rows_follow_the_events places slots methods before events steps old new same made is =
     let w : World = world_after (start_world places slots methods) before in
     follows places steps (polls_of_run w events) old new (row_of w) (row_of (world_after w events)) (runs_are_their_polls places slots methods before events) same made is
+
+-- The words alone.
+words_follow : (places : ℕ) (made : List PollDeed) (old new other last : ℕ → PlaceState) → RowSteps places other made last → HasSamePolls places old other → RowSteps places old made new → HasSamePolls places new last
+words_follow places [] old new other last goes same steps = subst (λ b. HasSamePolls places b last) (sym steps) (subst (λ b. HasSamePolls places old b) (sym goes) same)
+words_follow places (m ∷ made) old new other last goes same steps =
+    let one = row_steps_are_determined places m.place m.deed m.deed old steps.0 other goes.0 steps.1 goes.1 refl same in
+    words_follow places made steps.0 new goes.0 last goes.2 one.1 steps.2
+
+pub poll_words_follow_the_events : PollWordsFollowTheEvents
+poll_words_follow_the_events places slots methods before events old new same made =
+    let w : World = world_after (start_world places slots methods) before in
+    words_follow places (polls_of_run w events) old new (row_of w) (row_of (world_after w events)) (runs_are_their_polls places slots methods before events) same made
 
 -- 3. A new row
 

@@ -9,7 +9,7 @@ use Rattle.system.specs.Runs.{after, answer_to, world_after}
 use Rattle.tie.specs.BoardOf.{board_of}
 use Rattle.tie.specs.Steps.{Made, steps_of, GoesBy}
 use Rattle.tie.specs.PollRow.{PollDeed, row_of, polls_of}
-use Rattle.tie.specs.Determined.{IsSameBoard, unmet, IsSameRow, unmet_deed}
+use Rattle.tie.specs.Determined.{HasSameWords, IsSameBoard, unmet, HasSamePolls, IsSameRow, unmet_deed}
 
 -- 1. Boards
 
@@ -48,6 +48,14 @@ BoardsFollowTheEvents = (places slots methods : ℕ) (before events : List Event
     → unmet_steps steps ≡ unmet_steps (steps_of_run (world_after (start_world places slots methods) before) events)
     → (steps ≡ steps_of_run (world_after (start_world places slots methods) before) events)
     × IsSameBoard slots places new (board_of (world_after (world_after (start_world places slots methods) before) events))
+
+-- So it is of the words alone, whatever the seats know: a board that has the words of the world after some events, and makes the
+-- steps of the next events and meets what these met, has in the end the words of the world after those.
+abbrev pub WordsFollowTheEvents : Type 0
+WordsFollowTheEvents = (places slots methods : ℕ) (before events : List Event) (old new : BoardState)
+    → HasSameWords slots places old (board_of (world_after (start_world places slots methods) before))
+    → BoardSteps slots places old (steps_of_run (world_after (start_world places slots methods) before) events) new
+    → HasSameWords slots places new (board_of (world_after (world_after (start_world places slots methods) before) events))
 
 -- A new board has the words and the views of a new world.
 abbrev pub NewBoardsAreNewWorlds : Type 0
@@ -91,6 +99,13 @@ RowsFollowTheEvents = (places slots methods : ℕ) (before events : List Event) 
     → unmet_polls steps ≡ unmet_polls (polls_of_run (world_after (start_world places slots methods) before) events)
     → (steps ≡ polls_of_run (world_after (start_world places slots methods) before) events)
     × IsSameRow places new (row_of (world_after (world_after (start_world places slots methods) before) events))
+
+-- So it is of the words alone, whatever was armed and cleared.
+abbrev pub PollWordsFollowTheEvents : Type 0
+PollWordsFollowTheEvents = (places slots methods : ℕ) (before events : List Event) (old new : ℕ → PlaceState)
+    → HasSamePolls places old (row_of (world_after (start_world places slots methods) before))
+    → RowSteps places old (polls_of_run (world_after (start_world places slots methods) before) events) new
+    → HasSamePolls places new (row_of (world_after (world_after (start_world places slots methods) before) events))
 
 -- A new row, of vacant places where nothing was armed, is that of a new world.
 abbrev pub NewRowsAreNewWorlds : Type 0

@@ -7,3 +7,4 @@ pub mod PollAnswers
 pub mod WorkedRuns
 pub mod Determined
 pub mod Followed
+pub mod PollSamples
