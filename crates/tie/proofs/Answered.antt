@@ -1,6 +1,6 @@
 -- Answers are read off the words that events load.
-use Rattle.std.proofs.Common.{◌≡◌, ◌≢◌, ℕ, Bool, true, false, length, Some, None, sym, ap, ◌∙◌, subst, arith}
-use Rattle.std.specs.Prelude.{not}
+use Rattle.std.proofs.Common.{◌≡◌, ◌≢◌, ℕ, Bool, true, false, cond, length, Some, None, sym, refl, ap, ◌∙◌, subst, arith}
+use Rattle.std.specs.Prelude.{not, nat_lt}
 use Rattle.std.proofs.lemmas.Bool.{eq-eqb, ne_eqb, not-true, not-false}
 use Rattle.frames.specs.declared.board_rule.EntryState.TheVariants as entry
 use Rattle.method_table.specs.declared.Code.{Code}
@@ -12,20 +12,23 @@ use Rattle.system.specs.declared.events.Event.TheVariants as event
 use Rattle.system.specs.declared.answers.Answer.{Answer}
 use Rattle.system.specs.declared.answers.Answer.TheVariants as answer
 use Rattle.system.specs.declared.answers.Refusal.{Refusal}
+use Rattle.system.specs.declared.answers.Refusal.TheVariants.{Spent}
 use Rattle.frames.specs.BoardWords.{entry_of, count_of, place_of, pack, says_in_use}
 use Rattle.frames.specs.BoardRule.{SlotState}
 use Rattle.frames.specs.BoardStep.{is_late}
 use Rattle.method_table.specs.Codes.{id_of, code_of}
 use Rattle.method_table.proofs.Searches.{below_found}
 use Rattle.system.specs.Threads.{Thread}
-use Rattle.system.specs.Log.{is_looked}
+use Rattle.method_table.specs.Numbers.{last_number}
+use Rattle.system.specs.Log.{is_looked, moment}
+use Rattle.system.specs.Verdict.{accepted, unless◌refuse◌then◌}
 use Rattle.system.specs.World.{World, start_world, walk}
-use Rattle.system.specs.Runs.{world_after}
+use Rattle.system.specs.Runs.{answer_of, world_after}
 use Rattle.system.proofs.Outcomes.{is_move, Enters, Misses, Looks, FindsUnlooked, FindsUsed, Retires}
 use Rattle.system.proofs.Cases.{Cases}
 use Rattle.system.proofs.ByCases.{by_cases}
 use Rattle.tie.specs.BoardOf.{word_by, slot_at}
-use Rattle.tie.specs.Answers.{IsLeastUnlooked, IsReadOff, AnswersAreReadOff}
+use Rattle.tie.specs.Answers.{IsLeastUnlooked, IsReadOff, AnswersAreReadOff, RoundsReadTheMoment}
 use Rattle.tie.proofs.Tied.{IsReached, reached}
 use Rattle.tie.proofs.Quiet.{each_move}
 use Rattle.tie.proofs.Covered.{by_words}
@@ -148,3 +151,12 @@ all_read_off w h = record {
 pub answers_are_read_off : AnswersAreReadOff
 answers_are_read_off places slots methods events e =
     let w : World = world_after (start_world places slots methods) events in by_cases w (λ e a v. IsReadOff w e a) (all_read_off w (reached places slots methods events)) e
+
+-- A Round tests the moment alone.
+pub rounds_read_the_moment : RoundsReadTheMoment
+rounds_read_the_moment places slots methods events =
+    let w : World = world_after (start_world places slots methods) events in by w (nat_lt (moment w.log) last_number)
+  where
+    by : (w : World) (b : Bool) → answer_of (unless b refuse Spent then accepted w answer.Done) ≡ cond b answer.Done (answer.Refused Spent)
+    by w true = refl
+    by w false = refl

@@ -1,5 +1,5 @@
 -- What an answer of the core says of the word that the event's step met: it is what a running call reads off its load.
-use Rattle.std.specs.Prelude.{◌≡◌, ◌≢◌, ℕ, ◌<◌, Bool, true, false, List, Some}
+use Rattle.std.specs.Prelude.{◌≡◌, ◌≢◌, ℕ, ◌<◌, nat_lt, Bool, true, false, if◌then◌else◌, List, Some}
 use Rattle.frames.specs.declared.CodeId.{CodeId}
 use Rattle.method_table.specs.declared.Code.{Code}
 use Rattle.system.specs.declared.events.Act.TheVariants as act
@@ -7,12 +7,14 @@ use Rattle.system.specs.declared.events.Event.{Event}
 use Rattle.system.specs.declared.events.Event.TheVariants as event
 use Rattle.system.specs.declared.answers.Answer.{Answer}
 use Rattle.system.specs.declared.answers.Answer.TheVariants as answer
+use Rattle.system.specs.declared.answers.Refusal.TheVariants.{Spent}
+use Rattle.method_table.specs.Numbers.{last_number}
 use Rattle.frames.specs.BoardWords.{entry_of, count_of, place_of, says_in_use}
 use Rattle.frames.specs.BoardStep.{is_late}
 use Rattle.method_table.specs.Codes.{id_of, code_of}
 use Rattle.system.specs.World.{World, start_world}
 use Rattle.system.specs.Runs.{answer_to, world_after}
-use Rattle.tie.specs.BoardOf.{word_by, slot_at}
+use Rattle.tie.specs.BoardOf.{word_by, slot_at, board_of}
 
 -- It holds of the code of the serial.
 abbrev pub OfCode : World → ℕ → (CodeId → Type 0) → Type 0
@@ -50,3 +52,9 @@ IsReadOff w event given = Unit {0}
 abbrev pub AnswersAreReadOff : Type 0
 AnswersAreReadOff = (places slots methods : ℕ) (events : List Event) (event : Event)
     → IsReadOff (world_after (start_world places slots methods) events) event (answer_to (world_after (start_world places slots methods) events) event)
+
+-- A Round is accepted exactly where the keeper's moment is below the last one; else it is refused as Spent, and makes no step.
+abbrev pub RoundsReadTheMoment : Type 0
+RoundsReadTheMoment = (places slots methods : ℕ) (events : List Event)
+    → answer_to (world_after (start_world places slots methods) events) event.Round
+    ≡ (if nat_lt (board_of (world_after (start_world places slots methods) events)).now last_number then answer.Done else answer.Refused Spent)
