@@ -13,14 +13,14 @@ use Rattle.system.specs.World.{World, found, start_world}
 use Rattle.system.specs.Places.{go_or_stop}
 use Rattle.system.specs.Step.{code_or_none}
 use Rattle.system.specs.Ran.{RanAtMostOnce}
-use Rattle.system.specs.Runs.{world_after}
+use Rattle.system.specs.Runs.{answer_to, world_after}
 use Rattle.method_table.specs.Codes.{in_use_for}
 use Rattle.system.proofs.Outcomes.{Stands, Moves, ByMove, ByPoll, Clears, move_of, is_move}
 use Rattle.system.proofs.Cases.{Cases}
 use Rattle.system.proofs.ByCases.{by_cases}
 use Rattle.system.proofs.Once.{run_at_most_once}
 use Rattle.tie.specs.PollRow.{row_of, armed_at, uncleared_at, cleared_at, number_of, load, step_of, polls_of}
-use Rattle.tie.specs.PollAnswers.{said_by, IsAnswered, PollsAnswerTheirWords}
+use Rattle.tie.specs.PollAnswers.{said_by, IsAnswered, PollsAnswerTheirWords, is_poll, PollsLoadTheirWord}
 use Rattle.tie.proofs.PollKept.{pending_at, IsLast}
 use Rattle.tie.proofs.PollTold.{Cleared, cleared_is}
 use Rattle.tie.proofs.PollRows.{RowIn}
@@ -103,3 +103,18 @@ pub polls_answer_their_words : PollsAnswerTheirWords
 polls_answer_their_words places slots methods events next =
     let w : World = world_after (start_world places slots methods) events in
     by_cases w (λ e a v. IsAnswered (polls_of w e a) a) (said w (run_at_most_once places slots methods events) (row_in places slots methods events)) next
+
+-- A poll that is accepted is a load.
+loaded : (w : World) (p : ℕ) (a : Act) (given : Answer) → is_poll a ≡ true → step_of w (event.At p a) given ≡ load w p
+loaded w p act.Edge given h = refl
+loaded w p act.Leave given h = refl
+loaded w p act.Cross given h = refl
+loaded w p act.FromVm given h = refl
+loaded w p a given h = absurd (false≢true h)
+
+pub polls_load_their_word : PollsLoadTheirWord
+polls_load_their_word places slots methods events p a is accepted =
+    let w : World = world_after (start_world places slots methods) events in
+    let given : Answer = answer_to w (event.At p a) in
+    let step : polls_of w (event.At p a) given ≡ load w p = ap (λ b. if b then step_of w (event.At p a) given else None) accepted ∙ loaded w p a given is in
+    (step, subst (λ s. IsAnswered s given) step (polls_answer_their_words places slots methods events (event.At p a)))

@@ -36,7 +36,7 @@ row_start places slots methods = record {
 }
 
 -- One event more after others.
-one_more : (w : World) (events : List Event) (e : Event) → world_after w (events ++ e ∷ []) ≡ after (world_after w events) e
+pub one_more : (w : World) (events : List Event) (e : Event) → world_after w (events ++ e ∷ []) ≡ after (world_after w events) e
 one_more w [] e = refl
 one_more w (x ∷ events) e = one_more (after w x) events e
 
