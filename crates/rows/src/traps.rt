@@ -201,3 +201,13 @@ pub fn state_before_held()
 pub fn census_without_zeros()
     ensures { Plays 1 4 3 Traps.census_without_zeros }
 {}
+
+/// In each state those acts are illegal that the tables of states and of events leave out.
+pub fn acts_by_state()
+    ensures { Plays 1 1 1 Traps.acts_by_state }
+{}
+
+/// An open publication leaves Change, End and Stack alone.
+pub fn acts_while_publishing()
+    ensures { Plays 1 1 1 Traps.acts_while_publishing }
+{}
