@@ -49,7 +49,7 @@ pub fn read_words<E: Env>(env: &E, alloc: Global) -> Result<Vec<String>, Fault>
     }
 }
 
-// An environment whose words leave out the program's name.
+// The command line without the program's name, and no variables.
 #[derive(Drop)]
 struct Unnamed<'a, E> {
     env: &'a E,
@@ -63,11 +63,11 @@ impl<E: Env> Env for Unnamed<'_, E> {
         }
     }
 
-    fn var(&self, name: &str, buf: &mut [u8]) -> Result<usize, FillError> {
-        self.env.var(name, buf)
+    fn var(&self, _name: &str, _buf: &mut [u8]) -> Result<usize, FillError> {
+        Err(FillError::NotPresent)
     }
 
-    fn var_at(&self, i: usize, buf: &mut [u8]) -> Result<usize, FillError> {
-        self.env.var_at(i, buf)
+    fn var_at(&self, _i: usize, _buf: &mut [u8]) -> Result<usize, FillError> {
+        Err(FillError::NotPresent)
     }
 }

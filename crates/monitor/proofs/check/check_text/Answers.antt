@@ -15,11 +15,11 @@ returns-in_err-check-clause-fault c =
 pub returns-clause-code : goal.returns-clause-code
 returns-clause-code c =
     let short = is_short _ _ _ c.in_ok-script.ensures.too_long in
-      record {
-        short = short;
-        script = c.in_ok-script.script;
-        read = c.in_ok-script.ensures.reads short;
-        clean = c.in_ok-check.ensures.clean;
-        checked = c.in_ok-check.ensures.checked;
-        laid = c.in_ok-check.ensures.code;
-      }
+    record {
+      short = short;
+      script = c.in_ok-script.script;
+      read = c.in_ok-script.ensures.reads short;
+      clean = c.in_ok-check.ensures.clean;
+      checked = c.in_ok-check.ensures.checked;
+      laid = c.in_ok-check.ensures.code;
+    }
