@@ -57,6 +57,7 @@ pub fn flush<W: Sink>(waits: &mut Vec<u8>, sink: &mut W) -> Result<(), Failed>
 fn relieve<W: Sink>(waits: &mut Vec<u8>, sink: &mut W) -> Result<(), Failed>
     requires { W.failures sink.old ≡ 0 }
     ensures done { OnOk result (Grows (W.got sink.old) waits.old.items (W.got sink.new) waits.new.items [] × (W.failures sink.new ≡ 0)) }
+    ensures little { OnOk result (vec_len waits.new < BLOCK) }
     ensures part { OnErr result (AppendsPart (W.got sink.old) (W.got sink.new) waits.old.items × (W.failures sink.new ≡ 1)) }
 {
     if waits.len() < BLOCK {
