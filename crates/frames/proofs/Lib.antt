@@ -6,4 +6,5 @@ pub mod BoardParts
 pub mod BoardSteps
 pub mod BoardLaws
 pub mod Fewer
+pub mod Uncounted
 pub mod Settling

@@ -14,7 +14,8 @@ use Rattle.frames.specs.ImageView.{ImageView, SameBag, uncounted, next_code, IsN
 use Rattle.frames.specs.Nets.{net_in, is_zero, add, IsRising, codes_in, counted_by, first_of, IsWithin, AreSmall, nat_of, net_sum}
 use Rattle.frames.proofs.Bags.{same_code-equal, same_code-refl, times-cons, times-append, times-codes_of, act-cons, among-times}
 use Rattle.frames.proofs.Ordered.{code_lt-irrefl, IsLeast, least-is_least, least-unique}
-use Rattle.frames.proofs.Fewer.{apart, part_fits, same_none, differ_some, times-uncounted}
+use Rattle.frames.proofs.Fewer.{apart, part_fits}
+use Rattle.frames.proofs.Uncounted.{same_none, differ_some, times-uncounted}
 use Rattle.frames.proofs.Moves.{upto_trans, net_below, net_here, net_other, zero_not, balance, counted_is, apart_sym, zero_is}
 
 -- the next code
@@ -356,6 +357,9 @@ is_left frames nets n r w h = ap is_some (next_of_left frames nets n r w) ∙ so
 
 pub none_left : (frames : List Frame) (nets : List Change) (n : ℕ) → IsRising None nets → ((c : CodeId) → IsWithin (net_in (drop n nets) c) (act c frames)) → length nets ≤ n → is_some (least (uncounted frames (counted_by frames (drop n nets)))) ≡ false
 none_left frames nets n r w h = ap is_some (next_of_left frames nets n r w ∙ ap first_of (drop_all n nets h))
+
+pub all_counted : (frames : List Frame) (nets : List Change) (n : ℕ) → ((c : CodeId) → IsWithin (net_in (drop n nets) c) (act c frames)) → length nets ≤ n → (c : CodeId) → act c frames ≡ times c (counted_by frames (drop n nets))
+all_counted frames nets n w h c = even frames (drop n nets) c (w c).high (ap (λ es. net_in es c) (drop_all n nets h))
 
 pub left_is : (n : ℕ) (es : List Change) (x d : Change) → true ≡ ltb n (length es) → x ≡ get_or es n d → drop n es ≡ x ∷ drop (n + 1) es
 left_is n es x d h e = drop_next n es d (under n (length es) h) ∙ ap (λ y. y ∷ drop (n + 1) es) (sym e)

@@ -204,6 +204,7 @@ impl Image {
     pub fn end(&mut self) -> Result<(), EndFault>
         ensures ok { OnOk result ((self.new.frames ≡ self.old.frames)
             × (self.new.publishing ≡ false) × IsCounted self.new) }
+        ensures counted { OnOk result (IsCounted self.old) }
         ensures closed { OnOk result (self.new.changed ≡ []) }
         ensures accepted { OnOk result (end_fault self.old ≡ None) }
         ensures refused { IfErr result (λ fault. end_fault self.old ≡ Some fault) }

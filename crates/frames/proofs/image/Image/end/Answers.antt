@@ -1,6 +1,6 @@
 use Rattle.std.proofs.Common.{◌≡◌, ◌<◌, ◌≤◌, sym, refl, rules, arith, length, true}
 use Rattle.frames.proofs.Bags.{times-codes_of}
-use Rattle.frames.proofs.Settling.{is_left, none_left, within_none, length-codes_of}
+use Rattle.frames.proofs.Settling.{is_left, none_left, all_counted, within_none, length-codes_of}
 use Rattle.frames.proofs.image.Image.end.Goals as goal
 
 pub returns-then-self-len-clause-refused : goal.returns-then-self-len-clause-refused
@@ -34,3 +34,8 @@ returns-clause-accepted c =
     let all : length c.self.inside.nets.items ≤ c.self.inside.given = omega (arith, c.if-self-len.false, c.len.ensures) in
     let left = none_left c.self.inside.frames.items c.self.inside.nets.items c.self.inside.given c.self.invariant.5 c.self.invariant.6 all in
     rw (← c.self.view_is, open_, left) refl
+
+pub returns-clause-counted : goal.returns-clause-counted
+returns-clause-counted c =
+    let all : length c.self.inside.nets.items ≤ c.self.inside.given = omega (arith, c.if-self-len.false, c.len.ensures) in
+    rw (← c.self.view_is) (all_counted c.self.inside.frames.items c.self.inside.nets.items c.self.inside.given c.self.invariant.6 all)
