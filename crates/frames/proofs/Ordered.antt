@@ -1,4 +1,4 @@
--- The least code of a list is below all others, and there is one at most.
+-- The least code of a list is below all others, and there is one at most. Of definitions alone: crates above may cite these lemmas.
 use Rattle.std.proofs.Common.{◌≡◌, ℕ, ◌+◌, ◌<◌, ◌∙◌, Bool, true, false, List, [], ◌∷◌, ◌++◌, append_assoc, append-nil, Option, Some, None, refl, ap, subst, cond, arith}
 use Rattle.std.specs.Prelude.{fold}
 use Rattle.std.proofs.lemmas.Bool.Decides.{nat_tests}

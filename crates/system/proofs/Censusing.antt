@@ -6,7 +6,7 @@ use Rattle.std.proofs.lemmas.Bool.Decides.{nat_tests}
 use Rattle.std.proofs.lemmas.List.Folds.{list_any-append}
 use Rattle.frames.specs.declared.CodeId.{CodeId}
 use Rattle.frames.specs.ImageView.{ImageView, IsSettled, next_code}
-use Rattle.frames.proofs.Fewer.{none_next}
+use Rattle.frames.proofs.Uncounted.{none_next}
 use Rattle.method_table.specs.declared.Code.{Code}
 use Rattle.method_table.specs.Codes.{code_of, id_of}
 use Rattle.activation_index.specs.declared.Entry.{Entry}

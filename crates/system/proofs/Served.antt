@@ -4,7 +4,7 @@ use Rattle.std.specs.Prelude.{is_some, is_none, IsTrue, ◌↔◌}
 use Rattle.std.proofs.lemmas.Bool.Decides.{nat_tests}
 use Rattle.frames.specs.declared.CodeId.{CodeId}
 use Rattle.frames.specs.ImageView.{ImageView, IsSettled, next_code}
-use Rattle.frames.proofs.Fewer.{none_next}
+use Rattle.frames.proofs.Uncounted.{none_next}
 use Rattle.operations.specs.declared.Ask.{Ask}
 use Rattle.operations.specs.declared.Request.{Request}
 use Rattle.operations.specs.declared.Request.TheVariants.{Handshake, Census}
