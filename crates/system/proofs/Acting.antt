@@ -17,7 +17,8 @@ use Rattle.system.specs.Log.{Entry}
 use Rattle.system.specs.Threads.{Thread, part}
 use Rattle.system.specs.World.{World, thread_at, found, threads, part_at}
 use Rattle.system.specs.Keeps.{SameThread}
-use Rattle.system.specs.Stands.{Matches, SamePlace, SamePlaces, SameAt, SameMarks, SameMoments, kept_at, held_at, walk_of}
+use Rattle.system.specs.Marking.{SameMarks}
+use Rattle.system.specs.Stands.{Matches, SamePlace, SamePlaces, SameAt, SameMoments, kept_at, held_at, walk_of}
 use Rattle.system.proofs.Outcomes.{seated}
 use Rattle.system.proofs.Seats.{get_set_same, get_set_other}
 use Rattle.system.proofs.Logs.{IsQuiet, IsElsewhere, moments_next, place_over, records_next, opened_over, quiet_names, quiet_moment, quiet_operations}
@@ -124,7 +125,7 @@ counted_matches s new w p kept after t u e a m k =
       moment_is = k.rest.moment ∙ (m.moment_is ∙ sym (quiet_moment entry w.log k.quiet));
       numbers = ap (λ r. r.numbers) k.rest.requests ∙ (m.numbers ∙ sym (quiet_operations entry w.log k.quiet));
       waiting = rw k.rest.requests m.waiting;
-      opened = rw k.rest.requests (opened_over s.requests.open w.requests.opened w v (omega (arith, quiet_names entry w.log k.quiet)) (λ name lives. sym (any_seat name w.places p t u k.there k.name) ∙ lives) m.opened);
+      opened = rw k.rest.requests (opened_over s.requests.opens w.requests.opened w v (omega (arith, quiet_names entry w.log k.quiet)) (λ name lives. sym (any_seat name w.places p t u k.there k.name) ∙ lives) m.opened);
       index_slots = k.rest.slots ∙ m.index_slots;
       index = k.index;
     }

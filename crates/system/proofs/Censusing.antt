@@ -33,7 +33,8 @@ use Rattle.system.specs.Step.{outcome, operate, operated_if}
 use Rattle.system.specs.Facts.{IsSound}
 use Rattle.system.specs.Keeps.{SameThread}
 use Rattle.system.specs.Censuses.{holds_at, is_held_kept, is_quiet_kept, is_settled_kept, operate_refusal, operated, census_of}
-use Rattle.system.specs.Stands.{Matches, SamePlace, SameMarks, SameOpen, SameOpened, DoesIn, Does, kept_at, walk_of, done_by, waiting_of}
+use Rattle.system.specs.Marking.{SameOpened, SameOpens}
+use Rattle.system.specs.Stands.{Matches, SamePlace, DoesIn, Does, kept_at, walk_of, waiting_of}
 use Rattle.system.proofs.Outcomes.{asked, with_operated}
 use Rattle.system.proofs.Lists.{all_at, find_place}
 use Rattle.system.proofs.Logs.{operations_next}
@@ -44,7 +45,9 @@ use Rattle.system.proofs.Table.{code_serial}
 use Rattle.system.proofs.Images.{is_settled_by, counted_none}
 use Rattle.system.proofs.Safely.{index_is}
 use Rattle.system.proofs.Slots.{below_none, own}
-use Rattle.system.proofs.Requesting.{Rerequests, IsOfRequests, OneOpen, one_open, none_open, asked_live, sizes_stay, among_names, names_stay}
+use Rattle.system.proofs.Requesting.{Rerequests, IsOfRequests, asked_live, sizes_stay, among_names, names_stay}
+use Rattle.system.proofs.Marking.{operated_own}
+use Rattle.system.proofs.Pairs.{Oldest, oldest_of, none_open}
 
 none_of : (o : Option CodeId) → is_none o ≡ true → o ≡ None
 none_of None h = refl
@@ -99,9 +102,6 @@ quiet_same s w m = all_threads_same is_quiet_kept (λ t. not (is_publishing t)) 
 settled_same : (s : Core) (w : World) → Matches s w → list_all is_settled (threads w.places) ≡ list_all (holds_at is_settled_kept) s.places.items
 settled_same s w m = all_threads_same is_settled_kept is_settled s w m (λ kept u same. sym (is_settled_by kept.image u same.image))
 
-operated_list : (w : World) (o : Opened) → w.requests.opened ≡ o ∷ [] → map (operated_if o.number) w.requests.opened ≡ record o { operated = true } ∷ []
-operated_list w o is = let self : eqb o.number o.number ≡ true = grind (arith, nat_tests) in ap (map (operated_if o.number)) is ∙ rw self refl
-
 -- The tests in their order.
 abbrev tests : World → Opened → Bool → Bool → Bool → Bool → Bool → Verdict World
 tests w o a b c d e =
@@ -138,10 +138,7 @@ passed w o true false true true false h = cc
 passed w o true false true true true h = record { is = refl; asked = refl; settled = refl }
 
 -- What the world tests is what the system does.
-module _ (s : Core) (w : World) (m : Matches s w) (open_ : Open) (k : OneOpen open_ w.requests.opened w) where
-  kept_tests : Verdict World
-  kept_tests = tests w k.o (is_census open_.request) open_.operated (list_all (holds_at is_held_kept) s.places.items) (list_all (holds_at is_quiet_kept) s.places.items) (list_all (holds_at is_settled_kept) s.places.items)
-
+module _ (s : Core) (w : World) (m : Matches s w) (open_ : Open) (k : Oldest open_ s.requests.opens w.requests.opened w) where
   outcome_is : outcome w event.Operate ≡ tests w k.o (is_census open_.request) open_.operated (list_all (holds_at is_held_kept) s.places.items) (list_all (holds_at is_quiet_kept) s.places.items) (list_all (holds_at is_settled_kept) s.places.items)
   outcome_is =
       let one : outcome w event.Operate ≡ operate w k.o = ap (λ os. in_open os (operate w)) k.is in
@@ -152,17 +149,17 @@ module _ (s : Core) (w : World) (m : Matches s w) (open_ : Open) (k : OneOpen op
       let settled = settled_same s w m in
       one ∙ (λ i. tests w k.o (request i) (done i) (held i) (quiet i) (settled i))
 
-refused_by : (s : Core) (w : World) (o : Option Open) (r : Refusal) → Matches s w → s.requests.open ≡ o → operate_refusal o s.places.items ≡ Some r → outcome w event.Operate ≡ refused r
-refused_by s w None r m is h =
-    let none = none_open s.requests.open w.requests.opened w m.opened is in
+refused_by : (s : Core) (w : World) (opens : List Open) (r : Refusal) → Matches s w → s.requests.opens ≡ opens → operate_refusal opens s.places.items ≡ Some r → outcome w event.Operate ≡ refused r
+refused_by s w [] r m is h =
+    let none = none_open s.requests.opens w.requests.opened w m.opened is in
     let r_is : NothingOpen ≡ r = cc in
     ap (λ os. in_open os (operate w)) none ∙ ap refused r_is
-refused_by s w (Some open_) r m is h =
-    let k = one_open s.requests.open w.requests.opened w open_ m.opened is in
+refused_by s w (open_ ∷ later) r m is h =
+    let k = oldest_of s.requests.opens w.requests.opened w open_ m.opened (ap (λ opens. slice_get opens 0) is) in
     outcome_is s w m open_ k ∙ tests_refused w k.o (is_census open_.request) open_.operated (list_all (holds_at is_held_kept) s.places.items) (list_all (holds_at is_quiet_kept) s.places.items) (list_all (holds_at is_settled_kept) s.places.items) r h
 
-pub operate_refused : (s : Core) (r : Refusal) → operate_refusal s.requests.open s.places.items ≡ Some r → Does event.Operate s (answer.Refused r) s
-operate_refused s r h = refused_does s event.Operate r (λ w m. refused_by s w s.requests.open r m refl h)
+pub operate_refused : (s : Core) (r : Refusal) → operate_refusal s.requests.opens s.places.items ≡ Some r → Does event.Operate s (answer.Refused r) s
+operate_refused s r h = refused_does s event.Operate r (λ w m. refused_by s w s.requests.opens r m refl h)
 
 -- Rising entries without zeros that count as the codes do are the codes' counts without zeros.
 abbrev count_of : (Code → ℕ) → Option Code → ℕ
@@ -257,56 +254,40 @@ census_is s w m sound rising settled =
         let zero = code_serial w.codes 0 code e in
         absurd (omega (arith, is, zero))
 
--- The marks of all live threads.
-marked_all : (n name : ℕ) (names : List ℕ) → among name names ≡ true → is_marked (marks_of n names) n name ≡ true
-marked_all n name [] h = cc
-marked_all n name (x ∷ xs) h = by (eqb x name) h (marked_all n name xs)
-  where
-    self : eqb n n ≡ true
-    self = grind (arith, nat_tests)
-
-    by : (b : Bool) → (b || among name xs) ≡ true → (among name xs ≡ true → is_marked (marks_of n xs) n name ≡ true) → ((eqb n n && b) || is_marked (marks_of n xs) n name) ≡ true
-    by true k rest = rw self refl
-    by false k rest = rw self (rest k)
-
-or_true : (a b : Bool) → a ≡ true → (a || b) ≡ true
-or_true true b h = refl
-or_true false b h = cc
-
-operated_marks : (w : World) (o : Opened) (m : Marks) (p : ℕ) (u : Thread) → w.requests.opened ≡ o ∷ [] → is_census o.request ≡ true → thread_at w p ≡ Some u → SameMarks m w.requests u.name → SameMarks m (with_operated w o) u.name
-operated_marks w o m p u is asked there h = record {
-  told_last = h.told_last;
-  told_is = h.told_is;
-  cleared_is = h.cleared_is;
-  older = h.older;
-  cleared_old = h.cleared_old;
-  done_old = h.done_old;
-  done_is = λ other e told. (
-      let one : record o { operated = true } ∷ [] ≡ other ∷ [] = sym (operated_list w o is) ∙ e in
-      let same : record o { operated = true } ≡ other = cc in
-      let lives : among u.name (live_names w) ≡ true = among_names u.name (threads w.places) ∙ live_has w p u (there_of w p u there) in
-      let marked : is_marked (with_operated w o).done o.number u.name ≡ true =
-      list_any-append (λ (mark : Mark). (mark.operation == o.number) && (mark.name == u.name)) (marks_of o.number (live_names w)) w.requests.done
-      ∙ or_true (is_marked (marks_of o.number (live_names w)) o.number u.name) (is_marked w.requests.done o.number u.name) (marked_all o.number u.name (live_names w) lives) in
-      subst (λ (q : Opened). is_marked (with_operated w o).done q.number u.name ≡ done_by q m) same (marked ∙ rw asked refl));
-}
-
 of_operate : (a : Answer) → IsOfRequests event.Operate a
 of_operate a = record { starts_none = refl; rounds_none = refl; invalidates_none = λ r. refl; looks_none = λ r place. refl; elsewhere = λ place. record { starts_not = refl; begins_not = refl; ends_not = refl } }
 
-done_in : (s new : Core) (w : World) (o : Option Open) → Matches s w → IsSound w → Rerequests s new → new.requests ≡ record s.requests { «open» = operated s.requests.open } → IsRisingFrom 0 s.index.entries → s.requests.open ≡ o → operate_refusal o s.places.items ≡ None
+-- A census is open alone.
+alone : (w : World) (o : Opened) (others : List Opened) → IsSound w → w.requests.opened ≡ o ∷ others → is_census o.request ≡ true → others ≡ []
+alone w o [] sound is asks = refl
+alone w o (x ∷ xs) sound is asks =
+    let few = sound.numbers.census_alone 0 o (ap (λ os. slice_get os 0) is) asks in
+    let long : length w.requests.opened ≡ suc (suc (length xs)) = ap (λ (os : List Opened). length os) is in
+    absurd (omega (arith, few, long))
+
+none_later : (opens : List Open) (w : World) → SameOpens opens [] w → opens ≡ []
+none_later [] w h = refl
+none_later (a ∷ opens) w h = absurd h
+
+operated_one : (w : World) (o : Opened) → w.requests.opened ≡ o ∷ [] → map (operated_if o.number) w.requests.opened ≡ record o { operated = true } ∷ []
+operated_one w o is = let self : eqb o.number o.number ≡ true = grind (arith, nat_tests) in ap (map (operated_if o.number)) is ∙ rw self refl
+
+done_in : (s new : Core) (w : World) (opens : List Open) → Matches s w → IsSound w → Rerequests s new → new.requests ≡ record s.requests { opens = operated s.requests.opens } → IsRisingFrom 0 s.index.entries → s.requests.opens ≡ opens → operate_refusal opens s.places.items ≡ None
     → DoesIn event.Operate (answer.Census (census_of s.index.entries)) new w
-done_in s new w None m sound rest requests rising is h = cc
-done_in s new w (Some open_) m sound rest requests rising is h =
-    let k = one_open s.requests.open w.requests.opened w open_ m.opened is in
+done_in s new w [] m sound rest requests rising is h = cc
+done_in s new w (open_ ∷ xs) m sound rest requests rising is h =
+    let k = oldest_of s.requests.opens w.requests.opened w open_ m.opened (ap (λ opens. slice_get opens 0) is) in
     let a : Answer = answer.Census (census w) in
     let entry : Logged = record { event = event.Operate; answer = a } in
     let pass = passed w k.o (is_census open_.request) open_.operated (list_all (holds_at is_held_kept) s.places.items) (list_all (holds_at is_quiet_kept) s.places.items) (list_all (holds_at is_settled_kept) s.places.items) h in
     let asks : is_census k.o.request ≡ true = ap is_census (sym k.same.request) ∙ pass.asked in
     let settled : list_all is_settled (threads w.places) ≡ true = settled_same s w m ∙ pass.settled in
     let goes : outcome w event.Operate ≡ accepted (record w { requests = with_operated w k.o }) a = outcome_is s w m open_ k ∙ pass.is in
-    let open_is : new.requests.open ≡ Some (record open_ { operated = true }) = ap (λ r. r.«open») requests ∙ ap operated is in
-    let list_is = operated_list w k.o k.is in
+    let others : k.others ≡ [] = alone w k.o k.others sound k.is asks in
+    let one : w.requests.opened ≡ k.o ∷ [] = k.is ∙ ap (λ os. k.o ∷ os) others in
+    let later : k.later ≡ [] = none_later k.later w (subst (λ os. SameOpens k.later os w) others k.rest) in
+    let opens_are : new.requests.opens ≡ record open_ { operated = true } ∷ [] = ap (λ r. r.opens) requests ∙ (ap operated k.opens_are ∙ ap (λ ys. record open_ { operated = true } ∷ ys) later) in
+    let list_is = operated_one w k.o one in
     let v : World = asked w (with_operated w k.o) event.Operate a in
     let same : SameOpened (record open_ { operated = true }) (record k.o { operated = true }) v = record {
       number = k.same.number;
@@ -321,13 +302,13 @@ done_in s new w (Some open_) m sound rest requests rising is h =
       entry = of_operate a;
       numbers = ap (λ r. r.numbers) requests ∙ (let n = operations_next entry w.log in let same = m.numbers in omega (arith, n, same));
       waiting = ap (λ r. map waiting_of r.waiting) requests ∙ m.waiting;
-      opened = subst (λ os. SameOpen new.requests.open os v) (sym list_is) (subst (λ x. SameOpen x (record k.o { operated = true } ∷ []) v) (sym open_is) same);
-      marks = λ x p u there h. operated_marks w k.o x p u k.is asks there h;
+      opened = subst (λ os. SameOpens new.requests.opens os v) (sym list_is) (subst (λ ys. SameOpens ys (record k.o { operated = true } ∷ []) v) (sym opens_are) (same, tt));
+      marks = λ x p u there h. operated_own w k.o u.name x one asks (among_names u.name (threads w.places) ∙ live_has w p u (there_of w p u there)) h;
     })))
 
-pub operate_done : (s new : Core) → Rerequests s new → new.requests ≡ record s.requests { «open» = operated s.requests.open } → IsRisingFrom 0 s.index.entries → operate_refusal s.requests.open s.places.items ≡ None
+pub operate_done : (s new : Core) → Rerequests s new → new.requests ≡ record s.requests { opens = operated s.requests.opens } → IsRisingFrom 0 s.index.entries → operate_refusal s.requests.opens s.places.items ≡ None
     → Does event.Operate s (answer.Census (census_of s.index.entries)) new
 operate_done s new rest requests rising h = record {
-  each = λ w sound m. done_in s new w s.requests.open m sound rest requests rising refl h;
+  each = λ w sound m. done_in s new w s.requests.opens m sound rest requests rising refl h;
   sizes = sizes_stay s new rest;
 }

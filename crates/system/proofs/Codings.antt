@@ -84,7 +84,7 @@ coded_matches s t w codes e a k q m records walks =
       moment_is = k.moment_is ∙ (m.moment_is ∙ sym now);
       numbers = rw k.requests (m.numbers ∙ sym numbers);
       waiting = rw k.requests m.waiting;
-      opened = rw k.requests (opened_over s.requests.«open» w.requests.opened w (coded w codes e a) (omega arith) (λ name lives. lives) m.opened);
+      opened = rw k.requests (opened_over s.requests.opens w.requests.opened w (coded w codes e a) (omega arith) (λ name lives. lives) m.opened);
       index_slots = rw k.index m.index_slots;
       index = λ serial. rw k.index (m.index serial ∙ sym (walks serial));
     }

@@ -95,7 +95,7 @@ left_matches s new w p kept t a m rest places there none =
       moment_is = rest.moment ∙ (m.moment_is ∙ sym (quiet_moment entry w.log q));
       numbers = ap (λ r. r.numbers) rest.requests ∙ (m.numbers ∙ sym (quiet_operations entry w.log q));
       waiting = rw rest.requests m.waiting;
-      opened = rw rest.requests (opened_over s.requests.open w.requests.opened w v (omega (arith, quiet_names entry w.log q)) (λ name lives. live_without name w.places p lives) m.opened);
+      opened = rw rest.requests (opened_over s.requests.opens w.requests.opened w v (omega (arith, quiet_names entry w.log q)) (λ name lives. live_without name w.places p lives) m.opened);
       index_slots = ap (λ ix. ix.slots) rest.index ∙ m.index_slots;
       index = λ serial. rw rest.index (m.index serial ∙ sym (walk_without w p t (event.At p Exit) a (code_of w.codes serial) there none));
     }
@@ -112,7 +112,7 @@ exited s new p said w m sound rest did = elim (at_place s w p m) [
   | vacant e x ↦ (let d = rw e at did in refused_in s new w (event.At p Exit) (Illegal Vacant) said rest d.1 m (rw x refl) d.0)
   | seat kept t e x same ↦ (
       let d : DidLeave p (Some (Some kept)) s.places.items new.places.items said = rw e at did in
-      by_refusal s new w p kept t said d.0 m rest x same (d.1 w t same.thread (poll_here w p kept t sound same)) d.2)
+      by_refusal s new w p kept t said d.0 m rest x same (d.1 w t same.thread (poll_here w p kept t same)) d.2)
 ]
 
 left_length : (p : ℕ) (kept : Kept) (old new : List (Option Kept)) (refusal : Option Refusal) (said : Answer) → Left p kept old new refusal said → length new ≡ length old

@@ -110,7 +110,7 @@ pub record IsBlank (s : Core) (places slots methods : ℕ) : Type 0 where
   pub moment_is : s.moment ≡ 1
   pub numbers_are : s.requests.numbers ≡ 0
   pub waiting_are : s.requests.waiting ≡ []
-  pub open_is : s.requests.open ≡ None
+  pub opens_are : s.requests.opens ≡ []
 
 blank_matches : (s : Core) (places slots methods : ℕ) → IsBlank s places slots methods → Matches s (start_world places slots methods)
 blank_matches s places slots methods b = record {
@@ -126,7 +126,7 @@ blank_matches s places slots methods b = record {
   moment_is = b.moment_is;
   numbers = b.numbers_are;
   waiting = rw b.waiting_are refl;
-  opened = rw b.open_is tt;
+  opened = rw b.opens_are tt;
   index_slots = ap (λ i. i.slots) b.index_is;
   index = λ serial. rw b.index_is refl;
 }

@@ -1,6 +1,6 @@
 -- When a census is taken of the threads that the system keeps, and what the index answers it.
-use Rattle.std.specs.Prelude.{Bool, true, not, ◌&&◌, is_none, List, map, Option, Some, None, if◌then◌else◌}
-use Rattle.std.specs.List.{list_all}
+use Rattle.std.specs.Prelude.{Bool, true, not, ◌&&◌, is_none, List, [], ◌∷◌, map, Option, Some, None, if◌then◌else◌}
+use Rattle.std.specs.List.{list_all, list_any}
 use Rattle.frames.specs.ImageView.{next_code}
 use Rattle.operations.specs.Requests.{is_census}
 use Rattle.activation_index.specs.declared.Entry.{Entry}
@@ -33,18 +33,22 @@ census_refusal kepts =
     else if not (list_all (holds_at is_settled_kept) kepts) then Some Unpublished
     else None
 
--- The first of all tests that fails.
-abbrev pub operate_refusal : Option Open → List (Option Kept) → Option Refusal
-operate_refusal None kepts = Some NothingOpen
-operate_refusal (Some open_) kepts =
+-- The first of all tests that fails, of the oldest open operation.
+abbrev pub operate_refusal : List Open → List (Option Kept) → Option Refusal
+operate_refusal [] kepts = Some NothingOpen
+operate_refusal (open_ ∷ opens) kepts =
     if not (is_census open_.request) then Some NotOf
     else if open_.operated then Some AlreadyDone
     else census_refusal kepts
 
--- The open operation, operated.
-abbrev pub operated : Option Open → Option Open
-operated None = None
-operated (Some open_) = Some (record open_ { operated = true })
+-- One of the open operations is a census.
+abbrev pub has_census : List Open → Bool
+has_census opens = list_any (λ open_. is_census open_.request) opens
+
+-- The oldest open operation, operated.
+abbrev pub operated : List Open → List Open
+operated [] = []
+operated (open_ ∷ opens) = record open_ { operated = true } ∷ opens
 
 -- The entries of the index as a census answers them.
 abbrev pub census_of : List Entry → List CodeCount

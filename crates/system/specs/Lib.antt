@@ -11,6 +11,7 @@ pub mod Moments
 pub mod Laws
 pub mod Facts
 pub mod Keeps
+pub mod Marking
 pub mod Steps
 pub mod Ran
 pub mod Safepoints

@@ -44,9 +44,9 @@ impl Core {
 
     // Why a census isn't taken now: the first test that fails.
     fn operate_refusal(&self) -> Option<Refusal>
-        ensures { result ≡ operate_refusal self.now.requests.«open» self.now.places.items }
+        ensures { result ≡ operate_refusal self.now.requests.opens self.now.places.items }
     {
-        let Some(open) = &self.requests.open else {
+        let Some(open) = self.requests.opens.oldest() else {
             return Some(Refusal::NothingOpen);
         };
         if !open.is_census() {
@@ -76,7 +76,7 @@ impl Core {
             return Ok(Answer::Refused(refusal));
         }
         let counts = self.census(alloc)?;
-        self.requests.set_operated();
+        self.requests.opens.set_operated();
         Ok(Answer::Census(counts))
     }
 }

@@ -3,7 +3,7 @@ ghost use Rattle.std.specs.Prelude.{◌≡◌, ◌≤◌, ℕ, List, [], ◌∷�
 ghost use Rattle.system.specs.declared.events.Event.{Event as TheEvent};
 ghost use Rattle.system.specs.declared.machine.NewFault.TheVariants as NewFaults;
 ghost use Rattle.system.specs.Laws.{AllHeldAreSafe, NoRetiredCodeStands};
-ghost use Rattle.system.specs.Ran.{RanAtMostOnce};
+ghost use Rattle.system.specs.Ran.{RunAtMostOnce};
 ghost use Rattle.system.specs.Runs.{answers};
 ghost use Rattle.system.specs.Safepoints.{FinishesAtSafePoints, OperatesAtSafepoints};
 ghost use Rattle.system.specs.Stands.{StandsFor, Next, SameSizes, Does, OfWorld, IsSized, are_sizes, places_of, slots_of, methods_of, world_by, takes_no_memory};
@@ -11,6 +11,7 @@ ghost use Rattle.system.specs.Stands.{StandsFor, Next, SameSizes, Does, OfWorld,
 use crate::answers::Answer;
 use crate::events::{Act, Event};
 use crate::keeping::Core;
+use crate::opens::Opens;
 use crate::places::vacant_places;
 use crate::records::blank_records;
 use crate::requests::Requests;
@@ -96,7 +97,7 @@ impl System {
             × (stop.answers.items ≡ answers (world_by self.old before) (take stop.at events.now))
             × StandsFor self.new (before ++ take stop.at events.now)) }
         ensures sizes { SameSizes self.old self.new }
-        ensures once { (all : List TheEvent) → StandsFor self.new all → RanAtMostOnce (world_by self.new all) }
+        ensures once { (all : List TheEvent) → StandsFor self.new all → RunAtMostOnce (places_of self.new) (slots_of self.new) (methods_of self.new) all }
         ensures handshakes { (all : List TheEvent) → StandsFor self.new all → FinishesAtSafePoints (places_of self.new) (slots_of self.new) (methods_of self.new) all }
         ensures safepoints { (all : List TheEvent) → StandsFor self.new all → OperatesAtSafepoints (places_of self.new) (slots_of self.new) (methods_of self.new) all }
         ensures held { (all : List TheEvent) → StandsFor self.new all → AllHeldAreSafe (world_by self.new all) }
@@ -153,7 +154,7 @@ fn new_core(alloc: Global, places: usize, slots: usize, methods: usize) -> Resul
         requests: Requests {
             numbers: 0,
             waiting: Queue::new(alloc),
-            open: None,
+            opens: Opens::new(alloc)?,
         },
     })
 }

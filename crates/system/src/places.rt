@@ -23,25 +23,25 @@ fn answer_of(outcome: Result<Answer, Refusal>) -> Answer
     }
 }
 
-/// The thread at the place does a plain act, in a system with these codes, this open operation and this moment.
+/// The thread at the place does a plain act, in a system with these codes, these open operations and this moment.
 pub fn act_at(
     places: &mut Vec<Option<Thread>>,
     place: usize,
     act: Act,
     table: &MethodTable,
-    open: &Option<Open>,
+    operations: &[Open],
     now: u64,
 ) -> Answer
     requires plain { is_plain act ≡ true }
     requires few { table.now.methods ≤ 256 }
-    ensures { DidAt act table.now «open».now now place places.old.items places.new.items result }
+    ensures { DidAt act table.now operations.now now place places.old.items places.new.items result }
 {
     if place >= places.len() {
         return Answer::Refused(Refusal::NoSuchPlace);
     }
     match &mut places[place] {
         None => Answer::Refused(Refusal::Illegal(State::Vacant)),
-        Some(thread) => answer_of(thread.act(act, table, open, now)),
+        Some(thread) => answer_of(thread.act(act, table, operations, now)),
     }
 }
 

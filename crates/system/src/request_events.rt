@@ -6,7 +6,7 @@ ghost use Rattle.system.specs.Stands.{Does};
 use crate::answers::{Answer, Refusal};
 use crate::keeping::{Core, LAST};
 use crate::requests::Open;
-use crate::tells::{is_any_held, place_of, tell_at};
+use crate::tells::{may_tell_any, place_of, tell_at};
 use operations::Request;
 use operations::queue::QueueFault;
 use std::alloc::AllocError;
@@ -39,56 +39,55 @@ impl Core {
     pub fn open_next(&mut self) -> Answer
         ensures { Does events.Open self.old result self.new }
     {
-        if self.requests.open.is_some() {
+        if !self.requests.opens.as_slice().is_empty() {
             return Answer::Refused(Refusal::AlreadyOpen);
         }
         let Some(oldest) = self.requests.waiting.pop() else {
             return Answer::Refused(Refusal::QueueEmpty);
         };
         let kind = oldest.request.kind();
-        self.requests.open = Some(Open {
-            number: oldest.number,
+        let number = oldest.number;
+        self.requests.opens.push(Open {
+            number,
             request: oldest.request,
             names: self.names,
             operated: false,
         });
-        Answer::Opened(oldest.number, kind)
+        Answer::Opened(number, kind)
     }
 
-    /// The open operation is over.
+    /// The oldest open operation is over.
     pub fn close(&mut self) -> Answer
         ensures { Does events.Close self.old result self.new }
     {
-        let Some(open) = &self.requests.open else {
+        let Some(open) = self.requests.opens.oldest() else {
             return Answer::Refused(Refusal::NothingOpen);
         };
-        if is_any_held(&self.places) {
+        if open.is_any_held(&self.places) {
             return Answer::Refused(Refusal::Held);
         }
         if !open.is_over(&self.places) {
             return Answer::Refused(Refusal::NotDone);
         }
         let number = open.number;
-        self.requests.open = None;
+        self.requests.opens.take(0);
         Answer::Closed(number)
     }
 
-    /// The poll of a live target is armed.
+    /// The poll of a live target is armed, for the oldest operation that is new to it.
     pub fn tell(&mut self, name: u64) -> Answer
         ensures { Does (events.Tell name) self.old result self.new }
     {
-        let Some(open) = &self.requests.open else {
+        let operations = self.requests.opens.as_slice();
+        if operations.is_empty() {
             return Answer::Refused(Refusal::NothingOpen);
-        };
-        if !open.may_tell(name, self.names) {
-            return Answer::Refused(Refusal::NotOf);
         }
-        if name > open.names {
-            return Answer::Gone;
+        if !may_tell_any(operations, name, self.names) {
+            return Answer::Refused(Refusal::NotOf);
         }
         let Some(place) = place_of(&self.places, name) else {
             return Answer::Gone;
         };
-        tell_at(&mut self.places, place, open.number)
+        tell_at(&mut self.places, place, operations)
     }
 }

@@ -24,7 +24,7 @@ impl Core {
             place,
             act,
             &self.table,
-            &self.requests.open,
+            self.requests.opens.as_slice(),
             self.moment,
         )
     }

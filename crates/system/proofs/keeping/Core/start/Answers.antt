@@ -1,7 +1,10 @@
 use Rattle.std.proofs.Common.{◌≡◌, refl, rules, Some, sym, ap, ◌∙◌, ◌+◌, length, arith}
 use Rattle.system.specs.Steps.{vacant_kept}
-use Rattle.system.proofs.Starts.{refused_full, refused_spent, start_does, vacant_low}
+use Rattle.system.proofs.Starts.{refused_open, refused_full, refused_spent, start_does, vacant_low}
 use Rattle.system.proofs.keeping.Core.start.Goals as goal
+
+pub returns-then-is_safepoint-clause-does : goal.returns-then-is_safepoint-clause-does
+returns-then-is_safepoint-clause-does c = refused_open c.args.self.now (sym c.is_safepoint.ensures ∙ c.if-is_safepoint.true)
 
 pub returns-in_default-clause-does : goal.returns-in_default-clause-does
 returns-in_default-clause-does c = refused_full c.args.self.now (search rules) (search rules)
