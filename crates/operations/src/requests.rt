@@ -1,7 +1,7 @@
 // Which requests there can be, and whom they are of.
-ghost use Rattle.std.specs.Prelude.{◌≡◌, ◌&&◌, nat_le, length, IfOk};
+ghost use Rattle.std.specs.Prelude.{◌≡◌, ◌&&◌, true, nat_le, length, IfOk, IsOk};
 ghost use Rattle.operations.specs.Names.{among, is_distinct};
-ghost use Rattle.operations.specs.Requests.{kind_of, is_target, has_targets, are_targets};
+ghost use Rattle.operations.specs.Requests.{is_census, kind_of, is_target, has_targets, are_targets};
 
 use crate::{Kind, Request, Targets};
 use std::alloc::{AllocError, Global};
@@ -51,7 +51,8 @@ impl Request {
 
     /// The same request again, with a list of its own. It fails for want of memory alone.
     pub fn copied(&self, alloc: Global) -> Result<Request, AllocError>
-        ensures { IfOk result (λ copy. copy ≡ self.now) }
+        ensures same { IfOk result (λ copy. copy ≡ self.now) }
+        ensures succeeds { is_census self.now ≡ true → IsOk result }
     {
         match self {
             Request::Handshake { targets, ask } => Ok(Request::Handshake {

@@ -31,6 +31,9 @@ use Rattle.system.specs.World.{World, found, thread_at, threads, live_names, fra
 use Rattle.system.specs.Places.{in_open}
 use Rattle.system.specs.Step.{outcome, operate, operated_if}
 use Rattle.system.specs.Facts.{IsSound}
+use Rattle.system.specs.Memory.{Accepts}
+use Rattle.system.specs.Runs.{answer_to}
+use Rattle.system.specs.Safepoints.{is_accepted}
 use Rattle.system.specs.Keeps.{SameThread}
 use Rattle.system.specs.Censuses.{holds_at, is_held_kept, is_quiet_kept, is_settled_kept, operate_refusal, operated, census_of}
 use Rattle.system.specs.Marking.{SameOpened, SameOpens}
@@ -312,3 +315,14 @@ operate_done s new rest requests rising h = record {
   each = λ w sound m. done_in s new w s.requests.opens m sound rest requests rising refl h;
   sizes = sizes_stay s new rest;
 }
+
+may_in : (s : Core) (w : World) (o : Option Open) → Matches s w → s.requests.open ≡ o → operate_refusal o s.places.items ≡ None → is_accepted (answer_to w event.Operate) ≡ true
+may_in s w None m is h = cc
+may_in s w (Some open_) m is h =
+    let k = one_open s.requests.open w.requests.opened w open_ m.opened is in
+    let pass = passed w k.o (is_census open_.request) open_.operated (list_all (holds_at is_held_kept) s.places.items) (list_all (holds_at is_quiet_kept) s.places.items) (list_all (holds_at is_settled_kept) s.places.items) h in
+    let goes : outcome w event.Operate ≡ accepted (record w { requests = with_operated w k.o }) (answer.Census (census w)) = outcome_is s w m open_ k ∙ pass.is in
+    rw goes refl
+
+pub may_operate : (s : Core) → operate_refusal s.requests.open s.places.items ≡ None → Accepts s event.Operate
+may_operate s h = λ w sound m. may_in s w s.requests.open m refl h

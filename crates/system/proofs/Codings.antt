@@ -30,6 +30,9 @@ use Rattle.system.specs.Log.{Entry, is_start, is_ask, is_round, is_invalidate, i
 use Rattle.system.specs.World.{World, thread_at, part_at, walk}
 use Rattle.system.specs.Step.{outcome, of_code, install_in, free, count}
 use Rattle.system.specs.Facts.{IsGiven, IsSound}
+use Rattle.system.specs.Memory.{Accepts}
+use Rattle.system.specs.Runs.{answer_to}
+use Rattle.system.specs.Safepoints.{is_accepted}
 use Rattle.system.specs.Stands.{Matches, SamePlaces, SameRecord, SameRecords, DoesIn, Does, walk_of, kept_at}
 use Rattle.system.proofs.Lists.{found_passes, find_place, find_push, find_push_none, at_low}
 use Rattle.system.proofs.Outcomes.{coded}
@@ -280,3 +283,21 @@ counted s serial n code is count_is = record {
       (record { starts_none = refl; asks_none = refl; rounds_none = refl; invalidates_none = λ r. refl; looks_none = λ r place. refl }) (λ place. record { starts_not = refl; begins_not = refl; ends_not = refl }) m)));
   sizes = record { places = refl; slots = refl; methods = refl };
 }
+
+pub may_install : (s : Core) (method : ℕ) → install_fault s.table method ≡ None → Accepts s (event.Install method)
+may_install s method h = λ w sound m. by w m (free_slot w.codes w.slots) refl
+  where
+    fault : (w : World) → Matches s w → fault_by (nat_lt method w.methods) (is_none (in_use_for w.codes method)) (free_slot w.codes w.slots) (nat_le (next_serial w.codes) last_number) ≡ None
+    fault w m = ap (λ t. install_fault t method) (sym (table_is s w m)) ∙ h
+
+    full : (named unused room : Bool) → fault_by named unused None room ≡ None → ⊥
+    full false unused room e = cc
+    full true false room e = cc
+    full true true room e = cc
+
+    by : (w : World) → Matches s w → (slot : Option ℕ) → free_slot w.codes w.slots ≡ slot → is_accepted (answer_to w (event.Install method)) ≡ true
+    by w m None e = absurd (full (nat_lt method w.methods) (is_none (in_use_for w.codes method)) (nat_le (next_serial w.codes) last_number) (rw e at (fault w m)))
+    by w m (Some at) e =
+        let said : outcome w (event.Install method) ≡ accepted (record w { codes = with_code w.codes method at }) (answer.Code (next_serial w.codes)) =
+        install_accepted w method at (nat_lt method w.methods) (is_none (in_use_for w.codes method)) (free_slot w.codes w.slots) (nat_le (next_serial w.codes) last_number) refl (fault w m) e in
+        rw said refl

@@ -1,6 +1,6 @@
 -- A thread leaves its place, and a stack is shown.
 use Rattle.std.proofs.Common.{◌≡◌, ◌∙◌, sym, ap, refl, ℕ, zero, suc, Bool, true, false, not, ◌||◌, ◌==◌, List, [], ◌∷◌, Option, Some, None, Result, Ok, Err, length, arith}
-use Rattle.std.specs.Prelude.{slice_get, slice_set, sum_by, IfOk}
+use Rattle.std.specs.Prelude.{slice_get, slice_set, sum_by, IfOk, OnErr}
 use Rattle.std.specs.List.{list_any}
 use Rattle.std.proofs.lemmas.List.Sums.{sum_by-cons}
 use Rattle.std.proofs.lemmas.Option.{slice_get_within}
@@ -26,10 +26,11 @@ use Rattle.system.specs.Log.{Entry}
 use Rattle.system.specs.Threads.{Thread, part, is_settled, is_publishing}
 use Rattle.system.specs.World.{World, threads, part_at}
 use Rattle.system.specs.Places.{becomes, leaves, here}
-use Rattle.system.specs.Step.{lands, with_place}
+use Rattle.system.specs.Step.{outcome, lands, with_place}
 use Rattle.system.specs.Facts.{IsSound}
+use Rattle.system.specs.Memory.{Accepts}
 use Rattle.system.specs.Keeps.{SaysExit}
-use Rattle.system.specs.Steps.{DidExit, DidLeave, Left, frames_at}
+use Rattle.system.specs.Steps.{DidExit, DidLeave, Left, frames_at, is_taken}
 use Rattle.system.specs.Stands.{Matches, SameAt, DoesIn, Does, walk_of}
 use Rattle.system.proofs.Outcomes.{seated}
 use Rattle.system.proofs.Frames.{part_settled}
@@ -173,3 +174,14 @@ shown s w p said m says = elim (at_place s w p m) [
 pub stack_does : (s : Core) (p : ℕ) (result : Result Answer AllocError) → IfOk result (λ said. said ≡ frames_at (slice_get s.places.items p)) → IfOk result (λ said. Does (event.At p Stack) s said s)
 stack_does s p (Ok said) says = record { each = λ w sound m. shown s w p said m says; sizes = record { places = refl; slots = refl; methods = refl } }
 stack_does s p (Err e) says = tt
+
+pub may_show : (s : Core) (p : ℕ) → is_taken (slice_get s.places.items p) ≡ true → Accepts s (event.At p Stack)
+may_show s p taken = λ w sound m. elim (at_place s w p m) [
+  | nowhere e x ↦ (let bad : false ≡ true = sym (ap is_taken e) ∙ taken in cc)
+  | vacant e x ↦ (let bad : false ≡ true = sym (ap is_taken e) ∙ taken in cc)
+  | seat kept t e x same ↦ (let goes : outcome w (event.At p Stack) ≡ accepted (with_place w p (Some t)) (answer.Frames t.stack) = rw x (ap (lands w p) (shows_here w t)) in rw goes refl)
+]
+
+pub stack_may : (s : Core) (p : ℕ) (result : Result Answer AllocError) → OnErr result (is_taken (slice_get s.places.items p) ≡ true) → OnErr result (Accepts s (event.At p Stack))
+stack_may s p (Ok said) taken = tt
+stack_may s p (Err e) taken = may_show s p taken

@@ -6,6 +6,7 @@ use Rattle.std.proofs.lemmas.Bool.Decides.{nat_tests}
 use Rattle.method_table.specs.Numbers.{last_number}
 use Rattle.operations.specs.declared.Request.{Request}
 use Rattle.operations.specs.declared.queue.Waiting.{Waiting as Queued}
+use Rattle.operations.specs.declared.queue.QueueFault.{QueueFault}
 use Rattle.operations.specs.declared.queue.QueueFault.TheVariants as fault
 use Rattle.operations.specs.Queues.{MayWait, IsCause}
 use Rattle.operations.specs.Names.{among, is_empty}
@@ -14,6 +15,7 @@ use Rattle.system.specs.declared.events.Event.{Event}
 use Rattle.system.specs.declared.events.Event.TheVariants as event
 use Rattle.system.specs.declared.answers.Answer.{Answer}
 use Rattle.system.specs.declared.answers.Answer.TheVariants as answer
+use Rattle.system.specs.declared.answers.Refusal.{Refusal}
 use Rattle.system.specs.declared.answers.Refusal.TheVariants as refusal
 use Rattle.system.specs.declared.records.Record.{Record}
 use Rattle.system.specs.declared.requests.Open.{Open}
@@ -25,7 +27,9 @@ use Rattle.system.specs.Log.{Entry, is_start, is_round, is_invalidate, is_look, 
 use Rattle.system.specs.Threads.{Thread}
 use Rattle.system.specs.World.{World, thread_at, threads, live_names, is_live}
 use Rattle.system.specs.Step.{outcome}
+use Rattle.system.specs.Asking.{refusal_of}
 use Rattle.system.specs.Facts.{IsSound}
+use Rattle.system.specs.Memory.{Accepts}
 use Rattle.system.specs.Marking.{SameMarks, SameOpens}
 use Rattle.system.specs.Stands.{Matches, SamePlaces, SameRecord, SameRecords, SameSizes, Does, waiting_of, kept_at}
 use Rattle.system.proofs.Lists.{map_length}
@@ -266,3 +270,19 @@ opened_does s t oldest others none is rest numbers waiting opens_are = record {
       })));
   sizes = sizes_stay s t rest;
 }
+
+-- A request that doesn't wait, and one that would.
+pub not_queued : (s : Core) (request : Request) (f : QueueFault) (r : Refusal) → nat_lt s.requests.numbers last_number ≡ true → IsCause (length s.requests.waiting) request f → refusal_of f ≡ Some r → Does (event.Ask request) s (answer.Refused r) s
+not_queued s request fault.QueueFull r room cause is = let same : refusal.QueueFull ≡ r = cc in subst (λ x. Does (event.Ask request) s (answer.Refused x) s) same (queue_full s request room cause)
+not_queued s request fault.NoTargets r room cause is = let same : refusal.NoTargets ≡ r = cc in subst (λ x. Does (event.Ask request) s (answer.Refused x) s) same (no_targets s request room cause)
+not_queued s request fault.BadTargets r room cause is = let same : refusal.BadTargets ≡ r = cc in subst (λ x. Does (event.Ask request) s (answer.Refused x) s) same (bad_targets s request room cause)
+not_queued s request fault.NoMemory r room cause is = cc
+
+pub may_ask : (s : Core) (request : Request) → nat_lt s.requests.numbers last_number ≡ true → MayWait (length s.requests.waiting) request → Accepts s (event.Ask request)
+may_ask s request room may = λ w sound m. rw (ask_in s w request m room may) refl
+
+pub would_queue : (s : Core) (request : Request) (f : QueueFault) → nat_lt s.requests.numbers last_number ≡ true → IsCause (length s.requests.waiting) request f → refusal_of f ≡ None → Accepts s (event.Ask request)
+would_queue s request fault.QueueFull room cause is = cc
+would_queue s request fault.NoTargets room cause is = cc
+would_queue s request fault.BadTargets room cause is = cc
+would_queue s request fault.NoMemory room cause is = may_ask s request room cause

@@ -27,6 +27,7 @@ use Rattle.system.specs.Threads.{Thread}
 use Rattle.system.specs.World.{World, threads, part_at, thread_at, found, vacant_place, is_live}
 use Rattle.system.specs.Step.{new_thread, with_place}
 use Rattle.system.specs.Facts.{IsSound}
+use Rattle.system.specs.Memory.{Accepts}
 use Rattle.system.specs.Keeps.{IsNew}
 use Rattle.system.specs.Marking.{SameMarks, SameOpened, SameOpens}
 use Rattle.system.specs.Censuses.{has_census}
@@ -261,3 +262,10 @@ start_does s new p name kept safe some room next k = record {
     methods = ap (λ tb. tb.methods) k.table;
   };
 }
+
+pub may_start : (s : Core) (p : ℕ) → safepoint_by s.requests.open ≡ false → vacant_kept s.places.items ≡ Some p → s.names < last_number → Accepts s event.Start
+may_start s p safe some room = λ w sound m. (
+    let quiet : is_safepoint w.requests ≡ false = safepoint_is s.requests.open w.requests.opened w m.opened ∙ safe in
+    let place : vacant_place w.places ≡ Some p = sym (vacant_is s w m) ∙ some in
+    let test : nat_lt (names_given w.log) last_number ≡ true = room_test (names_given w.log) (subst (λ n. n < last_number) m.names room) in
+    rw (quiet, place, test) refl)

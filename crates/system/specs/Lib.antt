@@ -18,3 +18,5 @@ pub mod Safepoints
 pub mod Records
 pub mod Tells
 pub mod Censuses
+pub mod Memory
+pub mod Asking

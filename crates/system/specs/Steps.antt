@@ -1,5 +1,5 @@
 -- What the acts of the threads do to the places that the system keeps.
-use Rattle.std.specs.Prelude.{◌≡◌, ℕ, ◌+◌, List, [], ◌∷◌, option_map, Option, Some, None, Result, Ok, Err, slice_get, slice_set}
+use Rattle.std.specs.Prelude.{◌≡◌, ℕ, ◌+◌, Bool, true, false, List, [], ◌∷◌, option_map, Option, Some, None, Result, Ok, Err, slice_get, slice_set}
 use Rattle.method_table.specs.TableView.{TableView}
 use Rattle.frames.specs.declared.Change.{Change as CodeChange}
 use Rattle.thread_state.specs.declared.State.TheVariants.{Vacant}
@@ -82,6 +82,11 @@ abbrev pub frames_at : Option (Option Kept) → Answer
 frames_at None = Refused NoSuchPlace
 frames_at (Some None) = Refused (Illegal Vacant)
 frames_at (Some (Some kept)) = Frames kept.image.frames
+
+-- A thread is at the place.
+abbrev pub is_taken : Option (Option Kept) → Bool
+is_taken (Some (Some kept)) = true
+is_taken other = false
 
 -- The least vacant place.
 abbrev pub vacant_kept : List (Option Kept) → Option ℕ

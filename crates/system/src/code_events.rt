@@ -2,6 +2,7 @@
 ghost use Rattle.std.specs.Prelude.{◌≡◌, ◌<◌, ◌≤◌, length, IfOk, OnErr};
 ghost use Rattle.method_table.specs.Codes.{unfreed};
 ghost use Rattle.system.specs.declared.events.Event.TheVariants as events;
+ghost use Rattle.system.specs.Memory.{Accepts};
 ghost use Rattle.system.specs.Records.{not_entrant, is_clear};
 ghost use Rattle.system.specs.Stands.{Does};
 
@@ -18,6 +19,7 @@ impl Core {
     pub fn install(&mut self, method: u64) -> Result<Answer, AllocError>
         ensures does { IfOk result (λ answer. Does (events.Install method) self.old answer self.new) }
         ensures refused { OnErr result (self.new ≡ self.old) }
+        ensures no_memory { OnErr result (Accepts self.old (events.Install method)) }
     {
         match self.table.install(method) {
             Ok(code) => Ok(Answer::Code(code.serial)),

@@ -1,5 +1,7 @@
 // The events of the core.
-ghost use Rattle.std.specs.Prelude.{◌≡◌, IfOk};
+ghost use Rattle.std.specs.Prelude.{◌≡◌, true, IfOk, IsOk};
+ghost use Rattle.operations.specs.Requests.{is_census};
+ghost use Rattle.system.specs.Memory.{copies_freely};
 
 use operations::Request;
 use std::alloc::{AllocError, Global};
@@ -50,9 +52,10 @@ pub enum Event {
 }
 
 impl Event {
-    /// The same event. Only a request with targets takes memory.
+    /// The same event. Only the names of a handshake take memory.
     pub fn copied(&self, alloc: Global) -> Result<Event, AllocError>
-        ensures { IfOk result (λ event. event ≡ self.now) }
+        ensures same { IfOk result (λ event. event ≡ self.now) }
+        ensures succeeds { copies_freely self.now ≡ true → IsOk result }
     {
         Ok(match self {
             Event::At(place, act) => Event::At(*place, *act),

@@ -4,6 +4,7 @@ ghost use Rattle.activation_index.specs.Counts.{IsRisingFrom};
 ghost use Rattle.system.specs.declared.events.Act.TheVariants as acts;
 ghost use Rattle.system.specs.declared.events.Event.TheVariants as events;
 ghost use Rattle.system.specs.Censuses.{census_of, operate_refusal};
+ghost use Rattle.system.specs.Memory.{Accepts};
 ghost use Rattle.system.specs.Stands.{Does, OfWorld};
 
 use crate::answers::{Answer, CodeCount, CountList, Refusal};
@@ -71,6 +72,7 @@ impl Core {
     pub fn operate(&mut self, alloc: Global) -> Result<Answer, AllocError>
         ensures does { IfOk result (λ answer. Does events.Operate self.old answer self.new) }
         ensures refused { OnErr result (self.new ≡ self.old) }
+        ensures no_memory { OnErr result (Accepts self.old events.Operate) }
     {
         if let Some(refusal) = self.operate_refusal() {
             return Ok(Answer::Refused(refusal));

@@ -1,8 +1,8 @@
 // The places, and the acts of the threads at them.
-ghost use Rattle.std.specs.Prelude.{◌≡◌, ◌<◌, ◌≤◌, ℕ, List, length, Some, None, IfOk, slice_get, slice_set, true, replicate};
+ghost use Rattle.std.specs.Prelude.{◌≡◌, ◌<◌, ◌≤◌, ℕ, List, length, Some, None, IfOk, OnErr, slice_get, slice_set, true, replicate};
 ghost use Rattle.system.specs.declared.answers.Answer.TheVariants;
 ghost use Rattle.system.specs.Keeps.{is_plain};
-ghost use Rattle.system.specs.Steps.{DidAt, DidExit, DidChange, answer_here, frames_at, vacant_kept};
+ghost use Rattle.system.specs.Steps.{DidAt, DidExit, DidChange, answer_here, frames_at, is_taken, vacant_kept};
 
 use crate::answers::{Answer, FrameList, Refusal};
 use crate::events::Act;
@@ -82,7 +82,8 @@ pub fn stack_at(
     places: &[Option<Thread>],
     place: usize,
 ) -> Result<Answer, AllocError>
-    ensures { IfOk result (λ answer. answer ≡ frames_at (slice_get places.now place)) }
+    ensures frames { IfOk result (λ answer. answer ≡ frames_at (slice_get places.now place)) }
+    ensures no_memory { OnErr result (is_taken (slice_get places.now place) ≡ true) }
 {
     if place >= places.len() {
         return Ok(Answer::Refused(Refusal::NoSuchPlace));

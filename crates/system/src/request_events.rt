@@ -1,6 +1,9 @@
 // The events of the operations.
-ghost use Rattle.std.specs.Prelude.{◌≡◌, true, IfOk, OnErr};
+ghost use Rattle.std.specs.Prelude.{◌≡◌, true, IfOk, OnErr, IfSome, IfNone};
 ghost use Rattle.system.specs.declared.events.Event.TheVariants as events;
+ghost use Rattle.system.specs.declared.answers.Answer.TheVariants as answers;
+ghost use Rattle.system.specs.Asking.{refusal_of};
+ghost use Rattle.system.specs.Memory.{Accepts};
 ghost use Rattle.system.specs.Stands.{Does};
 
 use crate::answers::{Answer, Refusal};
@@ -11,11 +14,38 @@ use operations::Request;
 use operations::queue::QueueFault;
 use std::alloc::AllocError;
 
+// The refusal for a fault of the queue, None for want of memory.
+fn refusal_of(fault: QueueFault) -> Option<Refusal>
+    ensures { result ≡ refusal_of fault }
+{
+    match fault {
+        QueueFault::QueueFull => Some(Refusal::QueueFull),
+        QueueFault::NoTargets => Some(Refusal::NoTargets),
+        QueueFault::BadTargets => Some(Refusal::BadTargets),
+        QueueFault::NoMemory => None,
+    }
+}
+
 impl Core {
+    /// Why the request wouldn't wait, but for want of memory.
+    pub fn ask_refusal(&self, request: &Request) -> Option<Refusal>
+        ensures refused { IfSome result (λ refusal. Does (events.Ask request.now) self.now (answers.Refused refusal) self.now) }
+        ensures none { IfNone result (Accepts self.now (events.Ask request.now)) }
+    {
+        if self.requests.numbers >= LAST {
+            return Some(Refusal::Spent);
+        }
+        match self.requests.waiting.refusal(request) {
+            Some(fault) => refusal_of(fault),
+            None => None,
+        }
+    }
+
     /// The request waits, with the next number.
     pub fn ask(&mut self, request: Request) -> Result<Answer, AllocError>
         ensures does { IfOk result (λ answer. Does (events.Ask request) self.old answer self.new) }
         ensures refused { OnErr result (self.new ≡ self.old) }
+        ensures no_memory { OnErr result (Accepts self.old (events.Ask request)) }
     {
         if self.requests.numbers >= LAST {
             return Ok(Answer::Refused(Refusal::Spent));
@@ -26,11 +56,9 @@ impl Core {
                 self.requests.numbers = number;
                 Ok(Answer::Asked(number))
             }
-            Err(unqueued) => match unqueued.fault {
-                QueueFault::QueueFull => Ok(Answer::Refused(Refusal::QueueFull)),
-                QueueFault::NoTargets => Ok(Answer::Refused(Refusal::NoTargets)),
-                QueueFault::BadTargets => Ok(Answer::Refused(Refusal::BadTargets)),
-                QueueFault::NoMemory => Err(AllocError),
+            Err(unqueued) => match refusal_of(unqueued.fault) {
+                Some(refusal) => Ok(Answer::Refused(refusal)),
+                None => Err(AllocError),
             },
         }
     }
