@@ -14,8 +14,7 @@ use Rattle.method_table.specs.Numbers.{below, last_number}
 use Rattle.method_table.specs.Codes.{code_of, unfreed, in_use_for, is_taken, free_slot, next_serial, takes_slot, is_in_use, is_not_entrant, is_zombie, id_of, in_state, with_state, with_code}
 use Rattle.method_table.specs.Kept.{Puts, kept_slot, IsNumberedFrom, IsCurrent, IsKept, holds, least_free, with_record}
 use Rattle.method_table.specs.declared.table.Entry.TheVariants as entry
-use Rattle.method_table.specs.TableView.{TableView, IsTable, entry_of, install_fault, reason}
-use Rattle.method_table.specs.declared.table.InstallFault.{InstallFault}
+use Rattle.method_table.specs.TableView.{TableView, IsTable, entry_of, install_fault}
 use Rattle.method_table.specs.declared.table.InstallFault.TheVariants as install
 use Rattle.method_table.proofs.Searches.{below_found, IsLeastBelow, find_passes, any_is_found, find_same}
 use Rattle.method_table.proofs.Serials.{code_of_serial, not_before, not_past, was_given, listed_is, found_is, missed_is, unfreed_is, is_unfreed, numbered_push, numbered_state, state_keeps_length, code_of-with_state}
@@ -131,18 +130,6 @@ accepted_where true true false d h = cc
 accepted_where true false c d h = cc
 accepted_where false b c d h = cc
 
--- want of memory is none of the reasons
-reason_where : (a b c d : Bool) (fault : InstallFault) → cond a (cond b (cond c (cond d None (Some install.SerialsSpent)) (Some install.TableFull)) (Some install.HasCode)) (Some install.NoSuchMethod) ≡ Some fault → Some fault ≡ reason fault
-reason_where a b c d install.NoSuchMethod h = refl
-reason_where a b c d install.HasCode h = refl
-reason_where a b c d install.TableFull h = refl
-reason_where a b c d install.SerialsSpent h = refl
-reason_where true true true true install.NoMemory h = cc
-reason_where true true true false install.NoMemory h = cc
-reason_where true true false d install.NoMemory h = cc
-reason_where true false c d install.NoMemory h = cc
-reason_where false b c d install.NoMemory h = cc
-
 module _ (table : TableView) (method : ℕ) where
   accepted : install_fault table method ≡ None → (nat_lt method table.methods ≡ true) × (is_none (in_use_for table.codes method) ≡ true) × (is_some (free_slot table.codes table.slots) ≡ true) × (nat_le (next_serial table.codes) last_number ≡ true)
   accepted h = accepted_where (nat_lt method table.methods) (is_none (in_use_for table.codes method)) (is_some (free_slot table.codes table.slots)) (nat_le (next_serial table.codes) last_number) h
@@ -159,9 +146,6 @@ module _ (table : TableView) (method : ℕ) where
       none_of : (o : Option Code) → is_none o ≡ true → o ≡ None
       none_of None e = refl
       none_of (Some c) e = let no : false ≡ true = e in cc
-
-  pub reason_is : (fault : InstallFault) → install_fault table method ≡ Some fault → install_fault table method ≡ reason fault
-  reason_is fault h = h ∙ reason_where (nat_lt method table.methods) (is_none (in_use_for table.codes method)) (is_some (free_slot table.codes table.slots)) (nat_le (next_serial table.codes) last_number) fault h
 
 -- an entry is empty where the method has no code in use
 pub none_in_use : (entry : Option CodeId) (o : Option Code) (b : Bool) → entry ≡ option_map id_of o → is_some entry ≡ b → is_none o ≡ not b

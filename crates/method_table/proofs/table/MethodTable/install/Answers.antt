@@ -4,7 +4,7 @@ use Rattle.std.specs.Prelude.{slice_get}
 use Rattle.method_table.specs.Codes.{free_slot}
 use Rattle.method_table.specs.Kept.{least_free}
 use Rattle.method_table.specs.TableView.{TableView, install_fault}
-use Rattle.method_table.proofs.KeptLemmas.{free_is, slot_next, found_free, installed_at, forgotten, unnoted, empty_entry, below_last, reason_is, table_is}
+use Rattle.method_table.proofs.KeptLemmas.{free_is, slot_next, found_free, installed_at, forgotten, unnoted, empty_entry, below_last, table_is}
 use Rattle.method_table.proofs.table.MethodTable.install.Goals as goal
 
 pub returns-in-Err-clause-sound : goal.returns-in-Err-clause-sound
