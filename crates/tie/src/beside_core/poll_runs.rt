@@ -19,7 +19,8 @@ fn one_place(alloc: Global) -> Result<(PollRow, Armer, Poller), AllocError>
 
 // A handshake of one thread.
 fn handshake(alloc: Global, name: u64) -> Result<Request, AllocError> {
-    let names = vec![in alloc; name]?;
+    let mut names = Vec::new(alloc);
+    names.push(name)?;
     Ok(Request::Handshake {
         targets: Targets::from_vec(names),
         ask: Ask::Depth,
