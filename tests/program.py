@@ -50,7 +50,7 @@ class Tally:
             devices["input"] = given
         for end in ("stdout", "stderr"):
             devices.setdefault(end, subprocess.PIPE)
-        words = [name_of_program or self.program, *words]
+        words = [self.program if name_of_program is None else name_of_program, *words]
         try:
             ran = subprocess.run(words, executable=self.program, timeout=SECONDS, **devices)
         except (OSError, subprocess.TimeoutExpired) as why:
@@ -75,6 +75,11 @@ def with_memory(size):
 
 
 def examples(tally):
+    stems = {end: sorted(it.stem for it in EXAMPLES.glob(f"*.{end}")) for end in ("lines", "json", "out")}
+    is_whole = stems["lines"] != [] and stems["json"] != [] and sorted(stems["lines"] + stems["json"]) == stems["out"]
+    tally.judge("each example has its answers", (is_whole, b"", 0), (True, b"", 0))
+    if not is_whole:
+        return
     for path in sorted(EXAMPLES.glob("*.lines")):
         tally.run(path.name, ["replay"], path.with_suffix(".out").read_bytes(), given=path.read_bytes())
     for path in sorted(EXAMPLES.glob("*.json")):

@@ -1,8 +1,4 @@
-use Rattle.std.proofs.Common.{rules, ◌≡◌, ℕ, length, string_bytes, subst, refl, ap, ◌∙◌}
-use Rattle.std.proofs.lemmas.List.{length-map}
-use Rattle.script.specs.Layout.{routine}
-use Rattle.script.specs.View.{bodies}
-use Rattle.monitor.specs.Check.{right_line}
+use Rattle.std.proofs.Common.{rules}
 use Rattle.monitor.proofs.Texts.{is_short, fault_of_script}
 use Rattle.monitor.proofs.check.check_text.Goals as goal
 
