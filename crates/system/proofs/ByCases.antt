@@ -394,6 +394,7 @@ by_cases w P c event.Open = chain1 (Comes w P event.Open) (c.refuses event.Open)
           few = subst (λ (os : List Opened). length os < 4) (sym none) (omega arith);
           no_safepoint = ap (λ (os : List Opened). list_any (λ o. is_census o.request) os) none;
           alone = λ census. none;
+          none_open = none;
           waiting_is = e;
         })
 by_cases w P c (event.Tell name) = chain2 (Comes w P (event.Tell name)) (c.refuses (event.Tell name)) (not (is_empty w.requests.opened)) refusal.NothingOpen

@@ -316,13 +316,13 @@ operate_done s new rest requests rising h = record {
   sizes = sizes_stay s new rest;
 }
 
-may_in : (s : Core) (w : World) (o : Option Open) → Matches s w → s.requests.open ≡ o → operate_refusal o s.places.items ≡ None → is_accepted (answer_to w event.Operate) ≡ true
-may_in s w None m is h = cc
-may_in s w (Some open_) m is h =
-    let k = one_open s.requests.open w.requests.opened w open_ m.opened is in
+may_in : (s : Core) (w : World) (opens : List Open) → Matches s w → s.requests.opens ≡ opens → operate_refusal opens s.places.items ≡ None → is_accepted (answer_to w event.Operate) ≡ true
+may_in s w [] m is h = cc
+may_in s w (open_ ∷ xs) m is h =
+    let k = oldest_of s.requests.opens w.requests.opened w open_ m.opened (ap (λ opens. slice_get opens 0) is) in
     let pass = passed w k.o (is_census open_.request) open_.operated (list_all (holds_at is_held_kept) s.places.items) (list_all (holds_at is_quiet_kept) s.places.items) (list_all (holds_at is_settled_kept) s.places.items) h in
     let goes : outcome w event.Operate ≡ accepted (record w { requests = with_operated w k.o }) (answer.Census (census w)) = outcome_is s w m open_ k ∙ pass.is in
     rw goes refl
 
-pub may_operate : (s : Core) → operate_refusal s.requests.open s.places.items ≡ None → Accepts s event.Operate
-may_operate s h = λ w sound m. may_in s w s.requests.open m refl h
+pub may_operate : (s : Core) → operate_refusal s.requests.opens s.places.items ≡ None → Accepts s event.Operate
+may_operate s h = λ w sound m. may_in s w s.requests.opens m refl h

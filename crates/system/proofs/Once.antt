@@ -20,7 +20,7 @@ use Rattle.method_table.specs.Codes.{id_of}
 use Rattle.system.specs.Runs.{after, answer_to, world_after}
 use Rattle.system.specs.Facts.{WasOpened, NumbersAreSound}
 use Rattle.system.specs.Safepoints.{is_accepted, IsNext}
-use Rattle.system.specs.Ran.{name_in, FinishesFor, OperatesFor, RunAtMostOnce, OperationsRunAtMostOnce}
+use Rattle.system.specs.Ran.{open_in, name_in, FinishesFor, OperatesFor, RunAtMostOnce, OperationsRunAtMostOnce}
 use Rattle.system.proofs.Outcomes.{Stands, begun, changed_by, ended, entered, moved, held, released, newly_opened, Opens, Operates, Closes}
 use Rattle.system.proofs.Cases.{Cases}
 use Rattle.system.proofs.ByCases.{by_cases}
@@ -280,6 +280,53 @@ named_after : (w : World) (events : List Event) → Named w → Named (world_aft
 named_after w [] h = h
 named_after w (e ∷ events) h = named_after (after w e) events (by_cases w (λ e a v. Named v) (named_kept w h) e)
 
+-- The log tells which operation is open.
+abbrev LogOpen : World → Type 0
+LogOpen w = (i : ℕ) (o : Opened) → slice_get w.requests.opened i ≡ Some o → open_in w.log ≡ o.number
+
+log_kept : (w : World) → LogOpen w → Cases w (λ e a v. LogOpen v)
+log_kept w h = record {
+  refuses = λ e r. h;
+  begins = λ p t i. h;
+  changes = λ p t code i. h;
+  rests = λ p t i. h;
+  ends = λ p t i. h;
+  moves = λ p t a state given i. h;
+  interprets = λ p t method i. h;
+  enters = λ p t method serial code i. h;
+  misses = λ p t method serial code i. h;
+  leaves = λ p t state i. h;
+  exits = λ p t i. h;
+  finishes = λ p t opened i. h;
+  clears = λ p t opened i. h;
+  holds = λ p t opened i. h;
+  releases = λ p t i. h;
+  shows = λ p t i. h;
+  starts = λ p i. h;
+  installs = λ method slot i. h;
+  invalidates = λ serial code i. h;
+  goes_round = λ i. h;
+  looks_clear = λ serial p code i. h;
+  looks_late = λ serial p code i. h;
+  finds_unlooked = λ serial code p i. h;
+  finds_used = λ serial code i. h;
+  retires = λ serial code i. h;
+  frees = λ serial code i. h;
+  asks = λ request i. h;
+  opens = λ oldest others i j o x. ⊎_elim (λ old. (let none : slice_get {X = Opened} [] j ≡ Some o = subst (λ os. slice_get os j ≡ Some o) i.none_open old in cc)) (λ new. ap (λ (y : Opened). y.number) new.1) (push_at w.requests.opened (newly_opened w oldest) j o x);
+  tells = λ name opened i. h;
+  finds_gone = λ name i. h;
+  operates = λ opened others i j o x. (let m = map_at (operated_if opened.number) w.requests.opened j o x in h j m.0 m.1 ∙ (sym (operated_number opened.number m.0) ∙ ap (λ (y : Opened). y.number) m.2));
+  closes = λ opened i j o x. (let m = filter_at (λ (y : Opened). not (y.number == opened.number)) w.requests.opened j o x in h m.0 o m.1);
+  counts = λ serial code i. h;
+  says_state = λ serial code i. h;
+  resolves = λ method i. h;
+}
+
+log_after : (w : World) (events : List Event) → LogOpen w → LogOpen (world_after w events)
+log_after w [] h = h
+log_after w (e ∷ events) h = log_after (after w e) events (by_cases w (λ e a v. LogOpen v) (log_kept w h) e)
+
 pub run_at_most_once : OperationsRunAtMostOnce
 run_at_most_once places slots methods events = record {
   finished = λ before between rest p q operation name is first second. (
@@ -311,6 +358,7 @@ run_at_most_once places slots methods events = record {
       let two : b.0 ≡ second.opened = (let e : b.0 ∷ b.1 ≡ second.opened ∷ [] = sym b.2 ∙ second.opened_is in cc) in
       let still : second.opened.operated ≡ true = there.operated 0 second.opened (subst (λ (os : List Opened). slice_get os 0 ≡ Some second.opened) (sym second.opened_is) refl) (second.number ∙ sym number) in
       false≢true (sym b.3 ∙ (ap (λ (o : Opened). o.operated) two ∙ still)));
+  open_is = λ i o x. log_after (start_world places slots methods) events (λ j p y. cc) i o x;
   name_is = λ place t x. (let w = world_after (start_world places slots methods) events in
       named_after (start_world places slots methods) events (each_start (λ p t. 0 ≡ t.name) places) place t (there_of w place t x));
 }

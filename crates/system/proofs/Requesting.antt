@@ -250,6 +250,7 @@ opened_does s t oldest others none is rest numbers waiting opens_are = record {
         few = subst (λ (os : List Opened). length os < 4) (sym nobody) (omega arith);
         no_safepoint = ap (λ (os : List Opened). list_any (λ (x : Opened). is_census x.request) os) nobody;
         alone = λ census. nobody;
+        none_open = nobody;
         waiting_is = waits;
       } in
       let low : names_given w.log ≤ names_given v.log = (let n = names_stay w event.Open a (of_open a) in omega (arith, n)) in

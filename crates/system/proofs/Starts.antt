@@ -263,9 +263,9 @@ start_does s new p name kept safe some room next k = record {
   };
 }
 
-pub may_start : (s : Core) (p : ℕ) → safepoint_by s.requests.open ≡ false → vacant_kept s.places.items ≡ Some p → s.names < last_number → Accepts s event.Start
+pub may_start : (s : Core) (p : ℕ) → has_census s.requests.opens ≡ false → vacant_kept s.places.items ≡ Some p → s.names < last_number → Accepts s event.Start
 may_start s p safe some room = λ w sound m. (
-    let quiet : is_safepoint w.requests ≡ false = safepoint_is s.requests.open w.requests.opened w m.opened ∙ safe in
+    let quiet : is_safepoint w.requests ≡ false = safepoint_is s.requests.opens w.requests.opened w m.opened ∙ safe in
     let place : vacant_place w.places ≡ Some p = sym (vacant_is s w m) ∙ some in
     let test : nat_lt (names_given w.log) last_number ≡ true = room_test (names_given w.log) (subst (λ n. n < last_number) m.names room) in
     rw (quiet, place, test) refl)
