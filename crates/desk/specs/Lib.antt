@@ -4,3 +4,4 @@ pub mod Fields
 pub mod Refusals
 pub mod Targets
 pub mod Once
+pub mod JobsFit

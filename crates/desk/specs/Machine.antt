@@ -1,5 +1,5 @@
 -- The list machine of the desk: entries, the state after them, and when a history is legal.
-use Rattle.std.specs.Prelude.{ℕ, ◌+◌, ◌-◌, ◌≡◌, List, [], ◌∷◌, ◌++◌, Bool, true, false, ◌&&◌, ◌||◌, not, ◌==◌, nat_le, Option, Some, None, is_none, length, filter, find, if◌then◌else◌}
+use Rattle.std.specs.Prelude.{ℕ, ◌+◌, ◌-◌, ◌≡◌, List, [], ◌∷◌, ◌++◌, Bool, true, false, ◌&&◌, ◌||◌, not, ◌==◌, nat_le, Option, Some, None, is_none, length, map, filter, find, if◌then◌else◌}
 use Rattle.std.specs.List.{list_any, list_all}
 use Rattle.frames.specs.declared.CodeId.{CodeId}
 use Rattle.method_table.specs.declared.Code.{Code}
@@ -54,6 +54,9 @@ abbrev pub others : ℕ → List ℕ → List ℕ
 others name ts = filter (λ t. not (t == name)) ts
 
 -- the names that are live
+abbrev pub names_of : List Live → List ℕ
+names_of ls = map (λ l. l.name) ls
+
 -- the place at which a name is live
 abbrev pub place_of : ℕ → List Live → Option ℕ
 place_of name [] = None

@@ -103,12 +103,12 @@ operate_refused s bs operate.NotAllHeld = front_is (λ c. is_census c.request) s
 abbrev pub is_idle : State → Bool
 is_idle s = (length s.opened == 0) && (length s.waiting == 0)
 
-abbrev pub ask_refused_if : State → Option Request → Bool → Book → AskFault → Type 0
+abbrev pub ask_refused_if : State → Option Request → (Request → Bool) → Book → AskFault → Type 0
 ask_refused_if s None fits b fault = true ≡ false
-ask_refused_if s (Some r) fits b fault = ask_refused s r fits b fault
+ask_refused_if s (Some r) fits b fault = ask_refused s r (fits r) b fault
 
 -- why a code isn't reclaimed, in this order
-abbrev pub reclaim_refused : State → ℕ → Option Request → Bool → Book → ℕ → ReclaimFault → Type 0
+abbrev pub reclaim_refused : State → ℕ → Option Request → (Request → Bool) → Book → ℕ → ReclaimFault → Type 0
 reclaim_refused s serial r fits b moment (reclaim.Code fault) = retire_fault (unfreed s.table.codes serial) ≡ Some fault
 reclaim_refused s serial r fits b moment reclaim.AlreadyOpen = (retire_fault (unfreed s.table.codes serial) ≡ None) × (is_idle s ≡ false)
 reclaim_refused s serial r fits b moment reclaim.Spent = (retire_fault (unfreed s.table.codes serial) ≡ None) × (is_idle s ≡ true) × (nat_le (2 ^ 40) (moment + 1) ≡ true)

@@ -1,5 +1,5 @@
 //! The desk: what all threads ask of the coordinator, in one history.
-ghost use Rattle.std.specs.Prelude.{◌≡◌, ◌&&◌, ℕ, ◌+◌, ◌<◌, ◌≤◌, ◌^◌, List, [], ◌∷◌, ◌++◌, length, true, false, nat_le, Some, None, IfOk, IfErr, IfSome, IfNone, OnOk, OnErr, ◌≢◌, vec_len, vec_capacity};
+ghost use Rattle.std.specs.Prelude.{◌≡◌, ◌==◌, ◌&&◌, ℕ, ◌+◌, ◌<◌, ◌≤◌, ◌^◌, List, [], ◌∷◌, ◌++◌, length, true, false, nat_le, Some, None, IfOk, IfErr, IfSome, IfNone, OnOk, OnErr, ◌≢◌, vec_len, vec_capacity};
 ghost use Rattle.frames.specs.ImageView.{IsSettled};
 ghost use Rattle.frames.specs.BoardViews.{went_round, looked_at, slot_of};
 ghost use Rattle.frames.specs.BoardStep.{is_late};
@@ -9,10 +9,12 @@ ghost use Rattle.operations.specs.Asks.{reply};
 ghost use Rattle.method_table.specs.TableView.{install_fault, invalidate_fault, retire_fault, free_fault};
 ghost use Rattle.method_table.specs.Codes.{unfreed, id_of};
 ghost use Rattle.desk.specs.CodeBoard.{AreEntries, KeeperWeighs};
-ghost use Rattle.desk.specs.Machine.{lawful, needs_of_opened, steps_of};
-ghost use Rattle.desk.specs.Refusals.{start_refused, ask_refused, open_refused, close_refused, install_refused, operate_refused, reclaim_refused, is_idle, AreSettled, are_all};
+ghost use Rattle.desk.specs.Machine.{is_legal, is_taken, names_of, lawful, needs_of_opened, steps_of};
+ghost use Rattle.desk.specs.Refusals.{start_refused, ask_refused, open_refused, close_refused, install_refused, operate_refused, reclaim_refused, is_idle, front_is, AreSettled, are_all};
 ghost use Rattle.desk.specs.Fields.{DeskSeen, at, Enters};
 ghost use Rattle.desk.specs.Targets.{standing, next_due};
+ghost use Rattle.desk.specs.Once.{replies_of};
+ghost use Rattle.desk.specs.JobsFit.{jobs_fit};
 
 use crate::codes::Codes;
 use crate::entries::{Carried, Entry, Live, Opened, Standing, copied_request};
@@ -21,8 +23,9 @@ use crate::faults::{
     Refused, StartFault, start_fault,
 };
 use crate::lists::{
-    are_all, due_after, finish_at, index_of, is_census, is_census_open, is_idle, job_of, keep_live,
-    least_free, leave, lives, may_close, may_finish, operate_at, standing_to, steps_of, targets_of,
+    are_all, due_after, finish_at, index_of, is_census, is_census_open, is_idle, job_of, jobs_fit,
+    keep_live, least_free, leave, lives, may_close, may_finish, names_of, operate_at, standing_to,
+    steps_of, targets_of,
 };
 use crate::log::{Log, Receipt, RoomFault};
 use board::{Board, Keeper, Spent, Weighed};
@@ -96,6 +99,7 @@ impl<N: Name, J: Errand> Desk<N, J> {
     /// Enters the start of the next name in the least place that is free.
     pub fn start(&mut self) -> Result<(u64, usize, Receipt<N>), StartFault>
         ensures ok { IfOk result (λ r. Enters self.old self.new (Entry.Start r.0 r.1) r.2 × (r.1 < N.board.places) × (0 < r.0)) }
+        ensures least { IfOk result (λ r. (k : ℕ) → k < r.1 → is_taken k (at self.old).live ≡ true) }
         ensures reserved { IfOk result (λ r. (self.new.book.reserved ≡ self.old.book.reserved + 1) × (self.new.keeper ≡ self.old.keeper)) }
         ensures err { IfErr result (λ e. (self.new ≡ self.old) × start_refused (at self.old) N.board.places self.old.book e) }
     {
@@ -189,16 +193,15 @@ impl<N: Name, J: Errand> Desk<N, J> {
         self.codes.are_entries();
     }
 
-    /// Enters a request, which waits with its jobs. `fits` says whether these are one for each target in order, with the request's ask.
+    /// Enters a request, which waits with its jobs: one for each target in order, with the request's ask. A refusal hands them back.
     pub fn submit(
         &mut self,
         request: Request,
-        fits: bool,
         jobs: Vec<J>,
     ) -> Result<(u64, Receipt<N>), Refused<J>>
         ensures ok { IfOk result (λ r. Enters self.old self.new (Entry.Ask r.0 request) r.1) }
         ensures reserved { OnOk result ((self.new.book.reserved ≡ self.old.book.reserved + (2 + steps_of request)) × (self.new.keeper ≡ self.old.keeper)) }
-        ensures err { IfErr result (λ e. (self.new ≡ self.old) × ask_refused (at self.old) request fits self.old.book e.fault) }
+        ensures err { IfErr result (λ e. (self.new ≡ self.old) × ask_refused (at self.old) request (jobs_fit J.whom J.asks request jobs.items) self.old.book e.fault) }
         ensures handed_back { IfErr result (λ e. e.jobs ≡ jobs) }
     {
         if self.next_number > LAST {
@@ -219,6 +222,7 @@ impl<N: Name, J: Errand> Desk<N, J> {
                 jobs,
             });
         }
+        let fits = jobs_fit(&request, jobs.as_slice());
         if !(request.are_targets() && fits) {
             return Err(Refused {
                 fault: AskFault::BadTargets,
@@ -436,14 +440,13 @@ impl<N: Name, J: Errand> Desk<N, J> {
         board: &Board,
         serial: u64,
         request: Option<Request>,
-        fits: bool,
         jobs: Vec<J>,
     ) -> Result<Option<(u64, Receipt<N>)>, NotReclaimed<J>>
         requires board { board.now ≡ N.board }
         ensures asked { IfOk result (λ r. IfSome r (λ a. IfSome request (λ asked. Enters self.old self.new (Entry.Ask a.0 asked) a.1))) }
         ensures quiet { IfOk result (λ r. IfNone r ((request ≡ None) × (self.new.book ≡ self.old.book))) }
         ensures round { OnOk result (self.new.keeper ≡ went_round self.old.keeper self.old.keeper.moment) }
-        ensures err { IfErr result (λ e. (self.new ≡ self.old) × reclaim_refused (at self.old) serial request fits self.old.book self.old.keeper.moment e.fault) }
+        ensures err { IfErr result (λ e. (self.new ≡ self.old) × reclaim_refused (at self.old) serial request (λ asked. jobs_fit J.whom J.asks asked jobs.items) self.old.book self.old.keeper.moment e.fault) }
         ensures handed_back { IfErr result (λ e. e.jobs ≡ jobs) }
     {
         if let Some(fault) = self.weigh_fault(serial) {
@@ -466,7 +469,7 @@ impl<N: Name, J: Errand> Desk<N, J> {
         }
         let asked = match request {
             None => None,
-            Some(request) => match self.submit(request, fits, jobs) {
+            Some(request) => match self.submit(request, jobs) {
                 Ok(asked) => Some(asked),
                 Err(back) => {
                     let Refused { fault, jobs } = back;
@@ -496,7 +499,7 @@ impl<N: Name, J: Errand> Desk<N, J> {
 
     /// The job of a target of the oldest open request, with the number of the operation.
     pub fn take_job(&mut self, name: u64) -> Option<J>
-        ensures some { IfSome result (λ j. (J.whom j ≡ name) × (0 < J.number j)) }
+        ensures some { IfSome result (λ j. (J.whom j ≡ name) × (0 < J.number j) × front_is (λ c. c.number == J.number j) (at self.old).opened true) }
         ensures same { self.new ≡ self.old }
     {
         if self.opened.is_empty() {
@@ -510,6 +513,29 @@ impl<N: Name, J: Errand> Desk<N, J> {
             Some(job) => Some(job.numbered(number)),
             None => None,
         }
+    }
+
+    /// The live names, in the order in which they started. Refused only for want of memory.
+    pub fn live(&self) -> Result<Vec<u64>, AllocError>
+        ensures { IfOk result (λ names. names.items ≡ names_of (at self.now).live) }
+    {
+        let _ = &self.log;
+        names_of(self.live.as_slice(), self.alloc)
+    }
+
+    /// The names with their replies of an operation, in the order of their Finish entries. Refused only for want of memory.
+    pub fn replies(&self, op: u64) -> Result<Vec<(u64, u64)>, AllocError>
+        ensures { IfOk result (λ list. list.items ≡ replies_of op self.now.book.history) }
+    {
+        let _ = &self.codes;
+        self.log.replies(self.alloc, op)
+    }
+
+    /// Law: the history is legal.
+    pub fn history_is_legal(&self)
+        ensures { is_legal self.now.slots self.now.methods self.now.book.history ≡ true }
+    {
+        let _ = &self.log;
     }
 
     /// How a name stands to the oldest open request: what telling it, or holding its thread, is answered or refused with.

@@ -4,16 +4,17 @@ ghost use Rattle.std.specs.List.{list_any, list_all};
 ghost use Rattle.operations.specs.Names.{among};
 ghost use Rattle.operations.specs.Requests.{is_census};
 ghost use Rattle.desk.specs.declared.entries.Opened.{Opened as OpenedOf};
-ghost use Rattle.desk.specs.Machine.{place_of, is_live, is_taken, without, others, live_of, none_live, has_census, may_close, finished, as_operated, is_due, targets_of, steps_of};
+ghost use Rattle.desk.specs.Machine.{names_of, place_of, is_live, is_taken, without, others, live_of, none_live, has_census, may_close, finished, as_operated, is_due, targets_of, steps_of};
 ghost use Rattle.desk.specs.Targets.{is_asked, is_owed, standing_to, is_due_target, due_after};
 ghost use Rattle.desk.specs.Refusals.{has_body, are_all};
+ghost use Rattle.desk.specs.JobsFit.{same_ask, are_for, jobs_fit};
 ghost use Rattle.desk.specs.Fields.{current_of, IsIndex};
 
 use crate::entries::{Carried, Live, Opened, Standing, Target};
 use bodies::{Body, Name};
-use operations::Request;
 use operations::job::Errand;
 use operations::queue::Queue;
+use operations::{Ask, Request};
 use std::alloc::{AllocError, Global};
 
 /// Whether a name is live.
@@ -69,6 +70,7 @@ pub fn all_gone(names: &[u64], live: &[Live]) -> bool
 /// The least place that no live name has.
 pub fn least_free(live: &[Live], places: usize) -> Option<usize>
     ensures some { IfSome result (λ p. (p < places) × (is_taken p live.now ≡ false)) }
+    ensures least { IfSome result (λ p. (k : ℕ) → k < p → is_taken k live.now ≡ true) }
     ensures none { IfNone result ((k : ℕ) → k < places → is_taken k live.now ≡ true) }
 {
     for place in 0..places {
@@ -214,6 +216,19 @@ pub fn is_idle<J>(opened: &[Opened<J>], queue: &Queue<Carried<J>>) -> bool
     opened.is_empty() && queue.len() == 0
 }
 
+/// The live names.
+pub fn names_of(live: &[Live], alloc: Global) -> Result<Vec<u64>, AllocError>
+    ensures { IfOk result (λ names. names.items ≡ names_of live.now) }
+{
+    let mut names = Vec::new(alloc);
+    let mut rest = live;
+    while let Some((one, others)) = rest.split_first() {
+        names.push(one.name).map_err(|_| AllocError)?;
+        rest = others;
+    }
+    Ok(names)
+}
+
 /// Where the name is live.
 pub fn place_of(live: &[Live], name: u64) -> Option<usize>
     ensures { result ≡ place_of name live.now }
@@ -308,6 +323,49 @@ fn job_in<J: Errand>(request: &mut Opened<J>, name: u64) -> Option<J>
     ensures same { current_of request.new ≡ current_of request.old }
 {
     take_of(&mut request.jobs, name)
+}
+
+// Whether two asks are the same.
+fn same_ask(one: Ask, other: Ask) -> bool
+    ensures { result ≡ same_ask one other }
+{
+    match one {
+        Ask::Depth => matches!(other, Ask::Depth),
+        Ask::Top => matches!(other, Ask::Top),
+        Ask::CountOf(serial) => match other {
+            Ask::CountOf(asked) => serial == asked,
+            Ask::Depth | Ask::Top => false,
+        },
+    }
+}
+
+// Whether the jobs are one for each target in order, with this ask.
+fn are_for<J: Errand>(targets: &[u64], ask: Ask, jobs: &[J]) -> bool
+    ensures { result ≡ are_for J.whom J.asks targets.now ask jobs.now }
+{
+    let mut names = targets;
+    let mut rest = jobs;
+    while let Some((name, others)) = names.split_first() {
+        let Some((job, later)) = rest.split_first() else {
+            return false;
+        };
+        if !(job.target_of() == *name && same_ask(job.ask_of(), ask)) {
+            return false;
+        }
+        names = others;
+        rest = later;
+    }
+    rest.is_empty()
+}
+
+/// Whether the jobs are one for each target of the request in order, with its ask. A census has no jobs.
+pub fn jobs_fit<J: Errand>(request: &Request, jobs: &[J]) -> bool
+    ensures { result ≡ jobs_fit J.whom J.asks request.now jobs.now }
+{
+    match request {
+        Request::Census => jobs.is_empty(),
+        Request::Handshake { targets, ask } => are_for(targets.as_slice(), *ask, jobs),
+    }
 }
 
 /// The job for the name, out of the oldest open request.

@@ -1,10 +1,11 @@
 //! The history with the room that is kept in it, and receipts of its entries.
-ghost use Rattle.std.specs.Prelude.{◌≡◌, ℕ, ◌+◌, ◌-◌, ◌<◌, ◌≤◌, [], ◌∷◌, ◌++◌, length, true, false, OnOk, IfErr};
+ghost use Rattle.std.specs.Prelude.{◌≡◌, ℕ, ◌+◌, ◌-◌, ◌<◌, ◌≤◌, [], ◌∷◌, ◌++◌, length, true, false, OnOk, IfOk, IfErr};
+ghost use Rattle.desk.specs.Once.{reply_in, replies_of};
 ghost use Rattle.desk.specs.Machine.{has_room, stands, room_fault};
 
 use crate::entries::Entry;
 use bodies::Name;
-use std::alloc::Global;
+use std::alloc::{AllocError, Global};
 use std::marker::{Model, PhantomData};
 use std::snapshot::Snapshot;
 
@@ -66,6 +67,45 @@ fn fits(len: usize, reserved: usize, more: usize) -> bool
     }
 }
 
+// The name and the reply of a Finish of this operation.
+fn reply_in(entry: &Entry, op: u64) -> Option<(u64, u64)>
+    ensures { result ≡ reply_in op entry.now }
+{
+    match entry {
+        Entry::Finish(number, name, reply) => {
+            if *number == op {
+                Some((*name, *reply))
+            } else {
+                None
+            }
+        }
+        Entry::Start(..)
+        | Entry::Exit(..)
+        | Entry::Ask(..)
+        | Entry::Open(..)
+        | Entry::Operate(..)
+        | Entry::Close(..)
+        | Entry::Install(..)
+        | Entry::Invalidate(..)
+        | Entry::Retire(..)
+        | Entry::Free(..) => None,
+    }
+}
+
+fn replies_in(alloc: Global, entries: &[Entry], op: u64) -> Result<Vec<(u64, u64)>, AllocError>
+    ensures { IfOk result (λ list. list.items ≡ replies_of op entries.now) }
+{
+    let mut list = Vec::new(alloc);
+    let mut rest = entries;
+    while let Some((entry, others)) = rest.split_first() {
+        if let Some(reply) = reply_in(entry, op) {
+            list.push(reply).map_err(|_| AllocError)?;
+        }
+        rest = others;
+    }
+    Ok(list)
+}
+
 impl<N: Name> Log<N> {
     pub fn new(alloc: Global) -> Log<N>
         ensures { (result.history ≡ []) × (result.reserved ≡ 0) }
@@ -81,6 +121,14 @@ impl<N: Name> Log<N> {
         ensures { result.now ≡ self.now.history }
     {
         self.entries.as_slice()
+    }
+
+    /// The names with their replies of an operation, in the order of the entries. Refused only for want of memory.
+    pub fn replies(&self, alloc: Global, op: u64) -> Result<Vec<(u64, u64)>, AllocError>
+        ensures { IfOk result (λ list. list.items ≡ replies_of op self.now.history) }
+    {
+        let _ = &self.reserved;
+        replies_in(alloc, self.entries.as_slice(), op)
     }
 
     /// Keeps room for more entries.
