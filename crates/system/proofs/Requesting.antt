@@ -27,6 +27,7 @@ use Rattle.system.specs.World.{World, thread_at, threads, live_names, is_live}
 use Rattle.system.specs.Step.{outcome}
 use Rattle.system.specs.Facts.{IsSound}
 use Rattle.system.specs.Stands.{Matches, SamePlaces, SameMarks, SameRecord, SameRecords, SameOpen, SameOpened, SameSizes, Does, waiting_of, done_by, kept_at}
+use Rattle.system.proofs.Cells.{cells_stay}
 use Rattle.system.proofs.Lists.{map_length}
 use Rattle.system.proofs.Outcomes.{asked, with_request, newly_opened}
 use Rattle.system.proofs.Logs.{IsElsewhere, names_next, operations_next, moment_next, left_next, looked_next, moments_next, place_over, opened_over}
@@ -103,8 +104,7 @@ asked_live s t w requests e a m k =
       numbers = k.numbers;
       waiting = k.waiting;
       opened = k.opened;
-      index_slots = ap (λ ix. ix.slots) k.rest.index ∙ m.index_slots;
-      index = λ serial. rw k.rest.index (m.index serial);
+      index = rw k.rest.index (cells_stay s.index w v refl refl refl m.index);
     }
 
 pub asked_matches : (s t : Core) (w : World) (requests : Requests) (e : Event) (a : Answer) → Matches s w → Asked s t w requests e a → Matches t (asked w requests e a)
