@@ -32,6 +32,7 @@ use Rattle.system.specs.Facts.{IsSound}
 use Rattle.system.specs.Memory.{Accepts}
 use Rattle.system.specs.Marking.{SameMarks, SameOpens}
 use Rattle.system.specs.Stands.{Matches, SamePlaces, SameRecord, SameRecords, SameSizes, Does, waiting_of, kept_at}
+use Rattle.system.proofs.Cells.{cells_stay}
 use Rattle.system.proofs.Lists.{map_length}
 use Rattle.system.proofs.Outcomes.{asked, with_request, newly_opened, with_opened, Opens}
 use Rattle.system.proofs.ByCases.{empty_of}
@@ -111,8 +112,7 @@ asked_live s t w requests e a m k =
       numbers = k.numbers;
       waiting = k.waiting;
       opened = k.opened;
-      index_slots = ap (λ ix. ix.slots) k.rest.index ∙ m.index_slots;
-      index = λ serial. rw k.rest.index (m.index serial);
+      index = rw k.rest.index (cells_stay s.index w v refl refl refl m.index);
     }
 
 pub asked_matches : (s t : Core) (w : World) (requests : Requests) (e : Event) (a : Answer) → Matches s w → Asked s t w requests e a → Matches t (asked w requests e a)
