@@ -44,6 +44,13 @@ use Rattle.system.proofs.Outcomes.{coded}
 use Rattle.system.proofs.Table.{code_serial, code_with_state, in_state_here, in_state_other, in_state_slot, unfreed_code, unfreed_takes}
 use Rattle.system.proofs.Logs.{IsElsewhere, names_next, operations_next, moment_next, left_next, looked_next, moments_next, place_over, opened_over, noted_matches}
 
+-- An event does the same where its answer is another name of the same.
+pub answered_as : (s t : Core) (e : Event) (a b : Answer) → a ≡ b → Does e s a t → Does e s b t
+answered_as s t e a b same does = subst (λ x. Does e s x t) same does
+
+pub same_some : {A : Type 0} {x y : A} → Some x ≡ Some y → x ≡ y
+same_some e = cc
+
 -- An outcome that is known decides what is answered and what is after it.
 pub accepted_in : (s : Core) (w v : World) (e : Event) (a : Answer) → outcome w e ≡ accepted v a → Matches s (record v { log = record { event = e; answer = a } ∷ w.log }) → DoesIn e a s w
 accepted_in s w v e a h m = record { answer = rw h refl; matches = rw h m }

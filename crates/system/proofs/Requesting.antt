@@ -39,7 +39,7 @@ use Rattle.system.proofs.ByCases.{empty_of}
 use Rattle.system.proofs.Marking.{fewer_own, opened_own}
 use Rattle.system.proofs.Pairs.{empty_same, opens_push}
 use Rattle.system.proofs.Logs.{IsElsewhere, names_next, operations_next, moment_next, left_next, looked_next, moments_next, place_over, opened_over}
-use Rattle.system.proofs.Codings.{accepted_in, refused_does}
+use Rattle.system.proofs.Codings.{accepted_in, answered_as, refused_does, same_some}
 use Rattle.system.proofs.Marks.{among_live}
 
 -- A system that differs in its requests alone.
@@ -274,9 +274,9 @@ opened_does s t oldest others none is rest numbers waiting opens_are = record {
 
 -- A request that doesn't wait, and one that would.
 pub not_queued : (s : Core) (request : Request) (f : QueueFault) (r : Refusal) → nat_lt s.requests.numbers last_number ≡ true → IsCause (length s.requests.waiting) request f → refusal_of f ≡ Some r → Does (event.Ask request) s (answer.Refused r) s
-not_queued s request fault.QueueFull r room cause is = let same : refusal.QueueFull ≡ r = cc in subst (λ x. Does (event.Ask request) s (answer.Refused x) s) same (queue_full s request room cause)
-not_queued s request fault.NoTargets r room cause is = let same : refusal.NoTargets ≡ r = cc in subst (λ x. Does (event.Ask request) s (answer.Refused x) s) same (no_targets s request room cause)
-not_queued s request fault.BadTargets r room cause is = let same : refusal.BadTargets ≡ r = cc in subst (λ x. Does (event.Ask request) s (answer.Refused x) s) same (bad_targets s request room cause)
+not_queued s request fault.QueueFull r room cause is = answered_as s s (event.Ask request) (answer.Refused refusal.QueueFull) (answer.Refused r) (ap answer.Refused (same_some is)) (queue_full s request room cause)
+not_queued s request fault.NoTargets r room cause is = answered_as s s (event.Ask request) (answer.Refused refusal.NoTargets) (answer.Refused r) (ap answer.Refused (same_some is)) (no_targets s request room cause)
+not_queued s request fault.BadTargets r room cause is = answered_as s s (event.Ask request) (answer.Refused refusal.BadTargets) (answer.Refused r) (ap answer.Refused (same_some is)) (bad_targets s request room cause)
 not_queued s request fault.NoMemory r room cause is = cc
 
 pub may_ask : (s : Core) (request : Request) → nat_lt s.requests.numbers last_number ≡ true → MayWait (length s.requests.waiting) request → Accepts s (event.Ask request)
