@@ -48,6 +48,9 @@ use Rattle.system.proofs.Logs.{IsElsewhere, names_next, operations_next, moment_
 pub answered_as : (s t : Core) (e : Event) (a b : Answer) → a ≡ b → Does e s a t → Does e s b t
 answered_as s t e a b same does = subst (λ x. Does e s x t) same does
 
+pub none_some : {A : Type 0} {x : A} → None ≡ Some x → ⊥
+none_some e = cc
+
 pub same_some : {A : Type 0} {x y : A} → Some x ≡ Some y → x ≡ y
 same_some e = cc
 

@@ -39,7 +39,7 @@ use Rattle.system.proofs.ByCases.{empty_of}
 use Rattle.system.proofs.Marking.{fewer_own, opened_own}
 use Rattle.system.proofs.Pairs.{empty_same, opens_push}
 use Rattle.system.proofs.Logs.{IsElsewhere, names_next, operations_next, moment_next, left_next, looked_next, moments_next, place_over, opened_over}
-use Rattle.system.proofs.Codings.{accepted_in, answered_as, refused_does, same_some}
+use Rattle.system.proofs.Codings.{accepted_in, answered_as, none_some, refused_does, same_some}
 use Rattle.system.proofs.Marks.{among_live}
 
 -- A system that differs in its requests alone.
@@ -277,7 +277,7 @@ pub not_queued : (s : Core) (request : Request) (f : QueueFault) (r : Refusal) �
 not_queued s request fault.QueueFull r room cause is = answered_as s s (event.Ask request) (answer.Refused refusal.QueueFull) (answer.Refused r) (ap answer.Refused (same_some is)) (queue_full s request room cause)
 not_queued s request fault.NoTargets r room cause is = answered_as s s (event.Ask request) (answer.Refused refusal.NoTargets) (answer.Refused r) (ap answer.Refused (same_some is)) (no_targets s request room cause)
 not_queued s request fault.BadTargets r room cause is = answered_as s s (event.Ask request) (answer.Refused refusal.BadTargets) (answer.Refused r) (ap answer.Refused (same_some is)) (bad_targets s request room cause)
-not_queued s request fault.NoMemory r room cause is = cc
+not_queued s request fault.NoMemory r room cause is = absurd (none_some is)
 
 pub may_ask : (s : Core) (request : Request) → nat_lt s.requests.numbers last_number ≡ true → MayWait (length s.requests.waiting) request → Accepts s (event.Ask request)
 may_ask s request room may = λ w sound m. rw (ask_in s w request m room may) refl
