@@ -301,10 +301,6 @@ moves frames others es code by acts short some r w few =
       net = subst (λ z. IsWithin z 256) (net_here es None code by r) (within_all others 256 _ code short (kept.within code));
     }
 
-none_first : (es : List Change) → first_of es ≡ None → es ≡ []
-none_first [] h = refl
-none_first (e ∷ es) h = cc
-
 counted_no_nets : (frames : List Frame) (es : List Change) → IsRising None es → ((c : CodeId) → IsWithin (net_in es c) (act c frames)) → ((c : CodeId) → act c frames ≡ times c (counted_by frames es)) → es ≡ []
 counted_no_nets frames [] r w h = refl
 counted_no_nets frames (e ∷ es) r w h = absurd (zero_not e.by r.1 (sym (itself e es) ∙ zero_net frames (e ∷ es) e.code (w e.code).high (h e.code)))
@@ -324,9 +320,6 @@ settled_iff frames es publishing empty closed e r w = (
 -- before a publication gave anything, all nets are left
 pub from_front : (frames : List Frame) (es : List Change) (n : ℕ) → n ≡ 0 → ((c : CodeId) → IsWithin (net_in (drop n es) c) (act c frames)) → (c : CodeId) → IsWithin (net_in es c) (act c frames)
 from_front frames es n e w = subst (λ m. (c : CodeId) → IsWithin (net_in (drop m es) c) (act c frames)) e w
-
-pub to_front : (frames : List Frame) (es : List Change) (n : ℕ) → n ≡ 0 → ((c : CodeId) → IsWithin (net_in es c) (act c frames)) → (c : CodeId) → IsWithin (net_in (drop n es) c) (act c frames)
-to_front frames es n e w = subst (λ m. (c : CodeId) → IsWithin (net_in (drop m es) c) (act c frames)) (sym e) w
 
 act-append : (c : CodeId) (fs : List Frame) (f : Frame) → act c (fs ++ f ∷ []) ≡ act c fs + cond (is_of c f) 1 0
 act-append c [] f = act-cons c f [] ∙ omega arith

@@ -122,8 +122,7 @@ same_matches s new w rest places m = record {
   numbers = ap (λ r. r.numbers) rest.requests ∙ m.numbers;
   waiting = rw rest.requests m.waiting;
   opened = rw rest.requests m.opened;
-  index_slots = ap (λ ix. ix.slots) rest.index ∙ m.index_slots;
-  index = λ serial. rw rest.index (m.index serial);
+  index = rw rest.index m.index;
 }
 
 pub refused_in : (s new : Core) (w : World) (e : Event) (r : Refusal) (said : Answer) → SameRest s new → new.places.items ≡ s.places.items → Matches s w → outcome w e ≡ refused r → said ≡ answer.Refused r → DoesIn e said new w

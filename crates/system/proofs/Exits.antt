@@ -10,7 +10,7 @@ use Rattle.frames.specs.declared.Frame.{Frame}
 use Rattle.frames.specs.Stack.{act}
 use Rattle.operations.specs.Names.{is_empty}
 use Rattle.method_table.specs.declared.Code.{Code}
-use Rattle.method_table.specs.Codes.{code_of, id_of}
+use Rattle.method_table.specs.Codes.{id_of}
 use Rattle.thread_state.specs.declared.State.TheVariants.{Vacant}
 use Rattle.system.specs.declared.events.Act.TheVariants.{Exit, Stack}
 use Rattle.system.specs.declared.events.Event.{Event}
@@ -32,6 +32,7 @@ use Rattle.system.specs.Memory.{Accepts}
 use Rattle.system.specs.Keeps.{SaysExit}
 use Rattle.system.specs.Steps.{DidExit, DidLeave, Left, frames_at, is_taken}
 use Rattle.system.specs.Stands.{Matches, SameAt, DoesIn, Does, walk_of}
+use Rattle.system.proofs.Cells.{cells_over}
 use Rattle.system.proofs.Outcomes.{seated}
 use Rattle.system.proofs.Frames.{part_settled}
 use Rattle.system.proofs.Logs.{IsQuiet, moments_next, records_next, opened_over, quiet_names, quiet_moment, quiet_operations}
@@ -97,8 +98,7 @@ left_matches s new w p kept t a m rest places there none =
       numbers = ap (λ r. r.numbers) rest.requests ∙ (m.numbers ∙ sym (quiet_operations entry w.log q));
       waiting = rw rest.requests m.waiting;
       opened = rw rest.requests (opened_over s.requests.opens w.requests.opened w v (omega (arith, quiet_names entry w.log q)) (λ name lives. live_without name w.places p lives) m.opened);
-      index_slots = ap (λ ix. ix.slots) rest.index ∙ m.index_slots;
-      index = λ serial. rw rest.index (m.index serial ∙ sym (walk_without w p t (event.At p Exit) a (code_of w.codes serial) there none));
+      index = rw rest.index (cells_over s.index w v refl refl (λ o. walk_without w p t (event.At p Exit) a o there none) m.index);
     }
 
 by_refusal : (s new : Core) (w : World) (p : ℕ) (kept : Kept) (t : Thread) (said : Answer) (refusal : Option Refusal) → Matches s w → SameRest s new → slice_get w.places p ≡ Some (Some t) → SameAt w p kept t → SaysExit (here w Exit t) t refusal → Left p kept s.places.items new.places.items refusal said → DoesIn (event.At p Exit) said new w

@@ -21,6 +21,7 @@ pub mod Found
 pub mod Reclaim
 pub mod ReclaimKept
 pub mod Reclaimed
+pub mod Cells
 pub mod Logs
 pub mod Marking
 pub mod Pairs

@@ -15,6 +15,7 @@ use Rattle.system.specs.Moments.{starts, left_at, begun, ended}
 use Rattle.system.specs.Stands.{Matches, SamePlace, SameAt, SameRecord, SameRecords, SameMoments, kept_at}
 use Rattle.system.specs.Marking.{SameOpens}
 use Rattle.system.proofs.Pairs.{opens_over}
+use Rattle.system.proofs.Cells.{cells_stay}
 use Rattle.system.proofs.Frames.{count_cons}
 use Rattle.system.proofs.Outcomes.{noted}
 
@@ -108,6 +109,5 @@ noted_matches s w e a q elsewhere m =
       numbers = m.numbers ∙ sym (quiet_operations entry w.log q);
       waiting = m.waiting;
       opened = opened_over s.requests.opens w.requests.opened w (noted w e a) (omega (arith, quiet_names entry w.log q)) (λ name lives. lives) m.opened;
-      index_slots = m.index_slots;
-      index = m.index;
+      index = cells_stay s.index w (noted w e a) refl refl refl m.index;
     }

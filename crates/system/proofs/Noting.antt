@@ -19,7 +19,8 @@ use Rattle.system.specs.Step.{outcome, of_code, code_or_none}
 use Rattle.system.specs.Stands.{Matches, Does, kept_at}
 use Rattle.system.proofs.Outcomes.{noted}
 use Rattle.system.proofs.Logs.{IsQuiet, IsElsewhere, names_next, operations_next, moment_next, moments_next, place_over, opened_over, noted_matches}
-use Rattle.system.proofs.Codings.{accepted_in, record_next}
+use Rattle.system.proofs.Cells.{cells_stay}
+use Rattle.system.proofs.Codings.{accepted_in, answered_as, none_some, record_next, same_some}
 
 pub said_state : (s : Core) (serial : ℕ) (code : Code) → code_of s.table.codes serial ≡ Some code → Does (event.CodeState serial) s (answer.State code.state) s
 said_state s serial code is = record {
@@ -36,8 +37,8 @@ pub state_of : (s : Core) (serial : ℕ) (state : CodeState) → option_map (λ 
 state_of s serial state is = by (code_of s.table.codes serial) refl is
   where
     by : (o : Option Code) → code_of s.table.codes serial ≡ o → option_map (λ (c : Code). c.state) o ≡ Some state → Does (event.CodeState serial) s (answer.State state) s
-    by None found e = cc
-    by (Some code) found e = let same : code.state ≡ state = cc in subst (λ x. Does (event.CodeState serial) s (answer.State x) s) same (said_state s serial code found)
+    by None found e = absurd (none_some e)
+    by (Some code) found e = answered_as s s (event.CodeState serial) (answer.State code.state) (answer.State state) (ap answer.State (same_some e)) (said_state s serial code found)
 
 resolved : (s : Core) (method : ℕ) (o : Option Code) → nat_lt method s.table.methods ≡ true → in_use_for s.table.codes method ≡ o → Does (event.Resolve method) s (code_or_none o) s
 resolved s method o low is = record {
@@ -81,8 +82,7 @@ round_matches s t w is m = rw is (record {
   numbers = m.numbers ∙ sym numbers;
   waiting = m.waiting;
   opened = opened_over s.requests.opens w.requests.opened w (noted w event.Round answer.Done) (omega (arith, names)) (λ name lives. lives) m.opened;
-  index_slots = m.index_slots;
-  index = m.index;
+  index = cells_stay s.index w (noted w event.Round answer.Done) refl refl refl m.index;
 })
   where
     names : names_given (record { event = event.Round; answer = answer.Done } ∷ w.log) ≡ names_given w.log

@@ -32,13 +32,14 @@ use Rattle.system.specs.Facts.{IsSound}
 use Rattle.system.specs.Memory.{Accepts}
 use Rattle.system.specs.Marking.{SameMarks, SameOpens}
 use Rattle.system.specs.Stands.{Matches, SamePlaces, SameRecord, SameRecords, SameSizes, Does, waiting_of, kept_at}
+use Rattle.system.proofs.Cells.{cells_stay}
 use Rattle.system.proofs.Lists.{map_length}
 use Rattle.system.proofs.Outcomes.{asked, with_request, newly_opened, with_opened, Opens}
 use Rattle.system.proofs.ByCases.{empty_of}
 use Rattle.system.proofs.Marking.{fewer_own, opened_own}
 use Rattle.system.proofs.Pairs.{empty_same, opens_push}
 use Rattle.system.proofs.Logs.{IsElsewhere, names_next, operations_next, moment_next, left_next, looked_next, moments_next, place_over, opened_over}
-use Rattle.system.proofs.Codings.{accepted_in, refused_does}
+use Rattle.system.proofs.Codings.{accepted_in, answered_as, none_some, refused_does, same_some}
 use Rattle.system.proofs.Marks.{among_live}
 
 -- A system that differs in its requests alone.
@@ -111,8 +112,7 @@ asked_live s t w requests e a m k =
       numbers = k.numbers;
       waiting = k.waiting;
       opened = k.opened;
-      index_slots = ap (λ ix. ix.slots) k.rest.index ∙ m.index_slots;
-      index = λ serial. rw k.rest.index (m.index serial);
+      index = rw k.rest.index (cells_stay s.index w v refl refl refl m.index);
     }
 
 pub asked_matches : (s t : Core) (w : World) (requests : Requests) (e : Event) (a : Answer) → Matches s w → Asked s t w requests e a → Matches t (asked w requests e a)
@@ -274,10 +274,10 @@ opened_does s t oldest others none is rest numbers waiting opens_are = record {
 
 -- A request that doesn't wait, and one that would.
 pub not_queued : (s : Core) (request : Request) (f : QueueFault) (r : Refusal) → nat_lt s.requests.numbers last_number ≡ true → IsCause (length s.requests.waiting) request f → refusal_of f ≡ Some r → Does (event.Ask request) s (answer.Refused r) s
-not_queued s request fault.QueueFull r room cause is = let same : refusal.QueueFull ≡ r = cc in subst (λ x. Does (event.Ask request) s (answer.Refused x) s) same (queue_full s request room cause)
-not_queued s request fault.NoTargets r room cause is = let same : refusal.NoTargets ≡ r = cc in subst (λ x. Does (event.Ask request) s (answer.Refused x) s) same (no_targets s request room cause)
-not_queued s request fault.BadTargets r room cause is = let same : refusal.BadTargets ≡ r = cc in subst (λ x. Does (event.Ask request) s (answer.Refused x) s) same (bad_targets s request room cause)
-not_queued s request fault.NoMemory r room cause is = cc
+not_queued s request fault.QueueFull r room cause is = answered_as s s (event.Ask request) (answer.Refused refusal.QueueFull) (answer.Refused r) (ap answer.Refused (same_some is)) (queue_full s request room cause)
+not_queued s request fault.NoTargets r room cause is = answered_as s s (event.Ask request) (answer.Refused refusal.NoTargets) (answer.Refused r) (ap answer.Refused (same_some is)) (no_targets s request room cause)
+not_queued s request fault.BadTargets r room cause is = answered_as s s (event.Ask request) (answer.Refused refusal.BadTargets) (answer.Refused r) (ap answer.Refused (same_some is)) (bad_targets s request room cause)
+not_queued s request fault.NoMemory r room cause is = absurd (none_some is)
 
 pub may_ask : (s : Core) (request : Request) → nat_lt s.requests.numbers last_number ≡ true → MayWait (length s.requests.waiting) request → Accepts s (event.Ask request)
 may_ask s request room may = λ w sound m. rw (ask_in s w request m room may) refl

@@ -4,6 +4,7 @@ use Rattle.std.specs.Prelude.{Bool, true, false, IfOk, IsOk, OnErr, slice_get}
 use Rattle.std.specs.declared.alloc.AllocError.{AllocError}
 use Rattle.std.proofs.lemmas.List.{take_more, length-replicate}
 use Rattle.std.proofs.lemmas.Option.{slice_get_read}
+use Rattle.activation_index.specs.Cells.{cell_of}
 use Rattle.system.specs.declared.events.Event.{Event}
 use Rattle.system.specs.declared.events.Event.TheVariants as event
 use Rattle.system.specs.declared.answers.Answer.{Answer}
@@ -15,6 +16,7 @@ use Rattle.system.specs.Runs.{after, answer_to, world_after, answers}
 use Rattle.system.specs.Facts.{IsSound}
 use Rattle.system.specs.Memory.{NeedsMemory, Accepts, StopsAt, copies_freely}
 use Rattle.system.specs.Stands.{Matches, StandsFor, world_by, SameSizes, Next, Does, DoesIn, OfWorld, IsSized, places_of, slots_of, methods_of, kept_at, held_at, takes_no_memory}
+use Rattle.system.proofs.Cells.{no_cells}
 use Rattle.system.proofs.Worlds.{worlds_are_sound}
 
 pub world_after-push : (w : World) (events : List Event) (event : Event) → world_after w (events ++ event ∷ []) ≡ after (world_after w events) event
@@ -143,7 +145,7 @@ pub record IsBlank (s : Core) (places slots methods : ℕ) : Type 0 where
   pub places_are : s.places.items ≡ replicate places None
   pub table_is : s.table ≡ record { codes = []; slots = slots; methods = methods }
   pub records_are : length s.records.items ≡ slots
-  pub index_is : s.index ≡ record { slots = slots; entries = [] }
+  pub index_is : s.index ≡ replicate slots (cell_of 0 0)
   pub names_are : s.names ≡ 0
   pub moment_is : s.moment ≡ 1
   pub numbers_are : s.requests.numbers ≡ 0
@@ -165,8 +167,7 @@ blank_matches s places slots methods b = record {
   numbers = b.numbers_are;
   waiting = rw b.waiting_are refl;
   opened = rw b.opens_are tt;
-  index_slots = ap (λ i. i.slots) b.index_is;
-  index = λ serial. rw b.index_is refl;
+  index = rw b.index_is (no_cells places slots methods);
 }
 
 pub blank_stands : (s : Core) (places slots methods : ℕ) → IsBlank s places slots methods → StandsFor s [] × (places_of s ≡ places) × (slots_of s ≡ slots) × (methods_of s ≡ methods)

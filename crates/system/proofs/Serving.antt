@@ -29,6 +29,7 @@ use Rattle.system.specs.Keeps.{SameThread, IsHere, finishes, clears, Lands, Beco
 use Rattle.system.specs.Marking.{SameMarks, SameOpens}
 use Rattle.system.specs.Stands as stands
 use Rattle.system.specs.Stands.{Matches, SamePlace, SamePlaces, SameAt, kept_at, held_at}
+use Rattle.system.proofs.Cells.{cells_stay}
 use Rattle.system.proofs.Outcomes.{asked}
 use Rattle.system.proofs.Seats.{there_of}
 use Rattle.system.proofs.Logs.{IsQuiet, moments_next, records_next, opened_over, quiet_names, quiet_moment, quiet_operations, place_over}
@@ -77,8 +78,7 @@ added_matches s new w p kept after t requests e a m sound k =
       numbers = ap (λ r. r.numbers) k.rest.requests ∙ (m.numbers ∙ sym (quiet_operations entry w.log k.quiet));
       waiting = rw k.rest.requests (m.waiting ∙ sym k.waiting);
       opened = rw k.rest.requests (subst (λ os. SameOpens s.requests.opens os v) (sym k.opened) (opened_over s.requests.opens w.requests.opened w v (omega (arith, quiet_names entry w.log k.quiet)) (λ name lives. lives) m.opened));
-      index_slots = ap (λ ix. ix.slots) k.rest.index ∙ m.index_slots;
-      index = λ serial. rw k.rest.index (m.index serial);
+      index = rw k.rest.index (cells_stay s.index w v refl refl refl m.index);
     }
 
 -- The operation that an accepted Finish or Clear found.

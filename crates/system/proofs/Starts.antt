@@ -10,7 +10,7 @@ use native.Mathlib.Decide.{ℕ_discrete}
 use Rattle.frames.specs.declared.CodeId.{CodeId}
 use Rattle.method_table.specs.declared.Code.{Code}
 use Rattle.method_table.specs.Numbers.{last_number}
-use Rattle.method_table.specs.Codes.{code_of, id_of}
+use Rattle.method_table.specs.Codes.{id_of}
 use Rattle.operations.specs.Requests.{is_census, is_target}
 use Rattle.operations.specs.Names.{among}
 use Rattle.system.specs.declared.events.Event.{Event}
@@ -33,6 +33,7 @@ use Rattle.system.specs.Marking.{SameMarks, SameOpened, SameOpens}
 use Rattle.system.specs.Censuses.{has_census}
 use Rattle.system.specs.Steps.{vacant_kept}
 use Rattle.system.specs.Stands.{Matches, SamePlace, SameAt, Does, walk_of, kept_at, held_at}
+use Rattle.system.proofs.Cells.{cells_over}
 use Rattle.system.proofs.Outcomes.{seated}
 use Rattle.system.proofs.Logs.{IsElsewhere, names_next, operations_next, moment_next, moments_next}
 use Rattle.system.proofs.Acting.{places_set, length_set}
@@ -202,8 +203,7 @@ started_matches s new w p name kept m sound k is there =
       numbers = ap (λ r. r.numbers) k.requests ∙ (m.numbers ∙ sym same_numbers);
       waiting = rw k.requests m.waiting;
       opened = rw k.requests (opens_over w v s.requests.opens w.requests.opened (opened_over_start w v p name sound is given there refl) m.opened);
-      index_slots = ap (λ ix. ix.slots) k.index ∙ m.index_slots;
-      index = λ serial. rw k.index (m.index serial ∙ sym (walk_with w p name event.Start (answer.Thread name p) (code_of w.codes serial) there));
+      index = rw k.index (cells_over s.index w v refl refl (λ o. walk_with w p name event.Start (answer.Thread name p) o there) m.index);
     }
 
 -- the place of the system is vacant in the world

@@ -2,8 +2,9 @@
 use Rattle.std.specs.Prelude.{Bool, true, false, nat_le, ◌&&◌, ◌==◌, ◌≡◌, ℕ, ◌≤◌, ◌<◌, List, [], ◌∷◌, ◌++◌, length, map, Option, Some, None, slice_get, slice_index_or, if◌then◌else◌}
 use Rattle.method_table.specs.declared.Code.{Code}
 use Rattle.method_table.specs.declared.CodeState.TheVariants.{NotEntrant}
-use Rattle.method_table.specs.Codes.{code_of, id_of}
-use Rattle.activation_index.specs.Counts.{count_in}
+use Rattle.method_table.specs.Codes.{code_of, id_of, takes_slot, next_serial}
+use Rattle.activation_index.specs.declared.Entry.{Entry as Cell}
+use Rattle.activation_index.specs.Cells.{cell_of}
 use Rattle.operations.specs.declared.queue.Waiting.{Waiting as Queued}
 use Rattle.system.specs.declared.events.Event.{Event}
 use Rattle.system.specs.declared.events.Event.TheVariants as event
@@ -76,6 +77,14 @@ abbrev pub walk_of : World → Option Code → ℕ
 walk_of w None = 0
 walk_of w (Some code) = walk w (id_of code)
 
+-- The index by slot: an unfreed code has the slot's cell with its count over all places, what counts anything is such a code's
+-- cell, and no cell has a serial that is yet to be given out.
+pub record SameCells (cells : List Cell) (w : World) : Type 0 where
+  pub lengths : length cells ≡ w.slots
+  pub here : (serial : ℕ) (code : Code) → code_of w.codes serial ≡ Some code → takes_slot code.state ≡ true → slice_get cells code.slot ≡ Some (cell_of serial (walk w (id_of code)))
+  pub own : (slot : ℕ) (cell : Cell) → slice_get cells slot ≡ Some cell → 0 < cell.count → (code : Code) × (code_of w.codes cell.serial ≡ Some code) × (takes_slot code.state ≡ true) × (code.slot ≡ slot)
+  pub low : (slot : ℕ) (cell : Cell) → slice_get cells slot ≡ Some cell → cell.serial < next_serial w.codes
+
 -- The system has what the world has, and the index counts what the threads published.
 pub record Matches (s : Core) (w : World) : Type 0 where
   pub slots : s.table.slots ≡ w.slots
@@ -88,8 +97,7 @@ pub record Matches (s : Core) (w : World) : Type 0 where
   pub numbers : s.requests.numbers ≡ operations_given w.log
   pub waiting : map waiting_of s.requests.waiting ≡ w.requests.waiting
   pub opened : SameOpens s.requests.opens w.requests.opened w
-  pub index_slots : s.index.slots ≡ w.slots
-  pub index : (serial : ℕ) → count_in s.index.entries serial ≡ walk_of w (code_of w.codes serial)
+  pub index : SameCells s.index w
 
 -- The sizes of a system.
 abbrev pub places_of : Core → ℕ

@@ -1,9 +1,8 @@
 // The events that count frames: a change of the open publication, and a census.
 ghost use Rattle.std.specs.Prelude.{◌≡◌, ◌≤◌, length, map, IfOk, OnErr};
-ghost use Rattle.activation_index.specs.Counts.{IsRisingFrom};
 ghost use Rattle.system.specs.declared.events.Act.TheVariants as acts;
 ghost use Rattle.system.specs.declared.events.Event.TheVariants as events;
-ghost use Rattle.system.specs.Censuses.{census_of, operate_refusal};
+ghost use Rattle.system.specs.Censuses.{operate_refusal, IsCensus, named};
 ghost use Rattle.system.specs.Memory.{Accepts};
 ghost use Rattle.system.specs.Stands.{Does, OfWorld};
 
@@ -15,7 +14,7 @@ use std::alloc::{AllocError, Global};
 
 // The counts under their names.
 fn code_counts(alloc: Global, counts: &[(u64, u32)]) -> Result<Vec<CodeCount>, AllocError>
-    ensures { IfOk result (λ list. list.items ≡ map (λ counted. record { serial = counted.0; count = counted.1 }) counts.now) }
+    ensures { IfOk result (λ list. list.items ≡ map named counts.now) }
 {
     counts
         .iter()
@@ -35,7 +34,8 @@ impl Core {
     {
         match change_at(&mut self.places, place) {
             Ok(Some(change)) => {
-                self.index.add(change.code.serial, change.by);
+                self.index
+                    .add(change.code.slot as usize, change.code.serial, change.by);
                 Answer::Changed(change.code.serial, change.by)
             }
             Ok(None) => Answer::NoChange,
@@ -61,8 +61,7 @@ impl Core {
 
     // The counts of the index, in rising serial.
     fn census(&self, alloc: Global) -> Result<CountList, AllocError>
-        ensures census { IfOk result (λ counts. counts ≡ census_of self.now.index.entries) }
-        ensures rising { IfOk result (λ counts. IsRisingFrom 0 self.now.index.entries) }
+        ensures { IfOk result (λ counts. IsCensus self.now.index counts) }
     {
         let counts = self.index.census(alloc)?;
         Ok(CountList::from_vec(code_counts(alloc, &counts)?))

@@ -17,7 +17,7 @@ use crate::opens::Opens;
 use crate::places::vacant_places;
 use crate::records::blank_records;
 use crate::requests::Requests;
-use activation_index::Index;
+use activation_index::dense::DenseIndex;
 use method_table::table::MethodTable;
 use operations::queue::Queue;
 use std::alloc::{AllocError, Global};
@@ -159,7 +159,7 @@ fn new_core(alloc: Global, places: usize, slots: usize, methods: usize) -> Resul
         places: vacant_places(alloc, places)?,
         table: MethodTable::new(alloc, slots as u32, methods as u32)?,
         records: blank_records(alloc, slots)?,
-        index: Index::new(alloc, slots)?,
+        index: DenseIndex::new(alloc, slots)?,
         names: 0,
         moment: 1,
         requests: Requests {
