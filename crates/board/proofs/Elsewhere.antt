@@ -1,25 +1,21 @@
 -- No step at another word is told as a step at the word that it is about: another seat's steps lead to a board where that word differs.
-use Rattle.std.proofs.Common.{◌≡◌, ◌≢◌, ◌⊎◌, ℕ, zero, suc, ◌+◌, ◌-◌, ◌*◌, ◌^◌, ◌%◌, ◌<◌, ◌≤◌, List, [], ◌∷◌, length, get_or, set, sym, refl, ap, ◌∙◌, inl, inr, subst, arith, length-set, get_or-set_same, get_or-set_other}
+use Rattle.std.proofs.Common.{◌≡◌, ◌≢◌, ℕ, zero, suc, ◌+◌, ◌-◌, ◌^◌, ◌%◌, ◌<◌, List, [], ◌∷◌, length, get_or, set, sym, refl, ap, ◌∙◌, inl, subst, arith, length-set, get_or-set_same, get_or-set_other}
 use Rattle.std.proofs.Math.Nat.{mod-eq_of_lt, add-mod_right}
 use Rattle.std.proofs.lemmas.List.{set-get_or}
 use mathlib.Core.Option.{Option, none, some}
 use lib.ListN.{get_elem?}
 use Rattle.atomic_table.specs.Table.{Act, keeps, takes, gives, chain, stepped, homes_after, carried_after}
-use Rattle.atomic_table.specs.Seated.{TableId}
 use Rattle.atomic_table.proofs.Lists.{set_else}
 use Rattle.frames.specs.declared.CodeId.{CodeId}
-use Rattle.frames.specs.declared.board_rule.EntryState.{EntryState}
 use Rattle.frames.specs.declared.board_rule.EntryState.TheVariants.{InUse, NotEntrant}
 use Rattle.frames.specs.declared.board_rule.StepMade.{StepMade}
-use Rattle.frames.specs.declared.board_rule.KeeperView.{KeeperView}
 use Rattle.frames.specs.declared.board_rule.SeatView.{SeatView}
-use Rattle.frames.specs.declared.board_rule.BoardView.{BoardView}
 use Rattle.frames.specs.declared.board_rule.BoardView.TheVariants.{Keeper, Thread}
-use Rattle.frames.specs.BoardWords.{Word, IsWord, entry_of, count_of, place_of, the_moment, pack}
+use Rattle.frames.specs.BoardWords.{entry_of, count_of, place_of, the_moment, pack}
 use Rattle.frames.specs.BoardRule.{code, SeatState}
 use Rattle.frames.specs.BoardViews.{slot_of, how_often, moment_read, stored_as, counted_down}
 use Rattle.frames.proofs.BoardLaws.{count_bounds}
-use Rattle.board.specs.Boards.{BoardId, index_of, word_in, words_at, stamp_of, IsToldBy, IsBoard}
+use Rattle.board.specs.Boards.{index_of, word_in, stamp_of, IsToldBy}
 use Rattle.board.specs.Plays.{Asked}
 use Rattle.board.specs.Laws.{IsFoundAt, MomentsElsewhereRefused, EntriesElsewhereRefused, LooksElsewhereRefused, WeightsElsewhereRefused}
 use Rattle.board.proofs.Indices.{index_low}

@@ -1,5 +1,5 @@
 -- The keeper's notes over its steps.
-use Rattle.std.proofs.Common.{◌≡◌, ◌≢◌, ◌⊎◌, ℕ, zero, suc, ◌*◌, ◌%◌, ◌^◌, ◌<◌, Bool, true, false, ◌||◌, ◌&&◌, eqb, List, [], ◌∷◌, length, get_or, set, sym, refl, ap, ◌∙◌, subst, arith, replicate, length-set, get_or-set_same, get_or-set_other, eq-eqb, ne_eqb}
+use Rattle.std.proofs.Common.{◌≡◌, ℕ, zero, suc, ◌*◌, ◌%◌, ◌^◌, ◌<◌, true, ◌||◌, ◌&&◌, eqb, List, [], ◌∷◌, length, get_or, set, sym, refl, ap, ◌∙◌, subst, arith, replicate, length-set, get_or-set_same, get_or-set_other, eq-eqb, ne_eqb}
 use Rattle.std.proofs.lemmas.List.{get_or-replicate, length-replicate}
 use Rattle.std.proofs.lemmas.Nat.Bits.{bit_at-zero, bit_at_set_same, bit_at_set_other}
 use Rattle.std.specs.Int.{bit_at, w64}
@@ -9,9 +9,9 @@ use native.Mathlib.Decide.{ℕ_discrete}
 use Rattle.frames.specs.declared.board_rule.SlotView.{SlotView}
 use Rattle.frames.specs.declared.board_rule.KeeperView.{KeeperView}
 use Rattle.frames.specs.BoardStep.{is_late}
-use Rattle.frames.specs.BoardViews.{slot_of, has_place, with_place, empty_slot, slot_with_look, keeper_view}
+use Rattle.frames.specs.BoardViews.{slot_of, has_place, empty_slot, slot_with_look, keeper_view}
 use Rattle.board.specs.declared.note.Note.{Note}
-use Rattle.board.specs.Notes.{note_at, blank, is_noted, Agrees, AreNoted, IsNotedAfter}
+use Rattle.board.specs.Notes.{note_at, blank, Agrees, AreNoted, IsNotedAfter}
 use Rattle.board.proofs.Views.{with_place_has}
 
 -- a note is written for the slot that changes

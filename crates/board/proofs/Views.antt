@@ -1,5 +1,5 @@
 -- What a step makes of a view is what it makes of the state that the view is.
-use Rattle.std.proofs.Common.{◌≡◌, ℕ, ◌||◌, ◌&&◌, eqb, Bool, true, false, List, [], ◌∷◌, sym, refl, ap, ◌∙◌}
+use Rattle.std.proofs.Common.{◌≡◌, ℕ, ◌||◌, ◌&&◌, eqb, Bool, true, false, List, refl}
 use Rattle.frames.specs.declared.CodeId.{CodeId}
 use Rattle.frames.specs.Stack.{same_code}
 use Rattle.frames.specs.declared.board_rule.SlotView.{SlotView}

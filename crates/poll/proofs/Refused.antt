@@ -1,17 +1,15 @@
 -- No step at another word is told as one at the word of a place; and what the word of a place tells.
-use Rattle.std.proofs.Common.{◌≡◌, ◌≢◌, ◌⊎◌, ℕ, zero, suc, ◌+◌, ◌*◌, ◌<◌, ◌≤◌, eqb, List, [], ◌∷◌, length, get_or, set, sym, refl, ap, ◌∙◌, inl, inr, ⊎_elim, subst, arith, length-set, get_or-set_same, get_or-set_other, ne_eqb, replicate}
+use Rattle.std.proofs.Common.{◌≡◌, ◌≢◌, ◌⊎◌, ℕ, zero, suc, ◌+◌, ◌<◌, List, [], ◌∷◌, length, get_or, set, sym, refl, ap, ◌∙◌, inl, inr, ⊎_elim, subst, arith, length-set, get_or-set_same, get_or-set_other, ne_eqb, replicate}
 use Rattle.std.proofs.lemmas.List.{length-replicate, get_or-replicate}
 use mathlib.Core.Logic.{dite}
-use mathlib.Core.Option.{none, some, some-injective, some-ne-none}
+use mathlib.Core.Option.{some, some-injective, some-ne-none}
 use native.Mathlib.Decide.{ℕ_discrete}
 use lib.ListN.{get_elem?}
-use Rattle.atomic_table.specs.Table.{Allows}
 use Rattle.atomic_table.proofs.Lists.{at_set, set_else}
-use Rattle.thread_state.specs.declared.poll_rule.Deed.{Deed}
 use Rattle.thread_state.specs.declared.poll_rule.Deed.TheVariants.{Nothing, Load, Exchange}
 use Rattle.thread_state.specs.declared.poll_rule.Arming.{Arming}
 use Rattle.thread_state.specs.declared.poll_rule.Watching.{Watching}
-use Rattle.thread_state.specs.PollRule.{IsPlaceKept, IsFound, polled, exchanged, armed_with, word_after}
+use Rattle.thread_state.specs.PollRule.{IsPlaceKept, IsFound, armed_with, word_after}
 use Rattle.thread_state.proofs.PollSteps.{found_is}
 use Rattle.poll.specs.declared.views.Watch.{Watch}
 use Rattle.poll.specs.declared.views.Watch.TheVariants.{Armer, Poller, Ended}

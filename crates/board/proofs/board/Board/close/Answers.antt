@@ -1,4 +1,4 @@
-use Rattle.std.proofs.Common.{arith, ◌≡◌, ℕ, ◌<◌, List, [], ◌∷◌, ◌++◌, length, length-append, sym, refl, ap, ◌∙◌, subst, Some, slice_get}
+use Rattle.std.proofs.Common.{arith, ◌≡◌, ℕ, ◌<◌, List, [], ◌∷◌, ◌++◌, length, sym, refl, ap, ◌∙◌, subst, Some, slice_get}
 use Rattle.std.specs.Mem.Slots.{slots_items}
 use Rattle.atomic_table.specs.Table.{Final, Seen}
 use Rattle.frames.specs.declared.board_rule.BoardView.TheVariants.{Keeper, Thread}
