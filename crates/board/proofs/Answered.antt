@@ -1,15 +1,15 @@
 -- What a seat says of its step stands in the words, whatever play it steps with.
-use Rattle.std.proofs.Common.{◌≡◌, ℕ, suc, ◌<◌, ◌≤◌, List, [], ◌∷◌, get_or, set, ap, ◌∙◌, ⊎_elim, subst, arith}
+use Rattle.std.proofs.Common.{◌≡◌, ℕ, suc, List, [], get_or, set, ap, ⊎_elim, subst, arith}
 use mathlib.Core.Option.{some}
 use lib.ListN.{get_elem?}
 use Rattle.atomic_table.proofs.Lists.{at_set}
 use Rattle.frames.specs.declared.board_rule.SeatView.{SeatView}
 use Rattle.frames.specs.declared.board_rule.BoardView.{BoardView}
 use Rattle.frames.specs.declared.board_rule.BoardView.TheVariants.{Keeper, Thread, Ended}
-use Rattle.board.specs.Boards.{word_in, thread_of, stamp_of, IsToldBy, IsTold, IsLatest, IsBoard}
+use Rattle.board.specs.Boards.{word_in, thread_of, stamp_of, IsToldBy, IsTold, IsLatest}
 use Rattle.board.specs.Laws.{AnswersStand, KeeperAnswersStand}
 use Rattle.board.proofs.Tables.{Whole, set_found}
-use Rattle.board.proofs.Calm.{calm, calmed, calm_latest, calm_thread, calm_keeper, own_at}
+use Rattle.board.proofs.Calm.{calm, calm_latest, calm_thread, calm_keeper, own_at}
 
 thread_told : (slots : ℕ) (ws : List ℕ) (v : BoardView) (t : SeatView) → thread_of v ≡ t → IsTold slots ws v → IsToldBy (word_in slots ws) t.place t.last
 thread_told slots ws (Keeper k us g) t is told = subst (λ (x : SeatView). IsToldBy (word_in slots ws) x.place x.last) is tt

@@ -1,25 +1,24 @@
 -- What a closed board's words say, and what a weighing says of all seats.
-use Rattle.std.proofs.Common.{◌≡◌, ◌≢◌, ◌⊎◌, ℕ, zero, suc, ◌+◌, ◌<◌, ◌≤◌, eqb, true, List, [], ◌∷◌, ◌++◌, length, get_or, set, sym, refl, ap, ◌∙◌, ⊎_elim, subst, arith, Some, slice_get, get_or-set_same, length-set, eq-eqb, ne_eqb}
+use Rattle.std.proofs.Common.{◌≡◌, ◌≢◌, ℕ, zero, suc, ◌+◌, ◌<◌, ◌≤◌, true, List, [], ◌∷◌, ◌++◌, length, get_or, set, sym, refl, ap, ◌∙◌, ⊎_elim, subst, arith, Some, slice_get, get_or-set_same, length-set, eq-eqb, ne_eqb}
 use Rattle.std.proofs.lemmas.Option.{same_Some, none-some}
 use mathlib.Core.Logic.{dite}
 use native.Mathlib.Decide.{ℕ_discrete}
 use Rattle.atomic_table.proofs.Lists.{at_set, set_else}
-use mathlib.Core.Option.{Option, none, some, some-injective, some-ne-none}
+use mathlib.Core.Option.{some, some-injective, some-ne-none}
 use lib.ListN.{get_elem?}
-use Rattle.atomic_table.specs.Table.{State, Final, Seen, Joins}
+use Rattle.atomic_table.specs.Table.{Final, Seen, Joins}
 use Rattle.frames.specs.declared.CodeId.{CodeId}
 use Rattle.frames.specs.declared.board_rule.KeeperView.{KeeperView}
 use Rattle.frames.specs.declared.board_rule.SeatView.{SeatView}
 use Rattle.frames.specs.BoardWords.{count_of}
-use Rattle.frames.specs.declared.board_rule.SlotView.{SlotView}
 use Rattle.frames.specs.declared.board_rule.BoardView.{BoardView}
 use Rattle.frames.specs.declared.board_rule.BoardView.TheVariants.{Keeper, Thread, Ended}
-use Rattle.frames.specs.BoardRule.{SlotState, SeatState, BoardState, IsBoardKept, code, code_at, total}
+use Rattle.frames.specs.BoardRule.{SlotState, SeatState, IsBoardKept, code, code_at, total}
 use Rattle.frames.specs.BoardViews.{slot_of, slot_state, seat_state, seat_view, moment_read, weighed, slot_with_weight, empty_slot}
-use Rattle.board.specs.Boards.{BoardId, IsBoard, IsKeptBy, KeeperSteps, KeeperSeen, SeatSeen, board_state, word_in, keeper_of, thread_of, ended_of, stamp_of, IsClosing, IsThread, IsSeatedAt, IsLatest, IsTold, AreApart, seat_known, seat_or_first, seat_at, both_of}
+use Rattle.board.specs.Boards.{BoardId, IsBoard, KeeperSteps, KeeperSeen, SeatSeen, word_in, keeper_of, thread_of, ended_of, stamp_of, IsClosing, IsThread, IsSeatedAt, IsLatest, IsTold, AreApart, seat_known, seat_or_first, seat_at, both_of}
 use Rattle.board.specs.Closing.{WordsLeft, words_left, word_left, IsLeftBy, AreVacant}
 use Rattle.board.specs.Notes.{IsNowhere}
-use Rattle.board.proofs.Tables.{Whole, at_closing, of_table, set_found, seats_by, no_thread}
+use Rattle.board.proofs.Tables.{at_closing, of_table, set_found, seats_by, no_thread}
 
 pub found_at : (l : List ℕ) (i x : ℕ) → get_elem? l i ≡ some x → get_or l i 0 ≡ x
 found_at [] i x e = absurd (some-ne-none x (sym e))

@@ -1,24 +1,20 @@
 -- Each call of the keeper makes a step of the board.
-use Rattle.std.proofs.Common.{[], ◌≡◌, ◌≢◌, ◌⊎◌, ℕ, zero, suc, ◌+◌, ◌-◌, ◌*◌, ◌^◌, ◌%◌, ◌<◌, ◌≤◌, Bool, true, false, List, length, get_or, set, sym, refl, ap, ◌∙◌, inl, inr, ⊎_elim, subst, arith, length-set}
-use Rattle.std.proofs.lemmas.Bool.{false≢true}
+use Rattle.std.proofs.Common.{[], ◌≡◌, ℕ, suc, ◌+◌, ◌^◌, ◌%◌, ◌<◌, true, false, get_or, set, sym, refl, ap, ◌∙◌, subst, arith, length-set}
 use Rattle.std.proofs.Math.Nat.{mod-eq_of_lt}
-use mathlib.Core.Option.{Option, none, some}
+use mathlib.Core.Option.{none, some}
 use lib.ListN.{get_elem?}
-use Rattle.atomic_table.specs.Table.{State, Me, Step, step, keeps, stepped, Allows}
+use Rattle.atomic_table.specs.Table.{step, keeps, Allows}
 use Rattle.frames.specs.declared.CodeId.{CodeId}
 use Rattle.frames.specs.declared.board_rule.SlotView.{SlotView}
 use Rattle.frames.specs.declared.board_rule.KeeperView.{KeeperView}
-use Rattle.frames.specs.declared.board_rule.EntryState.{EntryState}
 use Rattle.frames.specs.declared.board_rule.EntryState.TheVariants.{InUse, NotEntrant, Zombie, Vacant}
-use Rattle.frames.specs.declared.board_rule.StepMade.{StepMade}
 use Rattle.frames.specs.declared.board_rule.StepMade.TheVariants.{StoreEntry, LoadPlace, LoadCount}
-use Rattle.frames.specs.declared.board_rule.BoardView.{BoardView}
-use Rattle.frames.specs.declared.board_rule.BoardView.TheVariants.{Keeper, Thread}
-use Rattle.frames.specs.BoardWords.{Word, entry_of, count_of, place_of, the_moment, rank, pack}
-use Rattle.frames.specs.BoardRule.{SlotState, BoardState, code, code_at}
+use Rattle.frames.specs.declared.board_rule.BoardView.TheVariants.{Keeper}
+use Rattle.frames.specs.BoardWords.{entry_of, count_of, place_of, the_moment, rank, pack}
+use Rattle.frames.specs.BoardRule.{BoardState, code, code_at}
 use Rattle.frames.specs.BoardStep.{BoardStep, slot_installed, slot_invalidated, slot_looked, slot_weighed, slot_in, store_in_use, store_not_entrant, add_moment, load_place, load_count, store_zombie, store_vacant, keeper}
-use Rattle.frames.specs.BoardViews.{slot_state, slot_of, IsIn, went_round, entry_stored, in_use, not_entrant, in_state, looked_at, weighed, slot_with_look, slot_with_weight, has_place}
-use Rattle.board.specs.Boards.{BoardId, index_of, word_in, words_at, keeper_of, stamp_of, IsKeeper, board_state, seat_at, IsBoardAt, IsBoard, KeeperSteps}
+use Rattle.frames.specs.BoardViews.{slot_state, slot_of, IsIn, went_round, entry_stored, in_use, not_entrant, in_state, looked_at, weighed, slot_with_look, slot_with_weight}
+use Rattle.board.specs.Boards.{index_of, keeper_of, stamp_of, IsKeeper, board_state, IsBoardAt, IsBoard, KeeperSteps}
 use Rattle.board.specs.Plays.{Asked, GoesRound, Installs, Invalidates, Looks, Weighs, GoesOn}
 use Rattle.board.specs.Notes.{IsLooked}
 use Rattle.board.proofs.Indices.{written_in, loaded_in}

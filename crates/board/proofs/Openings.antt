@@ -1,22 +1,22 @@
 -- A new table is a new board, a seat that is split off leaves it one, and so does its end.
-use Rattle.std.proofs.Common.{◌≡◌, ◌≢◌, ◌⊎◌, ℕ, zero, suc, ◌+◌, ◌*◌, ◌^◌, ◌<◌, ◌≤◌, Bool, true, false, List, [], ◌∷◌, ◌++◌, length, get_or, set, sym, refl, ap, ◌∙◌, inl, inr, ⊎_elim, subst, arith, replicate, Some, slice_get, length-set, length-append}
+use Rattle.std.proofs.Common.{◌≡◌, ◌⊎◌, ℕ, zero, suc, ◌+◌, ◌<◌, ◌≤◌, List, [], ◌∷◌, ◌++◌, length, get_or, set, sym, refl, ap, ◌∙◌, inl, inr, ⊎_elim, subst, arith, replicate, Some, slice_get, length-set, length-append}
 use Rattle.std.proofs.lemmas.List.{length-replicate}
-use mathlib.Core.Option.{Option, none, some, some-injective, some-ne-none}
+use mathlib.Core.Option.{some, some-injective, some-ne-none}
 use mathlib.Core.Logic.{dite}
 use native.Mathlib.Decide.{ℕ_discrete}
 use lib.ListN.{get_elem?}
-use Rattle.atomic_table.specs.Table.{State, Splits}
+use Rattle.atomic_table.specs.Table.{Splits}
 use Rattle.atomic_table.proofs.Lists.{at_set, set_else, at_longer}
 use Rattle.frames.specs.declared.board_rule.SlotView.{SlotView}
 use Rattle.frames.specs.declared.board_rule.KeeperView.{KeeperView}
 use Rattle.frames.specs.declared.board_rule.BoardView.{BoardView}
 use Rattle.frames.specs.declared.board_rule.BoardView.TheVariants.{Keeper, Thread}
 use Rattle.frames.specs.BoardWords.{Word, IsWord, entry_of, count_of, place_of, the_moment}
-use Rattle.frames.specs.BoardRule.{SlotState, BoardState, IsBoardKept, first_word, first_slot, first_seat, first_board}
+use Rattle.frames.specs.BoardRule.{SlotState, BoardState, IsBoardKept, first_word, first_slot, first_board}
 use Rattle.frames.specs.BoardViews.{slot_state, seat_state, slot_of, empty_slot, keeper_view, seat_view}
 use Rattle.frames.proofs.BoardLaws.{first_kept}
-use Rattle.board.specs.Boards.{index_of, words_at, word_in, keeper_of, IsKeeper, seat_or_first, seat_known, seat_at, board_state, IsSeatedAt, IsBoardAt, IsBoard, one_more_split, left_of, right_of, AreFirst, stamp_of, IsTold, IsLatest}
-use Rattle.board.proofs.Tables.{Whole, set_found, at_keeper, seats_by}
+use Rattle.board.specs.Boards.{index_of, word_in, keeper_of, IsKeeper, seat_or_first, seat_at, IsSeatedAt, IsBoard, one_more_split, left_of, right_of, AreFirst, stamp_of, IsTold, IsLatest}
+use Rattle.board.proofs.Tables.{set_found, at_keeper, seats_by}
 
 -- the rule asks about the words of the board alone
 same_words : (slots places : ℕ) (b : BoardState) (word' : Word → ℕ) → ((x : Word) → IsWord slots places x → word' x ≡ b.word x) → IsBoardKept slots places b

@@ -1,10 +1,9 @@
 -- A table stays a board where a seat makes a step of the board.
-use Rattle.std.proofs.Common.{◌≡◌, ◌≢◌, ◌⊎◌, ℕ, zero, suc, ◌+◌, ◌*◌, ◌<◌, ◌≤◌, List, [], ◌∷◌, length, get_or, set, sym, refl, ap, ◌∙◌, inl, inr, ⊎_elim, subst, arith, cond, eqb, eq-eqb, length-set, get_or-set_same, get_or-set_other}
-use mathlib.Core.Option.{Option, none, some, some-injective, some-ne-none}
+use Rattle.std.proofs.Common.{◌≡◌, ℕ, zero, suc, ◌+◌, ◌<◌, ◌≤◌, List, [], ◌∷◌, length, get_or, set, sym, refl, ap, ◌∙◌, inl, inr, ⊎_elim, subst, arith, cond, eqb, eq-eqb, length-set, get_or-set_same, get_or-set_other}
+use mathlib.Core.Option.{some, some-injective, some-ne-none}
 use lib.ListN.{get_elem?}
 use Rattle.atomic_table.specs.Table.{State, Me, keeps, stepped}
 use Rattle.atomic_table.proofs.Lists.{at_set, set_else}
-use Rattle.frames.specs.declared.CodeId.{CodeId}
 use Rattle.frames.specs.declared.board_rule.SlotView.{SlotView}
 use Rattle.frames.specs.declared.board_rule.KeeperView.{KeeperView}
 use Rattle.frames.specs.declared.board_rule.SeatView.{SeatView}
@@ -13,10 +12,10 @@ use Rattle.frames.specs.declared.board_rule.BoardView.{BoardView}
 use Rattle.frames.specs.declared.board_rule.BoardView.TheVariants.{Keeper, Thread, Ended}
 use Rattle.frames.specs.BoardWords.{entry_of, count_of, place_of, the_moment}
 use Rattle.frames.specs.BoardRule.{SlotState, SeatState, BoardState, IsBoardKept}
-use Rattle.frames.specs.BoardStep.{Actor, BoardStep, SeatBecomes, SlotBecomes, NowBecomes, keeper, thread, load_entry, store_in_use, store_not_entrant, load_moment, add_moment, store_place, add_count, sub_count, load_place, load_count, store_zombie, store_vacant}
-use Rattle.frames.specs.BoardViews.{slot_state, seat_state, slot_of, empty_slot}
+use Rattle.frames.specs.BoardStep.{Actor, BoardStep, SeatBecomes, SlotBecomes, keeper, thread, load_entry, store_in_use, store_not_entrant, load_moment, add_moment, store_place, add_count, sub_count, load_place, load_count, store_zombie, store_vacant}
+use Rattle.frames.specs.BoardViews.{slot_state, seat_state, empty_slot}
 use Rattle.frames.proofs.BoardLaws.{step_keeps}
-use Rattle.board.specs.Boards.{BoardId, words_at, keeper_of, thread_of, ended_of, seat_or_first, seat_known, seat_at, IsLive, board_state, IsSeatedAt, IsBoardAt, IsBoard, ThreadSteps, IsKeptBy, KeeperSteps, stamp_of, word_in, IsToldBy, IsTold, IsLatest}
+use Rattle.board.specs.Boards.{BoardId, keeper_of, thread_of, ended_of, seat_or_first, seat_known, seat_at, IsLive, board_state, IsSeatedAt, IsBoardAt, IsBoard, ThreadSteps, KeeperSteps, stamp_of, word_in, IsToldBy, IsTold, IsLatest}
 
 abbrev pub Whole : Type 0
 Whole = State (Unit {0}) BoardView

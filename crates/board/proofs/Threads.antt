@@ -1,27 +1,24 @@
 -- Each call of a thread's seat makes a step of the board.
-use Rattle.std.proofs.Common.{◌≡◌, ◌≢◌, ◌⊎◌, ℕ, zero, suc, ◌+◌, ◌-◌, ◌*◌, ◌^◌, ◌%◌, ◌<◌, ◌≤◌, Bool, true, false, List, length, get_or, set, sym, refl, ap, ◌∙◌, inl, inr, ⊎_elim, subst, arith}
-use Rattle.std.proofs.lemmas.Bool.{false≢true}
+use Rattle.std.proofs.Common.{◌≡◌, ◌≢◌, ◌⊎◌, ℕ, suc, ◌+◌, ◌-◌, ◌^◌, ◌%◌, ◌<◌, ◌≤◌, true, List, get_or, set, sym, refl, ap, ◌∙◌, inl, inr, ⊎_elim, subst, arith}
 use Rattle.std.proofs.Math.Nat.{mod-eq_of_lt, add-mod_right}
-use mathlib.Core.Option.{Option, none, some}
+use mathlib.Core.Option.{none, some}
 use lib.ListN.{get_elem?}
-use Rattle.atomic_table.specs.Table.{State, Me, Step, step, keeps, stepped, Allows}
+use Rattle.atomic_table.specs.Table.{step, keeps, Allows}
 use Rattle.frames.specs.declared.CodeId.{CodeId}
 use Rattle.frames.specs.declared.board_rule.SeatView.{SeatView}
 use Rattle.frames.specs.declared.board_rule.KeeperView.{KeeperView}
-use Rattle.frames.specs.declared.board_rule.EntryState.TheVariants.{InUse, NotEntrant}
-use Rattle.frames.specs.declared.board_rule.BoardView.{BoardView}
-use Rattle.frames.specs.declared.board_rule.BoardView.TheVariants.{Keeper, Thread}
-use Rattle.frames.specs.BoardWords.{Word, entry_of, count_of, place_of, the_moment, pack}
-use Rattle.frames.specs.BoardRule.{SeatState, BoardState, IsStanding, IsHeldBy, IsBoardKept}
-use Rattle.frames.specs.BoardStep.{BoardStep, seat_entered, seat_read, seat_stored, seat_counted, load_entry, load_moment, store_place, add_count, sub_count, thread, keeper}
-use Rattle.frames.specs.BoardViews.{seat_state, how_often, has_code, IsHeld, IsStandingWord, entered, moment_read, stored_as, counted_up, counted_down}
+use Rattle.frames.specs.declared.board_rule.BoardView.TheVariants.{Thread}
+use Rattle.frames.specs.BoardWords.{entry_of, count_of, place_of, the_moment, pack}
+use Rattle.frames.specs.BoardRule.{SeatState, BoardState, IsHeldBy}
+use Rattle.frames.specs.BoardStep.{seat_entered, seat_read, seat_stored, seat_counted, load_entry, load_moment, store_place, add_count, sub_count}
+use Rattle.frames.specs.BoardViews.{seat_state, how_often, has_code, entered, moment_read, stored_as, counted_up, counted_down}
 use Rattle.frames.proofs.BoardParts.{past_greater}
 use Rattle.frames.proofs.BoardLaws.{count_bounds}
-use Rattle.board.specs.Boards.{BoardId, index_of, word_in, words_at, thread_of, stamp_of, IsThread, IsBoardAt, IsBoard}
+use Rattle.board.specs.Boards.{index_of, thread_of, stamp_of, IsThread, IsBoard}
 use Rattle.board.specs.Plays.{Asked, Enters, Reads, Stores, CountsUp, CountsDown}
 use Rattle.board.proofs.Indices.{written_in, loaded_in}
 use Rattle.board.proofs.Views.{entered_is}
-use Rattle.board.proofs.Tables.{Whole, Sat, of_table, AtThread, at_thread, thread_becomes, thread_makes, thread_tells, stamps, stamp_by}
+use Rattle.board.proofs.Tables.{Sat, of_table, at_thread, thread_becomes, thread_makes, thread_tells, stamps, stamp_by}
 
 module _ (n : ℕ × ℕ) (slots id : ℕ) (me : Sat) (a : Asked) (is : IsThread me.0) (sizes : n ≡ (a.board.slots, a.board.places)) where
   loads_entry_at : (thread_of me.0).stored ≢ 0 → a.code.slot < n.0 → Allows (IsBoard n) slots id me (index_of n.0 (entry_of a.code.slot)) (λ x. x) (Enters a (step slots (index_of n.0 (entry_of a.code.slot)) 0 0 none) me)

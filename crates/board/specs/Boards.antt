@@ -1,21 +1,20 @@
 -- The table of a board: which word stands where, and whose each seat is. The first seat is the keeper's; the threads' seats are
 -- split off it in the order of their places.
-use Rattle.std.specs.Prelude.{◌≡◌, ℕ, suc, ◌+◌, ◌-◌, ◌*◌, ◌<◌, ◌≤◌, ◌≢◌, ◌^◌, List, [], ◌∷◌, length, slice_index, slice_set, ◌==◌, if◌then◌else◌}
+use Rattle.std.specs.Prelude.{◌≡◌, ℕ, suc, ◌+◌, ◌-◌, ◌*◌, ◌<◌, ◌≤◌, List, [], ◌∷◌, length, slice_index, ◌==◌, if◌then◌else◌}
 use mathlib.Core.Option.{Option, none, some}
 use lib.ListN.{get_elem?}
-use Rattle.atomic_table.specs.Table.{State, Me, Allows}
+use Rattle.atomic_table.specs.Table.{State}
 use Rattle.atomic_table.specs.Seated.{TableId}
-use Rattle.frames.specs.declared.CodeId.{CodeId}
 use Rattle.frames.specs.declared.board_rule.KeeperView.{KeeperView}
 use Rattle.frames.specs.declared.board_rule.SeatView.{SeatView}
 use Rattle.frames.specs.declared.board_rule.BoardView.{BoardView}
 use Rattle.frames.specs.declared.board_rule.StepMade.{StepMade}
 use Rattle.frames.specs.declared.board_rule.StepMade.TheVariants.{Nothing, LoadEntry, StoreEntry, LoadMoment, AddMoment, StorePlace, AddCount, SubCount, LoadPlace, LoadCount}
 use Rattle.frames.specs.declared.board_rule.BoardView.TheVariants.{Keeper, Thread, Ended}
-use Rattle.frames.specs.BoardWords.{Word, IsWord, entry_of, count_of, place_of, the_moment, pack}
+use Rattle.frames.specs.BoardWords.{Word, entry_of, count_of, place_of, the_moment, pack}
 use Rattle.frames.specs.BoardRule.{BoardState, IsBoardKept}
 use Rattle.frames.specs.BoardStep.{BoardStep, keeper, thread}
-use Rattle.frames.specs.BoardViews.{slot_state, seat_state, slot_of, keeper_view, seat_view, entered, moment_read}
+use Rattle.frames.specs.BoardViews.{slot_state, seat_state, slot_of, keeper_view, seat_view}
 
 -- Where the words stand. The moment has a cache line to itself (8 words); the entries stand side by side, since they are
 -- mostly read; each count and each place's moment has a line to itself; and 8 words lie between the groups.

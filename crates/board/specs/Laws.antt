@@ -1,16 +1,17 @@
 -- What the rule of a board asks of each step, whatever a play tells of it, and how the words lie.
-use Rattle.std.specs.Prelude.{◌≡◌, ◌≢◌, ◌⊎◌, ℕ, suc, ◌+◌, ◌*◌, ◌^◌, ◌<◌, ◌≤◌, List, [], length, slice_index, slice_set}
+use Rattle.std.specs.Prelude.{◌≡◌, ◌≢◌, ◌⊎◌, ℕ, suc, ◌+◌, ◌^◌, ◌<◌, ◌≤◌, [], length, slice_index, slice_set}
 use mathlib.Core.Option.{some}
 use lib.ListN.{get_elem?}
 use Rattle.atomic_table.specs.Table.{State, Me, Allows}
 use Rattle.frames.specs.declared.CodeId.{CodeId}
 use Rattle.frames.specs.declared.board_rule.EntryState.TheVariants.{InUse}
+use Rattle.frames.specs.declared.board_rule.StepMade.TheVariants.{LoadEntry, LoadMoment, LoadPlace, LoadCount}
 use Rattle.frames.specs.declared.board_rule.KeeperView.{KeeperView}
 use Rattle.frames.specs.declared.board_rule.SeatView.{SeatView}
 use Rattle.frames.specs.declared.board_rule.BoardView.{BoardView}
 use Rattle.frames.specs.declared.board_rule.BoardView.TheVariants.{Keeper, Thread}
 use Rattle.frames.specs.BoardWords.{Word, IsWord, entry_of, count_of, place_of, the_moment}
-use Rattle.frames.specs.BoardViews.{slot_of, how_often, entered, moment_read, looked_at, weighed}
+use Rattle.frames.specs.BoardViews.{slot_of, how_often}
 use Rattle.board.specs.Boards.{index_of, word_in, words_at, thread_of, stamp_of, IsToldBy, IsBoard}
 
 abbrev Whole : Type 0
@@ -55,28 +56,29 @@ abbrev pub KeeperAnswersStand : Type 0
 KeeperAnswersStand = (n : ℕ × ℕ) (slots i stamp p : ℕ) (k : KeeperView) (t : SeatView) (u : ℕ → KeeperView) (f : ℕ → ℕ) (s : Whole) → IsFoundAt n slots i s → HasKeeper s k → HasSeat s p t
     → KeeperMay n slots stamp k i f u → IsToldBy (word_in n.0 (slice_set s.words i (f (slice_index s.words i)))) 0 (u (slice_index s.words i)).last
 
--- No step at a word that isn't the board's moment tells a thread that it read the moment, whatever the step does to that word and
--- whatever is taken for the moment: where there is a board on which the thread knows what it knows, and another round may be made.
+-- No step at a word that isn't the board's moment tells a thread a view whose last step read the moment, whatever the step does to
+-- that word, and whatever is taken for the moment: where there is a board on which the thread knows what it knows, and another
+-- round may be made.
 abbrev pub MomentsElsewhereRefused : Type 0
-MomentsElsewhereRefused = (n : ℕ × ℕ) (slots p i stamp : ℕ) (k : KeeperView) (t : SeatView) (f h : ℕ → ℕ) (s : Whole) → IsFoundAt n slots i s → HasKeeper s k → HasSeat s p t
-    → k.moment + 1 < 2 ^ 40 → i ≢ index_of n.0 the_moment → ¬ ThreadMay n slots p stamp t i f (λ found. moment_read t (h found))
+MomentsElsewhereRefused = (n : ℕ × ℕ) (slots p i stamp : ℕ) (k : KeeperView) (t : SeatView) (u : ℕ → SeatView) (f h : ℕ → ℕ) (s : Whole) → IsFoundAt n slots i s → HasKeeper s k → HasSeat s p t
+    → k.moment + 1 < 2 ^ 40 → i ≢ index_of n.0 the_moment → ((x : ℕ) → (u x).last ≡ LoadMoment (h x)) → ¬ ThreadMay n slots p stamp t i f u
 
 -- The same of an entry and a load of it: where there is a board on which the thread knows what it knows, and a code in the slot is in use.
 abbrev pub EntriesElsewhereRefused : Type 0
-EntriesElsewhereRefused = (n : ℕ × ℕ) (slots p i stamp : ℕ) (k : KeeperView) (t : SeatView) (c : CodeId) (f h : ℕ → ℕ) (s : Whole) → IsFoundAt n slots i s → HasKeeper s k → HasSeat s p t
-    → c.slot < n.0 → (slot_of k c.slot).state ≡ InUse → i ≢ index_of n.0 (entry_of c.slot) → ¬ ThreadMay n slots p stamp t i f (λ found. entered t c (h found))
+EntriesElsewhereRefused = (n : ℕ × ℕ) (slots p i stamp : ℕ) (k : KeeperView) (t : SeatView) (u : ℕ → SeatView) (c : CodeId) (f h : ℕ → ℕ) (s : Whole) → IsFoundAt n slots i s → HasKeeper s k → HasSeat s p t
+    → c.slot < n.0 → (slot_of k c.slot).state ≡ InUse → i ≢ index_of n.0 (entry_of c.slot) → ((x : ℕ) → (u x).last ≡ LoadEntry c (h x)) → ¬ ThreadMay n slots p stamp t i f u
 
 -- The same of a place's moment and the keeper's look at it: where there is a board on which the keeper knows what it knows, and the
 -- place's thread hasn't published in this moment.
 abbrev pub LooksElsewhereRefused : Type 0
-LooksElsewhereRefused = (n : ℕ × ℕ) (slots p i stamp : ℕ) (k : KeeperView) (t : SeatView) (c : CodeId) (f h : ℕ → ℕ) (s : Whole) → IsFoundAt n slots i s → HasKeeper s k → HasSeat s p t
-    → t.stored ≢ k.moment → i ≢ index_of n.0 (place_of p) → ¬ KeeperMay n slots stamp k i f (λ found. looked_at k c p (h found))
+LooksElsewhereRefused = (n : ℕ × ℕ) (slots p i stamp : ℕ) (k : KeeperView) (t : SeatView) (u : ℕ → KeeperView) (c : CodeId) (f h : ℕ → ℕ) (s : Whole) → IsFoundAt n slots i s → HasKeeper s k → HasSeat s p t
+    → t.stored ≢ k.moment → i ≢ index_of n.0 (place_of p) → ((x : ℕ) → (u x).last ≡ LoadPlace c p (h x)) → ¬ KeeperMay n slots stamp k i f u
 
 -- The same of a count and the keeper's weighing: where there is a board on which the keeper knows what it knows, and some thread
 -- counts the code.
 abbrev pub WeightsElsewhereRefused : Type 0
-WeightsElsewhereRefused = (n : ℕ × ℕ) (slots p i stamp : ℕ) (k : KeeperView) (t : SeatView) (c : CodeId) (f h : ℕ → ℕ) (s : Whole) → IsFoundAt n slots i s → HasKeeper s k → HasSeat s p t → n.1 ≤ 64
-    → 0 < how_often t.counted c → i ≢ index_of n.0 (count_of c.slot) → ¬ KeeperMay n slots stamp k i f (λ found. weighed k c (h found))
+WeightsElsewhereRefused = (n : ℕ × ℕ) (slots p i stamp : ℕ) (k : KeeperView) (t : SeatView) (u : ℕ → KeeperView) (c : CodeId) (f h : ℕ → ℕ) (s : Whole) → IsFoundAt n slots i s → HasKeeper s k → HasSeat s p t → n.1 ≤ 64
+    → 0 < how_often t.counted c → i ≢ index_of n.0 (count_of c.slot) → ((x : ℕ) → (u x).last ≡ LoadCount c (h x)) → ¬ KeeperMay n slots stamp k i f u
 
 -- The words that the keeper alone writes, side by side
 abbrev pub IsEntry : Word → Type 0

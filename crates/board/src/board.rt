@@ -99,9 +99,8 @@ impl Board {
         } = self;
         let mut keeper = keeper.into_seat();
         while let Some(seat) = seats.pop() {
-            table
-                .shared
-                .join_seat::<GivenBack>(&mut keeper, seat.into_seat());
+            let seat = seat.into_seat();
+            table.shared.join_seat::<GivenBack>(&mut keeper, seat);
         }
         ClosedBoard::of(table.close_with(keeper), slots, places)
     }

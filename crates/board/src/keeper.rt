@@ -266,7 +266,7 @@ impl Keeper {
     {
         let note = self.notes[code.slot as usize];
         for place in 0..self.places {
-            if !note.looked[place] {
+            if !note.has_looked(place) {
                 return Some(place);
             }
         }

@@ -1,17 +1,15 @@
 -- No step at another word is told as one at the word of a place; and what the word of a place tells.
-use Rattle.std.proofs.Common.{◌≡◌, ◌≢◌, ◌⊎◌, ℕ, zero, suc, ◌+◌, ◌*◌, ◌<◌, ◌≤◌, eqb, List, [], ◌∷◌, length, get_or, set, sym, refl, ap, ◌∙◌, inl, inr, ⊎_elim, subst, arith, length-set, get_or-set_same, get_or-set_other, ne_eqb, replicate}
+use Rattle.std.proofs.Common.{◌≡◌, ◌≢◌, ◌⊎◌, ℕ, zero, suc, ◌+◌, ◌<◌, List, [], ◌∷◌, length, get_or, set, sym, refl, ap, ◌∙◌, inl, inr, ⊎_elim, subst, arith, length-set, get_or-set_same, get_or-set_other, ne_eqb, replicate}
 use Rattle.std.proofs.lemmas.List.{length-replicate, get_or-replicate}
 use mathlib.Core.Logic.{dite}
-use mathlib.Core.Option.{none, some, some-injective, some-ne-none}
+use mathlib.Core.Option.{some, some-injective, some-ne-none}
 use native.Mathlib.Decide.{ℕ_discrete}
 use lib.ListN.{get_elem?}
-use Rattle.atomic_table.specs.Table.{Allows}
 use Rattle.atomic_table.proofs.Lists.{at_set, set_else}
-use Rattle.thread_state.specs.declared.poll_rule.Deed.{Deed}
-use Rattle.thread_state.specs.declared.poll_rule.Deed.TheVariants.{Nothing}
+use Rattle.thread_state.specs.declared.poll_rule.Deed.TheVariants.{Nothing, Load, Exchange}
 use Rattle.thread_state.specs.declared.poll_rule.Arming.{Arming}
 use Rattle.thread_state.specs.declared.poll_rule.Watching.{Watching}
-use Rattle.thread_state.specs.PollRule.{IsPlaceKept, IsFound, polled, exchanged, armed_with, word_after}
+use Rattle.thread_state.specs.PollRule.{IsPlaceKept, IsFound, armed_with, word_after}
 use Rattle.thread_state.proofs.PollSteps.{found_is}
 use Rattle.poll.specs.declared.views.Watch.{Watch}
 use Rattle.poll.specs.declared.views.Watch.TheVariants.{Armer, Poller, Ended}
@@ -114,16 +112,18 @@ forced places i t n w f u low later inside apart allowed =
     )
 
 pub elsewhere_refused : PollsElsewhereRefused
-elsewhere_refused places i t w f g low inside apart allowed =
-    let one = forced places i t (w.cleared + 1) w f (λ x. polled w (g x)) low (omega arith) inside apart allowed in
-    let two = forced places i t (w.cleared + 2) w f (λ x. polled w (g x)) low (omega arith) inside apart allowed in
-    let first : w.cleared + 1 ≡ g 0 = sym one.1 ∙ one.2 in let second : w.cleared + 2 ≡ g 0 = sym two.1 ∙ two.2 in omega arith
+elsewhere_refused places i t w u f g low inside apart is allowed =
+    let one = forced places i t (w.cleared + 1) w f u low (omega arith) inside apart allowed in
+    let two = forced places i t (w.cleared + 2) w f u low (omega arith) inside apart allowed in
+    let made : (ws : List ℕ) → IsToldBy ws (u 0).place (u 0).last → IsToldBy ws w.place (Load (g 0)) = λ ws e. subst (λ p. IsToldBy ws p (Load (g 0))) (is 0).0 (subst (λ d. IsToldBy ws (u 0).place d) (is 0).1 e) in
+    let first : w.cleared + 1 ≡ g 0 = sym one.1 ∙ made one.0 one.2 in let second : w.cleared + 2 ≡ g 0 = sym two.1 ∙ made two.0 two.2 in omega arith
 
 pub clears_refused : ClearsElsewhereRefused
-clears_refused places i t n w f g low inside apart allowed =
-    let one = forced places i t (w.cleared + 1) w f (λ x. exchanged w n (g x)) low (omega arith) inside apart allowed in
-    let two = forced places i t (w.cleared + 2) w f (λ x. exchanged w n (g x)) low (omega arith) inside apart allowed in
-    let first : w.cleared + 1 ≡ word_after n (g 0) = sym one.1 ∙ one.2 in let second : w.cleared + 2 ≡ word_after n (g 0) = sym two.1 ∙ two.2 in let both : w.cleared + 1 ≡ w.cleared + 2 = first ∙ sym second in omega arith
+clears_refused places i t n w u f g low inside apart is allowed =
+    let one = forced places i t (w.cleared + 1) w f u low (omega arith) inside apart allowed in
+    let two = forced places i t (w.cleared + 2) w f u low (omega arith) inside apart allowed in
+    let made : (ws : List ℕ) → IsToldBy ws (u 0).place (u 0).last → IsToldBy ws w.place (Exchange n (g 0)) = λ ws e. subst (λ p. IsToldBy ws p (Exchange n (g 0))) (is 0).0 (subst (λ d. IsToldBy ws (u 0).place d) (is 0).1 e) in
+    let first : w.cleared + 1 ≡ word_after n (g 0) = sym one.1 ∙ made one.0 one.2 in let second : w.cleared + 2 ≡ word_after n (g 0) = sym two.1 ∙ made two.0 two.2 in let both : w.cleared + 1 ≡ w.cleared + 2 = first ∙ sym second in omega arith
 
 -- a word that isn't written can't become what the place is armed with now
 pub arms_refused : ArmsElsewhereRefused

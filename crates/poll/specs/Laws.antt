@@ -1,11 +1,12 @@
 -- What the rule of a row asks of each step, whatever a play tells of it; what a word tells; and how the words lie.
-use Rattle.std.specs.Prelude.{◌≡◌, ◌≢◌, ◌⊎◌, ℕ, suc, ◌+◌, ◌*◌, ◌<◌, ◌≤◌, [], length, slice_index}
+use Rattle.std.specs.Prelude.{◌≡◌, ◌≢◌, ℕ, suc, ◌+◌, ◌<◌, ◌≤◌, [], length, slice_index}
 use mathlib.Core.Option.{some}
 use lib.ListN.{get_elem?}
 use Rattle.atomic_table.specs.Table.{State, Me, Allows}
+use Rattle.thread_state.specs.declared.poll_rule.Deed.TheVariants.{Load, Exchange}
 use Rattle.thread_state.specs.declared.poll_rule.Arming.{Arming}
 use Rattle.thread_state.specs.declared.poll_rule.Watching.{Watching}
-use Rattle.thread_state.specs.PollRule.{PlaceState, armed_with, polled, exchanged}
+use Rattle.thread_state.specs.PollRule.{PlaceState, armed_with}
 use Rattle.poll.specs.declared.views.Watch.{Watch}
 use Rattle.poll.specs.declared.views.Watch.TheVariants.{Armer, Poller}
 use Rattle.poll.specs.Rows.{IsRow, watching_of, stamp_of, word_at, words_of, place_of}
@@ -18,16 +19,16 @@ PollerTold stamp u found new = (watching_of 0 new.0 ≡ u found) × (stamp < sta
 abbrev pub PollerMay : ℕ → ℕ → Watching → ℕ → (ℕ → ℕ) → (ℕ → Watching) → Type 0
 PollerMay places stamp w i f u = Allows (IsRow places) 0 (suc w.place) (Poller w stamp, []) i f (PollerTold stamp u)
 
--- No step at a word that isn't the place's own tells its poller that it loaded the word, whatever the step does to that word and
--- whatever is answered.
+-- No step at a word that isn't the place's own tells its poller a view whose last step is a load of the word, whatever the step does to
+-- the word that it is made at, and whatever is answered.
 abbrev pub PollsElsewhereRefused : Type 0
-PollsElsewhereRefused = (places i stamp : ℕ) (w : Watching) (f g : ℕ → ℕ) → w.place < places → i < words_of places → i ≢ word_at w.place
-    → ¬ PollerMay places stamp w i f (λ found. polled w (g found))
+PollsElsewhereRefused = (places i stamp : ℕ) (w : Watching) (u : ℕ → Watching) (f g : ℕ → ℕ) → w.place < places → i < words_of places → i ≢ word_at w.place
+    → ((x : ℕ) → ((u x).place ≡ w.place) × ((u x).last ≡ Load (g x))) → ¬ PollerMay places stamp w i f u
 
 -- The same of a compare-exchange of n.
 abbrev pub ClearsElsewhereRefused : Type 0
-ClearsElsewhereRefused = (places i stamp n : ℕ) (w : Watching) (f g : ℕ → ℕ) → w.place < places → i < words_of places → i ≢ word_at w.place
-    → ¬ PollerMay places stamp w i f (λ found. exchanged w n (g found))
+ClearsElsewhereRefused = (places i stamp n : ℕ) (w : Watching) (u : ℕ → Watching) (f g : ℕ → ℕ) → w.place < places → i < words_of places → i ≢ word_at w.place
+    → ((x : ℕ) → ((u x).place ≡ w.place) × ((u x).last ≡ Exchange n (g x))) → ¬ PollerMay places stamp w i f u
 
 -- The same of the armer's store of n at the place p: on each row, which isn't being closed, where n is above what the place was armed with.
 abbrev pub ArmsElsewhereRefused : Type 0

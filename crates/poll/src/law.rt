@@ -66,7 +66,6 @@ pub fn words_lie_lines_apart()
 {}
 
 /// A law: no step at another word than its own tells a poller that it cleared, or tried to.
-#[tactic(auto, using(crate::proofs::Refused::clears_refused))]
 pub fn no_clear_is_of_another_word()
     ensures { ClearsElsewhereRefused }
 {}
@@ -78,7 +77,6 @@ pub fn no_arming_is_of_another_word()
 
 /// A law: a poller's answer is of the word of its own place. Whatever a `Play` tells, the rule of the row allows no step at
 /// another word after which the poller has polled.
-#[tactic(auto, using(crate::proofs::Refused::elsewhere_refused))]
 pub fn no_poll_is_of_another_word()
     ensures { PollsElsewhereRefused }
 {}

@@ -1,4 +1,4 @@
-use Rattle.std.proofs.Common.{arith, ◌≡◌, ℕ, ◌<◌, List, [], ◌∷◌, ◌++◌, length, length-append, sym, refl, ap, ◌∙◌, subst, Some, slice_get}
+use Rattle.std.proofs.Common.{arith, ◌≡◌, ℕ, ◌<◌, List, [], ◌∷◌, ◌++◌, length, sym, refl, ap, ◌∙◌, subst, Some, slice_get}
 use Rattle.std.specs.Mem.Slots.{slots_items}
 use Rattle.atomic_table.specs.Table.{Final, Seen}
 use Rattle.frames.specs.declared.board_rule.BoardView.TheVariants.{Keeper, Thread}
@@ -17,10 +17,10 @@ join_seat-requires c =
     let n : ℕ = length c.pop.new.self.items in
     let items : c.loop-seat.seats.items ≡ c.pop.new.self.items ++ c.in-Some.seat ∷ [] = c.in-Some.ensures.items in
     let there = i.rest n c.in-Some.seat (subst (λ xs. slice_get xs n ≡ Some c.in-Some.seat) (sym items) (last_there c.pop.new.self.items c.in-Some.seat n refl)) in
-    let view = ap (λ m. m.0) c.into_seat.ensures.view in let words = mine.1 in let some_place = mine.3 in (
+    let view = ap (λ m. m.0) c.into_seat-seat.ensures.view in let words = mine.1 in let some_place = mine.3 in (
       i.table ∙ same,
-      c.into_seat.ensures.table ∙ (ap (λ (b : BoardId). b.table) (c.requires.seats n c.in-Some.seat there) ∙ sym (ap (λ (b : BoardId). b.table) c.self.view_is)),
-      ap (λ m. m.1) c.into_seat.ensures.view,
+      c.into_seat-seat.ensures.table ∙ (ap (λ (b : BoardId). b.table) (c.requires.seats n c.in-Some.seat there) ∙ sym (ap (λ (b : BoardId). b.table) c.self.view_is)),
+      ap (λ m. m.1) c.into_seat-seat.ensures.view,
       omega arith,
       joins _ _ _ _ _ i.closing (view ∙ ap (λ v. Thread (thread_of v) (stamp_of v)) (sym view)),
     )
@@ -30,8 +30,8 @@ loop-seat-preserved c =
     let i = c.loop-seat.invariant in let j = c.join_seat.ensures in
     let left : List SeatSeen = c.pop.new.self.items in let us : List SeatView = ended_of c.loop-seat.keeper.me.0 in
     let items : c.loop-seat.seats.items ≡ left ++ c.in-Some.seat ∷ [] = c.in-Some.ensures.items in
-    let after : c.join_seat.new.seat.me.0 ≡ both_of c.loop-seat.keeper.me.0 c.into_seat.result.me.0 = ap (λ m. m.0) j.2 in
-    let knew : ended_of c.join_seat.new.seat.me.0 ≡ c.in-Some.seat.seen ∷ us = ap ended_of after ∙ ap (λ m. thread_of m.0 ∷ us) c.into_seat.ensures.view in record {
+    let after : c.join_seat.new.seat.me.0 ≡ both_of c.loop-seat.keeper.me.0 c.into_seat-seat.result.me.0 = ap (λ m. m.0) j.2 in
+    let knew : ended_of c.join_seat.new.seat.me.0 ≡ c.in-Some.seat.seen ∷ us = ap ended_of after ∙ ap (λ m. thread_of m.0 ∷ us) c.into_seat-seat.ensures.view in record {
       table = j.0 ∙ i.table;
       closing = after ∙ sym (ap (λ v. Keeper (keeper_of v) (ended_of v) (stamp_of v)) after);
       keeper = ap keeper_of after ∙ i.keeper;

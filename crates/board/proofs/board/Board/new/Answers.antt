@@ -1,6 +1,6 @@
 use Rattle.std.proofs.Common.{[], arith, ◌≡◌, ℕ, ◌+◌, ◌<◌, sym, ap, ◌∙◌, subst, Some, slice_get}
 use Rattle.frames.specs.declared.board_rule.BoardView.TheVariants.{Keeper}
-use Rattle.board.specs.Boards.{keeper_of, stamp_of, IsKeeper, AreFirst, left_of, right_of, first_seat, board_id, thread_of}
+use Rattle.board.specs.Boards.{keeper_of, stamp_of, IsKeeper, AreFirst, left_of, first_seat, board_id}
 use Rattle.board.proofs.Openings.{opens, splits, next_each}
 use Rattle.board.proofs.board.Board.new.Goals as goal
 

@@ -1,4 +1,4 @@
-use Rattle.std.proofs.Common.{[], arith, ◌≡◌, sym, ap, ◌∙◌, subst}
+use Rattle.std.proofs.Common.{[], sym, ap, ◌∙◌, subst}
 use Rattle.frames.specs.declared.board_rule.BoardView.TheVariants.{Keeper}
 use Rattle.board.specs.Boards.{keeper_of, stamp_of}
 use Rattle.board.specs.Notes.{AreNoted}
