@@ -26,7 +26,7 @@ poll_here w place kept t same = poll_is kept.marks w.requests t.name same.marks
 
 -- An open operation, and what the thread's marks say of it.
 pub open_here : (s : Core) (w : World) (place : ℕ) (kept : Kept) (t : Thread) → Matches s w → IsSound w → slice_get w.places place ≡ Some (Some t) → SameAt w place kept t → Pairs (λ a o. SameOpen a kept w.requests o) s.requests.opens w.requests.opened
-open_here s w place kept t m sound there same = pairs_of (λ a o. SameOpen a kept w.requests o) w s.requests.opens w.requests.opened m.opened (λ i a o at both. same_open a o kept w i sound.marks at both marks lives)
+open_here s w place kept t m sound there same = pairs_of (λ a o. SameOpen a kept w.requests o) w s.requests.opens w.requests.opened m.opened (λ i a o at both. same_open a o kept w i sound.marks at (sound.numbers.opened_is i o at).0 both marks lives)
   where
     marks : SameMarks kept.marks w.requests kept.name
     marks = subst (λ n. SameMarks kept.marks w.requests n) (sym same.thread.name) same.marks

@@ -102,13 +102,14 @@ poll_is m requests name same = by (eqb m.told m.cleared) refl
         rw e (greatest_is requests.cleared name m.told requests.told same.told_last (same.cleared_is m.told told ∙ le_false m.told m.cleared above) told)
 
 -- What the marks say of an open operation.
-pub same_open : (open_ : Open) (o : Opened) (kept : Kept) (w : World) (i : ℕ) → MarksAreSound w.places w.requests (names_given w.log) (operations_given w.log) → slice_get w.requests.opened i ≡ Some o → SameOpened open_ o w → SameMarks kept.marks w.requests kept.name
+pub same_open : (open_ : Open) (o : Opened) (kept : Kept) (w : World) (i : ℕ) → MarksAreSound w.places w.requests (names_given w.log) (operations_given w.log) → slice_get w.requests.opened i ≡ Some o → 0 < o.number → SameOpened open_ o w → SameMarks kept.marks w.requests kept.name
     → is_live w kept.name ≡ true → SameOpen open_ kept w.requests o
-same_open open_ o kept w i s at same m live = record {
+same_open open_ o kept w i s at from same m live = record {
   number = same.number;
   request = same.request;
   operated = same.operated;
   told = by (among kept.name o.live) refl;
+  target = λ told. ap (λ r. is_target r kept.name) same.request ∙ s.live_target i o kept.name at (s.told_live i o kept.name at told);
   done = λ told. m.done_is i o at told ∙ rw (same.request, same.operated, same.number) refl;
   cleared = λ told. m.cleared_is o.number told ∙ ap (λ n. nat_le n kept.marks.cleared) (sym same.number);
 }
@@ -125,9 +126,19 @@ same_open open_ o kept w i s at same m live = record {
     is_for : among kept.name o.live ≡ (nat_le kept.name open_.names && is_target open_.request kept.name)
     is_for = rw same.request (same.live kept.name live)
 
-    by : (b : Bool) → among kept.name o.live ≡ b → is_marked w.requests.told o.number kept.name ≡ (nat_le open_.number kept.marks.told && (nat_le kept.name open_.names && is_target open_.request kept.name))
-    by true e = m.told_all i o at e ∙ (ap (λ n. nat_le n kept.marks.told) (sym same.number) ∙ last (nat_le open_.number kept.marks.told) (nat_le kept.name open_.names && is_target open_.request kept.name) (sym is_for ∙ e))
-    by false e = false_where (is_marked w.requests.told o.number kept.name) (λ t. false≢true (sym e ∙ s.told_live i o kept.name at t)) ∙ (none (nat_le open_.number kept.marks.told) ∙ ap (λ b. nat_le open_.number kept.marks.told && b) (sym e ∙ is_for))
+    by : (b : Bool) → among kept.name o.live ≡ b → is_marked w.requests.told o.number kept.name ≡ (nat_le open_.number kept.marks.told && ((open_.number == kept.marks.told) || (nat_le kept.name open_.names && is_target open_.request kept.name)))
+    by true e = m.told_all i o at e ∙ (ap (λ n. nat_le n kept.marks.told) (sym same.number)
+        ∙ last (nat_le open_.number kept.marks.told) ((open_.number == kept.marks.told) || (nat_le kept.name open_.names && is_target open_.request kept.name)) (or_right (open_.number == kept.marks.told) (nat_le kept.name open_.names && is_target open_.request kept.name) (sym is_for ∙ e)))
+    by false e =
+        let untold : is_marked w.requests.told o.number kept.name ≡ false = false_where (is_marked w.requests.told o.number kept.name) (λ t. false≢true (sym e ∙ s.told_live i o kept.name at t)) in
+        let dead : (nat_le kept.name open_.names && is_target open_.request kept.name) ≡ false = sym is_for ∙ e in
+        untold ∙ (none (nat_le open_.number kept.marks.told) ∙ sym (rw (other untold, dead) refl))
+      where
+        other : is_marked w.requests.told o.number kept.name ≡ false → (open_.number == kept.marks.told) ≡ false
+        other untold = false_where (open_.number == kept.marks.told) (λ h. (
+            let number = same.number in
+            let is : kept.marks.told ≡ o.number = (let x = eqb-true open_.number kept.marks.told h in omega (arith, x, number)) in
+            false≢true (sym untold ∙ subst (λ n. is_marked w.requests.told n kept.name ≡ true) is (m.told_is (omega (arith, is, from))))))
 
 both_parts : (a b : Bool) → (a && not b) ≡ true → (a ≡ true) × (b ≡ false)
 both_parts true true h = absurd (false≢true h)

@@ -27,7 +27,7 @@ use Rattle.operations.specs.Names.{is_empty}
 use Rattle.system.specs.World.{World}
 use Rattle.system.specs.declared.events.Act.TheVariants as TheActs
 use Rattle.thread_state.specs.declared.Move.TheVariants as move
-use Rattle.system.specs.Keeps.{SameImage, SameOpen, OpenBy, IsHere, was_told, is_done, told_by, undone_by, uncleared_by, awaited_by}
+use Rattle.system.specs.Keeps.{SameImage, SameOpen, OpenBy, IsHere, was_told, is_done, told_by, undone_by, uncleared_by, awaited_by, is_asked, idle_refusal}
 use Rattle.system.proofs.Images.{next_is_left, counted_none}
 
 none_of : (o : Option CodeId) → is_none o ≡ true → o ≡ None
@@ -215,6 +215,90 @@ take_goes w t free none = rw (free, none) refl
 
 pub take_waits : (w : World) (t : Thread) → t.held ≡ false → awaits_census w.requests t.name ≡ true → acts.does w TheActs.Take t ≡ refused NotDone
 take_waits w t free some = rw (free, some) refl
+
+-- Where none that was told waits, the tests decide.
+idle_is : {A : Type 0} (empty of told : Bool) (rest : Verdict A) → rest ≡ refused AlreadyDone → tests empty of told rest ≡ refused (idle_refusal empty of told)
+idle_is true of told rest is = refl
+idle_is false false told rest is = refl
+idle_is false true false rest is = refl
+idle_is false true true rest is = is
+
+pub finish_idle : (opens : List Open) (kept : Kept) (requests : Requests) (t : Thread) → IsHere opens kept requests t → find (undone_by kept) opens ≡ None
+    → finish requests t ≡ refused (idle_refusal (is_empty opens) (list_any (λ a. lists a.request kept.name) opens) (list_any (told_by kept) opens))
+finish_idle opens kept requests t here none = finish_is opens kept requests t here ∙ idle_is (is_empty opens) (list_any (λ a. lists a.request kept.name) opens) (list_any (told_by kept) opens) (in_found AlreadyDone (find (acts.is_undone requests kept.name) requests.opened) (acts.finish_in requests t)) (finish_none opens kept requests t here none)
+
+pub clear_idle : (opens : List Open) (kept : Kept) (requests : Requests) (t : Thread) → IsHere opens kept requests t → find (uncleared_by kept) opens ≡ None
+    → acts.clear requests t ≡ refused (idle_refusal (is_empty opens) (list_any (λ a. is_target a.request kept.name) opens) (list_any (told_by kept) opens))
+clear_idle opens kept requests t here none = clear_is opens kept requests t here ∙ idle_is (is_empty opens) (list_any (λ a. is_target a.request kept.name) opens) (list_any (told_by kept) opens) (in_found AlreadyDone (find (acts.is_uncleared requests kept.name) requests.opened) (acts.clear_in requests t)) (clear_none opens kept requests t here none)
+
+pub hold_idle : (opens : List Open) (kept : Kept) (requests : Requests) (t : Thread) → IsHere opens kept requests t → list_any (uncleared_by kept) opens ≡ false
+    → acts.hold requests t ≡ refused (idle_refusal (is_empty opens) (list_any (λ a. is_target a.request kept.name) opens) (list_any (told_by kept) opens))
+hold_idle opens kept requests t here none = hold_is opens kept requests t here ∙ idle_is (is_empty opens) (list_any (λ a. is_target a.request kept.name) opens) (list_any (told_by kept) opens)
+    (unless list_any (uncleared_by kept) opens refuse AlreadyDone then unless not kept.held refuse Held then unless is_safe kept.state refuse NotSafe then accepted (becomes (record t { held = true })) Done) (rw none refl)
+
+-- What waits was told, and what was told is open and of the thread.
+told_pair : (kept : Kept) (requests : Requests) (a : Open) (o : Opened) → SameOpen a kept requests o → told_by kept a ≡ true → is_target a.request kept.name ≡ true
+told_pair kept requests a o h told = h.target (h.told ∙ told)
+
+or_later : (x y : Bool) → y ≡ true → x || y ≡ true
+or_later true y e = refl
+or_later false y e = e
+
+pub any_found : (f : Open → Bool) (opens : List Open) (a : Open) → find f opens ≡ Some a → list_any f opens ≡ true
+any_found f [] a is = cc
+any_found f (b ∷ opens) a is = by (f b) is (any_found f opens a)
+  where
+    by : (c : Bool) → cond c (Some b) (find f opens) ≡ Some a → (find f opens ≡ Some a → list_any f opens ≡ true) → c || list_any f opens ≡ true
+    by true k rest = refl
+    by false k rest = rest k
+
+-- All three tests pass.
+pub record Waits (kept : Kept) (opens : List Open) : Type 0 where
+  pub some : is_empty opens ≡ false
+  pub target : list_any (λ a. is_target a.request kept.name) opens ≡ true
+  pub told : list_any (told_by kept) opens ≡ true
+
+pub waits_of : (f : Open → Bool) (kept : Kept) (requests : Requests) → ((a : Open) → f a ≡ true → told_by kept a ≡ true) → (opens : List Open) (os : List Opened) → OpenBy opens kept requests os → list_any f opens ≡ true → Waits kept opens
+waits_of f kept requests was [] [] h any = absurd (false≢true any)
+waits_of f kept requests was [] (o ∷ os) h any = absurd h
+waits_of f kept requests was (a ∷ opens) [] h any = absurd h
+waits_of f kept requests was (a ∷ opens) (o ∷ os) h any = by (f a) refl any (waits_of f kept requests was opens os h.1)
+  where
+    by : (b : Bool) → f a ≡ b → b || list_any f opens ≡ true → (list_any f opens ≡ true → Waits kept opens) → Waits kept (a ∷ opens)
+    by true e k rest = (let told = was a e in let target = told_pair kept requests a o h.0 told in record { some = refl; target = rw target refl; told = rw told refl })
+    by false e k rest = (let r = rest k in record { some = refl; target = or_later (is_target a.request kept.name) (list_any (λ x. is_target x.request kept.name) opens) r.target; told = or_later (told_by kept a) (list_any (told_by kept) opens) r.told })
+
+pub undone_waits : (opens : List Open) (kept : Kept) (requests : Requests) (t : Thread) (a : Open) → IsHere opens kept requests t → find (undone_by kept) opens ≡ Some a → Waits kept opens
+undone_waits opens kept requests t a here is = waits_of (undone_by kept) kept requests (λ b e. (both (was_told b kept) (not (is_done b kept)) e).0) opens requests.opened here.opened (any_found (undone_by kept) opens a is)
+
+pub uncleared_waits : (opens : List Open) (kept : Kept) (requests : Requests) (t : Thread) → IsHere opens kept requests t → list_any (uncleared_by kept) opens ≡ true → Waits kept opens
+uncleared_waits opens kept requests t here any = waits_of (uncleared_by kept) kept requests (λ b e. (both (was_told b kept) (nat_lt kept.marks.cleared b.number) e).0) opens requests.opened here.opened any
+
+-- A handshake that is found undone lists the thread.
+listed_of : (kept : Kept) (requests : Requests) (opens : List Open) (os : List Opened) (a : Open) → OpenBy opens kept requests os → find (undone_by kept) opens ≡ Some a → is_census a.request ≡ false → list_any (λ x. lists x.request kept.name) opens ≡ true
+listed_of kept requests [] [] a h is handshake = cc
+listed_of kept requests [] (o ∷ os) a h is handshake = absurd h
+listed_of kept requests (b ∷ opens) [] a h is handshake = absurd h
+listed_of kept requests (b ∷ opens) (o ∷ os) a h is handshake = by (undone_by kept b) refl is (λ rest. listed_of kept requests opens os a h.1 rest handshake)
+  where
+    lists_of : (r : Request) → is_census r ≡ false → is_target r kept.name ≡ true → lists r kept.name ≡ true
+    lists_of (Handshake targets ask) e k = k
+    lists_of Census e k = cc
+
+    by : (c : Bool) → undone_by kept b ≡ c → cond c (Some b) (find (undone_by kept) opens) ≡ Some a → (find (undone_by kept) opens ≡ Some a → list_any (λ x. lists x.request kept.name) opens ≡ true) → lists b.request kept.name || list_any (λ x. lists x.request kept.name) opens ≡ true
+    by true e k rest =
+        let same : b ≡ a = cc in
+        let told : told_by kept b ≡ true = (both (was_told b kept) (not (is_done b kept)) e).0 in
+        let here = lists_of b.request (ap (λ (x : Open). is_census x.request) same ∙ handshake) (told_pair kept requests b o h.0 told) in
+        rw here refl
+    by false e k rest = or_later (lists b.request kept.name) (list_any (λ x. lists x.request kept.name) opens) (rest k)
+
+pub asked_is : (opens : List Open) (kept : Kept) (requests : Requests) (t : Thread) (a : Open) → IsHere opens kept requests t → find (undone_by kept) opens ≡ Some a → list_any (λ x. lists x.request kept.name) opens ≡ is_asked kept a opens
+asked_is opens kept requests t a here is = by (is_census a.request) refl
+  where
+    by : (b : Bool) → is_census a.request ≡ b → list_any (λ x. lists x.request kept.name) opens ≡ is_asked kept a opens
+    by true e = rw e refl
+    by false e = rw (e, listed_of kept requests opens requests.opened a here.opened is e) refl
 
 pub hold_passed : (opens : List Open) (kept : Kept) (requests : Requests) (t : Thread) → IsHere opens kept requests t → is_empty opens ≡ false → list_any (λ a. is_target a.request kept.name) opens ≡ true → list_any (told_by kept) opens ≡ true
     → list_any (uncleared_by kept) opens ≡ true → kept.held ≡ false → is_safe kept.state ≡ true → acts.hold requests t ≡ accepted (becomes (record t { held = true })) Done

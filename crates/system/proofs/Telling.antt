@@ -149,17 +149,21 @@ pair_of s w p kept t sound b i a o at same = record {
     marks = subst (λ n. SameMarks kept.marks w.requests n) (sym b.same.thread.name) b.same.marks
 
     both : SameOpen a kept w.requests o
-    both = same_open a o kept w i sound.marks at same marks (subst (λ n. is_live w n ≡ true) (sym b.same.thread.name) (live_has w p t b.there))
+    both = same_open a o kept w i sound.marks at (sound.numbers.opened_is i o at).0 same marks (subst (λ n. is_live w n ≡ true) (sym b.same.thread.name) (live_has w p t b.there))
 
     told : is_marked w.requests.told o.number t.name ≡ was_told a kept
     told = subst (λ n. is_marked w.requests.told o.number n ≡ was_told a kept) b.same.thread.name both.told
+
+    or_true : (x : Bool) → x || true ≡ true
+    or_true true = refl
+    or_true false = refl
 
     and_true : (x : Bool) → x && true ≡ x
     and_true true = refl
     and_true false = refl
 
     by : (l : Bool) → is_live_for a kept ≡ l → (not (is_marked w.requests.told o.number t.name) && is_live_target w o t.name) ≡ untold_by kept a
-    by true e = rw (live, told, e, and_true (nat_le a.number kept.marks.told), not_le a.number kept.marks.told) refl
+    by true e = rw (live, told, e, or_true (eqb a.number kept.marks.told), and_true (nat_le a.number kept.marks.told), not_le a.number kept.marks.told) refl
     by false e = rw (live, e) (and_false (not (is_marked w.requests.told o.number t.name)) ∙ sym (and_false (nat_lt kept.marks.told a.number)))
 
 -- The operation that is found is told.

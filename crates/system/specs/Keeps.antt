@@ -9,7 +9,7 @@ use Rattle.frames.specs.declared.CodeId.{CodeId}
 use Rattle.frames.specs.Stack.{times}
 use Rattle.frames.specs.declared.Change.{Change as CodeChange}
 use Rattle.frames.specs.ImageView.{ImageView, SameBag, Counts}
-use Rattle.operations.specs.Requests.{is_census, is_target}
+use Rattle.operations.specs.Requests.{is_census, is_target, lists}
 use Rattle.system.specs.declared.thread.Marks.{Marks}
 use Rattle.system.specs.declared.thread.Moments.{Moments}
 use Rattle.system.specs.declared.thread.Thread.{Thread as Kept}
@@ -19,7 +19,7 @@ use Rattle.system.specs.declared.events.Act.TheVariants.{Begin, Change, End, Wak
 use Rattle.system.specs.declared.answers.Answer.{Answer}
 use Rattle.system.specs.declared.answers.Answer.TheVariants.{Changed, NoChange, Exited, Told, Gone, Refused}
 use Rattle.system.specs.declared.answers.Refusal.{Refusal}
-use Rattle.system.specs.declared.answers.Refusal.TheVariants.{Illegal, Publishing, Unpublished, DepthFull, AlreadyTold}
+use Rattle.system.specs.declared.answers.Refusal.TheVariants.{Illegal, Publishing, Unpublished, DepthFull, NothingOpen, NotOf, NotTold, AlreadyDone, AlreadyTold}
 use Rattle.system.specs.Verdict.{Verdict, refused, accepted, unless◌refuse◌then◌}
 use Rattle.system.specs.Operations.{Requests, Opened, is_marked, with_mark, poll_of}
 use Rattle.system.specs.Threads.{Thread, part}
@@ -51,9 +51,10 @@ abbrev pub is_live_for : Open → Kept → Bool
 is_live_for open_ kept = nat_le kept.name open_.names && is_target open_.request kept.name
 
 -- The operation was told to the thread, is done for it, or is cleared for it. Numbers are told to a thread in rising order, none
--- of which it is a live target is left out, and they are done and cleared in that order. A census is done for all where it was operated.
+-- of which it is a live target is left out, and they are done and cleared in that order. So of the number told last no target is looked up.
+-- A census is done for all where it was operated.
 abbrev pub was_told : Open → Kept → Bool
-was_told open_ kept = nat_le open_.number kept.marks.told && is_live_for open_ kept
+was_told open_ kept = nat_le open_.number kept.marks.told && ((open_.number == kept.marks.told) || is_live_for open_ kept)
 
 abbrev pub is_done : Open → Kept → Bool
 is_done open_ kept = if is_census open_.request then open_.operated else nat_le open_.number kept.marks.done
@@ -63,6 +64,10 @@ told_by kept open_ = was_told open_ kept
 
 abbrev pub undone_by : Kept → Open → Bool
 undone_by kept open_ = was_told open_ kept && not (is_done open_ kept)
+
+-- The request of an operation that is found undone lists the thread: a handshake's does, where it was told.
+abbrev pub is_asked : Kept → Open → List Open → Bool
+is_asked kept open_ opens = not (is_census open_.request) || list_any (λ o. lists o.request kept.name) opens
 
 abbrev pub uncleared_by : Kept → Open → Bool
 uncleared_by kept open_ = was_told open_ kept && nat_lt kept.marks.cleared open_.number
@@ -91,12 +96,17 @@ marks_told kept (Some open_) = record kept { marks = record kept.marks { told = 
 abbrev pub kept_told : List Open → Kept → Kept
 kept_told opens kept = if list_any (live_by kept) opens then marks_told kept (find (untold_by kept) opens) else kept
 
+-- Why no operation waits for the thread: none is open, none is of it, none was told to it, or each that was told is served.
+abbrev pub idle_refusal : Bool → Bool → Bool → Refusal
+idle_refusal empty of told = if empty then NothingOpen else if not of then NotOf else if not told then NotTold else AlreadyDone
+
 -- An open operation, and what the thread's marks say of it; done and cleared count for a thread that was told.
 pub record SameOpen (open_ : Open) (kept : Kept) (requests : Requests) (o : Opened) : Type 0 where
   pub number : open_.number ≡ o.number
   pub request : open_.request ≡ o.request
   pub operated : open_.operated ≡ o.operated
   pub told : is_marked requests.told o.number kept.name ≡ was_told open_ kept
+  pub target : is_marked requests.told o.number kept.name ≡ true → is_target open_.request kept.name ≡ true
   pub done : is_marked requests.told o.number kept.name ≡ true → is_marked requests.done o.number kept.name ≡ is_done open_ kept
   pub cleared : is_marked requests.told o.number kept.name ≡ true → is_marked requests.cleared o.number kept.name ≡ nat_le open_.number kept.marks.cleared
 

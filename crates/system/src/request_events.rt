@@ -67,7 +67,7 @@ impl Core {
     pub fn open_next(&mut self) -> Answer
         ensures { Does events.Open self.old result self.new }
     {
-        if !self.requests.opens.as_slice().is_empty() {
+        if !self.requests.may_open() {
             return Answer::Refused(Refusal::AlreadyOpen);
         }
         let Some(oldest) = self.requests.waiting.pop() else {

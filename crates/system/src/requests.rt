@@ -1,6 +1,7 @@
 // The requests that wait and those that are open, as the system keeps them.
 ghost use Rattle.std.specs.Prelude.{◌≡◌};
 ghost use Rattle.std.specs.List.{list_all, list_any};
+ghost use Rattle.operations.specs.Names.{is_empty};
 ghost use Rattle.operations.specs.Requests.{is_census, is_target, lists, reply_to};
 ghost use Rattle.system.specs.Censuses.{has_census};
 ghost use Rattle.system.specs.Tells.{is_clear_at, is_held_for, is_over_at, may_tell_of};
@@ -116,6 +117,13 @@ pub struct Requests {
 }
 
 impl Requests {
+    /// Whether the oldest request may be opened: one operation is open at a time.
+    pub fn may_open(&self) -> bool
+        ensures { result ≡ is_empty self.now.opens }
+    {
+        self.opens.as_slice().is_empty()
+    }
+
     /// Whether a census is open. (overview: at a safepoint)
     pub fn is_safepoint(&self) -> bool
         ensures { result ≡ has_census self.now.opens }

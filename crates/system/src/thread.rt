@@ -9,7 +9,7 @@ ghost use Rattle.system.specs.Threads as threads;
 ghost use Rattle.system.specs.World.{World};
 ghost use Rattle.system.specs.Places as acts;
 ghost use Rattle.system.specs.declared.events.Act.TheVariants as TheActs;
-ghost use Rattle.system.specs.Keeps.{SameThread, IsHere, Did, DidWith, DidStay, DidNext, SaysExit, IsNew, enters_frame, frame_refusal, poll_by, common_refusal, lawful_in, is_plain, is_live_for, was_told, is_done, told_by, undone_by, uncleared_by, awaited_by, live_by, untold_by, answer_told, kept_told};
+ghost use Rattle.system.specs.Keeps.{SameThread, IsHere, Did, DidWith, DidStay, DidNext, SaysExit, IsNew, enters_frame, frame_refusal, poll_by, common_refusal, lawful_in, is_plain, is_live_for, was_told, is_done, told_by, undone_by, uncleared_by, awaited_by, live_by, untold_by, is_asked, idle_refusal, answer_told, kept_told};
 
 use crate::answers::{Answer, Refusal};
 use crate::events::Act;
@@ -268,11 +268,12 @@ impl Thread {
         self.name <= open.names && open.is_target(self.name)
     }
 
-    // The operation was told to the thread: numbers are told to it in rising order, each of which it is a live target.
+    // The operation was told to the thread: numbers are told to it in rising order, each of which it is a live target. For the number
+    // told last no target is looked up.
     fn was_told(&self, open: &Open) -> bool
         ensures { result ≡ was_told open.now self.now }
     {
-        open.number <= self.marks.told && self.is_live_for(open)
+        open.number <= self.marks.told && (open.number == self.marks.told || self.is_live_for(open))
     }
 
     fn is_done(&self, open: &Open) -> bool
@@ -319,6 +320,13 @@ impl Thread {
         ensures { result ≡ list_any (uncleared_by self.now) operations.now }
     {
         operations.iter().any(|open| self.is_uncleared(open))
+    }
+
+    // An open operation lists the thread: a handshake that was told to it does, so no list is searched for one that is found undone.
+    fn is_asked(&self, open: &Open, operations: &[Open]) -> bool
+        ensures { result ≡ is_asked self.now open.now operations.now }
+    {
+        !open.is_census() || self.is_listed(operations)
     }
 
     // The least told one that isn't done, and the least that isn't cleared.
@@ -433,18 +441,16 @@ impl Thread {
     fn finish(&mut self, operations: &[Open]) -> Result<Answer, Refusal>
         ensures { (w : World) (now : ℕ) (t : _) → IsHere operations.now self.old w.requests t → Did TheActs.Finish operations.now w.requests now (acts.does w TheActs.Finish t) self.old self.new t result }
     {
-        if operations.is_empty() {
-            return Err(Refusal::NothingOpen);
-        }
-        if !self.is_listed(operations) {
+        let Some(open) = self.next_undone(operations) else {
+            return Err(idle_refusal(
+                operations.is_empty(),
+                self.is_listed(operations),
+                self.is_told(operations),
+            ));
+        };
+        if !self.is_asked(open, operations) {
             return Err(Refusal::NotOf);
         }
-        if !self.is_told(operations) {
-            return Err(Refusal::NotTold);
-        }
-        let Some(open) = self.next_undone(operations) else {
-            return Err(Refusal::AlreadyDone);
-        };
         if !self.image.is_settled() {
             return Err(Refusal::Unpublished);
         }
@@ -456,17 +462,12 @@ impl Thread {
     fn clear(&mut self, operations: &[Open]) -> Result<Answer, Refusal>
         ensures { (w : World) (now : ℕ) (t : _) → IsHere operations.now self.old w.requests t → Did TheActs.Clear operations.now w.requests now (acts.does w TheActs.Clear t) self.old self.new t result }
     {
-        if operations.is_empty() {
-            return Err(Refusal::NothingOpen);
-        }
-        if !self.is_target(operations) {
-            return Err(Refusal::NotOf);
-        }
-        if !self.is_told(operations) {
-            return Err(Refusal::NotTold);
-        }
         let Some(open) = self.next_uncleared(operations) else {
-            return Err(Refusal::AlreadyDone);
+            return Err(idle_refusal(
+                operations.is_empty(),
+                self.is_target(operations),
+                self.is_told(operations),
+            ));
         };
         if !self.is_done(open) {
             return Err(Refusal::NotDone);
@@ -479,17 +480,12 @@ impl Thread {
     fn hold(&mut self, operations: &[Open]) -> Result<Answer, Refusal>
         ensures { (w : World) (t : _) → IsHere operations.now self.old w.requests t → DidStay (acts.does w TheActs.Hold t) self.old self.new t result }
     {
-        if operations.is_empty() {
-            return Err(Refusal::NothingOpen);
-        }
-        if !self.is_target(operations) {
-            return Err(Refusal::NotOf);
-        }
-        if !self.is_told(operations) {
-            return Err(Refusal::NotTold);
-        }
         if !self.is_waited_for(operations) {
-            return Err(Refusal::AlreadyDone);
+            return Err(idle_refusal(
+                operations.is_empty(),
+                self.is_target(operations),
+                self.is_told(operations),
+            ));
         }
         if self.held {
             return Err(Refusal::Held);
@@ -499,6 +495,21 @@ impl Thread {
         }
         self.held = true;
         Ok(Answer::Done)
+    }
+}
+
+// Why no operation waits for a thread: none is open, none is of it, none was told to it, or each that was told is served.
+fn idle_refusal(empty: bool, of: bool, told: bool) -> Refusal
+    ensures { result ≡ idle_refusal empty of told }
+{
+    if empty {
+        Refusal::NothingOpen
+    } else if !of {
+        Refusal::NotOf
+    } else if !told {
+        Refusal::NotTold
+    } else {
+        Refusal::AlreadyDone
     }
 }
 
