@@ -51,7 +51,8 @@ pub enum NewFault {
     NoMemory,
 }
 
-/// Memory was refused at the event at this position. The events before it are done and answered, and no other.
+/// Memory was refused at the event at this position; or, at 0, for the answers. The events before it are done and answered, and
+/// no other.
 #[derive(Debug, Drop)]
 pub struct Stopped {
     pub answers: Vec<Answer>,
