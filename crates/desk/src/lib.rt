@@ -18,5 +18,5 @@ pub use faults::{
     AskFault, CloseFault, CodeFault, NotLive, NotReclaimed, OpenFault, OperateFault, ReclaimFault,
     Refused, StartFault,
 };
-pub use law::at_most_once;
+pub use law::{at_most_once, live_names_rise};
 pub use log::Receipt;
