@@ -4,3 +4,4 @@ pub mod Fewer
 pub mod OpenLists
 pub mod Keeping
 pub mod Once
+pub mod Rising

@@ -5,3 +5,4 @@ pub mod Refusals
 pub mod Targets
 pub mod Once
 pub mod JobsFit
+pub mod Rising

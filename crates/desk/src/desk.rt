@@ -1,7 +1,7 @@
 //! The desk: what all threads ask of the coordinator, in one history.
 ghost use Rattle.std.specs.Prelude.{◌≡◌, ◌==◌, ◌&&◌, ℕ, ◌+◌, ◌<◌, ◌≤◌, ◌^◌, List, [], ◌∷◌, ◌++◌, length, true, false, nat_le, Some, None, IfOk, IfErr, IfSome, IfNone, OnOk, OnErr, ◌≢◌, vec_len, vec_capacity};
 ghost use Rattle.frames.specs.ImageView.{IsSettled};
-ghost use Rattle.frames.specs.BoardViews.{went_round, looked_at, slot_of};
+ghost use Rattle.frames.specs.BoardViews.{went_round, looked_at, slot_of, entry_stored, in_use};
 ghost use Rattle.frames.specs.BoardStep.{is_late};
 ghost use Rattle.method_table.specs.declared.Code.{Code as CodeOf};
 ghost use Rattle.board.specs.Boards.{first_keeper};
@@ -143,6 +143,7 @@ impl<N: Name, J: Errand> Desk<N, J> {
         requires board { board.now ≡ N.board }
         ensures ok { IfOk result (λ r. Enters self.old self.new (Entry.Install r.0 method) r.1) }
         ensures slot { IfOk result (λ r. r.0.slot < N.board.slots) }
+        ensures stored { IfOk result (λ r. self.new.keeper ≡ entry_stored self.old.keeper r.0 (in_use r.0)) }
         ensures reserved { OnOk result (self.new.book.reserved ≡ self.old.book.reserved + 3) }
         ensures err { IfErr result (λ e. (self.new ≡ self.old) × install_refused (at self.old) method self.old.book e) }
     {
@@ -390,7 +391,7 @@ impl<N: Name, J: Errand> Desk<N, J> {
         requires board { board.now ≡ N.board }
         ensures retired { IfOk result (λ r. IfSome r.1 (λ receipt. Enters self.old self.new (Entry.Retire serial) receipt)) }
         ensures weighed { IfOk result (λ r. (code : CodeOf) × (unfreed (at self.old).table.codes serial ≡ Some code) × KeeperWeighs N.board.places (id_of code) self.old.keeper self.new.keeper r.0) }
-        ensures others { IfOk result (λ r. IfNone r.1 ((self.new.book ≡ self.old.book) × (r.0 ≢ Weighed.Clear))) }
+        ensures others { IfOk result (λ r. IfNone r.1 ((self.new.book ≡ self.old.book) × (self.new.slots ≡ self.old.slots) × (self.new.methods ≡ self.old.methods) × (r.0 ≢ Weighed.Clear))) }
         ensures err { IfErr result (λ e. (self.new ≡ self.old) × (retire_fault (unfreed (at self.old).table.codes serial) ≡ Some e)) }
     {
         let said = self.codes.weigh(board, serial)?;
@@ -445,6 +446,7 @@ impl<N: Name, J: Errand> Desk<N, J> {
         requires board { board.now ≡ N.board }
         ensures asked { IfOk result (λ r. IfSome r (λ a. IfSome request (λ asked. Enters self.old self.new (Entry.Ask a.0 asked) a.1))) }
         ensures quiet { IfOk result (λ r. IfNone r ((request ≡ None) × (self.new.book ≡ self.old.book))) }
+        ensures sizes { OnOk result ((self.new.slots ≡ self.old.slots) × (self.new.methods ≡ self.old.methods)) }
         ensures round { OnOk result (self.new.keeper ≡ went_round self.old.keeper self.old.keeper.moment) }
         ensures err { IfErr result (λ e. (self.new ≡ self.old) × reclaim_refused (at self.old) serial request (λ asked. jobs_fit J.whom J.asks asked jobs.items) self.old.book self.old.keeper.moment e.fault) }
         ensures handed_back { IfErr result (λ e. e.jobs ≡ jobs) }

@@ -11,6 +11,8 @@ mod faults;
 mod law;
 mod lists;
 mod log;
+#[cfg(test)]
+mod tests;
 
 pub use desk::Desk;
 pub use entries::{Entry, Live, Standing, Target};
@@ -18,5 +20,5 @@ pub use faults::{
     AskFault, CloseFault, CodeFault, NotLive, NotReclaimed, OpenFault, OperateFault, ReclaimFault,
     Refused, StartFault,
 };
-pub use law::at_most_once;
+pub use law::{at_most_once, live_names_rise};
 pub use log::Receipt;
