@@ -1,9 +1,8 @@
 -- A census: when it is refused, that the index answers it, and what the system has afterwards.
-use Rattle.std.proofs.Common.{◌≡◌, ◌≢◌, ◌∙◌, ◌+◌, ◌<◌, ◌≤◌, sym, ap, ap₂, refl, subst, ℕ, suc, Bool, true, false, not, ◌&&◌, ◌||◌, ◌==◌, eqb, cond, List, [], ◌∷◌, Option, Some, None, length, map, arith}
+use Rattle.std.proofs.Common.{◌≡◌, ◌≢◌, ◌∙◌, ◌+◌, ◌<◌, ◌≤◌, sym, ap, ap₂, refl, subst, ℕ, suc, Bool, true, false, not, ◌&&◌, ◌==◌, eqb, cond, List, [], ◌∷◌, Option, Some, None, length, map, arith}
 use Rattle.std.specs.Prelude.{slice_get, filter, is_none, IsTrue, ◌↔◌}
 use Rattle.std.specs.List.{list_all}
 use Rattle.std.proofs.lemmas.Bool.Decides.{nat_tests}
-use Rattle.std.proofs.lemmas.List.Folds.{list_any-append}
 use Rattle.frames.specs.declared.CodeId.{CodeId}
 use Rattle.frames.specs.ImageView.{ImageView, IsSettled, next_code}
 use Rattle.frames.proofs.Fewer.{none_next}
@@ -11,7 +10,6 @@ use Rattle.method_table.specs.declared.Code.{Code}
 use Rattle.method_table.specs.Codes.{code_of, id_of}
 use Rattle.activation_index.specs.declared.Entry.{Entry}
 use Rattle.activation_index.specs.Counts.{count_in, IsRisingFrom}
-use Rattle.operations.specs.Names.{among}
 use Rattle.operations.specs.Requests.{is_census}
 use Rattle.system.specs.declared.events.Event.TheVariants as event
 use Rattle.system.specs.declared.answers.Answer.{Answer}
@@ -20,14 +18,13 @@ use Rattle.system.specs.declared.answers.CodeCount.{CodeCount}
 use Rattle.system.specs.declared.answers.Refusal.{Refusal}
 use Rattle.system.specs.declared.answers.Refusal.TheVariants.{NothingOpen, NotOf, AlreadyDone, NotAllHeld, Publishing, Unpublished}
 use Rattle.system.specs.declared.requests.Open.{Open}
-use Rattle.system.specs.declared.thread.Marks.{Marks}
 use Rattle.system.specs.declared.thread.Thread.{Thread as Kept}
 use Rattle.system.specs.declared.keeping.Core.{Core}
 use Rattle.system.specs.Verdict.{Verdict, refused, accepted, unless◌refuse◌then◌}
-use Rattle.system.specs.Operations.{Opened, Mark, is_marked, marks_of}
+use Rattle.system.specs.Operations.{Opened}
 use Rattle.system.specs.Log.{Entry as Logged}
 use Rattle.system.specs.Threads.{Thread, is_publishing, is_settled}
-use Rattle.system.specs.World.{World, found, thread_at, threads, live_names, frames_of, census}
+use Rattle.system.specs.World.{World, found, thread_at, threads, frames_of, census}
 use Rattle.system.specs.Places.{in_open}
 use Rattle.system.specs.Step.{outcome, operate, operated_if}
 use Rattle.system.specs.Facts.{IsSound}

@@ -7,18 +7,17 @@ use Rattle.method_table.specs.Numbers.{last_number}
 use Rattle.method_table.specs.Codes.{code_of, id_of, in_use_for}
 use Rattle.method_table.specs.declared.CodeState.{CodeState}
 use Rattle.frames.specs.declared.CodeId.{CodeId}
-use Rattle.system.specs.declared.events.Event.{Event}
 use Rattle.system.specs.declared.events.Event.TheVariants as event
 use Rattle.system.specs.declared.answers.Answer.{Answer}
 use Rattle.system.specs.declared.answers.Answer.TheVariants as answer
 use Rattle.system.specs.declared.keeping.Core.{Core}
 use Rattle.system.specs.Verdict.{accepted}
-use Rattle.system.specs.Log.{Entry, names_given, operations_given, moment}
+use Rattle.system.specs.Log.{names_given, operations_given, moment}
 use Rattle.system.specs.World.{World, thread_at}
 use Rattle.system.specs.Step.{outcome, of_code, code_or_none}
 use Rattle.system.specs.Stands.{Matches, Does, kept_at}
 use Rattle.system.proofs.Outcomes.{noted}
-use Rattle.system.proofs.Logs.{IsQuiet, IsElsewhere, names_next, operations_next, moment_next, moments_next, place_over, opened_over, noted_matches}
+use Rattle.system.proofs.Logs.{IsElsewhere, names_next, operations_next, moment_next, moments_next, place_over, opened_over, noted_matches}
 use Rattle.system.proofs.Codings.{accepted_in, record_next}
 
 pub said_state : (s : Core) (serial : ℕ) (code : Code) → code_of s.table.codes serial ≡ Some code → Does (event.CodeState serial) s (answer.State code.state) s
