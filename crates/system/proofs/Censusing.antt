@@ -5,7 +5,6 @@ use Rattle.std.specs.List.{list_all, cons_option}
 use Rattle.std.proofs.lemmas.List.Sums.{sum_by-cons}
 use Rattle.std.proofs.lemmas.List.Sorted.{sum_by-IsPermutation}
 use Rattle.std.proofs.lemmas.Bool.Decides.{nat_tests}
-use Rattle.std.proofs.lemmas.List.Folds.{list_any-append}
 use Rattle.frames.specs.declared.CodeId.{CodeId}
 use Rattle.frames.specs.ImageView.{ImageView, IsSettled, next_code}
 use Rattle.frames.proofs.Uncounted.{none_next}
@@ -27,11 +26,10 @@ use Rattle.system.specs.declared.answers.CodeCount.{CodeCount}
 use Rattle.system.specs.declared.answers.Refusal.{Refusal}
 use Rattle.system.specs.declared.answers.Refusal.TheVariants.{NothingOpen, NotOf, AlreadyDone, NotAllHeld, Publishing, Unpublished}
 use Rattle.system.specs.declared.requests.Open.{Open}
-use Rattle.system.specs.declared.thread.Marks.{Marks}
 use Rattle.system.specs.declared.thread.Thread.{Thread as Kept}
 use Rattle.system.specs.declared.keeping.Core.{Core}
 use Rattle.system.specs.Verdict.{Verdict, refused, accepted, unless◌refuse◌then◌}
-use Rattle.system.specs.Operations.{Opened, Mark, is_marked, marks_of}
+use Rattle.system.specs.Operations.{Opened}
 use Rattle.system.specs.Log.{Entry as Logged}
 use Rattle.system.specs.Threads.{Thread, is_publishing, is_settled}
 use Rattle.system.specs.World.{World, found, thread_at, threads, live_names, walk, frames_of, census}

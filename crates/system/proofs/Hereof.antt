@@ -1,5 +1,5 @@
 -- What the system keeps of a thread says all that its acts ask.
-use Rattle.std.proofs.Common.{◌≡◌, ◌∙◌, sym, ap, refl, subst, ℕ, true, List, [], ◌∷◌, Some}
+use Rattle.std.proofs.Common.{◌≡◌, sym, subst, ℕ, true, List, [], ◌∷◌, Some}
 use Rattle.std.specs.Prelude.{slice_get}
 use Rattle.system.specs.declared.thread.Thread.{Thread as Kept}
 use Rattle.system.specs.declared.requests.Open.{Open}
@@ -9,7 +9,7 @@ use Rattle.system.specs.Threads.{Thread}
 use Rattle.system.specs.World.{World, is_live}
 use Rattle.system.specs.Facts.{IsSound}
 use Rattle.system.specs.Keeps.{SameOpen, OpenBy, IsHere, PollIs}
-use Rattle.system.specs.Marking.{SameMarks, SameOpens}
+use Rattle.system.specs.Marking.{SameMarks}
 use Rattle.system.specs.Stands.{Matches, SameAt}
 use Rattle.system.proofs.Marks.{live_has}
 use Rattle.system.proofs.Marking.{poll_is, same_open}

@@ -1,5 +1,5 @@
 -- What one more entry of the log changes.
-use Rattle.std.proofs.Common.{◌≡◌, ◌∙◌, ◌+◌, ◌<◌, ◌≤◌, sym, ap, refl, subst, ℕ, true, false, ◌&&◌, cond, List, [], ◌∷◌, Option, Some, None, length, arith}
+use Rattle.std.proofs.Common.{◌≡◌, ◌∙◌, ◌+◌, ◌<◌, ◌≤◌, sym, ap, refl, subst, ℕ, true, false, ◌&&◌, cond, List, ◌∷◌, Option, Some, None, length, arith}
 use Rattle.method_table.specs.Codes.{code_of}
 use Rattle.system.specs.declared.events.Event.{Event}
 use Rattle.system.specs.declared.answers.Answer.{Answer}

@@ -1,11 +1,11 @@
 -- Marks of one thread that are added, against what the system keeps of each thread.
-use Rattle.std.proofs.Common.{◌≡◌, ◌∙◌, sym, refl, subst, ℕ, Bool, true, false, ◌&&◌, ◌||◌, eqb, List, [], ◌∷◌, arith}
+use Rattle.std.proofs.Common.{◌≡◌, ◌∙◌, sym, refl, ℕ, Bool, true, false, ◌&&◌, eqb, List, arith}
 use Rattle.std.proofs.lemmas.Bool.Decides.{nat_tests}
 use Rattle.system.specs.declared.answers.Answer.{Answer}
 use Rattle.system.specs.declared.answers.Refusal.{Refusal}
 use Rattle.system.specs.declared.thread.Marks.{Marks}
 use Rattle.system.specs.Verdict.{Verdict, accepted, unless◌refuse◌then◌}
-use Rattle.system.specs.Operations.{Requests, Mark, Opened, is_marked, with_mark}
+use Rattle.system.specs.Operations.{Requests, Mark, is_marked, with_mark}
 use Rattle.system.specs.Places.{Effect}
 use Rattle.system.specs.Marking.{SameMarks}
 

@@ -1,7 +1,7 @@
 -- The three numbers of a thread, kept by Finish, Clear, Tell, Open, Operate and Close; and what they say of its polls and of the open operations.
-use Rattle.std.proofs.Common.{◌≡◌, ◌⊎◌, ◌∙◌, ◌<◌, ◌≤◌, ◌+◌, sym, ap, subst, refl, ℕ, zero, suc, Bool, true, false, not, ◌&&◌, ◌||◌, eqb, ◌==◌, cond, List, [], ◌∷◌, Option, Some, None, length, map, arith, inl, inr, ⊎_elim}
+use Rattle.std.proofs.Common.{◌≡◌, ◌∙◌, ◌<◌, ◌≤◌, ◌+◌, sym, ap, subst, refl, ℕ, zero, suc, Bool, true, false, not, ◌&&◌, ◌||◌, eqb, ◌==◌, cond, List, [], ◌∷◌, Option, Some, None, length, map, arith, ⊎_elim}
 use Rattle.std.specs.Prelude.{filter, nat_le, nat_lt, slice_get, find}
-use Rattle.std.proofs.lemmas.Bool.{false≢true, leb-true, leb-false, ltb-true, ltb-false, and_parts, and_from, not-true, eqb-true}
+use Rattle.std.proofs.lemmas.Bool.{false≢true, leb-true, leb-false, ltb-true, ltb-false, and_parts, and_from, eqb-true}
 use Rattle.std.proofs.lemmas.Bool.Decides.{nat_tests}
 use Rattle.operations.specs.Names.{among}
 use Rattle.operations.specs.Requests.{is_census, is_target}
@@ -14,14 +14,14 @@ use Rattle.system.specs.World.{World, live_names, is_live, is_live_target}
 use Rattle.system.specs.Log.{names_given, operations_given, moment}
 use Rattle.system.specs.Places.{is_undone, is_uncleared}
 use Rattle.system.specs.Facts.{NumbersAreSound, MarksAreSound, IsSound}
-use Rattle.system.specs.Keeps.{poll_by, SameOpen, OpenBy}
-use Rattle.system.specs.Marking.{SameMarks, SameOpened, SameOpens, done_by}
+use Rattle.system.specs.Keeps.{poll_by, SameOpen}
+use Rattle.system.specs.Marking.{SameMarks, SameOpened, done_by}
 use Rattle.system.proofs.Outcomes.{Tells, Opens, newly_opened, with_opened, with_operated}
 use Rattle.system.specs.Step.{operated_if}
 use Rattle.std.proofs.lemmas.List.Folds.{list_any-append}
 use Rattle.system.proofs.Lists.{find_before, found_passes, at_low, same_at, filter_has, filter_pair, push_at}
 use Rattle.system.proofs.Numbers.{only_number}
-use Rattle.system.proofs.Marks.{marked_more, marked_old, marked_new, live_has}
+use Rattle.system.proofs.Marks.{marked_more, marked_old, marked_new}
 
 false_where : (b : Bool) → (b ≡ true → ⊥) → b ≡ false
 false_where true f = absurd (f refl)

@@ -7,13 +7,12 @@ use Rattle.method_table.specs.Numbers.{last_number}
 use Rattle.method_table.specs.Codes.{code_of, id_of, in_use_for}
 use Rattle.method_table.specs.declared.CodeState.{CodeState}
 use Rattle.frames.specs.declared.CodeId.{CodeId}
-use Rattle.system.specs.declared.events.Event.{Event}
 use Rattle.system.specs.declared.events.Event.TheVariants as event
 use Rattle.system.specs.declared.answers.Answer.{Answer}
 use Rattle.system.specs.declared.answers.Answer.TheVariants as answer
 use Rattle.system.specs.declared.keeping.Core.{Core}
 use Rattle.system.specs.Verdict.{accepted}
-use Rattle.system.specs.Log.{Entry, names_given, operations_given, moment}
+use Rattle.system.specs.Log.{names_given, operations_given, moment}
 use Rattle.system.specs.World.{World, thread_at}
 use Rattle.system.specs.Step.{outcome, of_code, code_or_none}
 use Rattle.system.specs.Stands.{Matches, Does, kept_at}

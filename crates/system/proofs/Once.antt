@@ -1,26 +1,24 @@
 -- Each operation runs at most once.
-use Rattle.std.proofs.Common.{◌≡◌, ℕ, zero, suc, ◌+◌, ◌<◌, ◌≤◌, Bool, true, false, cond, List, [], ◌∷◌, ◌++◌, length, Option, Some, None, sym, refl, ap, ◌∙◌, ⊎_elim, subst, arith}
+use Rattle.std.proofs.Common.{◌≡◌, ℕ, suc, ◌+◌, ◌<◌, Bool, true, false, cond, List, [], ◌∷◌, ◌++◌, length, Some, None, sym, refl, ap, ◌∙◌, ⊎_elim, subst, arith}
 use Rattle.std.specs.Prelude.{not, ◌||◌, ◌&&◌, ◌==◌, slice_get, slice_set}
 use Rattle.std.proofs.lemmas.Bool.{false≢true, eq-eqb, ne_eqb, ltb-true, ltb-false}
 use Rattle.std.proofs.lemmas.List.Folds.{list_any-append}
 use Rattle.std.specs.Prelude.{nat_lt}
-use Rattle.operations.specs.Requests.{is_census}
-use Rattle.system.specs.declared.events.Act.{Act}
 use Rattle.system.specs.declared.events.Act.TheVariants as act
 use Rattle.system.specs.declared.events.Event.{Event}
 use Rattle.system.specs.declared.events.Event.TheVariants as event
 use Rattle.system.specs.declared.answers.Answer.{Answer}
 use Rattle.system.specs.Threads.{Thread}
-use Rattle.system.specs.Operations.{Requests, Waiting, Opened, Mark, is_marked, with_mark, marks_of}
-use Rattle.system.specs.World.{World, start_world, thread_at, live_names}
+use Rattle.system.specs.Operations.{Requests, Waiting, Opened, Mark, is_marked, marks_of}
+use Rattle.system.specs.World.{World, start_world, live_names}
 use Rattle.system.specs.Log.{names_given, operations_given, moment}
 use Rattle.system.specs.Places.{popped}
 use Rattle.system.specs.Step.{new_thread, operated_if}
 use Rattle.method_table.specs.Codes.{id_of}
-use Rattle.system.specs.Runs.{after, answer_to, world_after}
+use Rattle.system.specs.Runs.{after, world_after}
 use Rattle.system.specs.Facts.{WasOpened, NumbersAreSound}
 use Rattle.system.specs.Safepoints.{is_accepted, IsNext}
-use Rattle.system.specs.Ran.{open_in, name_in, FinishesFor, OperatesFor, RunAtMostOnce, OperationsRunAtMostOnce}
+use Rattle.system.specs.Ran.{open_in, name_in, OperationsRunAtMostOnce}
 use Rattle.system.proofs.Outcomes.{Stands, begun, changed_by, ended, entered, moved, held, released, newly_opened, Opens, Operates, Closes}
 use Rattle.system.proofs.Cases.{Cases}
 use Rattle.system.proofs.ByCases.{by_cases}

@@ -1,5 +1,5 @@
 -- An open operation that is operated is a census, and each live thread was told it.
-use Rattle.std.proofs.Common.{◌≡◌, ◌∙◌, sym, ap, refl, subst, ℕ, ◌+◌, ◌<◌, ◌≤◌, Bool, true, false, ◌==◌, cond, List, Some, None, length, ⊎_elim}
+use Rattle.std.proofs.Common.{◌≡◌, ◌∙◌, sym, ap, refl, subst, ℕ, ◌+◌, ◌<◌, ◌≤◌, true, ◌==◌, List, Some, None, length, ⊎_elim}
 use Rattle.std.specs.Prelude.{slice_set, not, replicate}
 use Rattle.std.proofs.lemmas.Bool.{false≢true}
 use Rattle.operations.specs.Requests.{is_census}

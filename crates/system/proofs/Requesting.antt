@@ -1,6 +1,6 @@
 -- Ask and Open: what they answer, and what the system has after them.
-use Rattle.std.proofs.Common.{◌≡◌, ◌∙◌, ◌+◌, ◌<◌, ◌≤◌, sym, ap, refl, subst, ℕ, Bool, true, false, ◌&&◌, ◌||◌, ◌==◌, eqb, cond, List, [], ◌∷◌, ◌++◌, Option, Some, None, length, map, arith}
-use Rattle.std.specs.Prelude.{slice_get, filter, nat_lt, nat_le}
+use Rattle.std.proofs.Common.{None, ◌≡◌, ◌∙◌, ◌+◌, ◌<◌, ◌≤◌, sym, ap, refl, subst, ℕ, Bool, true, false, ◌&&◌, ◌||◌, ◌==◌, eqb, cond, List, [], ◌∷◌, ◌++◌, Some, length, map, arith}
+use Rattle.std.specs.Prelude.{filter, nat_lt, nat_le}
 use Rattle.std.specs.List.{list_any}
 use Rattle.std.proofs.lemmas.Bool.Decides.{nat_tests}
 use Rattle.method_table.specs.Numbers.{last_number}
@@ -18,11 +18,10 @@ use Rattle.system.specs.declared.answers.Answer.TheVariants as answer
 use Rattle.system.specs.declared.answers.Refusal.{Refusal}
 use Rattle.system.specs.declared.answers.Refusal.TheVariants as refusal
 use Rattle.system.specs.declared.records.Record.{Record}
-use Rattle.system.specs.declared.requests.Open.{Open}
 use Rattle.system.specs.declared.thread.Marks.{Marks}
 use Rattle.system.specs.declared.keeping.Core.{Core}
 use Rattle.system.specs.Verdict.{accepted}
-use Rattle.system.specs.Operations.{Requests, Waiting, Opened, is_marked}
+use Rattle.system.specs.Operations.{Requests, Opened}
 use Rattle.system.specs.Log.{Entry, is_start, is_round, is_invalidate, is_look, says_clear, names_given, operations_given, moment}
 use Rattle.system.specs.Threads.{Thread}
 use Rattle.system.specs.World.{World, thread_at, threads, live_names, is_live}

@@ -1,5 +1,5 @@
 -- What the open operation asks of a thread, by what the system keeps.
-use Rattle.std.proofs.Common.{◌≡◌, ◌∙◌, sym, ap, subst, length, refl, true, false, not, ◌&&◌, ◌||◌, Bool, cond, eqb, Option, Some, None, List, [], ◌∷◌, ℕ, arith}
+use Rattle.std.proofs.Common.{◌≡◌, ◌∙◌, sym, ap, subst, length, refl, true, false, not, ◌&&◌, ◌||◌, Bool, cond, Option, Some, None, List, [], ◌∷◌, ℕ, arith}
 use Rattle.std.specs.Prelude.{is_some, is_none, find, nat_le, nat_lt, ◌==◌, IsTrue, ◌↔◌}
 use Rattle.std.proofs.lemmas.Bool.Decides.{nat_tests}
 use Rattle.frames.specs.declared.CodeId.{CodeId}
@@ -8,7 +8,6 @@ use Rattle.frames.proofs.Uncounted.{none_next}
 use Rattle.operations.specs.declared.Ask.{Ask}
 use Rattle.operations.specs.declared.Request.{Request}
 use Rattle.operations.specs.declared.Request.TheVariants.{Handshake, Census}
-use Rattle.operations.specs.Asks.{reply}
 use Rattle.operations.specs.Requests.{is_census, is_target, lists, reply_to}
 use Rattle.system.proofs.Lists.{found_passes}
 use Rattle.system.specs.declared.requests.Open.{Open}

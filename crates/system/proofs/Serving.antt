@@ -1,5 +1,5 @@
 -- A Finish and a Clear at a place.
-use Rattle.std.proofs.Common.{◌≡◌, ◌≢◌, ◌∙◌, ◌<◌, ◌≤◌, sym, ap, refl, subst, ℕ, zero, suc, Bool, true, false, not, List, [], ◌∷◌, Option, Some, None, length, arith}
+use Rattle.std.proofs.Common.{◌≡◌, ◌≢◌, ◌∙◌, ◌<◌, sym, ap, refl, subst, ℕ, zero, suc, Bool, true, false, not, List, [], ◌∷◌, Option, Some, None, length, arith}
 use Rattle.std.specs.Prelude.{slice_get, slice_set, find}
 use Rattle.std.specs.List.{list_any}
 use Rattle.std.proofs.lemmas.Bool.{false≢true}
@@ -19,7 +19,7 @@ use Rattle.system.specs.declared.thread.Thread.{Thread as Kept}
 use Rattle.system.specs.declared.thread.Marks.{Marks}
 use Rattle.system.specs.declared.keeping.Core.{Core}
 use Rattle.system.specs.Verdict.{Verdict, accepted}
-use Rattle.system.specs.Operations.{Requests, Opened, is_marked, with_mark}
+use Rattle.system.specs.Operations.{Requests, Opened, with_mark}
 use Rattle.system.specs.Log.{Entry}
 use Rattle.system.specs.Threads.{Thread}
 use Rattle.system.specs.World.{World}

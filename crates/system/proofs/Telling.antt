@@ -1,8 +1,8 @@
 -- Tell: what it answers, and what the system has after it.
-use Rattle.std.proofs.Common.{◌≡◌, ◌∙◌, ◌<◌, ◌≤◌, sym, ap, refl, subst, ℕ, Bool, true, false, not, ◌&&◌, ◌||◌, ◌==◌, eqb, cond, List, [], ◌∷◌, Option, Some, None, length, arith}
+use Rattle.std.proofs.Common.{◌≡◌, ◌∙◌, sym, ap, refl, subst, ℕ, Bool, true, false, not, ◌&&◌, ◌||◌, eqb, cond, List, [], ◌∷◌, Option, Some, None, length, arith}
 use Rattle.std.specs.Prelude.{slice_get, slice_set, nat_le, nat_lt, find, filter}
 use Rattle.std.specs.List.{list_any}
-use Rattle.std.proofs.lemmas.Bool.{false≢true, and_parts, not-true}
+use Rattle.std.proofs.lemmas.Bool.{false≢true, and_parts, or_parts, not-true}
 use Rattle.std.proofs.lemmas.Bool.Decides.{nat_tests}
 use Rattle.operations.specs.declared.Request.{Request}
 use Rattle.operations.specs.declared.Request.TheVariants.{Handshake, Census}
@@ -15,7 +15,7 @@ use Rattle.system.specs.declared.answers.Refusal.TheVariants as refusal
 use Rattle.system.specs.declared.requests.Open.{Open}
 use Rattle.system.specs.declared.thread.Thread.{Thread as Kept}
 use Rattle.system.specs.declared.keeping.Core.{Core}
-use Rattle.system.specs.Verdict.{Verdict, refused, accepted}
+use Rattle.system.specs.Verdict.{accepted}
 use Rattle.system.specs.Operations.{Requests, Opened, is_marked, with_mark}
 use Rattle.system.specs.Log.{names_given}
 use Rattle.system.specs.Threads.{Thread}
@@ -25,9 +25,9 @@ use Rattle.system.specs.Step.{outcome, may_tell, tell_in, tell_oldest}
 use Rattle.system.specs.Facts.{IsSound}
 use Rattle.system.specs.Keeps.{SameOpen, is_live_for, was_told, live_by, untold_by, marks_told, answer_of_told, answer_told, kept_told}
 use Rattle.system.specs.Marking.{SameMarks, SameOpened}
-use Rattle.system.specs.Stands.{Matches, SameAt, DoesIn, Does}
+use Rattle.system.specs.Stands.{Matches, DoesIn, Does}
 use Rattle.system.specs.Tells.{is_named_at, may_tell_of}
-use Rattle.system.proofs.Outcomes.{noted, Tells}
+use Rattle.system.proofs.Outcomes.{Tells}
 use Rattle.system.proofs.Lists.{any_at, any_none_at, find_filter, find_place, found_passes}
 use Rattle.system.proofs.Found.{put_back}
 use Rattle.system.proofs.Logs.{IsQuiet, IsElsewhere, moments_next, noted_matches}
@@ -190,25 +190,34 @@ told_in s new w p kept t a o m sound b rest places number least said =
       elsewhere = λ q differ. elsewhere t.name answer.Told q;
     }))
 
+-- What has the thread as no live target isn't new to it.
+none_untold : (kept : Kept) (opens : List Open) → list_any (live_by kept) opens ≡ false → find (untold_by kept) opens ≡ None
+none_untold kept [] none = refl
+none_untold kept (a ∷ opens) none =
+    let dead = (or_parts (live_by kept a) (list_any (live_by kept) opens) none).0 in
+    let rest = none_untold kept opens (or_parts (live_by kept a) (list_any (live_by kept) opens) none).1 in
+    rw (dead, and_false (nat_lt kept.marks.told a.number)) rest
+
 module _ (s new : Core) (p : ℕ) (kept : Kept) (rest : SameRest s new) (at_s : slice_get s.places.items p ≡ Some (Some kept)) where
   -- Where the thread stays as it is, so does the system.
   back : (after : Kept) → after ≡ kept → new.places.items ≡ slice_set s.places.items p (Some after) → new.places.items ≡ s.places.items
   back after is places = places ∙ (ap (λ k. slice_set s.places.items p (Some k)) is ∙ put_back s.places.items p (Some kept) at_s)
 
   by_found : (w : World) (t : Thread) (x : Option Open) (y : Option Opened) → Matches s w → IsSound w → Both s w p kept t → BothFound (λ a o. IsPair w kept t.name a o) x y → find (λ o. not (is_marked w.requests.told o.number t.name)) (live_targets w t.name) ≡ y
-      → outcome w (event.Tell t.name) ≡ in_found refusal.AlreadyTold y (tell_in w t.name) → new.places.items ≡ slice_set s.places.items p (Some (marks_told kept x)) → DoesIn (event.Tell t.name) (answer_of_told x) new w
+      → outcome w (event.Tell t.name) ≡ in_found refusal.AlreadyTold y (tell_in w t.name) → new.places.items ≡ slice_set s.places.items p (Some (marks_told kept x)) → DoesIn (event.Tell t.name) (answer_of_told x true) new w
   by_found w t None None m sound b both least said places = acted.refused_in s new w (event.Tell t.name) refusal.AlreadyTold (answer.Refused refusal.AlreadyTold) rest (back kept refl places) m said refl
   by_found w t (Some a) (Some o) m sound b both least said places = told_in s new w p kept t a o m sound b rest places both.number least said
   by_found w t None (Some o) m sound b both least said places = absurd both
   by_found w t (Some a) None m sound b both least said places = absurd both
 
   by_live : (w : World) (t : Thread) → Matches s w → IsSound w → Both s w p kept t → is_empty s.requests.opens ≡ false → list_any (λ a. may_tell_of s.names a.request t.name) s.requests.opens ≡ true → (c : Bool) → list_any (live_by kept) s.requests.opens ≡ c
-      → new.places.items ≡ slice_set s.places.items p (Some (cond c (marks_told kept (find (untold_by kept) s.requests.opens)) kept)) → DoesIn (event.Tell t.name) (cond c (answer_of_told (find (untold_by kept) s.requests.opens)) answer.Gone) new w
+      → new.places.items ≡ slice_set s.places.items p (Some (marks_told kept (find (untold_by kept) s.requests.opens))) → DoesIn (event.Tell t.name) (answer_of_told (find (untold_by kept) s.requests.opens) c) new w
   by_live w t m sound b some may false none places =
       let pairs : Pairs (λ a o. IsPair w kept t.name a o) s.requests.opens w.requests.opened = pairs_of (λ a o. IsPair w kept t.name a o) w s.requests.opens w.requests.opened m.opened (pair_of s w p kept t sound b) in
       let gone = any_pairs (λ a o. IsPair w kept t.name a o) (live_by kept) (λ o. is_live_target w o t.name) (λ a o pair. pair.live) s.requests.opens w.requests.opened pairs ∙ none in
       let did = gone_in s w t.name m some may gone in
-      record { answer = did.answer; matches = acted.same_matches s new _ rest (back kept refl places) did.matches }
+      let nothing = none_untold kept s.requests.opens none in
+      record { answer = ap (λ x. answer_of_told x false) nothing ∙ did.answer; matches = acted.same_matches s new _ rest (back (marks_told kept (find (untold_by kept) s.requests.opens)) (ap (marks_told kept) nothing) places) did.matches }
   by_live w t m sound b some may true lives places =
       let pairs : Pairs (λ a o. IsPair w kept t.name a o) s.requests.opens w.requests.opened = pairs_of (λ a o. IsPair w kept t.name a o) w s.requests.opens w.requests.opened m.opened (pair_of s w p kept t sound b) in
       let living = any_pairs (λ a o. IsPair w kept t.name a o) (live_by kept) (λ o. is_live_target w o t.name) (λ a o pair. pair.live) s.requests.opens w.requests.opened pairs ∙ lives in

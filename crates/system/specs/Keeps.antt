@@ -82,19 +82,20 @@ untold_by kept open_ = nat_lt kept.marks.told open_.number && is_live_for open_ 
 abbrev pub live_by : Kept → Open → Bool
 live_by kept open_ = is_live_for open_ kept
 
-abbrev pub answer_of_told : Option Open → Answer
-answer_of_told None = Refused AlreadyTold
-answer_of_told (Some open_) = Told
+-- What a Tell answers where it found an operation that is new, and where it found none, by whether one has the thread as a live target.
+abbrev pub answer_of_told : Option Open → Bool → Answer
+answer_of_told None live = if live then Refused AlreadyTold else Gone
+answer_of_told (Some open_) live = Told
 
 abbrev pub answer_told : List Open → Kept → Answer
-answer_told opens kept = if list_any (live_by kept) opens then answer_of_told (find (untold_by kept) opens) else Gone
+answer_told opens kept = answer_of_told (find (untold_by kept) opens) (list_any (live_by kept) opens)
 
 abbrev pub marks_told : Kept → Option Open → Kept
 marks_told kept None = kept
 marks_told kept (Some open_) = record kept { marks = record kept.marks { told = open_.number } }
 
 abbrev pub kept_told : List Open → Kept → Kept
-kept_told opens kept = if list_any (live_by kept) opens then marks_told kept (find (untold_by kept) opens) else kept
+kept_told opens kept = marks_told kept (find (untold_by kept) opens)
 
 -- Why no operation waits for the thread: none is open, none is of it, none was told to it, or each that was told is served.
 abbrev pub idle_refusal : Bool → Bool → Bool → Refusal

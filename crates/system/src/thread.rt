@@ -347,11 +347,12 @@ impl Thread {
         ensures answer { result ≡ answer_told operations.now self.old }
         ensures told { self.new ≡ kept_told operations.now self.old }
     {
-        if !self.is_live_target(operations) {
-            return Answer::Gone;
-        }
         let Some(open) = self.next_untold(operations) else {
-            return Answer::Refused(Refusal::AlreadyTold);
+            return if self.is_live_target(operations) {
+                Answer::Refused(Refusal::AlreadyTold)
+            } else {
+                Answer::Gone
+            };
         };
         self.marks.told = open.number;
         Answer::Told

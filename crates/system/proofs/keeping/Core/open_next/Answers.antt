@@ -1,6 +1,6 @@
 use Rattle.std.proofs.Common.{◌≡◌, ◌∙◌, sym, true, false, refl}
 use Rattle.operations.specs.Names.{is_empty}
-use Rattle.system.proofs.Requesting.{already_open, queue_empty, opened_does}
+use Rattle.system.proofs.Requesting.{already_open, opened_does}
 use Rattle.system.proofs.keeping.Core.open_next.Goals as goal
 
 pub returns-then-not-may_open : goal.returns-then-not-may_open

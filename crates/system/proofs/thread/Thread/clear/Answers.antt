@@ -1,8 +1,5 @@
-use Rattle.std.proofs.Common.{rules, ◌≡◌, ◌∙◌, sym, ap, refl, true, false, Some, None, Err, Bool, List}
-use Rattle.std.specs.Prelude.{find, option_copied, length, ◌==◌}
-use Rattle.operations.specs.Names.{is_empty}
-use Rattle.system.specs.declared.requests.Open.{Open}
-use Rattle.std.specs.List.{list_any}
+use Rattle.std.proofs.Common.{rules, ◌≡◌, ◌∙◌, sym, ap, refl, true, false, Some, None, Err}
+use Rattle.std.specs.Prelude.{find, option_copied}
 use Rattle.system.specs.Keeps.{uncleared_by, is_done}
 use Rattle.system.proofs.Served.{empty_length, clear_is, clear_idle, clear_found, any_found, uncleared_waits}
 use Rattle.system.proofs.thread.Thread.clear.Goals as goal

@@ -1,7 +1,4 @@
-use Rattle.std.proofs.Common.{rules, ◌≡◌, ◌∙◌, sym, ap, refl, true, false, Some, None, Err, Bool, List}
-use Rattle.std.specs.Prelude.{find, option_copied, length, ◌==◌}
-use Rattle.operations.specs.Names.{is_empty}
-use Rattle.system.specs.declared.requests.Open.{Open}
+use Rattle.std.proofs.Common.{◌≡◌, ◌∙◌, sym, ap, refl, true, Err}
 use Rattle.std.specs.List.{list_any}
 use Rattle.system.specs.Keeps.{uncleared_by}
 use Rattle.system.proofs.Served.{empty_length, hold_is, hold_idle, hold_passed, uncleared_waits}

@@ -1,4 +1,4 @@
-use Rattle.std.proofs.Common.{◌≡◌, ◌∙◌, sym, refl, true, false}
+use Rattle.std.proofs.Common.{◌∙◌, sym, refl}
 use Rattle.system.proofs.Served.{awaits_is, take_goes, take_waits}
 use Rattle.system.proofs.thread.Thread.take.Goals as goal
 
