@@ -20,7 +20,8 @@ use Rattle.method_table.specs.Codes.{unfreed, is_taken, takes_slot, with_code, i
 use Rattle.method_table.specs.TableView.{TableView, IsTable, invalidate_fault, retire_fault, free_fault}
 use Rattle.board.specs.declared.weighed.Weighed.{Weighed}
 use Rattle.board.specs.declared.weighed.Weighed.TheVariants.{NotLooked, Used, Clear}
-use Rattle.desk.specs.CodeBoard.{CodesSeen, Weighs, KeeperWeighs, AreEntries, IsEntry, entry_state, first_of, newest_in, with_codes}
+use Rattle.desk.specs.CodeBoard.{CodesSeen, Weighs, KeeperWeighs, AreEntries, IsEntry, with_codes}
+use Rattle.method_table.specs.Entries.{entry_state, first_of, newest_in}
 use Rattle.desk.proofs.Newest.{map_at, push_at, at_low, same_at, found_passes, find_place, any_none_at, newest_push, newest_with, newest_place, in_state_slot}
 
 -- what stands in a slot after a step on one

@@ -1,7 +1,6 @@
 -- The codes of the method table and the entries of the board: what the keeper knows of a slot is its newest code.
-use Rattle.std.specs.Prelude.{◌≡◌, ℕ, ◌<◌, ◌==◌, true, List, [], ◌∷◌, length, Option, Some, None, slice_get, if◌then◌else◌}
+use Rattle.std.specs.Prelude.{◌≡◌, ℕ, ◌<◌, true, List, length, Option, Some, None, slice_get}
 use Rattle.frames.specs.declared.CodeId.{CodeId}
-use Rattle.frames.specs.declared.board_rule.EntryState.{EntryState}
 use Rattle.frames.specs.declared.board_rule.EntryState.TheVariants as entry
 use Rattle.frames.specs.declared.board_rule.SlotView.{SlotView}
 use Rattle.frames.specs.declared.board_rule.KeeperView.{KeeperView}
@@ -9,28 +8,11 @@ use Rattle.frames.specs.BoardViews.{slot_of, entry_stored, in_state}
 use Rattle.board.specs.Notes.{IsWeighed}
 use Rattle.board.specs.declared.weighed.Weighed.{Weighed}
 use Rattle.board.specs.declared.weighed.Weighed.TheVariants.{NotLooked, Used, Clear}
+use Rattle.method_table.specs.Entries.{entry_state, newest_in}
 use Rattle.method_table.specs.declared.Code.{Code}
-use Rattle.method_table.specs.declared.CodeState.{CodeState}
 use Rattle.method_table.specs.declared.CodeState.TheVariants as state
 use Rattle.method_table.specs.Codes.{takes_slot, with_state, unfreed}
 use Rattle.method_table.specs.TableView.{TableView}
-
--- The state of a code as an entry has it: a freed code leaves its slot vacant.
-abbrev pub entry_state : CodeState → EntryState
-entry_state state.InUse = entry.InUse
-entry_state state.NotEntrant = entry.NotEntrant
-entry_state state.Zombie = entry.Zombie
-entry_state state.Freed = entry.Vacant
-
--- The first, where there is one, else the other.
-abbrev pub first_of : Option Code → Option Code → Option Code
-first_of None other = other
-first_of (Some code) other = Some code
-
--- The newest code of a slot, whatever its state.
-abbrev pub newest_in : List Code → ℕ → Option Code
-newest_in [] slot = None
-newest_in (code ∷ codes) slot = first_of (newest_in codes slot) (if code.slot == slot then Some code else None)
 
 -- The keeper knows the slot as its newest code leaves it.
 abbrev pub IsEntry : Option Code → SlotView → Type 0

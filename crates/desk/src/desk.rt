@@ -17,7 +17,7 @@ ghost use Rattle.desk.specs.Once.{replies_of};
 ghost use Rattle.desk.specs.JobsFit.{jobs_fit};
 
 use crate::codes::Codes;
-use crate::entries::{Carried, Entry, Live, Opened, Standing, copied_request};
+use crate::entries::{Carried, Entry, Live, Opened, Standing};
 use crate::faults::{
     AskFault, CloseFault, CodeFault, NotLive, NotReclaimed, OpenFault, OperateFault, ReclaimFault,
     Refused, StartFault, start_fault,
@@ -242,7 +242,7 @@ impl<N: Name, J: Errand> Desk<N, J> {
                 jobs,
             }),
         }
-        let Ok(copy) = copied_request(&request, self.alloc) else {
+        let Ok(copy) = request.copied(self.alloc) else {
             self.log.give_back(3 + steps);
             return Err(Refused {
                 fault: AskFault::NoMemory,

@@ -1,9 +1,6 @@
 //! Entries of the history, and what the desk keeps of them.
-ghost use Rattle.std.specs.Prelude.{◌≡◌, IfOk};
-
 use frames::CodeId;
-use operations::{Request, Targets};
-use std::alloc::{AllocError, Global};
+use operations::Request;
 
 /// A live name with its place.
 #[derive(Clone, Copy, PartialEq, Eq, Debug)]
@@ -76,17 +73,4 @@ pub struct Opened<J> {
     pub due: Vec<u64>,
     pub operated: bool,
     pub jobs: Vec<J>,
-}
-
-/// A copy of a request.
-pub fn copied_request(request: &Request, alloc: Global) -> Result<Request, AllocError>
-    ensures { IfOk result (λ copy. copy ≡ request.now) }
-{
-    match request {
-        Request::Census => Ok(Request::Census),
-        Request::Handshake { targets, ask } => Ok(Request::Handshake {
-            targets: Targets::from_vec(Vec::from_slice(alloc, targets.as_slice())?),
-            ask: *ask,
-        }),
-    }
 }

@@ -4,7 +4,7 @@ use Rattle.frames.specs.declared.CodeId.{CodeId}
 use Rattle.frames.specs.declared.board_rule.EntryState.TheVariants as entry
 use Rattle.method_table.specs.declared.CodeState.TheVariants as state
 use Rattle.method_table.specs.TableView.{TableView}
-use Rattle.desk.specs.CodeBoard.{entry_state}
+use Rattle.method_table.specs.Entries.{entry_state}
 use Rattle.desk.proofs.CodeEntries.{stands, changed, noted, is_in}
 use Rattle.desk.proofs.codes.Codes.weigh.Goals as goal
 
