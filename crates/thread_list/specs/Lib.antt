@@ -1,0 +1,6 @@
+pub mod Berths
+pub mod Fits
+pub mod Hinted
+pub mod Moves
+pub mod Refused
+pub mod Sized
