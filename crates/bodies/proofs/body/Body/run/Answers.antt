@@ -1,0 +1,7 @@
+use Rattle.std.proofs.Common.{subst, sym}
+use Rattle.frames.specs.ImageView.{IsSettled}
+use Rattle.bodies.specs.Bodies.{BodyView}
+use Rattle.bodies.proofs.body.Body.run.Goals as goal
+
+pub run_on-requires : goal.run_on-requires
+run_on-requires g c = subst (λ (p : BodyView). IsSettled p.image) (sym c.self.view_is) c.requires

@@ -1,0 +1,117 @@
+//! A thread's life in one body, and a census of two bodies.
+ghost use Rattle.std.specs.Prelude.{◌≡◌, [], IfOk};
+ghost use Rattle.board.specs.Boards.{first_keeper, first_seat};
+ghost use Rattle.poll.specs.Rows.{first_poller, full_armer};
+ghost use Rattle.operations.specs.Asks.{reply};
+
+use super::*;
+use board::{Board, Keeper, ThreadSeat};
+use frames::CodeId;
+use frames::image::Image;
+use operations::Ask;
+use operations::job::{Call, Done, Errand, Job};
+use poll::{Armer, PollRow, Poller};
+use std::alloc::{AllocError, Global};
+use std::marker::Brand;
+use std::process::Abort;
+use std::test::*;
+
+const C: CodeId = CodeId { slot: 0, serial: 1 };
+
+// A board of one place and one slot.
+fn small_board(alloc: Global) -> Result<(Board, Keeper, ThreadSeat), AllocError>
+    ensures board { IfOk result (λ t. t.0.slots ≡ 1) }
+    ensures keeper { IfOk result (λ t. t.1 ≡ first_keeper t.0) }
+    ensures seat { IfOk result (λ t. t.2 ≡ first_seat t.0 0) }
+{
+    let (board, keeper, mut seats) = Board::new(alloc, 1, 1)?;
+    let seat = seats.swap_remove(0);
+    Ok((board, keeper, seat))
+}
+
+// A poll row of one place.
+fn small_row(alloc: Global) -> Result<(PollRow, Armer, Poller), AllocError>
+    ensures armer { IfOk result (λ t. t.1 ≡ full_armer t.0 1) }
+    ensures poller { IfOk result (λ t. t.2 ≡ first_poller t.0 0) }
+{
+    let (row, armer, mut pollers) = PollRow::new(alloc, 1)?;
+    let poller = pollers.swap_remove(0);
+    Ok((row, armer, poller))
+}
+
+// Leaves every method.
+fn return_all<N: Name>(body: &mut Body<N>)
+    ensures empty { body.new.image.frames ≡ [] }
+{
+    while body.depth() > 0 {
+        let _frame = body.ret();
+    }
+}
+
+// A thread publishes, calls by a code and without one, is asked, returns, and gives its place up.
+fn live<N: Name, J: Errand, R: Abort>(
+    rt: &R,
+    alloc: Global,
+    board: Board,
+    keeper: Keeper,
+    seat: ThreadSeat,
+    row: PollRow,
+    armer: Armer,
+    poller: Poller,
+    job: J,
+) -> Result<(), AllocError>
+    requires names { (board ≡ N.board) × (row ≡ N.poll_row) }
+    requires sizes { board.slots ≡ 1 }
+    requires seats { (keeper ≡ first_keeper board) × (seat ≡ first_seat board 0) }
+    requires pollers { (armer ≡ full_armer row 1) × (poller ≡ first_poller row 0) }
+{
+    let mut keeper = keeper;
+    let mut armer = armer;
+    keeper.install(&board, C);
+    let spare: SpareSeat<N> = SpareSeat::new(seat, poller);
+    let mut body = Body::new(7, Image::new(alloc)?, spare);
+    body.publish(&board);
+    assert!(rt; body.call(&board, 0, Some(C)) == Called::Compiled(1));
+    assert!(rt; body.call(&board, 1, None) == Called::Interpreted);
+    assert!(rt; body.depth() == 2 && !body.is_settled());
+    keeper.invalidate(&board, C);
+    assert!(rt; body.call(&board, 0, Some(C)) == Called::Interpreted);
+    assert!(rt; body.poll(&row) == 0);
+    armer.arm(&row, 0, 1);
+    assert!(rt; body.poll(&row) == 1);
+    body.publish(&board);
+    assert!(rt; body.is_settled() && board.peek_count(0) == 1);
+    let done = body.run(job);
+    assert!(rt; done.reply() == 3);
+    assert!(rt; body.clear(&row, 1) && body.poll(&row) == 0);
+    return_all(&mut body);
+    body.publish(&board);
+    let spare = body.vacate(&board);
+    assert!(rt; spare.place() == 0 && board.peek_count(0) == 0);
+    Ok(())
+}
+
+#[test]
+fn a_thread_publishes_calls_serves_and_gives_its_place_up(rt: HostRuntime) -> Result<(), Fail> {
+    let (board, keeper, seat) = small_board(rt.alloc())?;
+    let (row, armer, poller) = small_row(rt.alloc())?;
+    let call: Call = Box::new(
+        rt.alloc(),
+        |image: &Image| -> u64
+            ensures { result ≡ reply Ask.Depth image.now.frames }
+        { image.depth() as u64 },
+    )?;
+    let job = Job::new(7, Ask::Depth, call);
+    live::<Brand, Job, HostRuntime>(
+        &rt,
+        rt.alloc(),
+        board,
+        keeper,
+        seat,
+        row,
+        armer,
+        poller,
+        job,
+    )?;
+    Ok(())
+}

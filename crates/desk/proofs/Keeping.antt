@@ -1,0 +1,335 @@
+-- A history with one entry more.
+use Rattle.std.proofs.Common.{◌≡◌, ◌≢◌, ℕ, zero, suc, ◌+◌, ◌-◌, ◌<◌, ◌≤◌, List, [], ◌∷◌, ◌++◌, Bool, true, false, not, cond, Option, Some, None, length, map, refl, sym, ap, ◌∙◌, subst, arith, length-append}
+use Rattle.std.specs.Prelude.{◌&&◌, ◌==◌, is_none, slice_get, slice_set, filter}
+use Rattle.std.proofs.lemmas.Bool.{eq-eqb, ne_eqb, and_parts}
+use Rattle.std.proofs.lemmas.List.{map-append}
+use Rattle.frames.specs.declared.CodeId.{CodeId}
+use Rattle.method_table.specs.declared.Code.{Code}
+use Rattle.method_table.specs.declared.CodeState.{CodeState}
+use Rattle.method_table.specs.declared.CodeState.TheVariants as state
+use Rattle.method_table.specs.Codes.{unfreed, with_code, with_state, in_state, next_serial, free_slot, takes_slot}
+use Rattle.method_table.specs.TableView.{TableView, IsTable, install_fault, invalidate_fault, retire_fault, free_fault}
+use Rattle.operations.specs.declared.Request.{Request}
+use Rattle.operations.specs.declared.Request.TheVariants.{Handshake, Census}
+use Rattle.operations.specs.declared.queue.Waiting.{Waiting}
+use Rattle.operations.specs.Names.{among}
+use Rattle.operations.specs.Requests.{is_census}
+use Rattle.desk.specs.CodeBoard.{with_codes}
+use Rattle.desk.specs.declared.entries.Entry.{Entry}
+use Rattle.desk.specs.declared.entries.Entry.TheVariants.{Start, Exit, Ask, Open, Finish, Operate, Close, Install, Invalidate, Retire, Free}
+use Rattle.desk.specs.declared.entries.Live.{Live}
+use Rattle.desk.specs.declared.entries.Carried.{Carried}
+use Rattle.desk.specs.declared.entries.Opened.{Opened}
+use Rattle.desk.specs.Machine.{State, step, lawful, start, after_from, legal_from, after, is_legal, needs, is_taken, is_live, without, others, Asked, Current, needs_of_asked, needs_of_opened, needs_of_codes, states_left, may_open_more, is_first, live_of, none_live, open_next, opened_of, rest_of, finished, as_operated, Book, has_census, open_of, passes, is_due, may_operate, may_close, at_number, without_number, targets_of, steps_of, is_free_slot, empty_table, Stands, stands}
+use Rattle.desk.specs.Fields.{IsKept, AreFit, state_of, asked_of, current_of, due_of, IsIndex, AreCarried, DeskSeen, Enters, at}
+use Rattle.desk.proofs.Fewer.{filter_le, filter_less}
+use Rattle.desk.proofs.Newest.{same_at}
+use Rattle.desk.proofs.CodeEntries.{unfreed_parts}
+use Rattle.desk.proofs.OpenLists.{open_at, none_at, set_at, needs_at, needs_without, fit_of, fit_at, fit_push, needs_push}
+
+after_from-push : (s : State) (h : List Entry) (e : Entry) → after_from s (h ++ e ∷ []) ≡ step (after_from s h) e
+after_from-push s [] e = refl
+after_from-push s (x ∷ h) e = after_from-push (step s x) h e
+
+both_true : (a b : Bool) → a ≡ true → b ≡ true → (a && b) ≡ true
+both_true a b p q = ap (λ x. x && b) p ∙ q
+
+legal_from-push : (s : State) (h : List Entry) (e : Entry) → legal_from s h ≡ true → lawful (after_from s h) e ≡ true → legal_from s (h ++ e ∷ []) ≡ true
+legal_from-push s [] e legal may = both_true _ _ may refl
+legal_from-push s (x ∷ h) e legal may =
+    let p = and_parts (lawful s x) (legal_from (step s x) h) legal in both_true _ _ p.0 (legal_from-push (step s x) h e p.1 may)
+
+pub after-push : (slots methods : ℕ) (h : List Entry) (e : Entry) → after slots methods (h ++ e ∷ []) ≡ step (after slots methods h) e
+unfolding after
+after-push slots methods h e = after_from-push (start slots methods) h e
+
+pub legal-push : (slots methods : ℕ) (h : List Entry) (e : Entry) → is_legal slots methods h ≡ true → lawful (after slots methods h) e ≡ true → is_legal slots methods (h ++ e ∷ []) ≡ true
+unfolding after is_legal
+legal-push slots methods h e legal may = legal_from-push (start slots methods) h e legal may
+
+-- what is kept stays so with one entry more
+pub keeps : (slots methods : ℕ) (b b' : Book) (e : Entry) (s s' : State) → is_legal slots methods b.history ≡ true → after slots methods b.history ≡ s → b'.history ≡ b.history ++ e ∷ [] → lawful s e ≡ true → step s e ≡ s'
+    → needs s' ≤ b'.reserved → AreFit s'.opened → IsKept slots methods b' s'
+keeps slots methods b b' e s s' legal at is may next needed fit =
+    record {
+      legal = ap (is_legal slots methods) is ∙ legal-push slots methods b.history e legal (ap (λ (t : State). lawful t e) at ∙ may);
+      state = ap (after slots methods) is ∙ after-push slots methods b.history e ∙ ap (λ (t : State). step t e) at ∙ next;
+      needed = needed;
+      fit = fit;
+    }
+
+pub empty : (slots methods : ℕ) (b : Book) → b.history ≡ [] → IsKept slots methods b (start slots methods)
+unfolding after is_legal
+empty slots methods b none = record { legal = ap (is_legal slots methods) none; state = ap (after slots methods) none; needed = omega arith; fit = tt }
+
+pub start_keeps : {J : Type 0} (slots methods : ℕ) (b b' : Book) (nn place num : ℕ) (live live' : List Live) (q : List (Waiting (Carried J))) (os : List (Opened J)) (t : TableView)
+    → IsKept slots methods b (state_of nn live num q os t) → is_taken place live ≡ false → has_census (map current_of os) ≡ false → live' ≡ live ++ record { name = nn; place = place } ∷ []
+    → b'.history ≡ b.history ++ Start nn place ∷ [] → b'.reserved ≡ b.reserved + 1 → IsKept slots methods b' (state_of (nn + 1) live' num q os t)
+start_keeps slots methods b b' nn place num live live' q os t k free none is there kept =
+    let n : length live' ≡ length live + 1 = omega (arith, ap length is, length-append live (record { name = nn; place = place } ∷ [])) in
+    keeps slots methods b b' (Start nn place) _ _ k.legal k.state there
+    (both_true _ _ (eq-eqb nn nn refl) (both_true _ _ (ap not free) (ap not none)))
+    (ap (λ (l : List Live). state_of (nn + 1) l num q os t) (sym is))
+    (let m = k.needed in omega arith) k.fit
+
+pub exit_keeps : {J : Type 0} (slots methods : ℕ) (b b' : Book) (nn name num : ℕ) (live live' : List Live) (q : List (Waiting (Carried J))) (os : List (Opened J)) (t : TableView)
+    → IsKept slots methods b (state_of nn live num q os t) → is_live name live ≡ true → live' ≡ without name live
+    → b'.history ≡ b.history ++ Exit name ∷ [] → b'.reserved + 1 ≡ b.reserved → IsKept slots methods b' (state_of nn live' num q os t)
+exit_keeps slots methods b b' nn name num live live' q os t k here is there kept =
+    let less = filter_less (λ (l : Live). l.name == name) live here in
+    let n : length live' + 1 ≤ length live = omega (arith, ap length is) in
+    keeps slots methods b b' (Exit name) _ _ k.legal k.state there here
+    (ap (λ (l : List Live). state_of nn l num q os t) (sym is))
+    (let m = k.needed in omega arith) k.fit
+
+needs_of_asked-push : (xs : List Asked) (a : Asked) → needs_of_asked (xs ++ a ∷ []) ≡ needs_of_asked xs + (2 + steps_of a.request)
+needs_of_asked-push [] a = omega arith
+needs_of_asked-push (x ∷ xs) a = let k = needs_of_asked-push xs a in omega arith
+
+pub ask_keeps : {J : Type 0} (slots methods : ℕ) (b b' : Book) (nn num : ℕ) (live : List Live) (q q' : List (Waiting (Carried J))) (w : Waiting (Carried J)) (os : List (Opened J)) (t : TableView)
+    → IsKept slots methods b (state_of nn live num q os t) → w.number ≡ num → q' ≡ q ++ w ∷ []
+    → b'.history ≡ b.history ++ Ask num w.request ∷ [] → b'.reserved ≡ b.reserved + (2 + steps_of w.request) → IsKept slots methods b' (state_of nn live (num + 1) q' os t)
+ask_keeps slots methods b b' nn num live q q' w os t k same is there kept =
+    let asked : map asked_of q' ≡ map asked_of q ++ record { number = num; request = w.request } ∷ [] =
+    ap (map asked_of) is ∙ map-append asked_of q (w ∷ []) ∙ ap (λ (n : ℕ). map asked_of q ++ record { number = n; request = w.request } ∷ []) same in
+    let more : needs_of_asked (map asked_of q') ≡ needs_of_asked (map asked_of q) + (2 + steps_of w.request) =
+    ap needs_of_asked asked ∙ needs_of_asked-push (map asked_of q) (record { number = num; request = w.request }) in
+    keeps slots methods b b' (Ask num w.request) _ _ k.legal k.state there
+    (eq-eqb num num refl)
+    (let F : List Asked → State = λ l. record { next_name = nn; live = live; next_number = num + 1; waiting = l; opened = map current_of os; table = t } in ap F (sym asked))
+    (let m = k.needed in omega arith) k.fit
+
+pub carried_push : {J : Type 0} (q : List (Waiting (Carried J))) (w : Waiting (Carried J)) → AreCarried q → w.load.due.items ≡ targets_of w.request → AreCarried (q ++ w ∷ [])
+carried_push [] w are new = (new, tt)
+carried_push (x ∷ q) w are new = (are.0, carried_push q w are.1 new)
+
+more_of : (cs : List Current) → may_open_more cs ≡ true → cs ≡ []
+more_of [] h = refl
+more_of (c ∷ cs) h = cc
+
+due_opened : (before : ℕ) (ls : List Live) (a : Asked) → due_of (opened_of before ls a) ≤ steps_of a.request
+due_opened before ls a = by a.request
+  where
+    by : (r : Request) → due_of (opened_of before ls (record { number = a.number; request = r })) ≤ steps_of r
+    by Census = omega arith
+    by (Handshake targets ask) = let l = filter_le (λ (t : ℕ). is_live t ls) targets in omega arith
+
+pub open_keeps : {J : Type 0} (slots methods : ℕ) (b b' : Book) (nn num : ℕ) (live : List Live) (q q' : List (Waiting (Carried J))) (w : Waiting (Carried J)) (os os' : List (Opened J)) (o : Opened J) (t : TableView)
+    → IsKept slots methods b (state_of nn live num q os t) → AreCarried q → may_open_more (map current_of os) ≡ true → q ≡ w ∷ q' → os' ≡ os ++ o ∷ []
+    → o.number ≡ w.number → o.request ≡ w.request → o.before ≡ nn → o.left ≡ steps_of w.request → o.due.items ≡ live_of live w.load.due.items → o.operated ≡ false
+    → b'.history ≡ b.history ++ Open w.number ∷ [] → b'.reserved + 1 ≡ b.reserved → IsKept slots methods b' (state_of nn live num q' os' t) × AreCarried q'
+open_keeps slots methods b b' nn num live q q' w os os' o t k are none is there_is number request before left due operated there kept =
+    let carried : (w.load.due.items ≡ targets_of w.request) × AreCarried q' = subst AreCarried is are in
+    let asked : map asked_of q ≡ asked_of w ∷ map asked_of q' = ap (map asked_of) is in
+    let n : needs_of_asked (map asked_of q) ≡ (2 + steps_of w.request) + needs_of_asked (map asked_of q') = ap needs_of_asked asked in
+    let o_is : current_of o ≡ opened_of nn live (asked_of w) = λ i. record { number = number i; request = request i; before = before i; left = left i; due = (due ∙ ap (live_of live) carried.0) i; operated = operated i } in
+    let os_is : map current_of os' ≡ map current_of os ++ opened_of nn live (asked_of w) ∷ [] = ap (map current_of) there_is ∙ map-append current_of os (o ∷ []) ∙ ap (λ (c : Current). map current_of os ++ c ∷ []) o_is in
+    let m : needs_of_opened (map current_of os') ≡ needs_of_opened (map current_of os) + (1 + steps_of w.request) = ap needs_of_opened os_is ∙ needs_push (map current_of os) (opened_of nn live (asked_of w)) in (
+      keeps slots methods b b' (Open w.number) _ _ k.legal k.state there
+          (both_true _ _ none (ap (is_first w.number) asked ∙ eq-eqb w.number w.number refl))
+          (let F : List Asked → State = λ l. record { next_name = nn; live = live; next_number = num; waiting = rest_of l; opened = open_next nn live l (map current_of os); table = t } in
+          ap F asked ∙ ap (λ (cs : List Current). record { next_name = nn; live = live; next_number = num; waiting = map asked_of q'; opened = cs; table = t }) (sym os_is))
+          (let z = k.needed in omega arith)
+          (subst AreFit (sym os_is) (fit_push (map current_of os) (opened_of nn live (asked_of w)) k.fit (due_opened nn live (asked_of w)))),
+      carried.1,
+    )
+
+-- an entry that changes the open request of its number
+changes : {J : Type 0} (slots methods : ℕ) (b b' : Book) (e : Entry) (f : Current → Current) (nn num n i : ℕ) (live : List Live) (q : List (Waiting (Carried J))) (os os' : List (Opened J)) (o o' : Opened J) (t : TableView)
+    → IsKept slots methods b (state_of nn live num q os t) → IsIndex n os (Some i) → slice_get os i ≡ Some o → os' ≡ slice_set os i o' → current_of o' ≡ f (current_of o)
+    → lawful (state_of nn live num q os t) e ≡ true → step (state_of nn live num q os t) e ≡ record { next_name = nn; live = live; next_number = num; waiting = map asked_of q; opened = at_number f n (map current_of os); table = t }
+    → (f (current_of o)).left + 1 ≡ o.left → due_of (f (current_of o)) ≤ (f (current_of o)).left
+    → b'.history ≡ b.history ++ e ∷ [] → b'.reserved + 1 ≡ b.reserved → IsKept slots methods b' (state_of nn live num q os' t)
+changes slots methods b b' e f nn num n i live q os os' o o' t k at here is new may next less fit there kept =
+    let found = open_at n i os o at here in
+    let os_is : map current_of os' ≡ at_number f n (map current_of os) = ap (map current_of) is ∙ set_at f n i os o o' at here new in
+    let m = needs_at f n (map current_of os) (current_of o) found in
+    let m' : needs_of_opened (map current_of os') ≡ needs_of_opened (at_number f n (map current_of os)) = ap needs_of_opened os_is in
+    keeps slots methods b b' e _ _ k.legal k.state there may
+    (next ∙ ap (λ (cs : List Current). record { next_name = nn; live = live; next_number = num; waiting = map asked_of q; opened = cs; table = t }) (sym os_is))
+    (let z = k.needed in omega arith)
+    (subst AreFit (sym os_is) (fit_at f n (map current_of os) (current_of o) k.fit found fit))
+
+-- there is room for the entries of an open request
+pub open_room : {J : Type 0} (slots methods : ℕ) (b : Book) (nn num n i : ℕ) (live : List Live) (q : List (Waiting (Carried J))) (os : List (Opened J)) (o : Opened J) (t : TableView)
+    → IsKept slots methods b (state_of nn live num q os t) → IsIndex n os (Some i) → slice_get os i ≡ Some o → (due_of (current_of o) ≤ o.left) × (1 + o.left ≤ b.reserved)
+open_room slots methods b nn num n i live q os o t k at here =
+    let found = open_at n i os o at here in
+    (fit_of n (map current_of os) (current_of o) k.fit found, (let a = needs_without n (map current_of os) (current_of o) found in let m = k.needed in omega arith))
+
+due_left : (name : ℕ) (c : Current) → is_due name c ≡ true → due_of c ≤ c.left → ((finished name c).left + 1 ≡ c.left) × (due_of (finished name c) ≤ (finished name c).left)
+due_left name c h fit =
+    let less = filter_less (λ (x : ℕ). x == name) c.due h in
+    (omega arith, omega arith)
+
+pub finish_keeps : {J : Type 0} (slots methods : ℕ) (b b' : Book) (nn num n name reply i : ℕ) (live : List Live) (q : List (Waiting (Carried J))) (os os' : List (Opened J)) (o o' : Opened J) (t : TableView)
+    → IsKept slots methods b (state_of nn live num q os t) → IsIndex n os (Some i) → slice_get os i ≡ Some o → os' ≡ slice_set os i o' → current_of o' ≡ finished name (current_of o)
+    → among name o.due.items ≡ true → is_live name live ≡ true
+    → b'.history ≡ b.history ++ Finish n name reply ∷ [] → b'.reserved + 1 ≡ b.reserved → IsKept slots methods b' (state_of nn live num q os' t)
+finish_keeps slots methods b b' nn num n name reply i live q os os' o o' t k at here is new due lives there kept =
+    let found = open_at n i os o at here in
+    let d = due_left name (current_of o) due (fit_of n (map current_of os) (current_of o) k.fit found) in
+    changes slots methods b b' (Finish n name reply) (finished name) nn num n i live q os os' o o' t k at here is new
+    (both_true _ _ (ap (passes (is_due name)) found ∙ due) lives) refl d.0 d.1 there kept
+
+operate_left : (c : Current) → may_operate c ≡ true → due_of c ≤ c.left → ((as_operated c).left + 1 ≡ c.left) × (due_of (as_operated c) ≤ (as_operated c).left)
+operate_left c h fit =
+    let one : cond {A = ℕ} (may_operate c) 1 0 ≡ 1 = ap (λ b. cond {A = ℕ} b 1 0) h in
+    let none : cond {A = ℕ} (may_operate (as_operated c)) 1 0 ≡ 0 = zero_of (Rattle.operations.specs.Requests.is_census c.request) in
+    (omega arith, omega arith)
+  where
+    zero_of : (b : Bool) → cond {A = ℕ} (b && false) 1 0 ≡ 0
+    zero_of true = refl
+    zero_of false = refl
+
+pub operate_keeps : {J : Type 0} (slots methods : ℕ) (b b' : Book) (nn num n i : ℕ) (live : List Live) (q : List (Waiting (Carried J))) (os os' : List (Opened J)) (o o' : Opened J) (t : TableView)
+    → IsKept slots methods b (state_of nn live num q os t) → IsIndex n os (Some i) → slice_get os i ≡ Some o → os' ≡ slice_set os i o' → current_of o' ≡ as_operated (current_of o)
+    → may_operate (current_of o) ≡ true
+    → b'.history ≡ b.history ++ Operate n ∷ [] → b'.reserved + 1 ≡ b.reserved → IsKept slots methods b' (state_of nn live num q os' t)
+operate_keeps slots methods b b' nn num n i live q os os' o o' t k at here is new may there kept =
+    let found = open_at n i os o at here in
+    let d = operate_left (current_of o) may (fit_of n (map current_of os) (current_of o) k.fit found) in
+    changes slots methods b b' (Operate n) as_operated nn num n i live q os os' o o' t k at here is new
+    (ap (passes may_operate) found ∙ may) refl d.0 d.1 there kept
+
+pub close_keeps : {J : Type 0} (slots methods : ℕ) (b b' : Book) (nn num : ℕ) (live : List Live) (q : List (Waiting (Carried J))) (os os' : List (Opened J)) (o : Opened J) (t : TableView)
+    → IsKept slots methods b (state_of nn live num q os t) → os ≡ o ∷ os' → may_close live (current_of o) ≡ true
+    → b'.history ≡ b.history ++ Close o.number ∷ [] → b'.reserved + (1 + o.left) ≡ b.reserved → IsKept slots methods b' (state_of nn live num q os' t)
+close_keeps slots methods b b' nn num live q os os' o t k is may there kept =
+    let cs : map current_of os ≡ current_of o ∷ map current_of os' = ap (map current_of) is in
+    let found : open_of o.number (map current_of os) ≡ Some (current_of o) =
+    ap (open_of o.number) cs ∙ ap (λ x. cond x (Some (current_of o)) (open_of o.number (map current_of os'))) (eq-eqb o.number o.number refl) in
+    let gone : without_number o.number (map current_of os) ≡ map current_of os' =
+    ap (without_number o.number) cs ∙ ap (λ x. cond x (map current_of os') (current_of o ∷ without_number o.number (map current_of os'))) (eq-eqb o.number o.number refl) in
+    let m : needs_of_opened (map current_of os) ≡ (1 + o.left) + needs_of_opened (map current_of os') = ap needs_of_opened cs in
+    let fit : AreFit (current_of o ∷ map current_of os') = subst AreFit cs k.fit in
+    keeps slots methods b b' (Close o.number) _ _ k.legal k.state there
+    (ap (passes (may_close live)) found ∙ may)
+    (ap (λ (cs : List Current). record { next_name = nn; live = live; next_number = num; waiting = map asked_of q; opened = cs; table = t }) gone)
+    (let z = k.needed in omega arith) fit.1
+
+-- entries that codes can still make
+needs_of_codes-push : (cs : List Code) (c : Code) → needs_of_codes (cs ++ c ∷ []) ≡ needs_of_codes cs + states_left c.state
+needs_of_codes-push [] c = omega arith
+needs_of_codes-push (x ∷ cs) c = let r = needs_of_codes-push cs c in omega arith
+
+abbrev AreNumbered : ℕ → List Code → Type 0
+AreNumbered first cs = (i : ℕ) (c : Code) → slice_get cs i ≡ Some c → c.serial ≡ i + first
+
+tail_numbered : (first : ℕ) (x : Code) (cs : List Code) → AreNumbered first (x ∷ cs) → AreNumbered (first + 1) cs
+tail_numbered first x cs n i c h = let a = n (suc i) c h in omega arith
+
+in_state_other : (s : ℕ) (st : CodeState) (c : Code) → c.serial ≢ s → in_state s st c ≡ c
+in_state_other s st c ne = ap (λ b. cond b (record c { state = st }) c) (ne_eqb c.serial s ne)
+
+untouched : (first s : ℕ) (st : CodeState) (cs : List Code) → AreNumbered first cs → s < first → with_state cs s st ≡ cs
+untouched first s st [] n low = refl
+untouched first s st (x ∷ cs) n low =
+    let here : x.serial ≢ s = λ e. (let a = n 0 x refl in omega arith) in
+    ap (λ c. c ∷ with_state cs s st) (in_state_other s st x here) ∙ ap (λ l. x ∷ l) (untouched (first + 1) s st cs (tail_numbered first x cs n) (omega arith))
+
+needs_changed : (first i s : ℕ) (st : CodeState) (cs : List Code) (c : Code) → AreNumbered first cs → slice_get cs i ≡ Some c → c.serial ≡ s → needs_of_codes (with_state cs s st) + states_left c.state ≡ needs_of_codes cs + states_left st
+needs_changed first i s st [] c n h e = cc
+needs_changed first zero s st (x ∷ cs) c n h e =
+    let same : x ≡ c = cc in
+    let rest : with_state cs s st ≡ cs = untouched (first + 1) s st cs (tail_numbered first x cs n) (let a = n 0 x refl in let b = ap (λ (z : Code). z.serial) same in omega arith) in
+    let here : in_state s st x ≡ record x { state = st } = ap (λ b. cond b (record x { state = st }) x) (eq-eqb x.serial s (ap (λ (z : Code). z.serial) same ∙ e)) in
+    let a : states_left (in_state s st x).state ≡ states_left st = ap (λ (z : Code). states_left z.state) here in
+    let b : needs_of_codes (with_state cs s st) ≡ needs_of_codes cs = ap needs_of_codes rest in
+    let d : states_left x.state ≡ states_left c.state = ap (λ (z : Code). states_left z.state) same in
+    omega arith
+needs_changed first (suc i) s st (x ∷ cs) c n h e =
+    let there : x.serial ≢ s = λ f. (let a = n 0 x refl in let b = n (suc i) c h in omega arith) in
+    let a : states_left (in_state s st x).state ≡ states_left x.state = ap (λ (z : Code). states_left z.state) (in_state_other s st x there) in
+    let r = needs_changed (first + 1) i s st cs c (tail_numbered first x cs n) h e in omega arith
+
+pub install_keeps : {J : Type 0} (b b' : Book) (nn num method : ℕ) (live : List Live) (q : List (Waiting (Carried J))) (os : List (Opened J)) (t t' : TableView) (id : CodeId)
+    → IsKept t.slots t.methods b (state_of nn live num q os t) → free_slot t.codes t.slots ≡ Some id.slot → id.serial ≡ next_serial t.codes → install_fault t method ≡ None
+    → t' ≡ with_codes t (with_code t.codes method id.slot)
+    → b'.history ≡ b.history ++ Install id method ∷ [] → b'.reserved ≡ b.reserved + 3 → IsKept t'.slots t'.methods b' (state_of nn live num q os t')
+install_keeps b b' nn num method live q os t t' id k free serial may is there kept =
+    subst (λ (v : TableView). IsKept v.slots v.methods b' (state_of nn live num q os v)) (sym is)
+    (keeps t.slots t.methods b b' (Install id method) _ _ k.legal k.state there
+    (both_true _ _ (eq-eqb id.serial (next_serial t.codes) serial) (both_true _ _ (ap (is_free_slot id.slot) free ∙ eq-eqb id.slot id.slot refl) (ap is_none may)))
+    refl
+    (let z = k.needed in let m = needs_of_codes-push t.codes (record { serial = next_serial t.codes; slot = id.slot; method = method; state = state.InUse }) in omega arith)
+    k.fit)
+
+-- there is room for the entries of a code
+pub code_room : {J : Type 0} (b : Book) (nn num serial : ℕ) (live : List Live) (q : List (Waiting (Carried J))) (os : List (Opened J)) (t : TableView) (code : Code)
+    → IsKept t.slots t.methods b (state_of nn live num q os t) → IsTable t → unfreed t.codes serial ≡ Some code → states_left code.state ≤ b.reserved
+code_room b nn num serial live q os t code k table is =
+    let u = unfreed_parts t.codes serial code is in
+    let m = needs_changed 1 u.0 serial state.Freed t.codes code table.serials u.1 u.2 in
+    let z = k.needed in omega arith
+
+pub code_keeps : {J : Type 0} (b b' : Book) (e : Entry) (nn num serial : ℕ) (live : List Live) (q : List (Waiting (Carried J))) (os : List (Opened J)) (t t' : TableView) (code : Code) (st : CodeState)
+    → IsKept t.slots t.methods b (state_of nn live num q os t) → IsTable t → unfreed t.codes serial ≡ Some code → t' ≡ with_codes t (with_state t.codes serial st)
+    → lawful (state_of nn live num q os t) e ≡ true → step (state_of nn live num q os t) e ≡ state_of nn live num q os (with_codes t (with_state t.codes serial st))
+    → states_left st + 1 ≡ states_left code.state
+    → b'.history ≡ b.history ++ e ∷ [] → b'.reserved + 1 ≡ b.reserved → IsKept t'.slots t'.methods b' (state_of nn live num q os t')
+code_keeps b b' e nn num serial live q os t t' code st k table found is may next less there kept =
+    let u = unfreed_parts t.codes serial code found in
+    let m = needs_changed 1 u.0 serial st t.codes code table.serials u.1 u.2 in
+    subst (λ (v : TableView). IsKept v.slots v.methods b' (state_of nn live num q os v)) (sym is)
+    (keeps t.slots t.methods b b' e _ _ k.legal k.state there may next (let z = k.needed in omega arith) k.fit)
+
+pub left_invalidate : (c : Code) → invalidate_fault (Some c) ≡ None → states_left c.state ≡ 3
+left_invalidate c h = by c.state h
+  where
+    by : (s : CodeState) → invalidate_fault (Some (record c { state = s })) ≡ None → states_left s ≡ 3
+    by state.InUse h = refl
+    by state.NotEntrant h = cc
+    by state.Zombie h = cc
+    by state.Freed h = cc
+
+pub left_retire : (c : Code) → retire_fault (Some c) ≡ None → states_left c.state ≡ 2
+left_retire c h = by c.state h
+  where
+    by : (s : CodeState) → retire_fault (Some (record c { state = s })) ≡ None → states_left s ≡ 2
+    by state.InUse h = cc
+    by state.NotEntrant h = refl
+    by state.Zombie h = cc
+    by state.Freed h = cc
+
+pub left_free : (c : Code) → free_fault (Some c) ≡ None → states_left c.state ≡ 1
+left_free c h = by c.state h
+  where
+    by : (s : CodeState) → free_fault (Some (record c { state = s })) ≡ None → states_left s ≡ 1
+    by state.InUse h = cc
+    by state.NotEntrant h = cc
+    by state.Zombie h = refl
+    by state.Freed h = cc
+
+pub enters_by : (d d' : DeskSeen) (s : State) (e : Entry) (r : Stands) → at d ≡ s → lawful s e ≡ true → d'.book.history ≡ d.book.history ++ e ∷ [] → r ≡ stands (length d.book.history) e
+    → d'.slots ≡ d.slots → d'.methods ≡ d.methods → Enters d d' e r
+enters_by d d' s e r is may history receipt slots methods = record { lawful_is = ap (λ (t : State). lawful t e) is ∙ may; history_is = history; receipt_is = receipt; sizes_stay = (slots, methods) }
+
+-- a Finish is lawful, or not
+pub finish_is : {J : Type 0} (n name reply nn num i : ℕ) (live : List Live) (q : List (Waiting (Carried J))) (os : List (Opened J)) (o : Opened J) (t : TableView) (b : Bool)
+    → IsIndex n os (Some i) → slice_get os i ≡ Some o → b ≡ (is_due name (current_of o) && is_live name live) → lawful (state_of nn live num q os t) (Finish n name reply) ≡ b
+finish_is n name reply nn num i live q os o t b at here is = ap (λ x. passes (is_due name) x && is_live name live) (open_at n i os o at here) ∙ sym is
+
+pub finish_not : {J : Type 0} (n name reply nn num : ℕ) (live : List Live) (q : List (Waiting (Carried J))) (os : List (Opened J)) (t : TableView)
+    → IsIndex n os None → lawful (state_of nn live num q os t) (Finish n name reply) ≡ false
+finish_not n name reply nn num live q os t none = ap (λ x. passes (is_due name) x && is_live name live) (none_at n os none)
+
+pub may_more : {J : Type 0} (os : List (Opened J)) → length os ≡ 0 → may_open_more (map current_of os) ≡ true
+may_more [] e = refl
+may_more (o ∷ os) e = absurd (omega arith)
+
+pub first_index : {J : Type 0} (os : List (Opened J)) (o : Opened J) → slice_get os 0 ≡ Some o → 0 < length os → IsIndex o.number os (Some 0)
+first_index os o here low = (low, (λ k x l h. absurd (omega arith)), (λ x h. ap (λ (z : Opened _). z.number) (same_at os 0 x o h here)))
+
+pub may_operate_is : {J : Type 0} (a b o : Opened J) → a ≡ o → b ≡ o → is_census a.request ≡ true → b.operated ≡ false → may_operate (current_of o) ≡ true
+may_operate_is a b o p q census fresh =
+    both_true _ _ (ap (λ (z : Opened _). is_census z.request) (sym p) ∙ census) (ap not (ap (λ (z : Opened _). z.operated) (sym q) ∙ fresh))
+
+pub new_keeps : {J : Type 0} (b : Book) (nn num : ℕ) (live : List Live) (q : List (Waiting (Carried J))) (os : List (Opened J)) (t : TableView) → b.history ≡ [] → nn ≡ 1 → num ≡ 1 → live ≡ [] → q ≡ [] → os ≡ [] → t.codes ≡ []
+    → IsKept t.slots t.methods b (state_of nn live num q os t) × AreCarried q
+new_keeps {J = J} b nn num live q os t none a c l w o codes = (
+  subst (IsKept t.slots t.methods b)
+      (λ i. record { next_name = sym a i; live = sym l i; next_number = sym c i; waiting = map asked_of (sym w i); opened = map current_of (sym o i); table = record { codes = sym codes i; slots = t.slots; methods = t.methods } })
+      (empty t.slots t.methods b none),
+  subst (AreCarried {J = J}) (sym w) tt,
+)

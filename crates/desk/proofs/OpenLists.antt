@@ -1,0 +1,91 @@
+-- Open requests, by their numbers.
+use Rattle.std.proofs.Common.{◌≡◌, ◌≢◌, ℕ, zero, suc, ◌+◌, ◌-◌, ◌<◌, ◌≤◌, Bool, true, false, not, cond, List, [], ◌∷◌, ◌++◌, length, map, Option, Some, None, sym, refl, ap, ◌∙◌, subst, arith}
+use Rattle.std.specs.Prelude.{◌||◌, ◌&&◌, ◌==◌, slice_get, slice_set, find}
+use Rattle.std.specs.List.{list_any, remove}
+use Rattle.std.proofs.lemmas.Bool.{false≢true, eqb-true, eqb-false, eq-eqb, ne_eqb}
+use Rattle.desk.specs.declared.entries.Opened.{Opened}
+use Rattle.desk.specs.Machine.{Current, open_of, passes, at_number, without_number, needs_of_opened}
+use Rattle.desk.specs.Fields.{current_of, IsIndex, AreFit, due_of}
+
+pub any_map : {A B : Type 0} (p : B → Bool) (f : A → B) (xs : List A) → list_any p (map f xs) ≡ list_any (λ x. p (f x)) xs
+any_map p f [] = refl
+any_map p f (x ∷ xs) = ap (λ b. p (f x) || b) (any_map p f xs)
+
+here_is : (n : ℕ) (c : Current) (rest : Option Current) → c.number ≡ n → cond (c.number == n) (Some c) rest ≡ Some c
+here_is n c rest e = ap (λ b. cond b (Some c) rest) (eq-eqb c.number n e)
+
+there_is : {A : Type 0} (n m : ℕ) (x y : A) → m ≢ n → cond (m == n) x y ≡ y
+there_is n m x y ne = ap (λ b. cond b x y) (ne_eqb m n ne)
+
+pub later : {J : Type 0} (n i : ℕ) (x : Opened J) (os : List (Opened J)) → IsIndex n (x ∷ os) (Some (suc i)) → IsIndex n os (Some i)
+later n i x os is = (
+  (let a = is.0 in omega arith),
+  (λ k o l h. is.1 (suc k) o (omega arith) h),
+  (λ o h. is.2 o h),
+)
+
+pub open_at : {J : Type 0} (n i : ℕ) (os : List (Opened J)) (o : Opened J) → IsIndex n os (Some i) → slice_get os i ≡ Some o → open_of n (map current_of os) ≡ Some (current_of o)
+open_at n i [] o is h = cc
+open_at n zero (x ∷ os) o is h =
+    let same : x ≡ o = cc in
+    here_is n (current_of x) _ (is.2 x refl) ∙ ap (λ (z : Opened _). Some (current_of z)) same
+open_at n (suc i) (x ∷ os) o is h =
+    there_is n x.number (Some (current_of x)) (open_of n (map current_of os)) (is.1 0 x (omega arith) refl) ∙ open_at n i os o (later n i x os is) h
+
+pub none_at : {J : Type 0} (n : ℕ) (os : List (Opened J)) → IsIndex n os None → open_of n (map current_of os) ≡ None
+none_at n [] is = refl
+none_at n (x ∷ os) is = there_is n x.number (Some (current_of x)) (open_of n (map current_of os)) (is 0 x refl) ∙ none_at n os (λ k o h. is (suc k) o h)
+
+pub set_at : {J : Type 0} (f : Current → Current) (n i : ℕ) (os : List (Opened J)) (o o' : Opened J) → IsIndex n os (Some i) → slice_get os i ≡ Some o → current_of o' ≡ f (current_of o)
+    → map current_of (slice_set os i o') ≡ at_number f n (map current_of os)
+set_at f n i [] o o' is h e = cc
+set_at f n zero (x ∷ os) o o' is h e =
+    let same : x ≡ o = cc in
+    ap (λ c. c ∷ map current_of os) (e ∙ ap (λ (z : Opened _). f (current_of z)) (sym same))
+    ∙ sym (ap (λ b. cond b (f (current_of x) ∷ map current_of os) (current_of x ∷ at_number f n (map current_of os))) (eq-eqb x.number n (is.2 x refl)))
+set_at f n (suc i) (x ∷ os) o o' is h e =
+    ap (λ cs. current_of x ∷ cs) (set_at f n i os o o' (later n i x os is) h e)
+    ∙ sym (there_is n x.number (f (current_of x) ∷ map current_of os) (current_of x ∷ at_number f n (map current_of os)) (is.1 0 x (omega arith) refl))
+
+-- how many entries are kept for the open requests, and that they are enough
+pub needs_at : (f : Current → Current) (n : ℕ) (cs : List Current) (c : Current) → open_of n cs ≡ Some c → needs_of_opened (at_number f n cs) + c.left ≡ needs_of_opened cs + (f c).left
+needs_at f n [] c h = cc
+needs_at f n (x ∷ cs) c h = by (x.number == n) h (needs_at f n cs c)
+  where
+    by : (b : Bool) → cond b (Some x) (open_of n cs) ≡ Some c → (open_of n cs ≡ Some c → needs_of_opened (at_number f n cs) + c.left ≡ needs_of_opened cs + (f c).left)
+        → needs_of_opened (cond b (f x ∷ cs) (x ∷ at_number f n cs)) + c.left ≡ needs_of_opened (x ∷ cs) + (f c).left
+    by true h rest = let same : x ≡ c = cc in let a = ap (λ (z : Current). z.left) same in let b = ap (λ (z : Current). (f z).left) same in omega arith
+    by false h rest = let r = rest h in omega arith
+
+pub needs_without : (n : ℕ) (cs : List Current) (c : Current) → open_of n cs ≡ Some c → needs_of_opened (without_number n cs) + (1 + c.left) ≡ needs_of_opened cs
+needs_without n [] c h = cc
+needs_without n (x ∷ cs) c h = by (x.number == n) h (needs_without n cs c)
+  where
+    by : (b : Bool) → cond b (Some x) (open_of n cs) ≡ Some c → (open_of n cs ≡ Some c → needs_of_opened (without_number n cs) + (1 + c.left) ≡ needs_of_opened cs)
+        → needs_of_opened (cond b cs (x ∷ without_number n cs)) + (1 + c.left) ≡ needs_of_opened (x ∷ cs)
+    by true h rest = let same : x ≡ c = cc in let a = ap (λ (z : Current). z.left) same in omega arith
+    by false h rest = let r = rest h in omega arith
+
+pub fit_of : (n : ℕ) (cs : List Current) (c : Current) → AreFit cs → open_of n cs ≡ Some c → due_of c ≤ c.left
+fit_of n [] c fit h = cc
+fit_of n (x ∷ cs) c fit h = by (x.number == n) h (fit_of n cs c fit.1)
+  where
+    by : (b : Bool) → cond b (Some x) (open_of n cs) ≡ Some c → (open_of n cs ≡ Some c → due_of c ≤ c.left) → due_of c ≤ c.left
+    by true h rest = let same : x ≡ c = cc in subst (λ (z : Current). due_of z ≤ z.left) same fit.0
+    by false h rest = rest h
+
+pub fit_at : (f : Current → Current) (n : ℕ) (cs : List Current) (c : Current) → AreFit cs → open_of n cs ≡ Some c → due_of (f c) ≤ (f c).left → AreFit (at_number f n cs)
+fit_at f n [] c fit h new = tt
+fit_at f n (x ∷ cs) c fit h new = by (x.number == n) h (fit_at f n cs c fit.1)
+  where
+    by : (b : Bool) → cond b (Some x) (open_of n cs) ≡ Some c → (open_of n cs ≡ Some c → due_of (f c) ≤ (f c).left → AreFit (at_number f n cs)) → AreFit (cond b (f x ∷ cs) (x ∷ at_number f n cs))
+    by true h rest = let same : x ≡ c = cc in (subst (λ (z : Current). due_of (f z) ≤ (f z).left) (sym same) new, fit.1)
+    by false h rest = (fit.0, rest h new)
+
+pub fit_push : (cs : List Current) (c : Current) → AreFit cs → due_of c ≤ c.left → AreFit (cs ++ c ∷ [])
+fit_push [] c fit new = (new, tt)
+fit_push (x ∷ cs) c fit new = (fit.0, fit_push cs c fit.1 new)
+
+pub needs_push : (cs : List Current) (c : Current) → needs_of_opened (cs ++ c ∷ []) ≡ needs_of_opened cs + (1 + c.left)
+needs_push [] c = omega arith
+needs_push (x ∷ cs) c = let r = needs_push cs c in omega arith

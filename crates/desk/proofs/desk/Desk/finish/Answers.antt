@@ -1,0 +1,51 @@
+use Rattle.std.proofs.Common.{◌≡◌, ◌<◌, ◌≤◌, ◌+◌, ◌∙◌, sym, ap, subst, refl, Some, None, rules, arith, length, true, false, List, ◌∷◌}
+use Rattle.std.specs.Prelude.{is_none, ◌&&◌, slice_get, map}
+use Rattle.std.proofs.lemmas.Option.{slice_get_read}
+use Rattle.std.proofs.lemmas.Bool.{and_parts}
+use Rattle.method_table.specs.declared.Code.{Code}
+use Rattle.method_table.specs.TableView.{TableView}
+use Rattle.desk.specs.declared.entries.Opened.{Opened}
+use Rattle.desk.specs.declared.entries.Entry.TheVariants as entry
+use Rattle.desk.specs.Machine.{State, lawful, is_due, is_live, may_open_more, finished}
+use Rattle.desk.specs.Fields.{DeskSeen, state_of, current_of, IsIndex, at, Enters}
+use Rattle.desk.proofs.Keeping.{start_keeps, exit_keeps, ask_keeps, carried_push, open_keeps, finish_keeps, close_keeps, open_room, enters_by, finish_is, finish_not}
+use Rattle.desk.proofs.desk.Desk.finish.Goals as goal
+
+pub returns-in_default-clause-err : goal.returns-in_default-clause-err
+returns-in_default-clause-err g c =
+    let i = c.self.inside in let m = c.self.invariant in
+    let none : IsIndex {J = g.row.J.Denot} c.args.done.op i.opened.items None = search rules in (
+      refl,
+      subst (λ (d : DeskSeen). lawful (at d) (entry.Finish c.args.done.op c.args.done.target c.args.done.reply) ≡ false) c.self.view_is
+          (ap (λ (s : State). lawful s (entry.Finish c.args.done.op c.args.done.target c.args.done.reply)) m.0.state
+          ∙ finish_not c.args.done.op c.args.done.target c.args.done.reply i.next_name i.next_number i.live.items i.queue i.opened.items i.codes.table none),
+      refl,
+    )
+
+pub invariant_of-self : goal.invariant_of-self
+invariant_of-self g c =
+    let i = c.self.inside in let m = c.self.invariant in let o = c.index.result.now in
+    let where_is : IsIndex {J = g.row.J.Denot} c.args.done.op i.opened.items (Some c.in-Some.place) = search rules in
+    let here : slice_get i.opened.items c.in-Some.place ≡ Some o = slice_get_read i.opened.items _ c.in-Some.place o refl where_is.0 c.index.ensures in
+    let made = c.finish_at.ensures.step o here in
+    let due : (is_due c.args.done.target (current_of o) && is_live c.args.done.target i.live.items) ≡ true = search rules in
+    let both = and_parts (is_due c.args.done.target (current_of o)) (is_live c.args.done.target i.live.items) due in (
+      finish_keeps _ _ i.log c.enter.new.self i.next_name i.next_number c.args.done.op c.args.done.target c.args.done.reply c.in-Some.place i.live.items i.queue i.opened.items c.finish_at.new.opened.items o made.0 i.codes.table m.0 where_is here made.2 (made.1 ∙ ap (λ t. finished t (current_of o)) c.target-2.ensures) both.0 both.1 (search rules) c.enter.ensures.reserved,
+      m.1,
+      search rules,
+      search rules,
+      m.4,
+      m.5,
+    )
+
+pub returns-clause-ok : goal.returns-clause-ok
+returns-clause-ok g c =
+    let i = c.self.inside in let m = c.self.invariant in let o = c.index.result.now in
+    let where_is : IsIndex {J = g.row.J.Denot} c.args.done.op i.opened.items (Some c.in-Some.place) = search rules in
+    let here : slice_get i.opened.items c.in-Some.place ≡ Some o = slice_get_read i.opened.items _ c.in-Some.place o refl where_is.0 c.index.ensures in
+    let due : true ≡ (is_due c.args.done.target (current_of o) && is_live c.args.done.target i.live.items) = search rules in
+    let is : record { book = i.log; slots = i.codes.table.slots; methods = i.codes.table.methods; keeper = i.codes.keeper } ≡ c.args.self.now = c.self.view_is in
+    subst (λ (d : DeskSeen). Enters d (record { book = c.enter.new.self; slots = i.codes.table.slots; methods = i.codes.table.methods; keeper = i.codes.keeper }) (entry.Finish c.args.done.op c.args.done.target c.args.done.reply) c.enter.result) is
+    (enters_by (record { book = i.log; slots = i.codes.table.slots; methods = i.codes.table.methods; keeper = i.codes.keeper }) (record { book = c.enter.new.self; slots = i.codes.table.slots; methods = i.codes.table.methods; keeper = i.codes.keeper }) _ (entry.Finish c.args.done.op c.args.done.target c.args.done.reply) c.enter.result m.0.state
+    (finish_is c.args.done.op c.args.done.target c.args.done.reply i.next_name i.next_number c.in-Some.place i.live.items i.queue i.opened.items o i.codes.table true where_is here due)
+    (search rules) (search rules) refl refl)

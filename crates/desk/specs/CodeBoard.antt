@@ -1,0 +1,70 @@
+-- The codes of the method table and the entries of the board: what the keeper knows of a slot is its newest code.
+use Rattle.std.specs.Prelude.{◌≡◌, ℕ, ◌<◌, ◌==◌, true, List, [], ◌∷◌, length, Option, Some, None, slice_get, if◌then◌else◌}
+use Rattle.frames.specs.declared.CodeId.{CodeId}
+use Rattle.frames.specs.declared.board_rule.EntryState.{EntryState}
+use Rattle.frames.specs.declared.board_rule.EntryState.TheVariants as entry
+use Rattle.frames.specs.declared.board_rule.SlotView.{SlotView}
+use Rattle.frames.specs.declared.board_rule.KeeperView.{KeeperView}
+use Rattle.frames.specs.BoardViews.{slot_of, entry_stored, in_state}
+use Rattle.board.specs.Notes.{IsWeighed}
+use Rattle.board.specs.declared.weighed.Weighed.{Weighed}
+use Rattle.board.specs.declared.weighed.Weighed.TheVariants.{NotLooked, Used, Clear}
+use Rattle.method_table.specs.declared.Code.{Code}
+use Rattle.method_table.specs.declared.CodeState.{CodeState}
+use Rattle.method_table.specs.declared.CodeState.TheVariants as state
+use Rattle.method_table.specs.Codes.{takes_slot, with_state, unfreed}
+use Rattle.method_table.specs.TableView.{TableView}
+
+-- The state of a code as an entry has it: a freed code leaves its slot vacant.
+abbrev pub entry_state : CodeState → EntryState
+entry_state state.InUse = entry.InUse
+entry_state state.NotEntrant = entry.NotEntrant
+entry_state state.Zombie = entry.Zombie
+entry_state state.Freed = entry.Vacant
+
+-- The first, where there is one, else the other.
+abbrev pub first_of : Option Code → Option Code → Option Code
+first_of None other = other
+first_of (Some code) other = Some code
+
+-- The newest code of a slot, whatever its state.
+abbrev pub newest_in : List Code → ℕ → Option Code
+newest_in [] slot = None
+newest_in (code ∷ codes) slot = first_of (newest_in codes slot) (if code.slot == slot then Some code else None)
+
+-- The keeper knows the slot as its newest code leaves it.
+abbrev pub IsEntry : Option Code → SlotView → Type 0
+IsEntry None s = (s.serial ≡ 0) × (s.state ≡ entry.Vacant)
+IsEntry (Some code) s = (s.serial ≡ code.serial) × (s.state ≡ entry_state code.state)
+
+-- The codes are the keeper's view.
+pub record AreEntries (table : TableView) (view : KeeperView) : Type 0 where
+  pub sizes : length view.slots ≡ table.slots
+  pub entries : (slot : ℕ) → slot < table.slots → IsEntry (newest_in table.codes slot) (slot_of view slot)
+  pub newest : (place : ℕ) (code : Code) → slice_get table.codes place ≡ Some code → takes_slot code.state ≡ true → newest_in table.codes code.slot ≡ Some code
+
+-- What contracts see of codes: the table, and what the keeper knows.
+pub record CodesSeen : Type 0 where
+  pub table : TableView
+  pub keeper : KeeperView
+
+-- The unfreed code of the serial.
+abbrev pub IsCodeOf : CodesSeen → ℕ → Code → Type 0
+IsCodeOf seen serial code = unfreed seen.table.codes serial ≡ Some code
+
+abbrev pub with_codes : TableView → List Code → TableView
+with_codes table codes = record { codes = codes; slots = table.slots; methods = table.methods }
+
+-- What the keeper knows after a weighing: where it was clear, the entry is a zombie's.
+abbrev pub KeeperWeighs : ℕ → CodeId → KeeperView → KeeperView → Weighed → Type 0
+KeeperWeighs places id old new (NotLooked p) = IsWeighed places id old new (NotLooked p)
+KeeperWeighs places id old new (Used n) = IsWeighed places id old new (Used n)
+KeeperWeighs places id old new Clear = (mid : KeeperView) × IsWeighed places id old mid Clear × (new ≡ entry_stored mid id (in_state (slot_of mid id.slot) entry.Zombie))
+
+-- What a weighing leaves: a zombie where it was clear.
+abbrev pub Weighs : ℕ → ℕ → CodeId → CodesSeen → CodesSeen → Weighed → Type 0
+Weighs places serial id old new (NotLooked p) = IsWeighed places id old.keeper new.keeper (NotLooked p) × (new.table ≡ old.table)
+Weighs places serial id old new (Used n) = IsWeighed places id old.keeper new.keeper (Used n) × (new.table ≡ old.table)
+Weighs places serial id old new Clear =
+    (mid : KeeperView) × IsWeighed places id old.keeper mid Clear
+    × (new.keeper ≡ entry_stored mid id (in_state (slot_of mid id.slot) entry.Zombie)) × (new.table ≡ with_codes old.table (with_state old.table.codes serial state.Zombie))

@@ -1,0 +1,64 @@
+-- The state that the desk's fields stand for, and what they keep.
+use Rattle.std.specs.Prelude.{◌≢◌, ◌<◌, Option, Some, None, slice_get, ◌≡◌, ℕ, ◌+◌, ◌≤◌, true, Bool, List, [], ◌∷◌, ◌++◌, length, map, if◌then◌else◌}
+use Rattle.frames.specs.declared.board_rule.KeeperView.{KeeperView}
+use Rattle.method_table.specs.TableView.{TableView}
+use Rattle.operations.specs.declared.queue.Waiting.{Waiting}
+use Rattle.desk.specs.declared.entries.Entry.{Entry}
+use Rattle.desk.specs.declared.entries.Live.{Live}
+use Rattle.desk.specs.declared.entries.Carried.{Carried}
+use Rattle.desk.specs.declared.entries.Opened.{Opened}
+use Rattle.desk.specs.Machine.{Asked, Current, State, Book, after, is_legal, needs, targets_of, Stands, stands, lawful, may_operate}
+
+abbrev pub asked_of : {J : Type 0} → Waiting (Carried J) → Asked
+asked_of w = record { number = w.number; request = w.request }
+
+abbrev pub current_of : {J : Type 0} → Opened J → Current
+current_of o = record { number = o.number; request = o.request; before = o.before; left = o.left; due = o.due.items; operated = o.operated }
+
+abbrev pub state_of : {J : Type 0} → ℕ → List Live → ℕ → List (Waiting (Carried J)) → List (Opened J) → TableView → State
+state_of next_name live next_number waiting opened table =
+    record { next_name = next_name; live = live; next_number = next_number; waiting = map asked_of waiting; opened = map current_of opened; table = table }
+
+-- a waiting request carries a list of its targets
+abbrev pub AreCarried : {J : Type 0} → List (Waiting (Carried J)) → Type 0
+AreCarried [] = Unit {0}
+AreCarried (w ∷ ws) = (w.load.due.items ≡ targets_of w.request) × AreCarried ws
+
+-- how many entries an open request must still make
+abbrev pub due_of : Current → ℕ
+due_of c = (if may_operate c then 1 else 0) + length c.due
+
+-- no more than are kept for it
+abbrev pub AreFit : List Current → Type 0
+AreFit [] = Unit {0}
+AreFit (c ∷ cs) = (due_of c ≤ c.left) × AreFit cs
+
+-- a history is legal, the fields are the state after it, and there is room for all that can still come
+pub record IsKept (slots methods : ℕ) (book : Book) (fields : State) : Type 0 where
+  pub legal : is_legal slots methods book.history ≡ true
+  pub state : after slots methods book.history ≡ fields
+  pub needed : needs fields ≤ book.reserved
+  pub fit : AreFit fields.opened
+
+-- what contracts see of a desk: its history with the room that is kept in it, the sizes, and the keeper's view
+pub record DeskSeen : Type 0 where
+  pub book : Book
+  pub slots : ℕ
+  pub methods : ℕ
+  pub keeper : KeeperView
+
+-- the state that its history comes to
+abbrev pub at : DeskSeen → State
+at d = after d.slots d.methods d.book.history
+
+-- The desk appends a lawful entry, for which room was kept or not, and the receipt is of it.
+pub record Enters (old new : DeskSeen) (entry : Entry) (receipt : Stands) : Type 0 where
+  pub lawful_is : lawful (at old) entry ≡ true
+  pub history_is : new.book.history ≡ old.book.history ++ entry ∷ []
+  pub receipt_is : receipt ≡ stands (length old.book.history) entry
+  pub sizes_stay : (new.slots ≡ old.slots) × (new.methods ≡ old.methods)
+
+-- where the open request of the number stands
+abbrev pub IsIndex : {J : Type 0} → ℕ → List (Opened J) → Option ℕ → Type 0
+IsIndex n os None = (k : ℕ) (o : _) → slice_get os k ≡ Some o → o.number ≢ n
+IsIndex n os (Some i) = (i < length os) × ((k : ℕ) (o : _) → k < i → slice_get os k ≡ Some o → o.number ≢ n) × ((o : _) → slice_get os i ≡ Some o → o.number ≡ n)

@@ -1,0 +1,212 @@
+//! The method table and the keeper's view, which agree.
+ghost use Rattle.std.specs.Prelude.{◌≡◌, ◌≢◌, ℕ, ◌+◌, ◌<◌, ◌≤◌, ◌^◌, [], true, false, length, Some, None, IfOk, OnOk, OnErr, IfErr, IfSome, IfNone, nat_le};
+ghost use Rattle.frames.specs.BoardViews.{slot_of, entry_stored, in_use, not_entrant, in_state, looked_at, went_round, keeper_view};
+ghost use Rattle.frames.specs.BoardStep.{is_late};
+ghost use Rattle.frames.specs.declared.board_rule.EntryState.TheVariants.{Vacant};
+ghost use Rattle.board.specs.Boards.{first_keeper};
+ghost use Rattle.method_table.specs.declared.Code.{Code as CodeOf};
+ghost use Rattle.method_table.specs.declared.CodeState.TheVariants.{NotEntrant, Freed};
+ghost use Rattle.method_table.specs.Codes.{id_of, unfreed, with_code, with_state, next_serial, free_slot};
+ghost use Rattle.method_table.specs.TableView.{IsTable, install_fault, reason, invalidate_fault, retire_fault, free_fault};
+ghost use Rattle.desk.specs.CodeBoard.{AreEntries, CodesSeen, IsCodeOf, Weighs, with_codes};
+
+use board::{Board, Keeper, Spent, Weighed};
+use bodies::Name;
+use frames::CodeId;
+use method_table::table::{FreeFault, InstallFault, InvalidateFault, MethodTable, RetireFault};
+use method_table::{Code, CodeState};
+use std::marker::{Model, PhantomData};
+
+/// The codes, and the keeper of the board of N.
+#[derive(Drop)]
+pub struct Codes<N: Name> {
+    table: MethodTable,
+    keeper: Keeper,
+    of: PhantomData<N>,
+}
+
+impl<N: Name> Model for Codes<N> {
+    ghost use Rattle.std.specs.Prelude.{◌≡◌};
+    ghost use Rattle.desk.specs.CodeBoard.{CodesSeen, AreEntries};
+
+    ghost Value = { CodesSeen };
+
+    ghost view = { λ c. record { table = c.table; keeper = c.keeper.seen } };
+
+    ghost invariant = { λ c. (c.keeper.board ≡ N.board) × (N.board.slots ≡ c.table.slots) × AreEntries c.table c.keeper.seen };
+}
+
+fn id_of(code: Code) -> CodeId
+    ensures { result ≡ id_of code }
+{
+    CodeId {
+        slot: code.slot,
+        serial: code.serial,
+    }
+}
+
+impl<N: Name> Codes<N> {
+    pub fn new(table: MethodTable, keeper: Keeper, board: &Board) -> Codes<N>
+        requires board { board.now ≡ N.board }
+        requires keeper { keeper ≡ first_keeper board.now }
+        requires table { (table.codes ≡ []) × (table.slots ≡ N.board.slots) }
+        ensures { (result.table ≡ table) × (result.keeper ≡ keeper.seen) }
+    {
+        Codes {
+            table,
+            keeper,
+            of: PhantomData,
+        }
+    }
+
+    /// Why the method gets no code, but for want of memory.
+    pub fn refusal(&self, method: u64) -> Option<InstallFault>
+        ensures { result ≡ install_fault self.now.table method }
+    {
+        let _ = &self.keeper;
+        self.table.refusal(method)
+    }
+
+    /// A new code for the method: it joins the table, and its entry is stored.
+    pub fn install(&mut self, board: &Board, method: u64) -> Result<CodeId, InstallFault>
+        requires board { board.now ≡ N.board }
+        ensures sound { OnOk result (IsTable self.old.table) }
+        ensures slot { IfOk result (λ id. free_slot self.old.table.codes self.old.table.slots ≡ Some id.slot) }
+        ensures bound { IfOk result (λ id. id.slot < N.board.slots) }
+        ensures serial { IfOk result (λ id. id.serial ≡ next_serial self.old.table.codes) }
+        ensures codes { IfOk result (λ id. self.new.table ≡ with_codes self.old.table (with_code self.old.table.codes method id.slot)) }
+        ensures entry { IfOk result (λ id. self.new.keeper ≡ entry_stored self.old.keeper id (in_use id)) }
+        ensures accepted { OnOk result (install_fault self.old.table method ≡ None) }
+        ensures refused { IfErr result (λ fault. install_fault self.old.table method ≡ reason fault) }
+        ensures unchanged { OnErr result (self.new ≡ self.old) }
+    {
+        let _slots = self.table.slots();
+        let id = self.table.install(method)?;
+        self.keeper.install(board, id);
+        Ok(id)
+    }
+
+    /// The code is not entrant from now on, in the table and in its entry.
+    pub fn invalidate(&mut self, board: &Board, serial: u64) -> Result<CodeId, InvalidateFault>
+        requires board { board.now ≡ N.board }
+        ensures sound { OnOk result (IsTable self.old.table) }
+        ensures code { IfOk result (λ id. (code : CodeOf) × IsCodeOf self.old serial code × (id ≡ id_of code)) }
+        ensures codes { OnOk result (self.new.table ≡ with_codes self.old.table (with_state self.old.table.codes serial NotEntrant)) }
+        ensures entry { IfOk result (λ id. self.new.keeper ≡ entry_stored self.old.keeper id (not_entrant id self.old.keeper.moment)) }
+        ensures accepted { OnOk result (invalidate_fault (unfreed self.old.table.codes serial) ≡ None) }
+        ensures refused { IfErr result (λ fault. invalidate_fault (unfreed self.old.table.codes serial) ≡ Some fault) }
+        ensures unchanged { OnErr result (self.new ≡ self.old) }
+    {
+        let Some(code) = self.table.find(serial) else {
+            return Err(InvalidateFault::Unknown);
+        };
+        self.table.invalidate(serial)?;
+        let id = id_of(code);
+        self.keeper.invalidate(board, id);
+        Ok(id)
+    }
+
+    /// Begins the next moment.
+    pub fn round(&mut self, board: &Board) -> Result<(), Spent>
+        requires board { board.now ≡ N.board }
+        ensures ok { OnOk result (self.new.keeper ≡ went_round self.old.keeper self.old.keeper.moment) }
+        ensures spent { OnErr result ((self.new.keeper ≡ self.old.keeper) × (2 ^ 40 ≤ self.old.keeper.moment + 1)) }
+        ensures table { self.new.table ≡ self.old.table }
+    {
+        self.keeper.round(board)
+    }
+
+    /// Whether a place is done with the code.
+    pub fn look(&mut self, board: &Board, serial: u64, place: usize) -> Result<bool, RetireFault>
+        requires board { board.now ≡ N.board }
+        requires place { place < N.board.places }
+        ensures step { IfOk result (λ late. (code : CodeOf) × IsCodeOf self.old serial code × (found : ℕ) × (self.new.keeper ≡ looked_at self.old.keeper (id_of code) place found) × (late ≡ is_late (slot_of self.old.keeper code.slot).left found)) }
+        ensures table { self.new.table ≡ self.old.table }
+        ensures accepted { OnOk result (retire_fault (unfreed self.old.table.codes serial) ≡ None) }
+        ensures refused { IfErr result (λ fault. retire_fault (unfreed self.old.table.codes serial) ≡ Some fault) }
+        ensures unchanged { OnErr result (self.new ≡ self.old) }
+    {
+        let Some(code) = self.table.find(serial) else {
+            return Err(RetireFault::Unknown);
+        };
+        let CodeState::NotEntrant = code.state else {
+            return Err(RetireFault::NotNotEntrant);
+        };
+        Ok(self.keeper.look(board, id_of(code), place))
+    }
+
+    /// Weighs the code. Where no activation stands it is a zombie afterwards, in the table and in its entry.
+    pub fn weigh(&mut self, board: &Board, serial: u64) -> Result<Weighed, RetireFault>
+        requires board { board.now ≡ N.board }
+        ensures sound { OnOk result (IsTable self.old.table) }
+        ensures step { IfOk result (λ said. (code : CodeOf) × IsCodeOf self.old serial code × Weighs N.board.places serial (id_of code) self.old self.new said) }
+        ensures accepted { OnOk result (retire_fault (unfreed self.old.table.codes serial) ≡ None) }
+        ensures refused { IfErr result (λ fault. retire_fault (unfreed self.old.table.codes serial) ≡ Some fault) }
+        ensures unchanged { OnErr result (self.new ≡ self.old) }
+    {
+        let Some(code) = self.table.find(serial) else {
+            return Err(RetireFault::Unknown);
+        };
+        let CodeState::NotEntrant = code.state else {
+            return Err(RetireFault::NotNotEntrant);
+        };
+        let id = id_of(code);
+        let said = self.keeper.weigh(board, id);
+        if let Weighed::Clear = said {
+            self.table.retire(serial)?;
+            self.keeper.retire(board, id);
+        }
+        Ok(said)
+    }
+
+    /// The slot of a zombie is free, in the table and in its entry.
+    pub fn free(&mut self, board: &Board, serial: u64) -> Result<CodeId, FreeFault>
+        requires board { board.now ≡ N.board }
+        ensures sound { OnOk result (IsTable self.old.table) }
+        ensures code { IfOk result (λ id. (code : CodeOf) × IsCodeOf self.old serial code × (id ≡ id_of code)) }
+        ensures codes { OnOk result (self.new.table ≡ with_codes self.old.table (with_state self.old.table.codes serial Freed)) }
+        ensures entry { IfOk result (λ id. self.new.keeper ≡ entry_stored self.old.keeper id (in_state (slot_of self.old.keeper id.slot) Vacant)) }
+        ensures accepted { OnOk result (free_fault (unfreed self.old.table.codes serial) ≡ None) }
+        ensures refused { IfErr result (λ fault. free_fault (unfreed self.old.table.codes serial) ≡ Some fault) }
+        ensures unchanged { OnErr result (self.new ≡ self.old) }
+    {
+        let Some(code) = self.table.find(serial) else {
+            return Err(FreeFault::Unknown);
+        };
+        self.table.free(serial)?;
+        let id = id_of(code);
+        self.keeper.free(board, id);
+        Ok(id)
+    }
+
+    /// The codes are the keeper's view.
+    pub fn are_entries(&self)
+        ensures { AreEntries self.now.table self.now.keeper }
+    {
+        let _ = &self.keeper;
+    }
+
+    /// Whether the moment is the last.
+    pub fn is_last_moment(&self) -> bool
+        ensures { result ≡ nat_le (2 ^ 40) (self.now.keeper.moment + 1) }
+    {
+        let _ = &self.table;
+        self.keeper.is_last_moment()
+    }
+
+    /// Why the code can't be weighed.
+    pub fn weigh_fault(&self, serial: u64) -> Option<RetireFault>
+        ensures { result ≡ retire_fault (unfreed self.now.table.codes serial) }
+    {
+        let _ = &self.keeper;
+        let Some(code) = self.table.find(serial) else {
+            return Some(RetireFault::Unknown);
+        };
+        match code.state {
+            CodeState::NotEntrant => None,
+            CodeState::InUse | CodeState::Zombie | CodeState::Freed => Some(
+                RetireFault::NotNotEntrant,
+            ),
+        }
+    }
+}

@@ -1,0 +1,565 @@
+//! The desk: what all threads ask of the coordinator, in one history.
+ghost use Rattle.std.specs.Prelude.{◌≡◌, ◌==◌, ◌&&◌, ℕ, ◌+◌, ◌<◌, ◌≤◌, ◌^◌, List, [], ◌∷◌, ◌++◌, length, true, false, nat_le, Some, None, IfOk, IfErr, IfSome, IfNone, OnOk, OnErr, ◌≢◌, vec_len, vec_capacity};
+ghost use Rattle.frames.specs.ImageView.{IsSettled};
+ghost use Rattle.frames.specs.BoardViews.{went_round, looked_at, slot_of, entry_stored, in_use};
+ghost use Rattle.frames.specs.BoardStep.{is_late};
+ghost use Rattle.method_table.specs.declared.Code.{Code as CodeOf};
+ghost use Rattle.board.specs.Boards.{first_keeper};
+ghost use Rattle.operations.specs.Asks.{reply};
+ghost use Rattle.method_table.specs.TableView.{install_fault, invalidate_fault, retire_fault, free_fault};
+ghost use Rattle.method_table.specs.Codes.{unfreed, id_of};
+ghost use Rattle.desk.specs.CodeBoard.{AreEntries, KeeperWeighs};
+ghost use Rattle.desk.specs.Machine.{is_legal, is_taken, names_of, lawful, needs_of_opened, steps_of};
+ghost use Rattle.desk.specs.Refusals.{start_refused, ask_refused, open_refused, close_refused, install_refused, operate_refused, reclaim_refused, is_idle, front_is, AreSettled, are_all};
+ghost use Rattle.desk.specs.Fields.{DeskSeen, at, Enters};
+ghost use Rattle.desk.specs.Targets.{standing, next_due};
+ghost use Rattle.desk.specs.Once.{replies_of};
+ghost use Rattle.desk.specs.JobsFit.{jobs_fit};
+
+use crate::codes::Codes;
+use crate::entries::{Carried, Entry, Live, Opened, Standing, copied_request};
+use crate::faults::{
+    AskFault, CloseFault, CodeFault, NotLive, NotReclaimed, OpenFault, OperateFault, ReclaimFault,
+    Refused, StartFault, start_fault,
+};
+use crate::lists::{
+    are_all, due_after, finish_at, index_of, is_census, is_census_open, is_idle, job_of, jobs_fit,
+    keep_live, least_free, leave, lives, may_close, may_finish, names_of, operate_at, standing_to,
+    steps_of, targets_of,
+};
+use crate::log::{Log, Receipt, RoomFault};
+use board::{Board, Keeper, Spent, Weighed};
+use bodies::{Body, Name};
+use frames::CodeId;
+use method_table::table::{FreeFault, InvalidateFault, MethodTable, RetireFault};
+use operations::Request;
+use operations::job::{Done, Errand};
+use operations::queue::{Queue, Unqueued, Waiting};
+use std::alloc::{AllocError, Global};
+use std::marker::{Model, PhantomData};
+
+/// The last name and number.
+pub const LAST: u64 = (1 << 40) - 1;
+
+/// The desk.
+#[derive(Drop)]
+pub struct Desk<N: Name, J: Errand> {
+    alloc: Global,
+    places: usize,
+    next_name: u64,
+    live: Vec<Live>,
+    next_number: u64,
+    queue: Queue<Carried<J>>,
+    opened: Vec<Opened<J>>,
+    codes: Codes<N>,
+    log: Log<N>,
+}
+
+impl<N: Name, J: Errand> Model for Desk<N, J> {
+    ghost use Rattle.std.specs.Prelude.{◌≡◌, ◌<◌, ◌≤◌, vec_len, vec_capacity};
+    ghost use Rattle.desk.specs.Fields.{DeskSeen, state_of, IsKept, AreCarried};
+
+    ghost Value = { DeskSeen };
+
+    ghost view = { λ d. record { book = d.log; slots = d.codes.table.slots; methods = d.codes.table.methods; keeper = d.codes.keeper } };
+
+    ghost invariant = { λ d. IsKept d.codes.table.slots d.codes.table.methods d.log (state_of d.next_name d.live.items d.next_number d.queue d.opened.items d.codes.table) × AreCarried d.queue × (vec_len d.opened ≤ 1) × (1 ≤ vec_capacity d.opened) × (d.places ≡ N.board.places) × (0 < d.next_name) };
+}
+
+impl<N: Name, J: Errand> Desk<N, J> {
+    /// An empty desk.
+    pub fn new(
+        alloc: Global,
+        table: MethodTable,
+        keeper: Keeper,
+        board: &Board,
+        places: usize,
+    ) -> Result<Desk<N, J>, AllocError>
+        requires board { board.now ≡ N.board }
+        requires keeper { keeper ≡ first_keeper board.now }
+        requires table { (table.codes ≡ []) × (table.slots ≡ N.board.slots) }
+        requires places { places ≡ N.board.places }
+        ensures book { IfOk result (λ d. (d.book.history ≡ []) × (d.book.reserved ≡ 0)) }
+        ensures sizes { IfOk result (λ d. (d.slots ≡ table.slots) × (d.methods ≡ table.methods)) }
+    {
+        let opened = Vec::with_capacity(alloc, 1)?;
+        Ok(Desk {
+            alloc,
+            places,
+            next_name: 1,
+            live: Vec::new(alloc),
+            next_number: 1,
+            queue: Queue::new(alloc),
+            opened,
+            codes: Codes::new(table, keeper, board),
+            log: Log::new(alloc),
+        })
+    }
+
+    /// Enters the start of the next name in the least place that is free.
+    pub fn start(&mut self) -> Result<(u64, usize, Receipt<N>), StartFault>
+        ensures ok { IfOk result (λ r. Enters self.old self.new (Entry.Start r.0 r.1) r.2 × (r.1 < N.board.places) × (0 < r.0)) }
+        ensures least { IfOk result (λ r. (k : ℕ) → k < r.1 → is_taken k (at self.old).live ≡ true) }
+        ensures reserved { IfOk result (λ r. (self.new.book.reserved ≡ self.old.book.reserved + 1) × (self.new.keeper ≡ self.old.keeper)) }
+        ensures err { IfErr result (λ e. (self.new ≡ self.old) × start_refused (at self.old) N.board.places self.old.book e) }
+    {
+        if is_census_open(self.opened.as_slice()) {
+            return Err(StartFault::SafepointOpen);
+        }
+        let Some(place) = least_free(self.live.as_slice(), self.places) else {
+            return Err(StartFault::PlacesFull);
+        };
+        if self.next_name > LAST {
+            return Err(StartFault::Spent);
+        }
+        if let Err(fault) = self.log.keep(2) {
+            return Err(start_fault(fault));
+        }
+        if self.live.reserve(1).is_err() {
+            self.log.give_back(2);
+            return Err(StartFault::NoMemory);
+        }
+        let name = self.next_name;
+        self.live.push_reserved(Live { name, place });
+        self.next_name += 1;
+        Ok((name, place, self.log.enter(Entry::Start(name, place))))
+    }
+
+    /// Enters the exit of a live name.
+    pub fn exit(&mut self, name: u64) -> Result<Receipt<N>, NotLive>
+        ensures ok { IfOk result (λ r. Enters self.old self.new (Entry.Exit name) r) }
+        ensures reserved { OnOk result ((self.new.book.reserved + 1 ≡ self.old.book.reserved) × (self.new.keeper ≡ self.old.keeper)) }
+        ensures err { OnErr result ((self.new ≡ self.old) × (lawful (at self.old) (Entry.Exit name) ≡ false)) }
+    {
+        if !lives(self.live.as_slice(), name) {
+            return Err(NotLive);
+        }
+        leave(&mut self.live, name);
+        Ok(self.log.enter(Entry::Exit(name)))
+    }
+
+    /// Enters a code of the method, which is stored.
+    pub fn install(&mut self, board: &Board, method: u64) -> Result<(CodeId, Receipt<N>), CodeFault>
+        requires board { board.now ≡ N.board }
+        ensures ok { IfOk result (λ r. Enters self.old self.new (Entry.Install r.0 method) r.1) }
+        ensures slot { IfOk result (λ r. r.0.slot < N.board.slots) }
+        ensures stored { IfOk result (λ r. self.new.keeper ≡ entry_stored self.old.keeper r.0 (in_use r.0)) }
+        ensures reserved { OnOk result (self.new.book.reserved ≡ self.old.book.reserved + 3) }
+        ensures err { IfErr result (λ e. (self.new ≡ self.old) × install_refused (at self.old) method self.old.book e) }
+    {
+        if let Some(fault) = self.codes.refusal(method) {
+            return Err(CodeFault::Install(fault));
+        }
+        match self.log.keep(4) {
+            Ok(()) => {}
+            Err(RoomFault::HistoryFull) => return Err(CodeFault::HistoryFull),
+            Err(RoomFault::NoMemory) => return Err(CodeFault::NoMemory),
+        }
+        match self.codes.install(board, method) {
+            Ok(id) => Ok((id, self.log.enter(Entry::Install(id, method)))),
+            Err(_) => {
+                self.log.give_back(4);
+                Err(CodeFault::NoMemory)
+            }
+        }
+    }
+
+    /// Enters that a code isn't entrant, which is stored.
+    pub fn invalidate(&mut self, board: &Board, serial: u64) -> Result<Receipt<N>, InvalidateFault>
+        requires board { board.now ≡ N.board }
+        ensures ok { IfOk result (λ r. Enters self.old self.new (Entry.Invalidate serial) r) }
+        ensures reserved { OnOk result (self.new.book.reserved + 1 ≡ self.old.book.reserved) }
+        ensures err { IfErr result (λ e. (self.new ≡ self.old) × (invalidate_fault (unfreed (at self.old).table.codes serial) ≡ Some e)) }
+    {
+        self.codes.invalidate(board, serial)?;
+        Ok(self.log.enter(Entry::Invalidate(serial)))
+    }
+
+    /// Enters that the slot of a zombie is free, which is stored.
+    pub fn free(&mut self, board: &Board, serial: u64) -> Result<Receipt<N>, FreeFault>
+        requires board { board.now ≡ N.board }
+        ensures ok { IfOk result (λ r. Enters self.old self.new (Entry.Free serial) r) }
+        ensures reserved { OnOk result (self.new.book.reserved + 1 ≡ self.old.book.reserved) }
+        ensures err { IfErr result (λ e. (self.new ≡ self.old) × (free_fault (unfreed (at self.old).table.codes serial) ≡ Some e)) }
+    {
+        self.codes.free(board, serial)?;
+        Ok(self.log.enter(Entry::Free(serial)))
+    }
+
+    /// The codes are the keeper's view.
+    pub fn codes_are_entries(&self)
+        ensures { AreEntries (at self.now).table self.now.keeper }
+    {
+        let _ = &self.log;
+        self.codes.are_entries();
+    }
+
+    /// Enters a request, which waits with its jobs: one for each target in order, with the request's ask. A refusal hands them back.
+    pub fn submit(
+        &mut self,
+        request: Request,
+        jobs: Vec<J>,
+    ) -> Result<(u64, Receipt<N>), Refused<J>>
+        ensures ok { IfOk result (λ r. Enters self.old self.new (Entry.Ask r.0 request) r.1) }
+        ensures reserved { OnOk result ((self.new.book.reserved ≡ self.old.book.reserved + (2 + steps_of request)) × (self.new.keeper ≡ self.old.keeper)) }
+        ensures err { IfErr result (λ e. (self.new ≡ self.old) × ask_refused (at self.old) request (jobs_fit J.whom J.asks request jobs.items) self.old.book e.fault) }
+        ensures handed_back { IfErr result (λ e. e.jobs ≡ jobs) }
+    {
+        if self.next_number > LAST {
+            return Err(Refused {
+                fault: AskFault::Spent,
+                jobs,
+            });
+        }
+        if self.queue.is_full() {
+            return Err(Refused {
+                fault: AskFault::QueueFull,
+                jobs,
+            });
+        }
+        if !request.has_targets() {
+            return Err(Refused {
+                fault: AskFault::NoTargets,
+                jobs,
+            });
+        }
+        let fits = jobs_fit(&request, jobs.as_slice());
+        if !(request.are_targets() && fits) {
+            return Err(Refused {
+                fault: AskFault::BadTargets,
+                jobs,
+            });
+        }
+        let steps = steps_of(&request);
+        match self.log.keep(3 + steps) {
+            Ok(()) => {}
+            Err(RoomFault::HistoryFull) => return Err(Refused {
+                fault: AskFault::HistoryFull,
+                jobs,
+            }),
+            Err(RoomFault::NoMemory) => return Err(Refused {
+                fault: AskFault::NoMemory,
+                jobs,
+            }),
+        }
+        let Ok(copy) = copied_request(&request, self.alloc) else {
+            self.log.give_back(3 + steps);
+            return Err(Refused {
+                fault: AskFault::NoMemory,
+                jobs,
+            });
+        };
+        let Ok(due) = targets_of(&request, self.alloc) else {
+            self.log.give_back(3 + steps);
+            return Err(Refused {
+                fault: AskFault::NoMemory,
+                jobs,
+            });
+        };
+        let number = self.next_number;
+        if let Err(back) = self.queue.push(number, request, Carried { due, jobs }) {
+            self.log.give_back(3 + steps);
+            let Unqueued {
+                fault: _,
+                request: _,
+                load,
+            } = back;
+            let Carried { due: _, jobs } = load;
+            return Err(Refused {
+                fault: AskFault::NoMemory,
+                jobs,
+            });
+        }
+        self.next_number += 1;
+        Ok((number, self.log.enter(Entry::Ask(number, copy))))
+    }
+
+    /// Opens the oldest request.
+    pub fn open(&mut self) -> Result<(u64, Receipt<N>), OpenFault>
+        ensures ok { IfOk result (λ r. Enters self.old self.new (Entry.Open r.0) r.1) }
+        ensures reserved { OnOk result ((self.new.book.reserved + 1 ≡ self.old.book.reserved) × (self.new.keeper ≡ self.old.keeper)) }
+        ensures err { IfErr result (λ e. (self.new ≡ self.old) × open_refused (at self.old) e) }
+    {
+        if !self.opened.is_empty() {
+            return Err(OpenFault::AlreadyOpen);
+        }
+        let Some(first) = self.queue.pop() else {
+            return Err(OpenFault::QueueEmpty);
+        };
+        let Waiting {
+            number,
+            request,
+            load,
+        } = first;
+        let Carried { mut due, jobs } = load;
+        keep_live(&mut due, self.live.as_slice());
+        let left = steps_of(&request);
+        self.opened.push_reserved(Opened {
+            number,
+            request,
+            before: self.next_name,
+            left,
+            due,
+            operated: false,
+            jobs,
+        });
+        Ok((number, self.log.enter(Entry::Open(number))))
+    }
+
+    /// Enters what a job gave on a settled body, or hands it back where it isn't lawful.
+    pub fn finish(&mut self, body: &Body<N>, done: Done) -> Result<Receipt<N>, Done>
+        requires name { body.now.name ≡ done.target }
+        requires settled { IsSettled body.now.image }
+        requires reply { done.reply ≡ reply done.ask body.now.image.frames }
+        ensures ok { IfOk result (λ r. Enters self.old self.new (Entry.Finish done.op done.target done.reply) r) }
+        ensures reserved { OnOk result ((self.new.book.reserved + 1 ≡ self.old.book.reserved) × (self.new.keeper ≡ self.old.keeper)) }
+        ensures err { IfErr result (λ d. (d ≡ done) × (lawful (at self.old) (Entry.Finish done.op done.target done.reply) ≡ false) × (self.new ≡ self.old)) }
+    {
+        let _ = body;
+        let Some(place) = index_of(self.opened.as_slice(), done.op()) else {
+            return Err(done);
+        };
+        if !may_finish(&self.opened[place], self.live.as_slice(), done.target()) {
+            return Err(done);
+        }
+        finish_at(&mut self.opened, place, done.target());
+        Ok(
+            self.log
+                .enter(Entry::Finish(done.op(), done.target(), done.reply())),
+        )
+    }
+
+    /// Closes the oldest open request, and gives back the jobs that were not taken.
+    pub fn close(&mut self, held: bool) -> Result<(u64, Vec<J>, Receipt<N>), CloseFault>
+        ensures ok { IfOk result (λ r. Enters self.old self.new (Entry.Close r.0) r.2) }
+        ensures reserved { OnOk result ((self.new.book.reserved + needs_of_opened (at self.old).opened ≡ self.old.book.reserved) × (self.new.keeper ≡ self.old.keeper)) }
+        ensures err { IfErr result (λ e. (self.new ≡ self.old) × close_refused (at self.old) held e) }
+    {
+        if self.opened.is_empty() {
+            return Err(CloseFault::NothingOpen);
+        }
+        if held {
+            return Err(CloseFault::Held);
+        }
+        if !may_close(&self.opened[0], self.live.as_slice()) {
+            return Err(CloseFault::NotDone);
+        }
+        let Opened {
+            number,
+            request: _,
+            before: _,
+            left,
+            due: _,
+            operated: _,
+            jobs,
+        } = self.opened.remove(0);
+        self.log.give_back(left);
+        Ok((number, jobs, self.log.enter(Entry::Close(number))))
+    }
+
+    /// Enters that the open census is operated over these bodies, which are settled and those of all live names.
+    pub fn operate(&mut self, bodies: &[Body<N>]) -> Result<(u64, Receipt<N>), OperateFault>
+        requires settled { AreSettled bodies.now }
+        ensures ok { IfOk result (λ r. Enters self.old self.new (Entry.Operate r.0) r.1) }
+        ensures all { OnOk result (are_all (at self.old).live bodies.now ≡ true) }
+        ensures reserved { OnOk result ((self.new.book.reserved + 1 ≡ self.old.book.reserved) × (self.new.keeper ≡ self.old.keeper)) }
+        ensures err { IfErr result (λ e. (self.new ≡ self.old) × operate_refused (at self.old) bodies.now e) }
+    {
+        if self.opened.is_empty() {
+            return Err(OperateFault::NothingOpen);
+        }
+        if !is_census(&self.opened[0].request) {
+            return Err(OperateFault::NotOf);
+        }
+        if self.opened[0].operated {
+            return Err(OperateFault::AlreadyDone);
+        }
+        if !are_all(self.live.as_slice(), bodies) {
+            return Err(OperateFault::NotAllHeld);
+        }
+        let number = self.opened[0].number;
+        operate_at(&mut self.opened, 0);
+        Ok((number, self.log.enter(Entry::Operate(number))))
+    }
+
+    /// Weighs a code. Where no activation stands it is a zombie afterwards, which is stored and entered.
+    pub fn weigh(
+        &mut self,
+        board: &Board,
+        serial: u64,
+    ) -> Result<(Weighed, Option<Receipt<N>>), RetireFault>
+        requires board { board.now ≡ N.board }
+        ensures retired { IfOk result (λ r. IfSome r.1 (λ receipt. Enters self.old self.new (Entry.Retire serial) receipt)) }
+        ensures weighed { IfOk result (λ r. (code : CodeOf) × (unfreed (at self.old).table.codes serial ≡ Some code) × KeeperWeighs N.board.places (id_of code) self.old.keeper self.new.keeper r.0) }
+        ensures others { IfOk result (λ r. IfNone r.1 ((self.new.book ≡ self.old.book) × (self.new.slots ≡ self.old.slots) × (self.new.methods ≡ self.old.methods) × (r.0 ≢ Weighed.Clear))) }
+        ensures err { IfErr result (λ e. (self.new ≡ self.old) × (retire_fault (unfreed (at self.old).table.codes serial) ≡ Some e)) }
+    {
+        let said = self.codes.weigh(board, serial)?;
+        let Weighed::Clear = said else {
+            return Ok((said, None));
+        };
+        Ok((said, Some(self.log.enter(Entry::Retire(serial)))))
+    }
+
+    /// Begins the next moment.
+    pub fn round(&mut self, board: &Board) -> Result<(), Spent>
+        requires board { board.now ≡ N.board }
+        ensures ok { OnOk result (self.new.keeper ≡ went_round self.old.keeper self.old.keeper.moment) }
+        ensures spent { OnErr result ((self.new ≡ self.old) × (2 ^ 40 ≤ self.old.keeper.moment + 1)) }
+        ensures book { (self.new.book ≡ self.old.book) × (self.new.slots ≡ self.old.slots) × (self.new.methods ≡ self.old.methods) }
+    {
+        self.codes.round(board)
+    }
+
+    /// Whether nothing is open and nothing waits.
+    pub fn is_idle(&self) -> bool
+        ensures { result ≡ is_idle (at self.now) }
+    {
+        let _ = &self.log;
+        is_idle(self.opened.as_slice(), &self.queue)
+    }
+
+    /// Whether the moment is the last.
+    pub fn is_last_moment(&self) -> bool
+        ensures { result ≡ nat_le (2 ^ 40) (self.now.keeper.moment + 1) }
+    {
+        let _ = &self.log;
+        self.codes.is_last_moment()
+    }
+
+    /// Why the code can't be weighed.
+    pub fn weigh_fault(&self, serial: u64) -> Option<RetireFault>
+        ensures { result ≡ retire_fault (unfreed (at self.now).table.codes serial) }
+    {
+        let _ = &self.log;
+        self.codes.weigh_fault(serial)
+    }
+
+    /// The first step of reclaiming a code: a request waits, where there is one, and the next moment begins.
+    pub fn begin_reclaim(
+        &mut self,
+        board: &Board,
+        serial: u64,
+        request: Option<Request>,
+        jobs: Vec<J>,
+    ) -> Result<Option<(u64, Receipt<N>)>, NotReclaimed<J>>
+        requires board { board.now ≡ N.board }
+        ensures asked { IfOk result (λ r. IfSome r (λ a. IfSome request (λ asked. Enters self.old self.new (Entry.Ask a.0 asked) a.1))) }
+        ensures quiet { IfOk result (λ r. IfNone r ((request ≡ None) × (self.new.book ≡ self.old.book))) }
+        ensures sizes { OnOk result ((self.new.slots ≡ self.old.slots) × (self.new.methods ≡ self.old.methods)) }
+        ensures round { OnOk result (self.new.keeper ≡ went_round self.old.keeper self.old.keeper.moment) }
+        ensures err { IfErr result (λ e. (self.new ≡ self.old) × reclaim_refused (at self.old) serial request (λ asked. jobs_fit J.whom J.asks asked jobs.items) self.old.book self.old.keeper.moment e.fault) }
+        ensures handed_back { IfErr result (λ e. e.jobs ≡ jobs) }
+    {
+        if let Some(fault) = self.weigh_fault(serial) {
+            return Err(NotReclaimed {
+                fault: ReclaimFault::Code(fault),
+                jobs,
+            });
+        }
+        if !self.is_idle() {
+            return Err(NotReclaimed {
+                fault: ReclaimFault::AlreadyOpen,
+                jobs,
+            });
+        }
+        if self.is_last_moment() {
+            return Err(NotReclaimed {
+                fault: ReclaimFault::Spent,
+                jobs,
+            });
+        }
+        let asked = match request {
+            None => None,
+            Some(request) => match self.submit(request, jobs) {
+                Ok(asked) => Some(asked),
+                Err(back) => {
+                    let Refused { fault, jobs } = back;
+                    return Err(NotReclaimed {
+                        fault: ReclaimFault::Ask(fault),
+                        jobs,
+                    });
+                }
+            },
+        };
+        match self.round(board) {
+            Ok(()) => Ok(asked),
+            Err(_) => unreachable!(),
+        }
+    }
+
+    /// Whether a place is done with the code.
+    pub fn look(&mut self, board: &Board, serial: u64, place: usize) -> Result<bool, RetireFault>
+        requires board { board.now ≡ N.board }
+        requires place { place < N.board.places }
+        ensures step { IfOk result (λ late. (code : CodeOf) × (unfreed (at self.old).table.codes serial ≡ Some code) × (found : ℕ) × (self.new.keeper ≡ looked_at self.old.keeper (id_of code) place found) × (late ≡ is_late (slot_of self.old.keeper code.slot).left found)) }
+        ensures book { (self.new.book ≡ self.old.book) × (self.new.slots ≡ self.old.slots) × (self.new.methods ≡ self.old.methods) }
+        ensures err { IfErr result (λ e. (self.new ≡ self.old) × (retire_fault (unfreed (at self.old).table.codes serial) ≡ Some e)) }
+    {
+        self.codes.look(board, serial, place)
+    }
+
+    /// The job of a target of the oldest open request, with the number of the operation.
+    pub fn take_job(&mut self, name: u64) -> Option<J>
+        ensures some { IfSome result (λ j. (J.whom j ≡ name) × (0 < J.number j) × front_is (λ c. c.number == J.number j) (at self.old).opened true) }
+        ensures same { self.new ≡ self.old }
+    {
+        if self.opened.is_empty() {
+            return None;
+        }
+        let number = self.opened[0].number;
+        if number == 0 {
+            return None;
+        }
+        match job_of(&mut self.opened, name) {
+            Some(job) => Some(job.numbered(number)),
+            None => None,
+        }
+    }
+
+    /// The live names, in the order in which they started. Refused only for want of memory.
+    pub fn live(&self) -> Result<Vec<u64>, AllocError>
+        ensures { IfOk result (λ names. names.items ≡ names_of (at self.now).live) }
+    {
+        let _ = &self.log;
+        names_of(self.live.as_slice(), self.alloc)
+    }
+
+    /// The names with their replies of an operation, in the order of their Finish entries. Refused only for want of memory.
+    pub fn replies(&self, op: u64) -> Result<Vec<(u64, u64)>, AllocError>
+        ensures { IfOk result (λ list. list.items ≡ replies_of op self.now.book.history) }
+    {
+        let _ = &self.codes;
+        self.log.replies(self.alloc, op)
+    }
+
+    /// Law: the history is legal.
+    pub fn history_is_legal(&self)
+        ensures { is_legal self.now.slots self.now.methods self.now.book.history ≡ true }
+    {
+        let _ = &self.log;
+    }
+
+    /// How a name stands to the oldest open request: what telling it, or holding its thread, is answered or refused with.
+    pub fn standing(&self, name: u64) -> Standing
+        ensures { result ≡ standing (at self.now) name }
+    {
+        let _ = &self.log;
+        if self.opened.is_empty() {
+            return Standing::NothingOpen;
+        }
+        standing_to(&self.opened[0], self.next_name, self.live.as_slice(), name)
+    }
+
+    /// The least name above this one, with its place, whose thread was live at the Open of the oldest open request, is live, and has
+    /// no Finish, or whose census isn't operated.
+    pub fn next_due(&self, name: u64) -> Option<Live>
+        ensures { result ≡ next_due (at self.now) name }
+    {
+        let _ = &self.log;
+        if self.opened.is_empty() {
+            return None;
+        }
+        due_after(&self.opened[0], self.live.as_slice(), name)
+    }
+}

@@ -1,0 +1,22 @@
+//! The desk of a running system: who is live, what is asked of the threads, and which codes there are, in one history of entries.
+//!
+//! Each call that changes the desk appends the one entry of its name, where that is lawful, and gives the receipt of it; or it is
+//! refused and changes nothing. The type keeps that the history is legal and that all that the desk keeps is the state after it.
+#![tactic(auto)]
+
+mod codes;
+mod desk;
+mod entries;
+mod faults;
+mod law;
+mod lists;
+mod log;
+
+pub use desk::Desk;
+pub use entries::{Entry, Live, Standing, Target};
+pub use faults::{
+    AskFault, CloseFault, CodeFault, NotLive, NotReclaimed, OpenFault, OperateFault, ReclaimFault,
+    Refused, StartFault,
+};
+pub use law::{at_most_once, live_names_rise};
+pub use log::Receipt;

@@ -1,0 +1,379 @@
+// Steps on the desk's lists.
+ghost use Rattle.std.specs.Prelude.{◌≡◌, ◌&&◌, ◌==◌, ◌<◌, ◌≤◌, ◌+◌, ℕ, length, true, false, not, map, Some, IfOk, vec_capacity, vec_len, IfSome, IfNone, slice_get, slice_set};
+ghost use Rattle.std.specs.List.{list_any, list_all};
+ghost use Rattle.operations.specs.Names.{among};
+ghost use Rattle.operations.specs.Requests.{is_census};
+ghost use Rattle.desk.specs.declared.entries.Opened.{Opened as OpenedOf};
+ghost use Rattle.desk.specs.Machine.{names_of, place_of, is_live, is_taken, without, others, live_of, none_live, has_census, may_close, finished, as_operated, is_due, targets_of, steps_of};
+ghost use Rattle.desk.specs.Targets.{is_asked, is_owed, standing_to, is_due_target, due_after};
+ghost use Rattle.desk.specs.Refusals.{has_body, are_all};
+ghost use Rattle.desk.specs.JobsFit.{same_ask, are_for, jobs_fit};
+ghost use Rattle.desk.specs.Fields.{current_of, IsIndex};
+
+use crate::entries::{Carried, Live, Opened, Standing, Target};
+use bodies::{Body, Name};
+use operations::job::Errand;
+use operations::queue::Queue;
+use operations::{Ask, Request};
+use std::alloc::{AllocError, Global};
+
+/// Whether a name is live.
+pub fn lives(live: &[Live], name: u64) -> bool
+    ensures { result ≡ is_live name live.now }
+{
+    live.iter().any(|l| l.name == name)
+}
+
+/// Whether a place is taken.
+pub fn taken(live: &[Live], place: usize) -> bool
+    ensures { result ≡ is_taken place live.now }
+{
+    live.iter().any(|l| l.place == place)
+}
+
+/// Whether a name is among these.
+pub fn is_among(names: &[u64], name: u64) -> bool
+    ensures { result ≡ among name names.now }
+{
+    names.iter().any(|x| *x == name)
+}
+
+/// Takes a name off.
+pub fn leave(live: &mut Vec<Live>, name: u64)
+    ensures items { live.new.items ≡ without name live.old.items }
+    ensures capacity { vec_capacity live.new ≡ vec_capacity live.old }
+{
+    live.retain(|l| l.name != name);
+}
+
+/// Takes a name off the targets.
+pub fn answered(names: &mut Vec<u64>, name: u64)
+    ensures { names.new.items ≡ others name names.old.items }
+{
+    names.retain(|x| *x != name);
+}
+
+/// Keeps the live targets.
+pub fn keep_live(names: &mut Vec<u64>, live: &[Live])
+    ensures { names.new.items ≡ live_of live.now names.old.items }
+{
+    names.retain(|x| lives(live, *x));
+}
+
+/// Whether no target is live.
+pub fn all_gone(names: &[u64], live: &[Live]) -> bool
+    ensures { result ≡ none_live live.now names.now }
+{
+    names.iter().all(|x| !lives(live, *x))
+}
+
+/// The least place that no live name has.
+pub fn least_free(live: &[Live], places: usize) -> Option<usize>
+    ensures some { IfSome result (λ p. (p < places) × (is_taken p live.now ≡ false)) }
+    ensures least { IfSome result (λ p. (k : ℕ) → k < p → is_taken k live.now ≡ true) }
+    ensures none { IfNone result ((k : ℕ) → k < places → is_taken k live.now ≡ true) }
+{
+    for place in 0..places {
+        if !taken(live, place) {
+            return Some(place);
+        }
+    }
+    None
+}
+
+/// Whether the request is a census.
+pub fn is_census(request: &Request) -> bool
+    ensures { result ≡ is_census request.now }
+{
+    match request {
+        Request::Census => true,
+        Request::Handshake { .. } => false,
+    }
+}
+
+/// A list of its targets.
+pub fn targets_of(request: &Request, alloc: Global) -> Result<Vec<u64>, AllocError>
+    ensures { IfOk result (λ v. v.items ≡ targets_of request.now) }
+{
+    match request {
+        Request::Census => Ok(Vec::new(alloc)),
+        Request::Handshake { targets, .. } => Vec::from_slice(alloc, targets.as_slice()),
+    }
+}
+
+/// How many entries it makes between its Open and its Close at most.
+pub fn steps_of(request: &Request) -> usize
+    ensures { result ≡ steps_of request.now }
+{
+    match request {
+        Request::Census => 1,
+        Request::Handshake { targets, .. } => targets.as_slice().len(),
+    }
+}
+
+/// Whether a census is open.
+pub fn has_census<J>(opened: &[Opened<J>]) -> bool
+    ensures { result ≡ list_any (λ o. is_census o.request) opened.now }
+{
+    opened.iter().any(|o| is_census(&o.request))
+}
+
+/// Whether a census is open.
+pub fn is_census_open<J>(opened: &[Opened<J>]) -> bool
+    ensures { result ≡ has_census (map current_of opened.now) }
+{
+    has_census(opened)
+}
+
+/// Where the open request of the number stands.
+pub fn index_of<J>(opened: &[Opened<J>], number: u64) -> Option<usize>
+    ensures { IsIndex number opened.now result }
+{
+    for place in 0..opened.len() {
+        if opened[place].number == number {
+            return Some(place);
+        }
+    }
+    None
+}
+
+/// Whether an open request may be closed.
+pub fn may_close<J>(request: &Opened<J>, live: &[Live]) -> bool
+    ensures { result ≡ may_close live.now (current_of request.now) }
+{
+    if is_census(&request.request) {
+        request.operated
+    } else {
+        all_gone(request.due.as_slice(), live)
+    }
+}
+
+/// Whether a target of an open request is live and has no Finish.
+pub fn may_finish<J>(request: &Opened<J>, live: &[Live], name: u64) -> bool
+    ensures { result ≡ (is_due name (current_of request.now) && is_live name live.now) }
+{
+    is_among(request.due.as_slice(), name) && lives(live, name)
+}
+
+fn finish<J>(request: &mut Opened<J>, name: u64)
+    requires { 0 < request.old.left }
+    ensures { current_of request.new ≡ finished name (current_of request.old) }
+{
+    answered(&mut request.due, name);
+    request.left -= 1;
+}
+
+fn operate<J>(request: &mut Opened<J>)
+    requires { 0 < request.old.left }
+    ensures { current_of request.new ≡ as_operated (current_of request.old) }
+{
+    request.operated = true;
+    request.left -= 1;
+}
+
+/// A Finish of the name.
+pub fn finish_at<J>(opened: &mut Vec<Opened<J>>, place: usize, name: u64)
+    requires { (place < length opened.old.items) × ((o : OpenedOf J) → slice_get opened.old.items place ≡ Some o → 0 < o.left) }
+    ensures step { (o : OpenedOf J) → slice_get opened.old.items place ≡ Some o → (after : OpenedOf J) × (current_of after ≡ finished name (current_of o)) × (opened.new.items ≡ slice_set opened.old.items place after) }
+    ensures capacity { (vec_capacity opened.new ≡ vec_capacity opened.old) × (length opened.new.items ≡ length opened.old.items) }
+{
+    finish(&mut opened[place], name);
+}
+
+/// The census is operated.
+pub fn operate_at<J>(opened: &mut Vec<Opened<J>>, place: usize)
+    requires { (place < length opened.old.items) × ((o : OpenedOf J) → slice_get opened.old.items place ≡ Some o → 0 < o.left) }
+    ensures step { (o : OpenedOf J) → slice_get opened.old.items place ≡ Some o → (after : OpenedOf J) × (current_of after ≡ as_operated (current_of o)) × (opened.new.items ≡ slice_set opened.old.items place after) }
+    ensures capacity { (vec_capacity opened.new ≡ vec_capacity opened.old) × (length opened.new.items ≡ length opened.old.items) }
+{
+    operate(&mut opened[place]);
+}
+
+/// Whether a body has the name.
+pub fn has_body<N: Name>(bodies: &[Body<N>], name: u64) -> bool
+    ensures { result ≡ has_body name bodies.now }
+{
+    bodies.iter().any(|b| b.name() == name)
+}
+
+fn all_have<N: Name>(live: &[Live], bodies: &[Body<N>]) -> bool
+    ensures { result ≡ list_all (λ l. has_body l.name bodies.now) live.now }
+{
+    live.iter().all(|l| has_body(bodies, l.name))
+}
+
+/// Whether the bodies are those of all live names.
+pub fn are_all<N: Name>(live: &[Live], bodies: &[Body<N>]) -> bool
+    ensures { result ≡ are_all live.now bodies.now }
+{
+    live.len() == bodies.len() && all_have(live, bodies)
+}
+
+/// Whether nothing is open and nothing waits.
+pub fn is_idle<J>(opened: &[Opened<J>], queue: &Queue<Carried<J>>) -> bool
+    ensures { result ≡ (length opened.now == 0 && length queue.now == 0) }
+{
+    opened.is_empty() && queue.len() == 0
+}
+
+/// The live names.
+pub fn names_of(live: &[Live], alloc: Global) -> Result<Vec<u64>, AllocError>
+    ensures { IfOk result (λ names. names.items ≡ names_of live.now) }
+{
+    let mut names = Vec::new(alloc);
+    let mut rest = live;
+    while let Some((one, others)) = rest.split_first() {
+        names.push(one.name).map_err(|_| AllocError)?;
+        rest = others;
+    }
+    Ok(names)
+}
+
+/// Where the name is live.
+pub fn place_of(live: &[Live], name: u64) -> Option<usize>
+    ensures { result ≡ place_of name live.now }
+{
+    let mut rest = live;
+    while let Some((one, others)) = rest.split_first() {
+        if one.name == name {
+            return Some(one.place);
+        }
+        rest = others;
+    }
+    None
+}
+
+// Whether the request is of the name.
+fn is_asked(next: u64, name: u64, request: &Request) -> bool
+    ensures { result ≡ is_asked next name request.now }
+{
+    match request {
+        Request::Census => 0 < name && name < next,
+        Request::Handshake { targets, .. } => is_among(targets.as_slice(), name),
+    }
+}
+
+// Whether a Finish of the name, or the Operate, is still to come.
+fn is_owed<J>(request: &Opened<J>, name: u64) -> bool
+    ensures { result ≡ is_owed name (current_of request.now) }
+{
+    if is_census(&request.request) {
+        !request.operated
+    } else {
+        is_among(request.due.as_slice(), name)
+    }
+}
+
+/// How a name stands to an open request.
+pub fn standing_to<J>(request: &Opened<J>, next: u64, live: &[Live], name: u64) -> Standing
+    ensures { result ≡ standing_to next live.now name (current_of request.now) }
+{
+    if !is_asked(next, name, &request.request) {
+        return Standing::NotOf;
+    }
+    let Some(place) = place_of(live, name) else {
+        return Standing::Gone;
+    };
+    if name >= request.before {
+        return Standing::Gone;
+    }
+    Standing::Asked(Target {
+        number: request.number,
+        place,
+        is_census: is_census(&request.request),
+        is_done: !is_owed(request, name),
+    })
+}
+
+// Whether the thread was live at the Open and is owed.
+fn is_due_target<J>(one: Live, request: &Opened<J>) -> bool
+    ensures { result ≡ is_due_target one (current_of request.now) }
+{
+    one.name < request.before && is_owed(request, one.name)
+}
+
+/// The first live thread with a greater name that is due.
+pub fn due_after<J>(request: &Opened<J>, live: &[Live], name: u64) -> Option<Live>
+    ensures { result ≡ due_after name (current_of request.now) live.now }
+{
+    let mut rest = live;
+    while let Some((one, others)) = rest.split_first() {
+        if name < one.name && is_due_target(*one, request) {
+            return Some(*one);
+        }
+        rest = others;
+    }
+    None
+}
+
+// Takes a job out of the list.
+fn take_of<J: Errand>(jobs: &mut Vec<J>, name: u64) -> Option<J>
+    ensures { IfSome result (λ j. J.whom j ≡ name) }
+{
+    for place in 0..jobs.len() {
+        if jobs[place].target_of() == name {
+            return Some(jobs.remove(place));
+        }
+    }
+    None
+}
+
+fn job_in<J: Errand>(request: &mut Opened<J>, name: u64) -> Option<J>
+    ensures job { IfSome result (λ j. J.whom j ≡ name) }
+    ensures same { current_of request.new ≡ current_of request.old }
+{
+    take_of(&mut request.jobs, name)
+}
+
+// Whether two asks are the same.
+fn same_ask(one: Ask, other: Ask) -> bool
+    ensures { result ≡ same_ask one other }
+{
+    match one {
+        Ask::Depth => matches!(other, Ask::Depth),
+        Ask::Top => matches!(other, Ask::Top),
+        Ask::CountOf(serial) => match other {
+            Ask::CountOf(asked) => serial == asked,
+            Ask::Depth | Ask::Top => false,
+        },
+    }
+}
+
+// Whether the jobs are one for each target in order, with this ask.
+fn are_for<J: Errand>(targets: &[u64], ask: Ask, jobs: &[J]) -> bool
+    ensures { result ≡ are_for J.whom J.asks targets.now ask jobs.now }
+{
+    let mut names = targets;
+    let mut rest = jobs;
+    while let Some((name, others)) = names.split_first() {
+        let Some((job, later)) = rest.split_first() else {
+            return false;
+        };
+        if !(job.target_of() == *name && same_ask(job.ask_of(), ask)) {
+            return false;
+        }
+        names = others;
+        rest = later;
+    }
+    rest.is_empty()
+}
+
+/// Whether the jobs are one for each target of the request in order, with its ask. A census has no jobs.
+pub fn jobs_fit<J: Errand>(request: &Request, jobs: &[J]) -> bool
+    ensures { result ≡ jobs_fit J.whom J.asks request.now jobs.now }
+{
+    match request {
+        Request::Census => jobs.is_empty(),
+        Request::Handshake { targets, ask } => are_for(targets.as_slice(), *ask, jobs),
+    }
+}
+
+/// The job for the name, out of the oldest open request.
+pub fn job_of<J: Errand>(opened: &mut Vec<Opened<J>>, name: u64) -> Option<J>
+    requires { 0 < length opened.old.items }
+    ensures job { IfSome result (λ j. J.whom j ≡ name) }
+    ensures same { map current_of opened.new.items ≡ map current_of opened.old.items }
+    ensures room { (length opened.new.items ≡ length opened.old.items) × (vec_capacity opened.new ≡ vec_capacity opened.old) }
+{
+    job_in(&mut opened[0], name)
+}
