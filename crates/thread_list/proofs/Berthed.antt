@@ -1,7 +1,7 @@
 -- Jobs and marks of a berth.
 use Rattle.std.proofs.Common.{◌≡◌, ◌≢◌, ℕ, zero, suc, ◌<◌, List, [], ◌∷◌, ◌++◌, map, refl, sym, ap, ◌∙◌, subst, arith}
 use Rattle.std.proofs.lemmas.List.{map-append}
-use Rattle.bodies.specs.Bodies.{Person, Spare}
+use Rattle.bodies.specs.Bodies.{BodyView, SpareView}
 use Rattle.thread_list.specs.declared.room.Holder.{Holder}
 use Rattle.thread_list.specs.declared.room.Holder.TheVariants.{Vacant, Away, Out, Home}
 use Rattle.thread_list.specs.Berths.{Told, told_of, AreFor, IsMark, IsBerth, IsHolder, name_of}

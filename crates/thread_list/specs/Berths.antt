@@ -1,6 +1,6 @@
 -- Berths.
 use Rattle.std.specs.Prelude.{◌≡◌, ◌≢◌, ◌<◌, ℕ, Bool, true, false, List, [], ◌∷◌, map, Option, Some, None}
-use Rattle.bodies.specs.Bodies.{Person, Spare}
+use Rattle.bodies.specs.Bodies.{BodyView, SpareView}
 use Rattle.thread_list.specs.declared.room.Holder.{Holder}
 use Rattle.thread_list.specs.declared.room.Holder.TheVariants.{Vacant, Away, Out, Home}
 

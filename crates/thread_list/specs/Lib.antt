@@ -1,5 +1,4 @@
 pub mod Berths
-pub mod Fits
 pub mod Hinted
 pub mod Moves
 pub mod Refused

@@ -1,7 +1,7 @@
 -- Why a call of a mutator is refused: its own test holds, and those before it don't.
 use Rattle.std.specs.Prelude.{◌≡◌, ◌≢◌, ◌<◌, ◌≤◌, ℕ, true, false, [], Option, Some, None, length}
 use Rattle.thread_state.specs.declared.State.TheVariants.{InJava}
-use Rattle.bodies.specs.Bodies.{Person}
+use Rattle.bodies.specs.Bodies.{BodyView}
 use Rattle.thread_list.specs.Moves.{Running, is_running}
 use Rattle.thread_list.specs.declared.mutator.CallFault.{CallFault}
 use Rattle.thread_list.specs.declared.mutator.CallFault.TheVariants as call
@@ -11,11 +11,11 @@ use Rattle.thread_list.specs.declared.mutator.ReturnFault.{ReturnFault}
 use Rattle.thread_list.specs.declared.mutator.ReturnFault.TheVariants as returns
 
 -- The stack has no room for a frame.
-abbrev pub IsDeep : Option Person → Type 0
+abbrev pub IsDeep : Option BodyView → Type 0
 IsDeep None = Unit {0}
 IsDeep (Some p) = 256 ≤ length p.image.frames
 
-abbrev pub HasNoFrame : Option Person → Type 0
+abbrev pub HasNoFrame : Option BodyView → Type 0
 HasNoFrame None = Unit {0}
 HasNoFrame (Some p) = p.image.frames ≡ []
 
@@ -29,7 +29,7 @@ return_refused m (returns.Illegal s) = (s ≡ m.state) × (m.state ≢ InJava)
 return_refused m returns.EmptyStack = (m.state ≡ InJava) × HasNoFrame m.body
 
 -- The stack has a frame.
-abbrev pub HasFrames : Option Person → Type 0
+abbrev pub HasFrames : Option BodyView → Type 0
 HasFrames None = Unit {0}
 HasFrames (Some p) = 0 < length p.image.frames
 

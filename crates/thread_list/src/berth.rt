@@ -3,7 +3,7 @@ ghost use Rattle.std.specs.Prelude.{◌≡◌, ◌≢◌, ◌<◌, ◌^◌, [], 
 ghost use Rattle.frames.specs.ImageView.{IsCounted};
 
 use crate::room::Room;
-use bodies::body::{Body, Name, Pair};
+use bodies::{Body, Name, SpareSeat};
 use board::Board;
 use operations::job::Errand;
 use std::sync::{Condvar, Mutex, Wait};
@@ -117,7 +117,7 @@ impl<N: Name, J: Errand> Berth<N, J> {
     }
 
     /// The seat and the poller come out for a thread that starts in this place, once no thread has them.
-    pub fn start<R: Wait>(&self, rt: &R, place: usize) -> Pair<N>
+    pub fn start<R: Wait>(&self, rt: &R, place: usize) -> SpareSeat<N>
         ensures { result.seat.place ≡ place }
     {
         for _ in rt.forever() {

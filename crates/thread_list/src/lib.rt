@@ -2,7 +2,6 @@
 #![tactic(auto)]
 
 pub mod berth;
-pub mod fits;
 pub mod hints;
 pub mod mutator;
 pub mod parts;

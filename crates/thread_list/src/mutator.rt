@@ -1,13 +1,13 @@
 //! A thread's own part: what it calls while it runs, and waits for nobody.
 ghost use Rattle.std.specs.Prelude.{◌≡◌, ◌≢◌, ◌<◌, ◌==◌, ◌++◌, ◌∷◌, [], ℕ, true, false, Some, None, IfOk, OnOk, OnErr, IfErr, IfSome, length};
 ghost use Rattle.thread_state.specs.declared.State.TheVariants.{InJava as IsInJava, InVm as IsInVm};
-ghost use Rattle.bodies.specs.Bodies.{Person, IsCalled, IsPublished};
+ghost use Rattle.bodies.specs.Bodies.{BodyView, IsCalled, IsPublished};
 ghost use Rattle.thread_list.specs.Moves.{SameThread, Polls, Leaves, is_running};
 ghost use Rattle.thread_list.specs.Refused.{call_refused, return_refused};
 
 use crate::polls::{Poll, poll_of};
 use crate::shared::Shared;
-use bodies::body::{Body, Called, Name};
+use bodies::{Body, Called, Name};
 use frames::CodeId;
 use operations::job::Errand;
 use std::marker::Model;
@@ -82,7 +82,7 @@ impl<'a, N: Name, J: Errand> Mutator<'a, N, J> {
     /// hint, as an interpreted frame.
     pub fn call(&mut self, method: u32, hint: Option<CodeId>) -> Result<Called, CallFault>
         requires slot { IfSome hint (λ c. c.slot < N.board.slots) }
-        ensures step { IfOk result (λ said. (old : Person) × (new : Person) × (self.old.body ≡ Some old) × (self.new.body ≡ Some new) × IsCalled old new method hint said × (new.name ≡ old.name) × (new.poller ≡ old.poller)) }
+        ensures step { IfOk result (λ said. (old : BodyView) × (new : BodyView) × (self.old.body ≡ Some old) × (self.new.body ≡ Some new) × IsCalled old new method hint said × (new.name ≡ old.name) × (new.poller ≡ old.poller)) }
         ensures state { self.new.state ≡ self.old.state }
         ensures same { SameThread self.old self.new }
         ensures err { IfErr result (λ e. (self.new ≡ self.old) × call_refused self.old method e) }
@@ -140,7 +140,7 @@ impl<'a, N: Name, J: Errand> Mutator<'a, N, J> {
     /// Publishes the stack: one load of the moment, a step for each code whose counts differ, and a store of the moment that was
     /// loaded. A thread that doesn't own itself is refused with its state.
     pub fn publish(&mut self) -> Result<(), State>
-        ensures published { OnOk result ((old : Person) × (new : Person) × (self.old.body ≡ Some old) × (self.new.body ≡ Some new) × IsPublished old new) }
+        ensures published { OnOk result ((old : BodyView) × (new : BodyView) × (self.old.body ≡ Some old) × (self.new.body ≡ Some new) × IsPublished old new) }
         ensures lawful { OnOk result (is_running self.old.state ≡ true) }
         ensures state { self.new.state ≡ self.old.state }
         ensures same { SameThread self.old self.new }

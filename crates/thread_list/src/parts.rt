@@ -9,9 +9,9 @@ use crate::berth::Berth;
 use crate::hints::Hints;
 use crate::room::Room;
 use crate::shared::Shared;
-use bodies::body::{Name, Pair};
+use bodies::{Name, SpareSeat};
 use board::{Board, Keeper, ThreadSeat};
-use desk::desk::Desk;
+use desk::Desk;
 use method_table::table::MethodTable;
 use operations::job::Errand;
 use poll::{Armer, PollRow, Poller};
@@ -118,7 +118,7 @@ fn berths_of<N: Name, J: Errand>(seats: Vec<ThreadSeat>, pollers: Vec<Poller>, l
         let Some(mut jobs) = lists.pop() else {
             unreachable!()
         };
-        let pair = Pair::new(seat, poller);
+        let pair = SpareSeat::new(seat, poller);
         jobs.clear();
         berths.push_reserved(Berth::new(Room::new(pair.place(), pair, jobs)));
     }

@@ -6,7 +6,7 @@ ghost use Rattle.frames.specs.BoardViews.{stored_as};
 ghost use Rattle.thread_list.specs.Berths.{told_of, name_of};
 ghost use Rattle.thread_list.specs.declared.room.Holder.TheVariants.{Vacant as IsVacant, Away as IsAway, Out as IsOut, Home as IsAtHome};
 
-use bodies::body::{Body, Name, Pair};
+use bodies::{Body, Name, SpareSeat};
 use board::Board;
 use operations::job::Errand;
 use std::marker::Model;
@@ -15,7 +15,7 @@ use std::marker::Model;
 #[derive(Drop)]
 pub enum Holder<N: Name> {
     /// Nobody: they are here.
-    Vacant(Pair<N>),
+    Vacant(SpareSeat<N>),
     /// A thread that starts here: it has taken them out, and hasn't brought its body yet.
     Away,
     /// The thread of the name, or the coordinator, has its body.
@@ -48,7 +48,7 @@ impl<N: Name, J: Errand> Model for Room<N, J> {
 
 impl<N: Name, J: Errand> Room<N, J> {
     /// The berth of a vacant place.
-    pub fn new(place: usize, pair: Pair<N>, jobs: Vec<J>) -> Room<N, J>
+    pub fn new(place: usize, pair: SpareSeat<N>, jobs: Vec<J>) -> Room<N, J>
         requires { (pair.seat.place ≡ place) × (jobs.items ≡ []) }
         ensures { (result.place ≡ place) × (result.holder ≡ IsVacant pair) × (result.jobs ≡ []) × (result.mark ≡ 0) }
     {
@@ -75,7 +75,7 @@ impl<N: Name, J: Errand> Room<N, J> {
     }
 
     /// The seat and the poller come out, where no thread has them.
-    pub fn start(&mut self) -> Option<Pair<N>>
+    pub fn start(&mut self) -> Option<SpareSeat<N>>
         ensures some { IfSome result (λ p. (self.old.holder ≡ IsVacant p) × (p.seat.place ≡ self.old.place) × (self.new ≡ record self.old { holder = IsAway })) }
         ensures none { IfNone result (self.new ≡ self.old) }
     {

@@ -6,8 +6,8 @@ ghost use Rattle.thread_state.specs.declared.poll_rule.Deed.TheVariants.{Load};
 ghost use Rattle.desk.specs.declared.entries.Entry.{Entry};
 
 use crate::shared::Shared;
-use bodies::body::{Body, Name};
-use desk::log::Receipt;
+use bodies::{Body, Name};
+use desk::Receipt;
 use operations::job::Errand;
 use std::sync::Wait;
 

@@ -1,27 +1,29 @@
 //! What all threads share.
-ghost use Rattle.std.specs.Prelude.{◌≡◌, ◌≢◌, ◌<◌, ◌≤◌, [], ℕ, Some, None, length, IfOk, IfErr, IfSome};
+ghost use Rattle.std.specs.Prelude.{◌≡◌, ◌≢◌, ◌<◌, ◌≤◌, [], ℕ, List, Some, None, length, IfOk, IfErr, IfSome};
 ghost use Rattle.frames.specs.ImageView.{IsSettled};
 ghost use Rattle.operations.specs.Asks.{reply};
 ghost use Rattle.method_table.specs.Codes.{unfreed};
 ghost use Rattle.method_table.specs.TableView.{invalidate_fault};
 ghost use Rattle.thread_state.specs.declared.State.TheVariants.{InJava as IsInJava};
-ghost use Rattle.desk.specs.declared.entries.Entry.{Entry};
+ghost use Rattle.desk.specs.declared.entries.Entry.{Entry, Entry as EntryOf};
 ghost use Rattle.desk.specs.Machine.{State as DeskState, Book};
+ghost use Rattle.desk.specs.JobsFit.{jobs_fit};
+ghost use Rattle.desk.specs.Once.{replies_of};
+ghost use Rattle.desk.specs.Machine.{names_of};
 ghost use Rattle.desk.specs.Refusals.{ask_refused, install_refused};
-ghost use Rattle.thread_list.specs.Fits.{are_for};
 
 use crate::berth::Berth;
-use crate::fits::are_for;
 use crate::hints::Hints;
-use bodies::body::{Body, Name};
+use bodies::{Body, Name};
 use board::Board;
-use desk::desk::{CodeFault, Desk, NotLive, Refused};
-use desk::log::Receipt;
+use desk::{CodeFault, Desk, NotLive, Refused};
+use desk::Receipt;
 use frames::CodeId;
 use method_table::table::InvalidateFault;
 use operations::Request;
 use operations::job::{Done, Errand};
 use poll::PollRow;
+use std::alloc::AllocError;
 use std::marker::Model;
 use std::sync::{Mutex, Wait};
 use std::thread;
@@ -100,21 +102,11 @@ impl<N: Name, J: Errand> Shared<N, J> {
     /// the operation, with the receipt of its Ask. Where it is refused the jobs come back.
     pub fn submit<R: Wait>(&self, rt: &R, request: Request, jobs: Vec<J>) -> Result<(u64, Receipt<N>), Refused<J>>
         ensures asked { IfOk result (λ r. r.1.entry ≡ Entry.Ask r.0 request) }
-        ensures refused { IfErr result (λ e. (s : DeskState) × (book : Book) × ask_refused s request (are_for J.whom J.asks request jobs.items) book e.fault) }
-        ensures handed_back { IfErr result (λ e. e.jobs ≡ jobs) }
-    {
-        let fits = are_for(&request, jobs.as_slice());
-        self.submit_fitting(rt, request, fits, jobs)
-    }
-
-    // The same, where it is known whether the jobs are those of the request.
-    fn submit_fitting<R: Wait>(&self, rt: &R, request: Request, fits: bool, jobs: Vec<J>) -> Result<(u64, Receipt<N>), Refused<J>>
-        ensures asked { IfOk result (λ r. r.1.entry ≡ Entry.Ask r.0 request) }
-        ensures refused { IfErr result (λ e. (s : DeskState) × (book : Book) × ask_refused s request fits book e.fault) }
+        ensures refused { IfErr result (λ e. (s : DeskState) × (book : Book) × ask_refused s request (jobs_fit J.whom J.asks request jobs.items) book e.fault) }
         ensures handed_back { IfErr result (λ e. e.jobs ≡ jobs) }
     {
         let mut desk = self.desk.lock(rt);
-        match desk.submit(request, fits, jobs) {
+        match desk.submit(request, jobs) {
             Ok(asked) => Ok(asked),
             Err(refused) => Err(refused),
         }
@@ -137,6 +129,24 @@ impl<N: Name, J: Errand> Shared<N, J> {
         ensures refused { IfErr result (λ e. (s : DeskState) × (invalidate_fault (unfreed s.table.codes serial) ≡ Some e)) }
     {
         self.desk.lock(rt).invalidate(&self.board, serial)
+    }
+
+    /// The names of the threads that are live, rising. Refused only for want of memory.
+    pub fn live<R: Wait>(&self, rt: &R) -> Result<Vec<u64>, AllocError>
+        ensures { IfOk result (λ names. (s : DeskState) × (names.items ≡ names_of s.live)) }
+    {
+        let desk = self.desk.lock(rt);
+        let names = desk.live()?;
+        Ok(names)
+    }
+
+    /// The names with their replies of an operation, in the order in which it was finished. Refused only for want of memory.
+    pub fn replies<R: Wait>(&self, rt: &R, op: u64) -> Result<Vec<(u64, u64)>, AllocError>
+        ensures { IfOk result (λ list. (history : List EntryOf) × (list.items ≡ replies_of op history)) }
+    {
+        let desk = self.desk.lock(rt);
+        let list = desk.replies(op)?;
+        Ok(list)
     }
 
     fn try_finish<R: Wait>(&self, rt: &R, body: &Body<N>, done: Done) -> Result<Receipt<N>, Done>
