@@ -145,9 +145,6 @@ length-with_entry serial count es =
     elim (eqb count 0) as (λ z. length (cond z es (entry_of serial count ∷ es)) ≡ length es + cond z 0 1)
     [ true ↦ omega arith | false ↦ omega arith ]
 
-no_entry : entries_for 0 ≡ 0
-no_entry = refl
-
 one_entry : (count : ℕ) → 0 < count → entries_for count ≡ 1
 one_entry count some = grind (arith, nat_tests)
 

@@ -34,6 +34,7 @@ fn a_count_of_zero_leaves_room(rt: HostRuntime) -> Result<(), Fail> {
 #[test]
 fn too_many_slots_are_refused(rt: HostRuntime) {
     assert!(rt; Index::new(rt.alloc(), usize::MAX).is_err());
+    assert!(rt; DenseIndex::new(rt.alloc(), usize::MAX).is_err());
 }
 
 #[test]
@@ -51,5 +52,22 @@ fn cells_go_by_slot_and_a_census_by_serial(rt: HostRuntime) -> Result<(), Fail> 
     let census = index.census(rt.alloc())?;
     assert_eq!(rt; census.as_slice(), [(2, 1), (3, 1)].as_slice());
     assert_eq!(rt; index.count(0, 1), 0);
+    Ok(())
+}
+
+#[test]
+fn an_index_of_1024_slots_counts_in_each(rt: HostRuntime) -> Result<(), Fail> {
+    let mut index = Index::new(rt.alloc(), 1024)?;
+    index.add(1024, 16_384);
+    let mut dense = DenseIndex::new(rt.alloc(), 1024)?;
+    dense.place(1023, 1024);
+    dense.add(1023, 1024, 16_384);
+    assert_eq!(rt; index.count(1024), 16_384);
+    assert_eq!(rt; dense.count(1023, 1024), 16_384);
+    assert_eq!(rt; dense.count(1024, 1024), 0);
+    assert_eq!(rt;
+        index.census(rt.alloc())?.as_slice(),
+        dense.census(rt.alloc())?.as_slice()
+    );
     Ok(())
 }

@@ -1,9 +1,21 @@
 -- The words of a board don't lie on one another: a write of one leaves the others.
-use Rattle.std.proofs.Common.{◌≡◌, ◌≢◌, ℕ, suc, ◌+◌, ◌*◌, ◌<◌, ◌≤◌, cond, eqb, eq-eqb, ne_eqb, Bool, true, false, List, length, get_or, set, sym, refl, ap, ◌∙◌, subst, arith, get_or-set_same, get_or-set_other}
+use Rattle.std.proofs.Common.{◌≡◌, ◌≢◌, ◌⊎◌, ℕ, zero, suc, inl, inr, ⊎_elim, ◌+◌, ◌*◌, ◌<◌, cond, Bool, true, false, List, length, get_or, set, sym, refl, ap, ◌∙◌, arith, get_or-set_same, get_or-set_other}
 use Rattle.std.proofs.lemmas.Bool.{eqb-true, eqb-false, false≢true}
 use Rattle.std.proofs.lemmas.List.{set-get_or}
 use Rattle.frames.specs.BoardWords.{Word, IsWord, entry_of, count_of, place_of, the_moment, same_word, written}
+use mathlib.Core.Logic.{dite}
+use native.Mathlib.Decide.{ℕ_discrete}
 use Rattle.board.specs.Boards.{index_of, words_at, word_in}
+use Rattle.board.specs.Laws.{AreFarApart, WordsApart, WordsInside}
+
+far : (base k j : ℕ) → k ≢ j → AreFarApart (base + 8 * k) (base + 8 * j)
+far base k j ne = ⊎_elim (λ h. inl (omega arith)) (λ h. inr (omega arith)) (apart k j ne)
+  where
+    apart : (a b : ℕ) → a ≢ b → (a < b) ⊎ (b < a)
+    apart zero zero d = absurd (d refl)
+    apart zero (suc b) d = inl (omega arith)
+    apart (suc a) zero d = inr (omega arith)
+    apart (suc a) (suc b) d = ⊎_elim (λ h. inl (omega arith)) (λ h. inr (omega arith)) (apart a b (λ e. d (ap suc e)))
 
 pub index_low : (slots places : ℕ) (x : Word) → IsWord slots places x → index_of slots x < words_at slots places
 index_low slots places (entry_of k) h = omega arith
@@ -46,6 +58,28 @@ other_index slots places (place_of k) the_moment h h' e i = omega arith
 other_index slots places the_moment (entry_of j) h h' e i = omega arith
 other_index slots places the_moment (count_of j) h h' e i = omega arith
 other_index slots places the_moment (place_of j) h h' e i = omega arith
+
+-- all but the entries, which lie side by side, lie a cache line from the other words and from both ends
+pub words_apart : WordsApart
+words_apart slots places (entry_of k) y h h' ne entry = absurd (entry tt)
+words_apart slots places (count_of k) (entry_of j) h h' ne entry = inr (omega arith)
+words_apart slots places (count_of k) (count_of j) h h' ne entry = dite (ℕ_discrete k j) (λ e. absurd (ne (ap count_of e))) (λ d. far (24 + slots) k j d)
+words_apart slots places (count_of k) (place_of j) h h' ne entry = inl (omega arith)
+words_apart slots places (count_of k) the_moment h h' ne entry = inr (omega arith)
+words_apart slots places (place_of k) (entry_of j) h h' ne entry = inr (omega arith)
+words_apart slots places (place_of k) (count_of j) h h' ne entry = inr (omega arith)
+words_apart slots places (place_of k) (place_of j) h h' ne entry = dite (ℕ_discrete k j) (λ e. absurd (ne (ap place_of e))) (λ d. far (24 + 9 * slots) k j d)
+words_apart slots places (place_of k) the_moment h h' ne entry = inr (omega arith)
+words_apart slots places the_moment (entry_of j) h h' ne entry = inl (omega arith)
+words_apart slots places the_moment (count_of j) h h' ne entry = inl (omega arith)
+words_apart slots places the_moment (place_of j) h h' ne entry = inl (omega arith)
+words_apart slots places the_moment the_moment h h' ne entry = absurd (ne refl)
+
+pub words_inside : WordsInside
+words_inside slots places (entry_of k) h = (omega arith, omega arith)
+words_inside slots places (count_of k) h = (omega arith, omega arith)
+words_inside slots places (place_of p) h = (omega arith, omega arith)
+words_inside slots places the_moment h = (omega arith, omega arith)
 
 -- the words after the word x was set
 pub written_in : (slots places : ℕ) (ws : List ℕ) (x : Word) (m n : ℕ) → length ws ≡ words_at slots places → IsWord slots places x → m ≡ n

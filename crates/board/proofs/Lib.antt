@@ -7,3 +7,5 @@ pub mod Openings
 pub mod Notes
 pub mod Closings
 pub mod Answered
+pub mod Calm
+pub mod Elsewhere

@@ -1,14 +1,18 @@
 -- The keeper's notes over its steps.
-use Rattle.std.proofs.Common.{◌≡◌, ◌≢◌, ◌⊎◌, ℕ, zero, suc, ◌^◌, ◌<◌, Bool, true, false, ◌||◌, eqb, List, [], ◌∷◌, length, get_or, set, sym, refl, ap, ◌∙◌, subst, arith, replicate, length-set, get_or-set_same, get_or-set_other, eq-eqb, ne_eqb}
+use Rattle.std.proofs.Common.{◌≡◌, ℕ, zero, suc, ◌*◌, ◌%◌, ◌^◌, ◌<◌, true, ◌||◌, ◌&&◌, eqb, List, [], ◌∷◌, length, get_or, set, sym, refl, ap, ◌∙◌, subst, arith, replicate, length-set, get_or-set_same, get_or-set_other, eq-eqb, ne_eqb}
 use Rattle.std.proofs.lemmas.List.{get_or-replicate, length-replicate}
+use Rattle.std.proofs.lemmas.Nat.Bits.{bit_at-zero, bit_at_set_same, bit_at_set_other}
+use Rattle.std.specs.Int.{bit_at, w64}
+use Rattle.std.specs.Int.Bits.{bit_or}
 use mathlib.Core.Logic.{dite}
 use native.Mathlib.Decide.{ℕ_discrete}
 use Rattle.frames.specs.declared.board_rule.SlotView.{SlotView}
 use Rattle.frames.specs.declared.board_rule.KeeperView.{KeeperView}
 use Rattle.frames.specs.BoardStep.{is_late}
-use Rattle.frames.specs.BoardViews.{slot_of, has_place, with_place, empty_slot, slot_with_look, keeper_view}
+use Rattle.frames.specs.BoardViews.{slot_of, has_place, empty_slot, slot_with_look, keeper_view}
 use Rattle.board.specs.declared.note.Note.{Note}
-use Rattle.board.specs.Notes.{blank, Agrees, AreNoted, note_looked}
+use Rattle.board.specs.Notes.{note_at, blank, Agrees, AreNoted, IsNotedAfter}
+use Rattle.board.proofs.Views.{with_place_has}
 
 -- a note is written for the slot that changes
 pub noted_set : (slots : ℕ) (notes : List Note) (k k' : KeeperView) (i : ℕ) (note : Note) (s : SlotView) → k'.slots ≡ set k.slots i s → AreNoted slots notes k → i < slots → Agrees note s → AreNoted slots (set notes i note) k'
@@ -29,34 +33,27 @@ noted_same slots notes k k' i s is a low left looked serial = record {
   slots_are = ap length is ∙ (length-set k.slots i s ∙ a.slots_are);
   each = λ j h. let m = a.slots_are in subst (λ l. Agrees (get_or notes j blank) (get_or l j empty_slot)) (sym is)
       (dite (ℕ_discrete j i)
-      (λ e. let b = a.each i low in rw (e, get_or-set_same k.slots i s empty_slot (omega arith)) record { wide = b.wide; left = b.left ∙ sym left; looked = λ p q. b.looked p q ∙ ap (λ l. has_place l p) (sym looked); small = subst (λ n. n < 2 ^ 40) (sym serial) b.small })
+      (λ e. let b = a.each i low in rw (e, get_or-set_same k.slots i s empty_slot (omega arith)) record { left = b.left ∙ sym left; looked = λ p q. b.looked p q ∙ ap (λ l. has_place l p) (sym looked); small = subst (λ n. n < 2 ^ 40) (sym serial) b.small })
       (λ ne. rw (get_or-set_other k.slots i j s empty_slot ne) (a.each j h)));
 }
 
-pub agrees_new : (left : ℕ) (s : SlotView) → left ≡ s.left → s.looked ≡ [] → s.serial < 2 ^ 40 → Agrees record { left = left; looked = replicate 64 false } s
-agrees_new left s is clean small = record { wide = length-replicate {A = Bool} 64 false; left = is; looked = λ p h. get_or-replicate {A = Bool} 64 p false false h ∙ ap (λ l. has_place l p) (sym clean); small = small }
+pub agrees_new : (left : ℕ) (s : SlotView) → left ≡ s.left → s.looked ≡ [] → s.serial < 2 ^ 40 → Agrees (note_at left) s
+agrees_new left s is clean small = record { left = is; looked = λ p h. ap (λ b. eqb b 1) (bit_at-zero p) ∙ ap (λ l. has_place l p) (sym clean); small = small }
+
+-- a place's bit is set
+pub bit_noted : (note : Note) (p q found : ℕ) → p < 64 → is_late note.left found ≡ true
+    → eqb (bit_at (bit_or note.looked (1 * 2 ^ p % 2 ^ 64)) q) 1 ≡ ((eqb q p && is_late note.left found) || eqb (bit_at note.looked q) 1)
+bit_noted note p q found low late = rw late (dite (ℕ_discrete q p)
+    (λ e. ap (λ b. eqb b 1) (ap (bit_at (bit_or note.looked (1 * 2 ^ p % 2 ^ 64))) e ∙ bit_at_set_same w64 note.looked p low) ∙ sym (ap (λ b. (b && true) || eqb (bit_at note.looked q) 1) (eq-eqb q p e)))
+    (λ ne. ap (λ b. eqb b 1) (bit_at_set_other w64 note.looked p low q ne) ∙ sym (ap (λ b. (b && true) || eqb (bit_at note.looked q) 1) (ne_eqb q p ne))))
 
 -- a place is looked at
-agrees_looked : (note : Note) (s : SlotView) (p found : ℕ) (b : Bool) → length note.looked ≡ 64 → p < 64 → is_late s.left found ≡ b → Agrees note s → Agrees record { left = note.left; looked = set note.looked p (b || get_or note.looked p false) } (slot_with_look s p found)
-agrees_looked note s p found true len low is a = record {
-  wide = length-set note.looked p _ ∙ len;
-  left = a.left;
-  looked = λ q h. rw is (dite (ℕ_discrete q p)
-      (λ e. rw (e, get_or-set_same note.looked p true false (omega arith), eq-eqb p p refl) refl)
-      (λ ne. rw (get_or-set_other note.looked p q true false ne, ne_eqb q p ne) (a.looked q h)));
+pub agrees_look : (old new : Note) (s : SlotView) (p found : ℕ) → IsNotedAfter old new p found → Agrees old s → Agrees new (slot_with_look s p found)
+agrees_look old new s p found after a = record {
+  left = after.0 ∙ a.left;
+  looked = λ q h. after.1 q h ∙ ((λ i. (eqb q p && is_late (a.left i) found) || a.looked q h i) ∙ sym (with_place_has (is_late s.left found) p q s.looked));
   small = a.small;
 }
-agrees_looked note s p found false len low is a = record {
-  wide = length-set note.looked p _ ∙ len;
-  left = a.left;
-  looked = λ q h. rw is (dite (ℕ_discrete q p)
-      (λ e. rw (e, get_or-set_same note.looked p (get_or note.looked p false) false (omega arith)) (a.looked p low))
-      (λ ne. rw (get_or-set_other note.looked p q (get_or note.looked p false) false ne) (a.looked q h)));
-  small = a.small;
-}
-
-pub agrees_look : (note : Note) (s : SlotView) (p found : ℕ) → p < 64 → Agrees note s → Agrees (note_looked note p found) (slot_with_look s p found)
-agrees_look note s p found low a = agrees_looked note s p found (is_late note.left found) a.wide low (ap (λ l. is_late l found) (sym a.left)) a
 
 pub noted_first : (slots split : ℕ) (notes : List Note) → notes ≡ replicate slots blank → AreNoted slots notes (keeper_view slots split)
 noted_first slots split notes is = rw is record {

@@ -1,5 +1,5 @@
 -- What a step makes of a view is what it makes of the state that the view is.
-use Rattle.std.proofs.Common.{◌≡◌, ℕ, ◌||◌, ◌&&◌, eqb, Bool, true, false, List, [], ◌∷◌, sym, refl, ap, ◌∙◌}
+use Rattle.std.proofs.Common.{◌≡◌, ℕ, ◌||◌, ◌&&◌, eqb, Bool, true, false, List, refl}
 use Rattle.frames.specs.declared.CodeId.{CodeId}
 use Rattle.frames.specs.Stack.{same_code}
 use Rattle.frames.specs.declared.board_rule.SlotView.{SlotView}
@@ -29,7 +29,7 @@ entered_is t c found = λ i. record {
   gone = λ d. with_code_has (says_gone found c) c d t.gone i;
 }
 
-with_place_has : (b : Bool) (p q : ℕ) (xs : List ℕ) → has_place (with_place b p xs) q ≡ ((eqb q p && b) || has_place xs q)
+pub with_place_has : (b : Bool) (p q : ℕ) (xs : List ℕ) → has_place (with_place b p xs) q ≡ ((eqb q p && b) || has_place xs q)
 with_place_has true p q xs = by (eqb q p)
   where
     by : (a : Bool) → (a || has_place xs q) ≡ ((a && true) || has_place xs q)

@@ -1,21 +1,20 @@
 -- The table of a board: which word stands where, and whose each seat is. The first seat is the keeper's; the threads' seats are
 -- split off it in the order of their places.
-use Rattle.std.specs.Prelude.{◌≡◌, ℕ, suc, ◌+◌, ◌-◌, ◌*◌, ◌<◌, ◌≤◌, ◌≢◌, ◌^◌, List, [], length, slice_index, slice_set}
+use Rattle.std.specs.Prelude.{◌≡◌, ℕ, suc, ◌+◌, ◌-◌, ◌*◌, ◌<◌, ◌≤◌, List, [], ◌∷◌, length, slice_index, ◌==◌, if◌then◌else◌}
 use mathlib.Core.Option.{Option, none, some}
 use lib.ListN.{get_elem?}
-use Rattle.atomic_table.specs.Table.{State, Me, Allows}
+use Rattle.atomic_table.specs.Table.{State}
 use Rattle.atomic_table.specs.Seated.{TableId}
-use Rattle.frames.specs.declared.CodeId.{CodeId}
 use Rattle.frames.specs.declared.board_rule.KeeperView.{KeeperView}
 use Rattle.frames.specs.declared.board_rule.SeatView.{SeatView}
 use Rattle.frames.specs.declared.board_rule.BoardView.{BoardView}
 use Rattle.frames.specs.declared.board_rule.StepMade.{StepMade}
 use Rattle.frames.specs.declared.board_rule.StepMade.TheVariants.{Nothing, LoadEntry, StoreEntry, LoadMoment, AddMoment, StorePlace, AddCount, SubCount, LoadPlace, LoadCount}
-use Rattle.frames.specs.declared.board_rule.BoardView.TheVariants.{Keeper, Thread}
-use Rattle.frames.specs.BoardWords.{Word, IsWord, entry_of, count_of, place_of, the_moment, pack}
+use Rattle.frames.specs.declared.board_rule.BoardView.TheVariants.{Keeper, Thread, Ended}
+use Rattle.frames.specs.BoardWords.{Word, entry_of, count_of, place_of, the_moment, pack}
 use Rattle.frames.specs.BoardRule.{BoardState, IsBoardKept}
 use Rattle.frames.specs.BoardStep.{BoardStep, keeper, thread}
-use Rattle.frames.specs.BoardViews.{slot_state, seat_state, slot_of, keeper_view, seat_view, entered, moment_read}
+use Rattle.frames.specs.BoardViews.{slot_state, seat_state, slot_of, keeper_view, seat_view}
 
 -- Where the words stand. The moment has a cache line to itself (8 words); the entries stand side by side, since they are
 -- mostly read; each count and each place's moment has a line to itself; and 8 words lie between the groups.
@@ -34,19 +33,32 @@ word_in slots ws x = slice_index ws (index_of slots x)
 
 -- what the seat knows, if it is the keeper's, and if it is a thread's
 abbrev pub keeper_of : BoardView → KeeperView
-keeper_of (Keeper k n) = k
+keeper_of (Keeper k us n) = k
 keeper_of (Thread t n) = keeper_view 0 0
+keeper_of Ended = keeper_view 0 0
 
 abbrev pub thread_of : BoardView → SeatView
-thread_of (Keeper k n) = seat_view 0
+thread_of (Keeper k us n) = seat_view 0
 thread_of (Thread t n) = t
+thread_of Ended = seat_view 0
+
+-- what the seats knew that were given back, if it is the keeper's
+abbrev pub ended_of : BoardView → List SeatView
+ended_of (Keeper k us n) = us
+ended_of (Thread t n) = []
+ended_of Ended = []
 
 abbrev pub stamp_of : BoardView → ℕ
-stamp_of (Keeper k n) = n
+stamp_of (Keeper k us n) = n
 stamp_of (Thread t n) = n
+stamp_of Ended = 0
 
 abbrev pub IsKeeper : BoardView → Type 0
-IsKeeper v = v ≡ Keeper (keeper_of v) (stamp_of v)
+IsKeeper v = v ≡ Keeper (keeper_of v) [] (stamp_of v)
+
+-- a keeper whose board is being closed
+abbrev pub IsClosing : BoardView → Type 0
+IsClosing v = v ≡ Keeper (keeper_of v) (ended_of v) (stamp_of v)
 
 abbrev pub IsThread : BoardView → Type 0
 IsThread v = v ≡ Thread (thread_of v) (stamp_of v)
@@ -55,18 +67,33 @@ abbrev pub seat_or_first : ℕ → Option BoardView → SeatView
 seat_or_first p none = seat_view p
 seat_or_first p (some v) = thread_of v
 
--- the view of the seat of the place p: the opening one where it isn't split off yet
-abbrev pub seat_at : List BoardView → ℕ → SeatView
-seat_at views p = seat_or_first p (get_elem? views (suc p))
+-- the view of the place p among those that were given back, and t where it isn't there
+abbrev pub seat_known : List SeatView → ℕ → SeatView → SeatView
+seat_known [] p t = t
+seat_known (u ∷ us) p t = if u.place == p then u else seat_known us p t
 
--- the board that a table is, with what its keeper knows
-abbrev pub board_state : ℕ → List ℕ → KeeperView → List BoardView → BoardState
-board_state slots ws k views = record { word = word_in slots ws; now = k.moment; slot = λ i. slot_state (slot_of k i); seat = λ p. seat_state (seat_at views p) }
+-- the place p isn't among those whose seats were given back
+abbrev pub IsLive : List SeatView → ℕ → Type 0
+IsLive us p = (t : SeatView) → seat_known us p t ≡ t
+
+-- the seats that were given back are of different places
+abbrev pub AreApart : List SeatView → Type 0
+AreApart [] = Unit {0}
+AreApart (u ∷ us) = IsLive us u.place × AreApart us
+
+-- The view of the seat of the place p: as it was given back, or the opening one where it isn't split off yet.
+abbrev pub seat_at : List SeatView → List BoardView → ℕ → SeatView
+seat_at us views p = seat_known us p (seat_or_first p (get_elem? views (suc p)))
+
+-- the board that a table is, with what its keeper knows, and the seats that were given back
+abbrev pub board_state : ℕ → List ℕ → KeeperView → List SeatView → List BoardView → BoardState
+board_state slots ws k us views = record { word = word_in slots ws; now = k.moment; slot = λ i. slot_state (slot_of k i); seat = λ p. seat_state (seat_at us views p) }
 
 -- which seat has which view
 abbrev pub IsSeatedAt : ℕ → BoardView → Type 0
-IsSeatedAt id (Keeper k n) = id ≡ 0
+IsSeatedAt id (Keeper k us n) = id ≡ 0
 IsSeatedAt id (Thread t n) = id ≡ suc t.place
+IsSeatedAt id Ended = 0 < id
 
 -- What a step says of the words as it left them. The seat of the place p made it, or the keeper.
 abbrev pub IsToldBy : (Word → ℕ) → ℕ → StepMade → Type 0
@@ -81,29 +108,35 @@ IsToldBy word p (SubCount c by found) = word (count_of c.slot) ≡ found - by
 IsToldBy word p (LoadPlace c q found) = word (place_of q) ≡ found
 IsToldBy word p (LoadCount c found) = word (count_of c.slot) ≡ found
 
--- the last step of the seat left the words so
+-- The last step of the seat left the words so. Of the keeper it isn't said once the board is being closed.
 abbrev pub IsTold : ℕ → List ℕ → BoardView → Type 0
-IsTold slots ws (Keeper k n) = IsToldBy (word_in slots ws) 0 k.last
+IsTold slots ws (Keeper k [] n) = IsToldBy (word_in slots ws) 0 k.last
+IsTold slots ws (Keeper k (u ∷ us) n) = Unit {0}
 IsTold slots ws (Thread t n) = IsToldBy (word_in slots ws) t.place t.last
+IsTold slots ws Ended = Unit {0}
 
 -- no view has a greater stamp
 abbrev pub IsLatest : List BoardView → ℕ → Type 0
 IsLatest views stamp = (id : ℕ) (v : BoardView) → get_elem? views id ≡ some v → stamp_of v ≤ stamp
 
--- the table is a board of so many slots and places (the two parts of n), its keeper knows k, and the board meets the rule
-pub record IsBoardAt (n : ℕ × ℕ) (s : State (Unit {0}) BoardView) (k : KeeperView) : Type 0 where
+-- The table is a board of so many slots and places (the two parts of n), its keeper knows k, seats that knew us were given
+-- back, and the board meets the rule.
+pub record IsBoardAt (n : ℕ × ℕ) (s : State (Unit {0}) BoardView) (k : KeeperView) (us : List SeatView) : Type 0 where
   pub stamp : ℕ
-  pub keeper_is : get_elem? s.views 0 ≡ some (Keeper k stamp)
+  pub keeper_is : get_elem? s.views 0 ≡ some (Keeper k us stamp)
   pub seated : (id : ℕ) (v : BoardView) → get_elem? s.views id ≡ some v → IsSeatedAt id v
   pub split : (length s.views ≡ suc k.split) × (k.split ≤ n.1)
   pub slots_are : length k.slots ≡ n.0
   pub words_are : length s.words ≡ words_at n.0 n.1
-  pub kept : IsBoardKept n.0 n.1 (board_state n.0 s.words k s.views)
+  -- a thread that has its seat hasn't given it back, and none gave it back twice
+  pub live : (id : ℕ) (t : SeatView) (g : ℕ) → get_elem? s.views id ≡ some (Thread t g) → IsLive us t.place
+  pub apart : AreApart us
+  pub kept : IsBoardKept n.0 n.1 (board_state n.0 s.words k us s.views)
   -- the seat that stepped last met or left what its word holds
   pub told : (id : ℕ) (v : BoardView) → get_elem? s.views id ≡ some v → IsLatest s.views (stamp_of v) → IsTold n.0 s.words v
 
 abbrev pub IsBoard : ℕ × ℕ → State (Unit {0}) BoardView → Type 0
-IsBoard n s = (k : KeeperView) × IsBoardAt n s k
+IsBoard n s = (k : KeeperView) × (us : List SeatView) × IsBoardAt n s k us
 
 -- Which board it is
 pub record BoardId : Type 0 where
@@ -169,12 +202,18 @@ abbrev pub one_more_split : KeeperView → KeeperView
 one_more_split k = record { moment = k.moment; slots = k.slots; split = k.split + 1; steps = k.steps; last = k.last }
 
 abbrev pub left_of : BoardView → BoardView
-left_of (Keeper k n) = Keeper (one_more_split k) n
+left_of (Keeper k us n) = Keeper (one_more_split k) us n
 left_of (Thread t n) = Thread t n
+left_of Ended = Ended
 
 abbrev pub right_of : BoardView → BoardView
-right_of (Keeper k n) = Thread (seat_view k.split) 0
+right_of (Keeper k us n) = Thread (seat_view k.split) 0
 right_of (Thread t n) = Thread t n
+right_of Ended = Ended
+
+-- the keeper after a seat was given back
+abbrev pub both_of : BoardView → BoardView → BoardView
+both_of v u = Keeper (keeper_of v) (thread_of u ∷ ended_of v) (stamp_of v + stamp_of u)
 
 -- the words at the start: the moment is 1, and each entry is vacant with the serial 0
 pub record AreFirst (slots places : ℕ) (ws : List ℕ) : Type 0 where
@@ -182,31 +221,3 @@ pub record AreFirst (slots places : ℕ) (ws : List ℕ) : Type 0 where
   pub moment : slice_index ws (index_of slots the_moment) ≡ 1
   pub entries : (k : ℕ) → k < slots → slice_index ws (index_of slots (entry_of k)) ≡ 3
   pub others : (j : ℕ) → 16 + slots ≤ j → slice_index ws j ≡ 0
-
--- What the rule asks of steps, whatever play is told of them
-
--- The thread's seat has the view that u makes of what the step found, and its stamp rose.
-abbrev pub StepTold : ℕ → (ℕ → SeatView) → ℕ → Me (Unit {0}) BoardView → Type 0
-StepTold stamp u found new = (thread_of new.0 ≡ u found) × (stamp < stamp_of new.0)
-
--- Where the rule allows a thread's seat a step at the word i after which it knows u of what it found, the last step that this
--- view tells left the words so: on each board where no stamp is more than one above the seat's own.
-abbrev pub AnswersStand : Type 0
-AnswersStand = (n : ℕ × ℕ) (slots id i stamp : ℕ) (t : SeatView) (u : ℕ → SeatView) (f : ℕ → ℕ) (s : State (Unit {0}) BoardView) → IsBoard n s → length s.homes ≡ slots
-    → get_elem? s.views id ≡ some (Thread t stamp) → IsLatest s.views (suc stamp) → slice_index s.words i < 18446744073709551616
-    → Allows (IsBoard n) slots id (Thread t stamp, []) i f (StepTold stamp u)
-    → IsToldBy (word_in n.0 (slice_set s.words i (f (slice_index s.words i)))) (u (slice_index s.words i)).place (u (slice_index s.words i)).last
-
--- No step at a word that isn't the board's moment lets a thread's seat say that it read the moment, whatever the step does to
--- that word and whatever is taken for the moment: where there is a board on which the seat stepped last and another round may be made.
-abbrev pub MomentsElsewhereRefused : Type 0
-MomentsElsewhereRefused = (n : ℕ × ℕ) (slots id i stamp : ℕ) (t : SeatView) (f h : ℕ → ℕ) (s : State (Unit {0}) BoardView) (b : IsBoard n s) → length s.homes ≡ slots
-    → get_elem? s.views id ≡ some (Thread t stamp) → IsLatest s.views stamp → slice_index s.words i < 18446744073709551616 → b.0.moment + 1 < 2 ^ 40 → i ≢ index_of n.0 the_moment
-    → ¬ Allows (IsBoard n) slots id (Thread t stamp, []) i f (StepTold stamp (λ found. moment_read t (h found)))
-
--- The same of an entry: two boards that differ there and agree at the word i give one step two answers.
-abbrev pub EntriesElsewhereRefused : Type 0
-EntriesElsewhereRefused = (n : ℕ × ℕ) (slots id i stamp : ℕ) (t : SeatView) (c : CodeId) (f h : ℕ → ℕ) (s s' : State (Unit {0}) BoardView) → IsBoard n s → IsBoard n s' → length s.homes ≡ slots → length s'.homes ≡ slots
-    → get_elem? s.views id ≡ some (Thread t stamp) → get_elem? s'.views id ≡ some (Thread t stamp) → IsLatest s.views (suc stamp) → IsLatest s'.views (suc stamp) → slice_index s.words i < 18446744073709551616
-    → slice_index s.words i ≡ slice_index s'.words i → i ≢ index_of n.0 (entry_of c.slot) → word_in n.0 s.words (entry_of c.slot) ≢ word_in n.0 s'.words (entry_of c.slot)
-    → ¬ Allows (IsBoard n) slots id (Thread t stamp, []) i f (StepTold stamp (λ found. entered t c (h found)))

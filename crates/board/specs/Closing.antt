@@ -1,8 +1,9 @@
 -- The words that a board left.
-use Rattle.std.specs.Prelude.{◌≡◌, ℕ, List}
+use Rattle.std.specs.Prelude.{◌≡◌, ℕ, ◌<◌, List, slice_get, Some}
 use Rattle.frames.specs.BoardWords.{Word, IsWord}
 use Rattle.frames.specs.BoardRule.{BoardState, IsBoardKept}
-use Rattle.board.specs.Boards.{word_in, KeeperSeen, IsKeptBy}
+use Rattle.frames.specs.BoardViews.{seat_state}
+use Rattle.board.specs.Boards.{word_in, KeeperSeen, SeatSeen, IsKeptBy}
 
 pub record WordsLeft : Type 0 where
   pub slots : ℕ
@@ -15,9 +16,14 @@ words_left slots places ws = record { slots = slots; places = places; words = ws
 abbrev pub word_left : WordsLeft → Word → ℕ
 word_left b x = word_in b.slots b.words x
 
--- the words are those of a board that meets the rule, and that the keeper knows
-pub record IsLeftBy (k : KeeperSeen) (b : WordsLeft) : Type 0 where
+-- The words are those of a board that meets the rule, and that the keeper and the seats that were given back know.
+pub record IsLeftBy (k : KeeperSeen) (seats : List SeatSeen) (b : WordsLeft) : Type 0 where
   pub state : BoardState
   pub kept : IsBoardKept b.slots b.places state
   pub keeper : IsKeptBy state k.seen
+  pub seats_are : (i : ℕ) (s : SeatSeen) → slice_get seats i ≡ Some s → state.seat s.seen.place ≡ seat_state s.seen
   pub words_are : (x : Word) → IsWord b.slots b.places x → word_left b x ≡ state.word x
+
+-- the seat of each place is among these, and gave its place up
+abbrev pub AreVacant : ℕ → List SeatSeen → Type 0
+AreVacant places seats = (p : ℕ) → p < places → (i : ℕ) × (s : SeatSeen) × (slice_get seats i ≡ Some s) × (s.seen.place ≡ p) × (s.seen.stored ≡ 0)

@@ -2,3 +2,4 @@ pub mod Boards
 pub mod Plays
 pub mod Notes
 pub mod Closing
+pub mod Laws

@@ -1,5 +1,6 @@
 -- What the keeper writes down is what it knows; and what a weighing answers.
-use Rattle.std.specs.Prelude.{◌≡◌, ◌≢◌, ℕ, ◌^◌, ◌<◌, Bool, true, false, List, length, slice_index_or, slice_set, ◌||◌, replicate}
+use Rattle.std.specs.Prelude.{◌≡◌, ◌≢◌, ℕ, ◌^◌, ◌<◌, Bool, true, false, List, length, slice_index_or, ◌||◌, ◌&&◌, ◌==◌}
+use Rattle.std.specs.Int.{bit_at}
 use Rattle.frames.specs.declared.CodeId.{CodeId}
 use Rattle.frames.specs.declared.board_rule.SlotView.{SlotView}
 use Rattle.frames.specs.declared.board_rule.KeeperView.{KeeperView}
@@ -12,19 +13,23 @@ use Rattle.board.specs.declared.weighed.Weighed.TheVariants.{NotLooked, Used, Cl
 use Rattle.board.specs.Boards.{BoardId, IsKeptBy, KeeperSteps}
 
 abbrev pub note_at : ℕ → Note
-note_at left = record { left = left; looked = replicate 64 false }
+note_at left = record { left = left; looked = 0 }
+
+-- the place is written down as looked at: its bit is set
+abbrev pub is_noted : Note → ℕ → Bool
+is_noted note p = bit_at note.looked p == 1
 
 abbrev pub blank : Note
 blank = note_at 0
 
-abbrev pub note_looked : Note → ℕ → ℕ → Note
-note_looked n p found = record { left = n.left; looked = slice_set n.looked p (is_late n.left found || slice_index_or n.looked p false) }
+-- a load of the place's moment is written down: the place is looked at where what was found lets it pass, and nothing else changes
+abbrev pub IsNotedAfter : Note → Note → ℕ → ℕ → Type 0
+IsNotedAfter old new p found = (new.left ≡ old.left) × ((q : ℕ) → q < 64 → is_noted new q ≡ (((q == p) && is_late old.left found) || is_noted old q))
 
 -- the note agrees with what is known of its slot
 pub record Agrees (note : Note) (s : SlotView) : Type 0 where
-  pub wide : length note.looked ≡ 64
   pub left : note.left ≡ s.left
-  pub looked : (p : ℕ) → p < 64 → slice_index_or note.looked p false ≡ has_place s.looked p
+  pub looked : (p : ℕ) → p < 64 → is_noted note p ≡ has_place s.looked p
   pub small : s.serial < 2 ^ 40
 
 pub record AreNoted (slots : ℕ) (notes : List Note) (k : KeeperView) : Type 0 where

@@ -1,5 +1,5 @@
 -- What each kind of step tells the seat that makes it.
-use Rattle.std.specs.Prelude.{◌≡◌, ◌≢◌, ℕ, ◌+◌, ◌<◌, true}
+use Rattle.std.specs.Prelude.{◌≡◌, ◌≢◌, ℕ, ◌<◌, true, []}
 use Rattle.atomic_table.specs.Table.{Me, Step}
 use Rattle.frames.specs.declared.CodeId.{CodeId}
 use Rattle.frames.specs.declared.board_rule.EntryState.{EntryState}
@@ -31,10 +31,10 @@ Sat = Me (Unit {0}) BoardView
 
 -- the thread's seat knows t afterwards, by one step
 abbrev pub ThreadTells : Asked → Sat → SeatView → Sat → Type 0
-ThreadTells a m t n = (n.0 ≡ Thread t (stamp_of n.0)) × ThreadSteps a.board (thread_of m.0) (thread_of n.0) × (stamp_of m.0 < stamp_of n.0)
+ThreadTells a m t n = (n.0 ≡ Thread t (stamp_of n.0)) × ThreadSteps a.board (thread_of m.0) (thread_of n.0) × (stamp_of m.0 < stamp_of n.0) × (n.1 ≡ m.1)
 
 abbrev pub KeeperTells : Asked → Sat → KeeperView → Sat → Type 0
-KeeperTells a m k n = (n.0 ≡ Keeper k (stamp_of n.0)) × KeeperSteps a.board (keeper_of m.0) (keeper_of n.0) × (stamp_of m.0 < stamp_of n.0)
+KeeperTells a m k n = (n.0 ≡ Keeper k [] (stamp_of n.0)) × KeeperSteps a.board (keeper_of m.0) (keeper_of n.0) × (stamp_of m.0 < stamp_of n.0)
 
 -- A code that was found gone is never found in use again, and one that the seat holds is found standing.
 abbrev pub Enters : Asked → Step (Unit {0}) → Sat → ℕ → Sat → Type 0

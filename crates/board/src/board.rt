@@ -1,12 +1,13 @@
 //! The board.
 ghost use Rattle.std.specs.Prelude.{◌≡◌, ℕ, ◌+◌, ◌*◌, ◌<◌, ◌≤◌, length, IfOk, Some, slice_get};
-ghost use Rattle.board.specs.Boards.{BoardId, board_id, words_at, AreFirst, first_seat, first_keeper};
-ghost use Rattle.board.specs.Closing.{IsLeftBy};
+ghost use Rattle.board.specs.Boards.{BoardId, SeatSeen, board_id, words_at, AreFirst, first_seat, first_keeper};
+ghost use Rattle.frames.specs.BoardWords.{count_of};
+ghost use Rattle.board.specs.Closing.{IsLeftBy, AreVacant, word_left};
 
 use crate::closed::ClosedBoard;
 use crate::keeper::Keeper;
 use crate::note::Note;
-use crate::rule::{BoardRule, SplitOff};
+use crate::rule::{BoardRule, GivenBack, SplitOff};
 use crate::thread_seat::ThreadSeat;
 use crate::words::{MOMENT, count_at, entry_at, word_count};
 use atomic_table::Table;
@@ -82,18 +83,25 @@ impl Board {
         self.table.shared.peek(count_at(self.slots, slot))
     }
 
-    /// Ends the board, which no thread shares any more, and shows its words: those of a board that meets the rule, with what the
-    /// keeper knows.
-    pub fn close(self, keeper: Keeper) -> ClosedBoard
-        requires { keeper.board ≡ self }
+    /// Ends the board, which no thread shares any more, with the seats that are given back, and shows its words: those of a board
+    /// that meets the rule, with what the keeper and these seats know. Where each place was given up, nothing is counted.
+    pub fn close(self, keeper: Keeper, mut seats: Vec<ThreadSeat>) -> ClosedBoard
+        requires keeper { keeper.board ≡ self }
+        requires seats { (i : ℕ) (s : SeatSeen) → slice_get seats.items i ≡ Some s → s.board ≡ self }
         ensures sizes { (result.slots ≡ self.slots) × (result.places ≡ self.places) }
-        ensures rule { IsLeftBy keeper result }
+        ensures rule { IsLeftBy keeper seats.items result }
+        ensures vacant { AreVacant self.places seats.items → (slot : ℕ) → slot < self.slots → word_left result (count_of slot) ≡ 0 }
     {
         let Board {
             table,
             slots,
             places,
         } = self;
-        ClosedBoard::of(table.close_with(keeper.into_seat()), slots, places)
+        let mut keeper = keeper.into_seat();
+        while let Some(seat) = seats.pop() {
+            let seat = seat.into_seat();
+            table.shared.join_seat::<GivenBack>(&mut keeper, seat);
+        }
+        ClosedBoard::of(table.close_with(keeper), slots, places)
     }
 }

@@ -1,5 +1,5 @@
 //! The keeper of the codes.
-ghost use Rattle.std.specs.Prelude.{◌≡◌, ◌≢◌, ℕ, true, false, nat_le, replicate, length, IfSome, IfNone, ◌+◌, ◌*◌, ◌^◌, ◌<◌, ◌≤◌, OnOk, OnErr};
+ghost use Rattle.std.specs.Prelude.{◌≡◌, ◌≢◌, ℕ, true, false, nat_le, [], replicate, length, IfSome, IfNone, ◌+◌, ◌*◌, ◌^◌, ◌<◌, ◌≤◌, OnOk, OnErr};
 ghost use Rattle.frames.specs.declared.board_rule.BoardView.TheVariants.{Keeper as IsKeepers};
 ghost use Rattle.frames.specs.declared.board_rule.EntryState.TheVariants.{InUse, NotEntrant, Zombie, Vacant};
 ghost use Rattle.frames.specs.BoardWords.{pack};
@@ -64,7 +64,7 @@ impl Keeper {
         places: usize,
         notes: Vec<Note>,
     ) -> Keeper
-        requires keeper { seat.me.0 ≡ IsKeepers (keeper_view slots places) 0 }
+        requires keeper { seat.me.0 ≡ IsKeepers (keeper_view slots places) [] 0 }
         requires notes { notes.items ≡ replicate slots blank }
         requires board { (seat.table_id.words ≡ words_at slots places) × (slots ≤ 1024) × (places ≤ 64) × (0 < places) }
         ensures { result ≡ first_keeper (board_id seat.table_id slots places) }
@@ -80,7 +80,7 @@ impl Keeper {
 
     pub(crate) fn into_seat(self) -> Seat<(), BoardView>
         ensures table { result.table_id ≡ self.board.table }
-        ensures view { result.me.0 ≡ IsKeepers self.seen self.stamp }
+        ensures view { result.me.0 ≡ IsKeepers self.seen [] self.stamp }
     {
         let Keeper {
             seat,
@@ -189,7 +189,15 @@ impl Keeper {
         self.moment += 1;
     }
 
-    /// Whether the last moment was reached. It makes no step.
+    /// The board's moment, from 1 to 2^40 - 1. It makes no step.
+    pub fn moment(&self) -> u64
+        ensures { result ≡ self.now.seen.moment }
+    {
+        let _ = &self.seat;
+        self.moment
+    }
+
+    /// Whether the last moment was reached, so that a round would answer `Spent`. It makes no step.
     pub fn is_last_moment(&self) -> bool
         ensures { result ≡ nat_le (2 ^ 40) (self.now.seen.moment + 1) }
     {
@@ -207,7 +215,7 @@ impl Keeper {
         ensures slots { length self.new.seen.slots ≡ self.new.board.slots }
     {
         self.has_slots();
-        if self.moment >= LAST_MOMENT {
+        if self.is_last_moment() {
             return Err(Spent);
         }
         self.add_moment::<Brand>(board);
@@ -258,7 +266,7 @@ impl Keeper {
     {
         let note = self.notes[code.slot as usize];
         for place in 0..self.places {
-            if !note.looked[place] {
+            if !note.has_looked(place) {
                 return Some(place);
             }
         }

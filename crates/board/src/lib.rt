@@ -9,6 +9,7 @@
 mod board;
 mod closed;
 mod keeper;
+mod law;
 mod note;
 mod rule;
 #[cfg(test)]
@@ -20,9 +21,11 @@ mod words;
 pub use board::Board;
 pub use closed::ClosedBoard;
 pub use keeper::{Keeper, Spent};
-pub use rule::{
-    BoardRule, answers_stand_in_the_words, no_entry_is_of_another_word,
-    no_moment_is_of_another_word,
+pub use law::{
+    answers_stand_in_the_words, keeper_answers_stand_in_the_words, no_entry_is_of_another_word,
+    no_look_is_of_another_word, no_moment_is_of_another_word, no_weight_is_of_another_word,
+    words_lie_lines_apart, words_lie_lines_inside,
 };
+pub use rule::BoardRule;
 pub use thread_seat::ThreadSeat;
 pub use weighed::Weighed;

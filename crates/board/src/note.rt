@@ -1,13 +1,20 @@
 //! What the keeper writes down of a slot.
 ghost use Rattle.std.specs.Prelude.{◌≡◌, ◌<◌};
 ghost use Rattle.frames.specs.BoardStep.{is_late};
-ghost use Rattle.board.specs.Notes.{note_at, note_looked};
+ghost use Rattle.board.specs.Notes.{note_at, is_noted, IsNotedAfter};
 
-/// The moment of the invalidation, and which places were looked at.
+/// The moment of the invalidation, and which places were looked at: a bit for each.
 #[derive(Clone, Copy)]
 pub struct Note {
     pub left: u64,
-    pub looked: [bool; 64],
+    pub looked: u64,
+}
+
+/// Whether what was found at a place lets it pass: nobody is there, or its stack was published in a moment after the invalidation.
+fn is_late(left: u64, found: u64) -> bool
+    ensures { result ≡ Rattle.frames.specs.BoardStep.is_late left found }
+{
+    found == 0 || left < found
 }
 
 impl Note {
@@ -15,20 +22,27 @@ impl Note {
     pub fn at(left: u64) -> Note
         ensures { result ≡ note_at left }
     {
-        Note {
-            left,
-            looked: [false; 64],
-        }
+        Note { left, looked: 0 }
+    }
+
+    /// Whether the place was looked at.
+    pub fn has_looked(&self, place: usize) -> bool
+        requires { place < 64 }
+        ensures { result ≡ is_noted self.now place }
+    {
+        self.looked >> place & 1 == 1
     }
 
     /// Writes down what a load of the place's moment tells, and answers it.
     pub fn look(&mut self, place: usize, found: u64) -> bool
         requires { place < 64 }
         ensures answer { result ≡ is_late self.old.left found }
-        ensures note { self.new ≡ note_looked self.old place found }
+        ensures note { IsNotedAfter self.old self.new place found }
     {
-        let late = found == 0 || self.left < found;
-        self.looked[place] = late || self.looked[place];
+        let late = is_late(self.left, found);
+        if late {
+            self.looked |= 1 << place;
+        }
         late
     }
 }

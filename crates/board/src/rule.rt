@@ -1,13 +1,13 @@
 //! The rule of a board's table, and what each kind of step tells its seat.
-ghost use Rattle.frames.specs.declared.board_rule.BoardView.TheVariants.{Keeper as IsKeeper};
+ghost use Rattle.frames.specs.declared.board_rule.BoardView.TheVariants.{Keeper as IsKeeper, Ended as HasEnded};
 ghost use Rattle.frames.specs.declared.board_rule.EntryState.TheVariants.{Zombie, Vacant};
 ghost use Rattle.frames.specs.BoardViews.{keeper_view};
 ghost use Rattle.frames.specs.BoardRule.{code};
 ghost use Rattle.std.specs.Prelude.{[]};
-ghost use Rattle.board.specs.Boards.{IsBoard, left_of, right_of, AnswersStand, MomentsElsewhereRefused, EntriesElsewhereRefused};
+ghost use Rattle.board.specs.Boards.{IsBoard, left_of, right_of, both_of};
 ghost use Rattle.board.specs.Plays.{Asked, Enters, Reads, Stores, GoesRound, Installs, Invalidates, CountsUp, CountsDown, Looks, Weighs, GoesOn};
 
-use atomic_table::{Play, Split, TableRule};
+use atomic_table::{Join, Play, Split, TableRule};
 use frames::board_rule::BoardView;
 use std::marker::{Brand, PhantomData};
 
@@ -17,7 +17,7 @@ pub struct BoardRule;
 impl TableRule<(), BoardView, (usize, usize)> for BoardRule {
     ghost holds = { IsBoard };
 
-    ghost first = { λ n. IsKeeper (keeper_view n.0 0) 0 };
+    ghost first = { λ n. IsKeeper (keeper_view n.0 0) [] 0 };
 }
 
 /// How a thread's seat is split off the keeper's.
@@ -27,6 +27,15 @@ impl Split<BoardView> for SplitOff {
     ghost left = { left_of };
 
     ghost right = { right_of };
+}
+
+/// How a thread's seat is given back: the keeper takes over what it knew.
+pub struct GivenBack;
+
+impl Join<BoardView> for GivenBack {
+    ghost both = { both_of };
+
+    ghost spent = { HasEnded };
 }
 
 /// What a step is about. Each call picks it, and it leaves nothing in the code.
@@ -133,19 +142,3 @@ pub struct Free<A> {
 impl<A: About> Play<(), BoardView> for Free<A> {
     ghost then = { GoesOn Vacant A.asked };
 }
-
-/// A law: what a thread's seat says of its step stands in the words. Whatever a `Play` tells, the rule of the board allows no step
-/// after which it doesn't.
-pub fn answers_stand_in_the_words()
-    ensures { AnswersStand }
-{}
-
-/// A law: no step at another word is told as a load of the board's moment.
-pub fn no_moment_is_of_another_word()
-    ensures { MomentsElsewhereRefused }
-{}
-
-/// A law: no step at another word is told as a load of an entry.
-pub fn no_entry_is_of_another_word()
-    ensures { EntriesElsewhereRefused }
-{}

@@ -79,15 +79,17 @@ fn a_code_is_counted_looked_for_weighed_and_freed(rt: HostRuntime) -> Result<(),
 fn a_board_that_ends_shows_its_words(rt: HostRuntime) -> Result<(), Fail> {
     let (board, mut keeper, mut seat) = one_slot(rt.alloc(), 2)?;
     keeper.install(&board, C);
+    assert!(rt; keeper.moment() == 1 && seat.place() == 0);
     seat.read_moment(&board);
     seat.end_publication(&board);
     assert!(rt; seat.enter(&board, C));
     assert!(rt; keeper.round(&board).is_ok());
+    assert!(rt; keeper.moment() == 2 && !keeper.is_last_moment());
     seat.read_moment(&board);
     seat.count_change(&board, C, 1);
     seat.end_publication(&board);
     keeper.invalidate(&board, C);
-    let closed = board.close(keeper);
+    let closed = board.close(keeper, vec![in rt.alloc(); seat]?);
     let entry = closed.entry(0);
     let (count, first, second, moment) = (
         closed.count(0),
@@ -243,6 +245,72 @@ fn stopped_after_the_end(rt: HostRuntime) -> Result<(), Fail> {
     Ok(())
 }
 
+const LAST: CodeId = CodeId {
+    slot: 1023,
+    serial: 1,
+};
+
+// A board of the greatest sizes, its keeper, and the seat of the last place.
+fn largest(alloc: Global) -> Result<(Board, Keeper, ThreadSeat), AllocError>
+    ensures board { IfOk result (λ t. (t.0.slots ≡ 1024) × (t.0.places ≡ 64)) }
+    ensures keeper { IfOk result (λ t. t.1 ≡ first_keeper t.0) }
+    ensures seat { IfOk result (λ t. t.2 ≡ first_seat t.0 63) }
+{
+    let (board, keeper, mut seats) = Board::new(alloc, 64, 1024)?;
+    let seat = seats.swap_remove(63);
+    Ok((board, keeper, seat))
+}
+
+// How many of the 64 places are done with the code of the last slot.
+fn look_at_all(board: &Board, keeper: &mut Keeper) -> usize
+    requires board { keeper.old.board ≡ board.now }
+    requires sizes { (board.now.slots ≡ 1024) × (board.now.places ≡ 64) }
+    requires code { IsIn keeper.old.seen (code 1023 1) NotEntrant }
+    ensures board { keeper.new.board ≡ keeper.old.board }
+    ensures code { IsIn keeper.new.seen (code 1023 1) NotEntrant }
+{
+    let mut done = 0;
+    for place in 0..64 {
+        if keeper.look(board, LAST, place) {
+            done += 1;
+        }
+    }
+    done
+}
+
+#[test]
+fn the_last_place_counts_the_code_of_the_last_slot(rt: HostRuntime) -> Result<(), Fail> {
+    let (board, mut keeper, mut seat) = largest(rt.alloc())?;
+    assert!(rt; seat.place() == 63 && board.peek_count(1023) == 0);
+    keeper.install(&board, LAST);
+    seat.read_moment(&board);
+    seat.end_publication(&board);
+    assert!(rt; seat.enter(&board, LAST));
+    seat.read_moment(&board);
+    seat.count_change(&board, LAST, 256);
+    seat.end_publication(&board);
+    assert!(rt; board.peek_count(1023) == 256 && board.peek_count(0) == 0);
+    keeper.invalidate(&board, LAST);
+    assert!(rt; look_at_all(&board, &mut keeper) == 63);
+    assert!(rt; matches!(keeper.weigh(&board, LAST), Weighed::NotLooked(63)));
+    assert!(rt; keeper.round(&board).is_ok());
+    seat.read_moment(&board);
+    seat.end_publication(&board);
+    assert!(rt; look_at_all(&board, &mut keeper) == 64);
+    assert!(rt; matches!(keeper.weigh(&board, LAST), Weighed::Used(256)));
+    Ok(())
+}
+
+#[test]
+fn a_board_is_made_after_another(rt: HostRuntime) -> Result<(), Fail> {
+    let (board, keeper, seats) = Board::new(rt.alloc(), 64, 1024)?;
+    board.close(keeper, seats).free();
+    let (board, keeper, seats) = Board::new(rt.alloc(), 64, 1024)?;
+    assert!(rt; keeper.moment() == 1 && seats.len() == 64);
+    board.close(keeper, seats).free();
+    Ok(())
+}
+
 // It passes whichever allocation is refused: the board is made whole, or not at all.
 #[test]
 fn a_board_is_made_whole_or_not_at_all(rt: HostRuntime) -> Result<(), Fail> {
@@ -250,7 +318,7 @@ fn a_board_is_made_whole_or_not_at_all(rt: HostRuntime) -> Result<(), Fail> {
         return Ok(());
     };
     assert!(rt; seats.len() == 3);
-    let closed = board.close(keeper);
+    let closed = board.close(keeper, seats);
     let moment = closed.moment();
     closed.free();
     assert!(rt; moment == 1);

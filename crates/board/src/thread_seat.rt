@@ -1,5 +1,5 @@
 //! The seat of one place.
-ghost use Rattle.std.specs.Prelude.{◌≡◌, ◌≢◌, ℕ, pos, ◌+ℤ◌, ◌<ℤ◌, ◌≤ℤ◌, true, false, ◌+◌, ◌*◌, ◌==◌, ◌<◌, ◌≤◌};
+ghost use Rattle.std.specs.Prelude.{◌≡◌, ◌≢◌, ℕ, [], pos, ◌+ℤ◌, ◌<ℤ◌, ◌≤ℤ◌, true, false, ◌+◌, ◌*◌, ◌==◌, ◌<◌, ◌≤◌};
 ghost use Rattle.frames.specs.declared.CodeId.{CodeId as Code};
 ghost use Rattle.frames.specs.declared.board_rule.BoardView.TheVariants.{Thread as IsThreads};
 ghost use Rattle.frames.specs.declared.board_rule.EntryState.TheVariants.{InUse};
@@ -40,7 +40,7 @@ impl Model for ThreadSeat {
 
     ghost view = { λ t. of_thread (board_id t.seat.table_id t.slots t.places) t.seat.me.0 };
 
-    ghost invariant = { λ t. IsThread t.seat.me.0 × (t.place ≡ (thread_of t.seat.me.0).place) × (t.place < t.places) × (t.moment ≡ (thread_of t.seat.me.0).moment) × (t.seat.table_id.words ≡ words_at t.slots t.places) × (t.slots ≤ 1024) × (t.places ≤ 64) };
+    ghost invariant = { λ t. IsThread t.seat.me.0 × (t.seat.me.1 ≡ []) × (t.place ≡ (thread_of t.seat.me.0).place) × (t.place < t.places) × (t.moment ≡ (thread_of t.seat.me.0).moment) × (t.seat.table_id.words ≡ words_at t.slots t.places) × (t.slots ≤ 1024) × (t.places ≤ 64) };
 }
 
 impl ThreadSeat {
@@ -50,7 +50,7 @@ impl ThreadSeat {
         places: usize,
         place: usize,
     ) -> ThreadSeat
-        requires seat { seat.me.0 ≡ IsThreads (seat_view place) 0 }
+        requires seat { seat.me ≡ (IsThreads (seat_view place) 0, []) }
         requires board { (place < places) × (seat.table_id.words ≡ words_at slots places) × (slots ≤ 1024) × (places ≤ 64) }
         ensures { result ≡ first_seat (board_id seat.table_id slots places) place }
     {
@@ -61,6 +61,20 @@ impl ThreadSeat {
             place,
             moment: 0,
         }
+    }
+
+    pub(crate) fn into_seat(self) -> Seat<(), BoardView>
+        ensures table { result.table_id ≡ self.board.table }
+        ensures view { result.me ≡ (IsThreads self.seen self.stamp, []) }
+    {
+        let ThreadSeat {
+            seat,
+            slots: _,
+            places: _,
+            place: _,
+            moment: _,
+        } = self;
+        seat
     }
 
     /// Its place.

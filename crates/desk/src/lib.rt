@@ -11,6 +11,8 @@ mod faults;
 mod law;
 mod lists;
 mod log;
+#[cfg(test)]
+mod tests;
 
 pub use desk::Desk;
 pub use entries::{Entry, Live, Standing, Target};

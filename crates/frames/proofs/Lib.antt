@@ -6,4 +6,6 @@ pub mod BoardParts
 pub mod BoardSteps
 pub mod BoardLaws
 pub mod Fewer
+pub mod Uncounted
 pub mod Settling
+pub mod Register

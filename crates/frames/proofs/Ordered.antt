@@ -1,4 +1,4 @@
--- The least code of a list is below all others, and there is one at most.
+-- The least code of a list is below all others, and there is one at most. Of definitions alone: crates above may cite these lemmas.
 use Rattle.std.proofs.Common.{◌≡◌, ℕ, ◌+◌, ◌<◌, ◌∙◌, Bool, true, false, List, [], ◌∷◌, ◌++◌, append_assoc, append-nil, Option, Some, None, refl, ap, subst, cond, arith}
 use Rattle.std.specs.Prelude.{fold}
 use Rattle.std.proofs.lemmas.Bool.Decides.{nat_tests}
@@ -9,9 +9,6 @@ use Rattle.frames.proofs.Bags.{same_code-equal, same_code-refl, times-cons, time
 
 pub code_lt-irrefl : (a : CodeId) → code_lt a a ≡ false
 code_lt-irrefl a = grind (arith, nat_tests)
-
-pub code_lt-trans : (a b c : CodeId) → code_lt a b ≡ true → code_lt b c ≡ true → code_lt a c ≡ true
-code_lt-trans a b c h k = grind (arith, nat_tests)
 
 pub code_lt-back : (a b c : CodeId) → code_lt a b ≡ true → code_lt c b ≡ false → code_lt c a ≡ false
 code_lt-back a b c h k = grind (arith, nat_tests)
@@ -29,9 +26,6 @@ times-push code x xs = times-append code xs (x ∷ []) ∙ ap (λ n. times code 
 
 one_more : (n : ℕ) (b : Bool) → b ≡ true → 0 < n + cond b 1 0
 one_more n b h = grind arith
-
-or_here : (n : ℕ) (b : Bool) → 0 < n + cond b 1 0 → b ≡ false → 0 < n
-or_here n b h e = grind arith
 
 here_at_none : (n : ℕ) (b : Bool) → n ≡ 0 → 0 < n + cond b 1 0 → b ≡ true
 here_at_none n true z h = refl

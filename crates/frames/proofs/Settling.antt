@@ -1,8 +1,9 @@
 -- What nets say of an image: which code changes next, how many codes are unsettled, and what a push or a pop keeps.
-use Rattle.std.proofs.Common.{◌≡◌, ◌≢◌, ℕ, zero, suc, ◌+◌, ◌<◌, ◌≤◌, ◌∙◌, sym, Bool, true, false, not, ◌||◌, eqb, ltb, List, [], ◌∷◌, ◌++◌, length, take, drop, get_or, Option, Some, None, refl, ap, ap₂, subst, cond, arith, ℤ, pos, ◌+ℤ◌, negsuc, ◌-ℤ◌, replicate}
+use Rattle.std.proofs.Common.{◌≡◌, ◌≢◌, ℕ, zero, suc, ◌+◌, ◌<◌, ◌≤◌, ◌∙◌, sym, Bool, true, false, not, ◌||◌, eqb, List, [], ◌∷◌, ◌++◌, length, take, drop, get_or, Option, Some, None, refl, ap, ap₂, subst, cond, arith, ℤ, pos, ◌+ℤ◌, negsuc, ◌-ℤ◌, replicate}
 use Rattle.std.proofs.lemmas.Int.{ints}
 use Rattle.std.proofs.lemmas.List.Sums.{sum_by-cons, sum_by-append}
-use Rattle.std.specs.Prelude.{filter, is_some, ◌≤ℤ◌, IsTrue, ◌↔◌}
+use Rattle.std.proofs.lemmas.Option.{slice_get_within, get_or_from_slice_get}
+use Rattle.std.specs.Prelude.{filter, slice_get, is_some, ◌≤ℤ◌, IsTrue, ◌↔◌}
 use Rattle.std.proofs.lemmas.Bool.Decides.{nat_tests}
 use Rattle.frames.specs.declared.CodeId.{CodeId}
 use Rattle.frames.specs.declared.Frame.{Frame}
@@ -14,8 +15,9 @@ use Rattle.frames.specs.ImageView.{ImageView, SameBag, uncounted, next_code, IsN
 use Rattle.frames.specs.Nets.{net_in, is_zero, add, IsRising, codes_in, counted_by, first_of, IsWithin, AreSmall, nat_of, net_sum}
 use Rattle.frames.proofs.Bags.{same_code-equal, same_code-refl, times-cons, times-append, times-codes_of, act-cons, among-times}
 use Rattle.frames.proofs.Ordered.{code_lt-irrefl, IsLeast, least-is_least, least-unique}
-use Rattle.frames.proofs.Fewer.{apart, part_fits, same_none, differ_some, times-uncounted}
-use Rattle.frames.proofs.Moves.{upto_trans, net_below, net_here, net_other, zero_not, balance, counted_is, apart_sym, zero_is}
+use Rattle.frames.proofs.Fewer.{apart, part_fits}
+use Rattle.frames.proofs.Uncounted.{same_none, differ_some, times-uncounted}
+use Rattle.frames.proofs.Moves.{upto_trans, rising_add, net_below, net_here, net_other, zero_not, balance, counted_is, apart_sym, zero_is}
 
 -- the next code
 some_differ : (m n : ℕ) → m ≢ n → 0 < cond (not (eqb m n)) (m + n) 0
@@ -49,10 +51,10 @@ rising_drop zero es r = r
 rising_drop (suc n) [] r = tt
 rising_drop (suc n) (e ∷ es) r = rising_drop n es (rising_any es (Some e.code) r.2)
 
-itself : (e : Change) (es : List Change) → net_in (e ∷ es) e.code ≡ e.by
+pub itself : (e : Change) (es : List Change) → net_in (e ∷ es) e.code ≡ e.by
 itself e es = rw same_code-refl refl
 
-none_behind : (e : Change) (es : List Change) → IsRising (Some e.code) es → net_in es e.code ≡ pos 0
+pub none_behind : (e : Change) (es : List Change) → IsRising (Some e.code) es → net_in es e.code ≡ pos 0
 none_behind e es r = net_below es (Some e.code) e.code r (rw code_lt-irrefl refl)
 
 pub shown : List Frame → List Change → List CodeId → Bool → ImageView
@@ -243,6 +245,20 @@ unsettled_is frames es changed publishing r w =
         by_zero true h = let z_is : z ≡ pos 0 = zero_is z h in let same : a ≡ t = omega (arith, ints) in grind (arith, nat_tests)
         by_zero false h = let ne : a ≢ t = (λ s. zero_not z h (omega (arith, ints))) in grind (arith, nat_tests)
 
+-- a frame of the code comes or goes, by 1 or -1
+abbrev pub by_code : CodeId → ℤ → CodeId → ℤ
+by_code code by c = cond (same_code code c) by (pos 0)
+
+pub nets_by : (es : List Change) (code : CodeId) (by : ℤ) → IsRising None es → (c : CodeId) → net_in (add es code by) c ≡ net_in es c +ℤ by_code code by c
+nets_by es code by r c = by_case (same_code code c) refl
+  where
+    by_case : (b : Bool) → same_code code c ≡ b → net_in (add es code by) c ≡ net_in es c +ℤ cond b by (pos 0)
+    by_case true h = subst (λ x. net_in (add es code by) x ≡ net_in es x +ℤ by) (same_code-equal code c h) (net_here es None code by r)
+    by_case false h = let o = net_other es code c by h in omega (arith, ints)
+
+pub within_all : (frames : List Frame) (n : ℕ) (net : ℤ) (c : CodeId) → length frames ≤ n → IsWithin net (act c frames) → IsWithin net n
+within_all frames n net c few w = let le = act_le c frames in let h = w.high in record { low = w.low; high = omega (arith, ints) }
+
 -- what a push and a pop keep
 pub record After (frames others : List Frame) (es more : List Change) : Type 0 where
   pub within : (c : CodeId) → IsWithin (net_in more c) (act c others)
@@ -266,9 +282,24 @@ after frames others es more d acts nets w few = record {
     low : (c : CodeId) → pos 0 ≤ℤ (net_in more c +ℤ pos 256)
     low c = let n = balance others more c (high c) in let s = same c in let t = times_le c (counted_by frames es) in omega (arith, ints)
 
-none_first : (es : List Change) → first_of es ≡ None → es ≡ []
-none_first [] h = refl
-none_first (e ∷ es) h = cc
+-- and where a code's net moves with its frames
+pub record Moved (frames others : List Frame) (es : List Change) (code : CodeId) (by : ℤ) : Type 0 where
+  pub kept : After frames others es (add es code by)
+  pub rising : IsRising None (add es code by)
+  pub fits : length (add es code by) ≤ 512
+  pub net : IsWithin (net_in es code +ℤ by) 256
+
+pub moves : (frames others : List Frame) (es : List Change) (code : CodeId) (by : ℤ) → ((c : CodeId) → pos (act c others) ≡ pos (act c frames) +ℤ by_code code by c) → length others ≤ 256 → is_zero by ≡ false
+    → IsRising None es → ((c : CodeId) → IsWithin (net_in es c) (act c frames)) → length (counted_by frames es) ≤ 256 → Moved frames others es code by
+moves frames others es code by acts short some r w few =
+    let kept = after frames others es (add es code by) (by_code code by) acts (nets_by es code by r) w few in
+    let rising = rising_add es None code by some refl r in
+    record {
+      kept = kept;
+      rising = rising;
+      fits = nets_fit others (add es code by) rising kept.within short kept.few;
+      net = subst (λ z. IsWithin z 256) (net_here es None code by r) (within_all others 256 _ code short (kept.within code));
+    }
 
 counted_no_nets : (frames : List Frame) (es : List Change) → IsRising None es → ((c : CodeId) → IsWithin (net_in es c) (act c frames)) → ((c : CodeId) → act c frames ≡ times c (counted_by frames es)) → es ≡ []
 counted_no_nets frames [] r w h = refl
@@ -289,20 +320,6 @@ settled_iff frames es publishing empty closed e r w = (
 -- before a publication gave anything, all nets are left
 pub from_front : (frames : List Frame) (es : List Change) (n : ℕ) → n ≡ 0 → ((c : CodeId) → IsWithin (net_in (drop n es) c) (act c frames)) → (c : CodeId) → IsWithin (net_in es c) (act c frames)
 from_front frames es n e w = subst (λ m. (c : CodeId) → IsWithin (net_in (drop m es) c) (act c frames)) e w
-
-pub to_front : (frames : List Frame) (es : List Change) (n : ℕ) → n ≡ 0 → ((c : CodeId) → IsWithin (net_in es c) (act c frames)) → (c : CodeId) → IsWithin (net_in (drop n es) c) (act c frames)
-to_front frames es n e w = subst (λ m. (c : CodeId) → IsWithin (net_in (drop m es) c) (act c frames)) (sym e) w
-
--- a frame of the code comes or goes, by 1 or -1
-abbrev pub by_code : CodeId → ℤ → CodeId → ℤ
-by_code code by c = cond (same_code code c) by (pos 0)
-
-pub nets_by : (es : List Change) (code : CodeId) (by : ℤ) → IsRising None es → (c : CodeId) → net_in (add es code by) c ≡ net_in es c +ℤ by_code code by c
-nets_by es code by r c = by_case (same_code code c) refl
-  where
-    by_case : (b : Bool) → same_code code c ≡ b → net_in (add es code by) c ≡ net_in es c +ℤ cond b by (pos 0)
-    by_case true h = subst (λ x. net_in (add es code by) x ≡ net_in es x +ℤ by) (same_code-equal code c h) (net_here es None code by r)
-    by_case false h = let o = net_other es code c by h in omega (arith, ints)
 
 act-append : (c : CodeId) (fs : List Frame) (f : Frame) → act c (fs ++ f ∷ []) ≡ act c fs + cond (is_of c f) 1 0
 act-append c [] f = act-cons c f [] ∙ omega arith
@@ -331,9 +348,6 @@ popped_none fs others f e is c = rw e (rw (act-append c others f, is) (omega (ar
 pub still : (es : List Change) (c : CodeId) → net_in es c ≡ net_in es c +ℤ pos 0
 still es c = omega (arith, ints)
 
-pub within_all : (frames : List Frame) (n : ℕ) (net : ℤ) (c : CodeId) → length frames ≤ n → IsWithin net (act c frames) → IsWithin net n
-within_all frames n net c few w = let le = act_le c frames in let h = w.high in record { low = w.low; high = omega (arith, ints) }
-
 pub length_pushed : (fs : List Frame) (f : Frame) → length (fs ++ f ∷ []) ≡ suc (length fs)
 length_pushed [] f = refl
 length_pushed (g ∷ fs) f = ap suc (length_pushed fs f)
@@ -357,11 +371,19 @@ is_left frames nets n r w h = ap is_some (next_of_left frames nets n r w) ∙ so
 pub none_left : (frames : List Frame) (nets : List Change) (n : ℕ) → IsRising None nets → ((c : CodeId) → IsWithin (net_in (drop n nets) c) (act c frames)) → length nets ≤ n → is_some (least (uncounted frames (counted_by frames (drop n nets)))) ≡ false
 none_left frames nets n r w h = ap is_some (next_of_left frames nets n r w ∙ ap first_of (drop_all n nets h))
 
-pub left_is : (n : ℕ) (es : List Change) (x d : Change) → true ≡ ltb n (length es) → x ≡ get_or es n d → drop n es ≡ x ∷ drop (n + 1) es
-left_is n es x d h e = drop_next n es d (under n (length es) h) ∙ ap (λ y. y ∷ drop (n + 1) es) (sym e)
-  where
-    under : (a b : ℕ) → true ≡ ltb a b → a < b
-    under a b k = grind (arith, nat_tests)
+pub all_counted : (frames : List Frame) (nets : List Change) (n : ℕ) → ((c : CodeId) → IsWithin (net_in (drop n nets) c) (act c frames)) → length nets ≤ n → (c : CodeId) → act c frames ≡ times c (counted_by frames (drop n nets))
+all_counted frames nets n w h c = even frames (drop n nets) c (w c).high (ap (λ es. net_in es c) (drop_all n nets h))
+
+pub found : (es : List Change) (n : ℕ) (x : Change) → Some x ≡ slice_get es n → (n < length es) × (x ≡ get_or es n x)
+found es n x h = (slice_get_within es n x (sym h), sym (get_or_from_slice_get es n x x (sym h)))
+
+pub past : (es : List Change) (n : ℕ) → None ≡ slice_get es n → length es ≤ n
+past [] n h = omega arith
+past (e ∷ es) zero h = cc
+past (e ∷ es) (suc n) h = omega (arith, past es n h)
+
+pub left_is : (n : ℕ) (es : List Change) (x : Change) → n < length es → x ≡ get_or es n x → drop n es ≡ x ∷ drop (n + 1) es
+left_is n es x h e = drop_next n es x h ∙ ap (λ y. y ∷ drop (n + 1) es) (sym e)
 
 pub unsettled_fewer : (frames : List Frame) (es : List Change) (n : ℕ) (x : Change) (was now : List CodeId) (publishing : Bool) → IsRising None es → ((c : CodeId) → IsWithin (net_in (drop n es) c) (act c frames)) → drop n es ≡ x ∷ drop (n + 1) es
     → unsettled (record { frames = frames; counted = counted_by frames (drop n es); changed = was; publishing = publishing })

@@ -1,5 +1,5 @@
 -- Nets: codes with how many frames each has more than are counted, rising by serial and then by slot.
-use Rattle.std.specs.Prelude.{◌≡◌, ℕ, zero, suc, ℤ, pos, negsuc, ◌+ℤ◌, ◌-ℤ◌, ◌≤ℤ◌, ◌==◌, Bool, true, false, not, List, [], ◌∷◌, ◌++◌, map, filter, replicate, Option, Some, None, if◌then◌else◌}
+use Rattle.std.specs.Prelude.{◌≡◌, ℕ, zero, suc, ℤ, pos, negsuc, ◌+ℤ◌, ◌-ℤ◌, ◌≤ℤ◌, ◌≤◌, ◌==◌, length, Bool, true, false, not, List, [], ◌∷◌, ◌++◌, map, filter, replicate, Option, Some, None, if◌then◌else◌}
 use Rattle.frames.specs.declared.CodeId.{CodeId}
 use Rattle.frames.specs.declared.Frame.{Frame}
 use Rattle.frames.specs.declared.Change.{Change}
@@ -30,6 +30,10 @@ add (e ∷ es) code by =
     if code_lt e.code code then e ∷ add es code by
     else if same_code e.code code then with_net code (e.by +ℤ by) es
     else net_of code by ∷ e ∷ es
+
+-- the same, and as they are where it moves by 0
+abbrev pub moved : List Change → CodeId → ℤ → List Change
+moved es code by = if is_zero by then es else add es code by
 
 -- each code is above the one before, and no net is 0
 abbrev pub IsRising : Option CodeId → List Change → Type 0
@@ -85,3 +89,17 @@ net_sum serial (e ∷ es) = (if e.code.serial == serial then e.by else pos 0) +�
 abbrev pub AreSmall : List Change → Type 0
 AreSmall [] = Unit {0}
 AreSmall (e ∷ es) = IsWithin e.by 256 × AreSmall es
+
+-- the nets as they are where the register's move stands among them, and whether the register is empty
+pub record NetsView : Type 0 where
+  pub entries : List Change
+  pub flushed : Bool
+
+-- what is true of a list with its register
+pub record AreKept (es : List Change) (capacity : ℕ) (latest : Change) : Type 0 where
+  pub room : 512 ≤ capacity
+  pub rising : IsRising None es
+  pub listed : (code : CodeId) → IsWithin (net_in es code) 256
+  pub all : (code : CodeId) → IsWithin (net_in (moved es latest.code latest.by) code) 256
+  pub few : length (moved es latest.code latest.by) ≤ 512
+  pub few_listed : length es ≤ 512

@@ -144,8 +144,11 @@ pub struct SeatView {
 /// What a seat of a board's table knows. The number is its stamp, which rises at each step of the seat: of two seats the one whose
 /// stamp is greater stepped later.
 pub enum BoardView {
-    Keeper(KeeperView, u64),
+    /// The keeper's. While a board is closed, it also has what each seat knew that was given back.
+    Keeper(KeeperView, LinkedList<SeatView>, u64),
     Thread(SeatView, u64),
+    /// A thread's that was given back.
+    Ended,
 }
 
 /// A law: whatever step a seat makes, where it is allowed, a board that meets the rule meets it afterwards.

@@ -2,9 +2,8 @@
 ghost use Rattle.std.specs.Prelude.{◌≡◌, ◌≢◌, pos, ◌+ℤ◌, ℕ, ◌+◌, ◌<◌, ◌≤◌, List, [], ◌∷◌, ◌++◌, length, true, false, IfOk, OnOk, OnErr, IfErr, IfSome, IfNone, IsTrue, option_map, Some, None, ◌↔◌, vec_capacity};
 ghost use Rattle.frames.specs.Stack.{act, times, is_among, top_serial_of, has_serial, serial_count};
 ghost use Rattle.frames.specs.ImageView.{SameBag, next_code, IsNext, unsettled, serial_times, IsCounted, HasFrames, Counts, IsSettled, push_fault, pop_fault, end_fault};
-ghost use Rattle.frames.specs.Nets.{net_sum};
 
-use crate::nets::{add, net_sum};
+use crate::nets::Nets;
 use crate::{Change, CodeId, EndFault, Frame, PopFault, Publishing, PushFault};
 use std::alloc::{AllocError, Global};
 use std::marker::Model;
@@ -22,12 +21,10 @@ pub const DEPTH: usize = 256;
 #[derive(Drop)]
 pub struct Image {
     frames: Vec<Frame>,
-    // How many more frames each code has than are counted, rising by serial and then by slot, none of them 0. In an open
-    // publication those in front were given already, and are no longer left.
-    nets: Vec<Change>,
+    // How many more frames each code has than are counted. In an open publication those in front were given already, and
+    // are no longer left.
+    nets: Nets,
     given: usize,
-    // Where a net was moved last.
-    last: usize,
     publishing: bool,
 }
 
@@ -42,18 +39,18 @@ impl Model for Image {
 
     ghost view = { λ i. record {
       frames = i.frames.items;
-      counted = counted_by i.frames.items (drop i.given i.nets.items);
-      changed = codes_in (take i.given i.nets.items);
+      counted = counted_by i.frames.items (drop i.given i.nets.entries);
+      changed = codes_in (take i.given i.nets.entries);
       publishing = i.publishing;
     } };
 
-    ghost invariant = { λ i. (vec_len i.frames ≤ 256) × (256 ≤ vec_capacity i.frames) × (512 ≤ vec_capacity i.nets)
-        × (i.given ≤ length i.nets.items)
+    ghost invariant = { λ i. (vec_len i.frames ≤ 256) × (256 ≤ vec_capacity i.frames) × (i.publishing ≡ true → i.nets.flushed ≡ true)
+        × (i.given ≤ length i.nets.entries)
         × (i.publishing ≡ false → i.given ≡ 0)
-        × IsRising None i.nets.items
-        × ((code : CodeId) → IsWithin (net_in (drop i.given i.nets.items) code) (act code i.frames.items))
-        × (i.publishing ≡ false → length (counted_by i.frames.items i.nets.items) ≤ 256)
-        × (length i.nets.items ≤ 512) };
+        × IsRising None i.nets.entries
+        × ((code : CodeId) → IsWithin (net_in (drop i.given i.nets.entries) code) (act code i.frames.items))
+        × (i.publishing ≡ false → length (counted_by i.frames.items i.nets.entries) ≤ 256)
+        × (length i.nets.entries ≤ 512) };
 }
 
 impl Image {
@@ -68,9 +65,8 @@ impl Image {
     {
         Ok(Image {
             frames: Vec::with_capacity(alloc, DEPTH)?,
-            nets: Vec::with_capacity(alloc, 2 * DEPTH)?,
+            nets: Nets::new(alloc)?,
             given: 0,
-            last: 0,
             publishing: false,
         })
     }
@@ -117,7 +113,7 @@ impl Image {
         match self.frames.push(frame) {
             Ok(()) => {
                 if let Some(code) = frame.code {
-                    self.last = add(&mut self.nets, self.last, code, 1);
+                    self.nets.add(code, 1);
                 }
                 Ok(())
             }
@@ -145,7 +141,7 @@ impl Image {
         match self.frames.pop() {
             Some(frame) => {
                 if let Some(code) = frame.code {
-                    self.last = add(&mut self.nets, self.last, code, -1);
+                    self.nets.add(code, -1);
                 }
                 Ok(frame)
             }
@@ -167,6 +163,7 @@ impl Image {
         if self.publishing {
             return Err(Publishing);
         }
+        self.nets.flush();
         self.publishing = true;
         Ok(())
     }
@@ -192,7 +189,6 @@ impl Image {
         let Some(change) = self.nets.get(self.given) else {
             return None;
         };
-        let change = *change;
         self.given += 1;
         Some(change)
     }
@@ -204,6 +200,7 @@ impl Image {
     pub fn end(&mut self) -> Result<(), EndFault>
         ensures ok { OnOk result ((self.new.frames ≡ self.old.frames)
             × (self.new.publishing ≡ false) × IsCounted self.new) }
+        ensures counted { OnOk result (IsCounted self.old) }
         ensures closed { OnOk result (self.new.changed ≡ []) }
         ensures accepted { OnOk result (end_fault self.old ≡ None) }
         ensures refused { IfErr result (λ fault. end_fault self.old ≡ Some fault) }
@@ -225,7 +222,7 @@ impl Image {
     pub fn is_settled(&self) -> bool
         ensures { IsTrue result ↔ IsSettled self.now }
     {
-        !self.publishing && self.nets.is_empty()
+        !self.publishing && self.nets.len() == 0
     }
 
     /// How many codes have other numbers of frames than are counted.
@@ -239,7 +236,7 @@ impl Image {
     pub fn net(&self, serial: u64) -> i32
         ensures { pos (serial_times serial self.now.counted) +ℤ result ≡ pos (serial_count serial self.now.frames) }
     {
-        net_sum(&self.nets[self.given..], serial)
+        self.nets.sum(self.given, serial)
     }
 
     /// The number of frames whose code has the serial.

@@ -158,3 +158,82 @@ fn nets_follow_pushes_and_pops(rt: HostRuntime) -> Result<(), Fail> {
     assert_eq!(rt; image.unsettled(), 1);
     Ok(())
 }
+
+#[test]
+fn the_code_called_last_is_among_the_changes(rt: HostRuntime) -> Result<(), Fail> {
+    let mut image = Image::new(rt.alloc())?;
+    assert_eq!(rt; image.push(compiled(0, code(0, 3))), Ok(()));
+    assert_eq!(rt; image.push(compiled(0, code(0, 1))), Ok(()));
+    assert_eq!(rt; image.unsettled(), 2);
+    assert_eq!(rt; image.begin(), Ok(()));
+    assert_eq!(rt;
+        image.next_change(),
+        Some(Change {
+            code: code(0, 1),
+            by: 1
+        })
+    );
+    assert_eq!(rt; image.net(1), 0);
+    assert_eq!(rt; image.net(3), 1);
+    assert_eq!(rt;
+        image.next_change(),
+        Some(Change {
+            code: code(0, 3),
+            by: 1
+        })
+    );
+    assert_eq!(rt; image.end(), Ok(()));
+    assert_eq!(rt; image.pop(), Ok(compiled(0, code(0, 1))));
+    assert_eq!(rt; image.net(1), -1);
+    assert_eq!(rt; image.unsettled(), 1);
+    assert_eq!(rt; image.push(compiled(0, code(0, 1))), Ok(()));
+    assert!(rt; image.is_settled());
+    Ok(())
+}
+
+#[test]
+fn an_image_has_room_for_512_nets(rt: HostRuntime) -> Result<(), Fail> {
+    let mut image = Image::new(rt.alloc())?;
+    for serial in (1..257).rev() {
+        assert_eq!(rt; image.push(compiled(0, code(0, serial))), Ok(()));
+    }
+    assert_eq!(rt; image.begin(), Ok(()));
+    for serial in 1..257 {
+        assert_eq!(rt;
+            image.next_change(),
+            Some(Change {
+                code: code(0, serial),
+                by: 1
+            })
+        );
+    }
+    assert_eq!(rt; image.end(), Ok(()));
+    for serial in 1..257 {
+        assert_eq!(rt; image.pop(), Ok(compiled(0, code(0, serial))));
+    }
+    for serial in 1..257 {
+        assert_eq!(rt; image.push(compiled(0, code(1, serial))), Ok(()));
+    }
+    assert_eq!(rt; image.unsettled(), 512);
+    assert_eq!(rt; image.net(256), 0);
+    assert_eq!(rt; image.begin(), Ok(()));
+    for serial in 1..257 {
+        assert_eq!(rt;
+            image.next_change(),
+            Some(Change {
+                code: code(0, serial),
+                by: -1
+            })
+        );
+        assert_eq!(rt;
+            image.next_change(),
+            Some(Change {
+                code: code(1, serial),
+                by: 1
+            })
+        );
+    }
+    assert_eq!(rt; image.end(), Ok(()));
+    assert!(rt; image.is_settled());
+    Ok(())
+}

@@ -1,4 +1,5 @@
-//! How long a call with its return takes on an image, and a publication: `image_bench times` prints nanoseconds.
+//! How long a call with its return takes on an image of a stack, and a publication: `image_bench times` prints nanoseconds.
+//! Without an argument it makes few turns and prints nothing, since times differ from run to run.
 #![tactic(auto)]
 
 ghost use Rattle.std.specs.Prelude.{◌≡◌, ◌≤◌, ◌<◌};
@@ -7,6 +8,22 @@ use frames::image::Image;
 use frames::{CodeId, Frame};
 use std::time::{Duration, Instant};
 
+const MANY: u64 = 3000000;
+
+const FEW: u64 = 10;
+
+/// How many climbs are timed.
+const CLIMBS: u64 = 1000;
+
+/// Serials of the codes below differ from this one in their last bits.
+const BELOW: u64 = 1 << 20;
+
+/// The least serial that is called, and the greatest.
+const LEAST: u64 = 1;
+
+const GREATEST: u64 = 1 << 30;
+
+/// A frame of the code.
 fn frame(serial: u64) -> Frame {
     Frame {
         method: 0,
@@ -14,7 +31,7 @@ fn frame(serial: u64) -> Frame {
     }
 }
 
-/// Calls the code and returns from it.
+/// Calls the code and returns from it, and counts how often both went well.
 fn calls(image: &mut Image, serial: u64, turns: u64) -> u64 {
     let mut done = 0u64;
     for turn in 0..turns {
@@ -25,18 +42,18 @@ fn calls(image: &mut Image, serial: u64, turns: u64) -> u64 {
     done
 }
 
-/// Calls so many codes, each another one.
+/// Calls so many codes, each another one, and counts them.
 fn climb(image: &mut Image, codes: u64) -> u64 {
     let mut done = 0u64;
     for turn in 0..codes {
-        if image.push(frame(1000000 ^ turn)).is_ok() {
+        if image.push(frame(BELOW ^ turn)).is_ok() {
             done = done.wrapping_add(1);
         }
     }
     done
 }
 
-/// Returns from all.
+/// Returns from all, and counts them.
 fn fall(image: &mut Image) -> u64 {
     let mut done = 0u64;
     for turn in 0..256 {
@@ -47,7 +64,7 @@ fn fall(image: &mut Image) -> u64 {
     done
 }
 
-/// Publishes.
+/// Publishes, and adds up the serials that change.
 fn publish(image: &mut Image) -> u64 {
     let mut sum = 0u64;
     if image.begin().is_ok() {
@@ -78,6 +95,7 @@ fn rounds(image: &mut Image, codes: u64, turns: u64) -> u64 {
     sum
 }
 
+/// Prints what a turn took, where times are shown.
 fn report(
     rt: &HostRuntime,
     shown: bool,
@@ -94,66 +112,64 @@ fn report(
     Ok(())
 }
 
+/// Times calls of the code with their returns.
+fn time_calls(
+    rt: &HostRuntime,
+    shown: bool,
+    name: &str,
+    image: &mut Image,
+    serial: u64,
+    turns: u64,
+) -> anyhow::Result<u64>
+    requires { 10 ≤ turns }
+{
+    let start = Instant::now(rt)?;
+    let done = calls(image, serial, turns);
+    report(rt, shown, name, start.elapsed(rt)?, turns)?;
+    Ok(done)
+}
+
+/// The same over so many other codes, first before they are published, then after.
 fn time_depth(rt: &HostRuntime, shown: bool, depth: u64, turns: u64) -> anyhow::Result<u64>
     requires { 10 ≤ turns }
 {
     let mut image = Image::new(rt.alloc())?;
     let mut sum = climb(&mut image, depth);
-    let start = Instant::now(rt)?;
-    sum = sum.wrapping_add(calls(&mut image, 1, turns));
-    report(
-        rt,
-        shown,
-        "call and return, others uncounted, first in the list",
-        start.elapsed(rt)?,
-        turns,
-    )?;
-    let start = Instant::now(rt)?;
-    sum = sum.wrapping_add(calls(&mut image, 2000000, turns));
-    report(
-        rt,
-        shown,
-        "call and return, others uncounted, last in the list",
-        start.elapsed(rt)?,
-        turns,
-    )?;
+    for (name, serial) in [
+        ("call and return over uncounted codes, the least", LEAST),
+        (
+            "call and return over uncounted codes, the greatest",
+            GREATEST,
+        ),
+    ] {
+        sum = sum.wrapping_add(time_calls(rt, shown, name, &mut image, serial, turns)?);
+    }
     sum = sum.wrapping_add(publish(&mut image));
-    let start = Instant::now(rt)?;
-    sum = sum.wrapping_add(calls(&mut image, 1, turns));
-    report(
-        rt,
-        shown,
-        "call and return, others counted",
-        start.elapsed(rt)?,
-        turns,
-    )?;
+    let name = "call and return over counted codes";
+    sum = sum.wrapping_add(time_calls(rt, shown, name, &mut image, LEAST, turns)?);
     Ok(sum)
 }
 
+/// Times climbs of so many codes and returns from them, with a publication after each.
 fn time_rounds(rt: &HostRuntime, shown: bool, codes: u64, turns: u64) -> anyhow::Result<u64>
     requires { 10 ≤ turns }
 {
     let mut image = Image::new(rt.alloc())?;
     let start = Instant::now(rt)?;
     let sum = rounds(&mut image, codes, turns);
-    report(
-        rt,
-        shown,
-        "climb, publish, fall, publish",
-        start.elapsed(rt)?,
-        turns,
-    )?;
+    let name = "climb, publish, fall, publish";
+    report(rt, shown, name, start.elapsed(rt)?, turns)?;
     Ok(sum)
 }
 
 fn main(rt: HostRuntime) -> anyhow::Result<()> {
     let shown = std::env::args(&rt)?.count() > 1;
-    let turns = if shown { 3000000 } else { 10 };
-    let few = if shown { 1000 } else { 10 };
+    let turns = if shown { MANY } else { FEW };
+    let climbs = if shown { CLIMBS } else { FEW };
     let mut sum = 0u64;
     for depth in [0, 15, 255] {
         if shown {
-            println!(rt; "below: {depth}")?;
+            println!(rt; "codes below: {depth}")?;
         }
         sum = sum.wrapping_add(time_depth(&rt, shown, depth, turns)?);
     }
@@ -161,10 +177,10 @@ fn main(rt: HostRuntime) -> anyhow::Result<()> {
         if shown {
             println!(rt; "codes: {codes}")?;
         }
-        sum = sum.wrapping_add(time_rounds(&rt, shown, codes, few)?);
+        sum = sum.wrapping_add(time_rounds(&rt, shown, codes, climbs)?);
     }
     if shown {
-        println!(rt; "{sum}")?;
+        println!(rt; "sum: {sum}")?;
     }
     Ok(())
 }

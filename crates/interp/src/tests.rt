@@ -1,6 +1,7 @@
 // What no clause says: that calls succeed, and that the trace's definition is the one that is meant.
 use super::*;
 use script::{check, read_script};
+use std::alloc::{AllocError, Global};
 use std::test::Fail;
 
 /// A fake that takes so many marks and refuses the next.
@@ -134,6 +135,68 @@ fn a_refused_mark_is_made_later(rt: HostRuntime) -> Result<(), Fail> {
     let mut tape = Tape::new(alloc);
     assert!(rt; matches!(runner.run(&mut tape, 2), Outcome::Finished));
     assert_eq!(rt; tape.marks.as_slice(), [Mark::Vm, Mark::Out(0)].as_slice());
+    Ok(())
+}
+
+/// `before`, the piece so many times, and `after`.
+fn text_of(
+    alloc: Global,
+    before: &[u8],
+    piece: &[u8],
+    times: usize,
+    after: &[u8],
+) -> Result<Vec<u8>, AllocError> {
+    let mut text = Vec::new(alloc);
+    text.extend_from_slice(before)?;
+    for _ in 0..times {
+        text.extend_from_slice(piece)?;
+    }
+    text.extend_from_slice(after)?;
+    Ok(text)
+}
+
+#[test]
+fn the_longest_script_runs_whole(rt: HostRuntime) -> Result<(), Fail> {
+    let alloc = rt.alloc();
+    let text = text_of(
+        alloc,
+        b"{\"methods\":[[\"vm\"",
+        b",\"tick\"",
+        65_535,
+        b"]]}",
+    )?;
+    let code = check(alloc, &read_script(alloc, text.as_slice())?)?;
+    let mut runner = Runner::new(alloc, &code)?;
+    let mut tape = Tape::new(alloc);
+    assert!(rt; matches!(runner.run(&mut tape, 65_538), Outcome::Finished));
+    assert_eq!(rt; runner.made(), 65_538);
+    assert_eq!(rt; tape.marks.len(), 65_538);
+    assert_eq!(rt; tape.marks.first(), Some(&Mark::In(0)));
+    assert_eq!(rt; tape.marks.get(1), Some(&Mark::Vm));
+    assert_eq!(rt; tape.marks.get(65_536), Some(&Mark::Tick));
+    assert_eq!(rt; tape.marks.last(), Some(&Mark::Out(0)));
+    Ok(())
+}
+
+// Each of 256 methods calls the next, so that as many calls stand at once as may.
+#[test]
+fn a_chain_of_256_methods_finishes(rt: HostRuntime) -> Result<(), Fail> {
+    let alloc = rt.alloc();
+    let mut text = text_of(alloc, b"{\"methods\":[", b"", 0, b"")?;
+    for method in 1..256u64 {
+        let call = format!(in alloc; "[{{\"call\":{method}}}],")?;
+        text.extend_from_slice(call.as_bytes())?;
+    }
+    text.extend_from_slice(b"[]]}")?;
+    let code = check(alloc, &read_script(alloc, text.as_slice())?)?;
+    assert_eq!(rt; code.methods(), 256);
+    let mut runner = Runner::new(alloc, &code)?;
+    let mut tape = Tape::new(alloc);
+    assert!(rt; matches!(runner.run(&mut tape, 512), Outcome::Finished));
+    assert_eq!(rt; tape.marks.len(), 512);
+    assert_eq!(rt; tape.marks.get(255), Some(&Mark::In(255)));
+    assert_eq!(rt; tape.marks.get(256), Some(&Mark::Out(255)));
+    assert_eq!(rt; tape.marks.last(), Some(&Mark::Out(0)));
     Ok(())
 }
 

@@ -1,10 +1,10 @@
 -- What the fields of a table answer is what its codes say, and each edit keeps it so.
-use Rattle.std.proofs.Common.{◌≡◌, ℕ, zero, suc, ◌+◌, ◌^◌, ◌<◌, ◌≤◌, ◌∙◌, sym, Bool, true, false, not, ◌&&◌, List, [], ◌∷◌, ◌++◌, length, set, Option, Some, None, refl, ap, subst, cond, arith, inl, inr, ◌⊎◌, length-append, length-set, replicate}
-use Rattle.std.specs.Prelude.{find, slice_get, is_some, is_none, option_map, ◌==◌}
+use Rattle.std.proofs.Common.{◌≡◌, ℕ, zero, suc, ◌+◌, ◌^◌, ◌<◌, ◌≤◌, ◌∙◌, sym, Bool, true, false, not, ◌&&◌, List, [], ◌∷◌, ◌++◌, length, set, Option, Some, None, refl, ap, subst, cond, arith, inl, inr, ◌⊎◌, ⊎_elim, length-append, length-set, replicate}
+use Rattle.std.specs.Prelude.{find, slice_get, is_some, is_none, option_map, nat_lt, nat_le, ◌==◌}
 use Rattle.std.specs.Option.{option_or}
-use Rattle.std.proofs.lemmas.Bool.{false≢true, eqb-true, eq-eqb, ne_eqb, cases_eq, cases_lt, cases_Bool, lt-ltb, le-ltb, lt-leb, le-leb, and_parts, and_from}
+use Rattle.std.proofs.lemmas.Bool.{false≢true, eqb-true, eq-eqb, ne_eqb, cases_eq, cases_lt, cases_Bool, lt-ltb, le-ltb, lt-leb, le-leb, ltb-true, leb-true, and_parts, and_from}
 use Rattle.std.proofs.lemmas.List.{length-replicate}
-use Rattle.std.proofs.lemmas.Option.{none-some, same_Some, cond_some, slice_get_within, slice_get_past}
+use Rattle.std.proofs.lemmas.Option.{none-some, same_Some, cond_some, slice_get_within, slice_get_past, slice_get_cases}
 use Rattle.std.proofs.lemmas.List.Folds.{find-append}
 use Rattle.frames.specs.declared.CodeId.{CodeId}
 use Rattle.method_table.specs.declared.Code.{Code}
@@ -18,6 +18,7 @@ use Rattle.method_table.specs.TableView.{TableView, IsTable, entry_of, install_f
 use Rattle.method_table.specs.declared.table.InstallFault.TheVariants as install
 use Rattle.method_table.proofs.Searches.{below_found, IsLeastBelow, find_passes, any_is_found, find_same}
 use Rattle.method_table.proofs.Serials.{code_of_serial, not_before, not_past, was_given, listed_is, found_is, missed_is, unfreed_is, is_unfreed, numbered_push, numbered_state, state_keeps_length, code_of-with_state}
+use Rattle.method_table.proofs.Newest.{newest_added, newest_stated}
 use Rattle.method_table.proofs.Ties.{tied_put, current_added, current_dropped, current_moved}
 
 -- a write to a list puts an item at a place
@@ -121,6 +122,31 @@ module _ (table : TableView) (method : ℕ) where
         pub no_fault : next_serial table.codes ≤ last_number → install_fault table method ≡ None
         no_fault l = rw (lt-ltb method table.methods within) (rw none (rw free (rw (le-leb (next_serial table.codes) last_number l) refl)))
 
+-- where there is no such reason, no test failed
+accepted_where : (a b c d : Bool) → cond a (cond b (cond c (cond d None (Some install.SerialsSpent)) (Some install.TableFull)) (Some install.HasCode)) (Some install.NoSuchMethod) ≡ None → (a ≡ true) × (b ≡ true) × (c ≡ true) × (d ≡ true)
+accepted_where true true true true h = (refl, refl, refl, refl)
+accepted_where true true true false h = cc
+accepted_where true true false d h = cc
+accepted_where true false c d h = cc
+accepted_where false b c d h = cc
+
+module _ (table : TableView) (method : ℕ) where
+  accepted : install_fault table method ≡ None → (nat_lt method table.methods ≡ true) × (is_none (in_use_for table.codes method) ≡ true) × (is_some (free_slot table.codes table.slots) ≡ true) × (nat_le (next_serial table.codes) last_number ≡ true)
+  accepted h = accepted_where (nat_lt method table.methods) (is_none (in_use_for table.codes method)) (is_some (free_slot table.codes table.slots)) (nat_le (next_serial table.codes) last_number) h
+
+  pub accepted_within : install_fault table method ≡ None → method < table.methods
+  accepted_within h = ltb-true method table.methods (accepted h).0
+
+  pub accepted_serial : install_fault table method ≡ None → next_serial table.codes ≤ last_number
+  accepted_serial h = leb-true (next_serial table.codes) last_number (accepted h).3
+
+  pub accepted_none : install_fault table method ≡ None → in_use_for table.codes method ≡ None
+  accepted_none h = none_of (in_use_for table.codes method) (accepted h).1
+    where
+      none_of : (o : Option Code) → is_none o ≡ true → o ≡ None
+      none_of None e = refl
+      none_of (Some c) e = let no : false ≡ true = e in cc
+
 -- an entry is empty where the method has no code in use
 pub none_in_use : (entry : Option CodeId) (o : Option Code) (b : Bool) → entry ≡ option_map id_of o → is_some entry ≡ b → is_none o ≡ not b
 none_in_use entry None b e h = (let none : is_some entry ≡ false = rw e refl in rw (sym h ∙ none) refl)
@@ -137,12 +163,14 @@ empty_kept codes records slots methods slot_of current c r none u small =
     rw (c, r, u) (record {
       numbered = tt;
       next_is = refl;
+      not_spent = omega arith;
       few = omega arith;
       few_methods = omega (arith, length-replicate methods (let no : Option CodeId = None in no));
       tied = record { serials = λ serial code h. absurd (none-some code h); listed = λ slot code h t. absurd (none-some code h); recorded = λ serial code h t. absurd (none-some code h) };
       indexed = none;
       entries = record { entered = λ method id h. absurd (none_current methods method id h); current = λ serial code h t. absurd (none-some code h) };
       full = λ slot l. absurd (omega arith);
+      newest = λ serial code h t. absurd (none-some code h);
     })
 
 module _ (codes : List Code) (slots next : ℕ) (records : List Code) (slot_of : ℕ → Option ℕ) (current : List (Option CodeId)) (taken : ℕ) (kept : IsKept codes slots next records slot_of current taken) where
@@ -291,6 +319,7 @@ module _ (codes : List Code) (slots next : ℕ) (records : List Code) (slot_of :
   table_is =
       record {
         serials = λ place code h. (let at_place = (listed_is 1 place codes code kept.numbered h).0 in omega arith);
+        in_numbers = λ place code h. (let at_place = (listed_is 1 place codes code kept.numbered h).0 in let within = slice_get_within codes place code h in omega (arith, kept.not_spent));
         in_slots = λ serial code h. (let was = is_unfreed serial codes code kept.numbered h in let within = slice_get_within records code.slot code (kept.tied.recorded serial code was.0 was.1) in omega (arith, kept.few));
         own_slots = λ serial other code same h k e.
             (let was = is_unfreed serial codes code kept.numbered h in
@@ -298,6 +327,7 @@ module _ (codes : List Code) (slots next : ℕ) (records : List Code) (slot_of :
             let here = kept.tied.recorded serial code was.0 was.1 in
             let there = kept.tied.recorded other same theirs.0 theirs.1 in
             let there_too : slice_get records code.slot ≡ Some same = rw e there in same_Some code same (sym here ∙ there_too));
+        newest = λ serial code h. (let was = is_unfreed serial codes code kept.numbered h in kept.newest serial code was.0 was.1);
         of_methods = of_methods_where;
         one_in_use = λ serial code h used.
             (let was = is_unfreed serial codes code kept.numbered h in
@@ -340,13 +370,20 @@ module _ (codes : List Code) (slots next : ℕ) (records : List Code) (slot_of :
     indexed_where slot_of' noted serial (inl e) = rw e (noted.here ∙ rw (put_code codes new kept.numbered refl).here refl)
     indexed_where slot_of' noted serial (inr ne) = rw ((put_code codes new kept.numbered refl).others serial ne) (noted.others serial ne ∙ kept.indexed serial)
 
-    pub installed : (slot_of' : ℕ → Option ℕ) → Puts slot_of slot_of' (length codes + 1) (Some slot) → IsKept (with_code codes method slot) slots (length codes + 1 + 1) (with_record records new) slot_of' (set current method (Some (id_of new))) (slot + 1)
-    installed slot_of' noted =
+    -- no unfreed code stands in the slot
+    none_there : (serial : ℕ) (code : Code) → code_of codes serial ≡ Some code → takes_slot code.state ≡ true → code.slot ≡ slot → ⊥
+    none_there serial code h takes e =
+        let there : slice_get records slot ≡ Some code = rw (← e) (kept.tied.recorded serial code h takes) in
+        let held : holds (slice_get records slot) ≡ true = rw there takes in false≢true (sym slot_is_free ∙ held)
+
+    pub installed : (slot_of' : ℕ → Option ℕ) → next ≤ last_number → Puts slot_of slot_of' (length codes + 1) (Some slot) → IsKept (with_code codes method slot) slots (length codes + 1 + 1) (with_record records new) slot_of' (set current method (Some (id_of new))) (slot + 1)
+    installed slot_of' below_last noted =
         let codes_put : Puts (code_of codes) (code_of (with_code codes method slot)) new.serial (Some new) = put_code codes new kept.numbered refl in
         let within : method < length current = slice_get_within current method None empty in
         record {
           numbered = numbered_push 1 codes new kept.numbered (omega arith);
           next_is = omega (arith, length-append codes (new ∷ []));
+          not_spent = omega (arith, length-append codes (new ∷ []), kept.next_is, below_last);
           few = few_records records new slots kept.few found_free.within;
           few_methods = omega (arith, kept.few_methods, length-set current method (Some (id_of new)));
           tied = tied_put (code_of codes) (code_of (with_code codes method slot)) (slice_get records) (slice_get (with_record records new)) new kept.tied codes_put (put_record records new slot_next)
@@ -355,12 +392,13 @@ module _ (codes : List Code) (slots next : ℕ) (records : List Code) (slot_of :
           indexed = λ serial. indexed_where slot_of' noted serial (cases_eq serial (length codes + 1));
           entries = current_added (code_of codes) (code_of (with_code codes method slot)) (slice_get current) (slice_get (set current method (Some (id_of new)))) new kept.entries codes_put no_such refl (put_set current method (Some (id_of new)) within) empty;
           full = λ k l. full_where k l (cases_eq k slot);
+          newest = newest_added codes new kept.newest codes_put none_there;
         }
 
-    pub installed_at : (serial : ℕ) (codes' records' : List Code) (slot_of' : ℕ → Option ℕ) (current' : List (Option CodeId)) → serial ≡ length codes + 1 → codes' ≡ with_code codes method slot
+    pub installed_at : (serial : ℕ) (codes' records' : List Code) (slot_of' : ℕ → Option ℕ) (current' : List (Option CodeId)) → next ≤ last_number → serial ≡ length codes + 1 → codes' ≡ with_code codes method slot
         → records' ≡ with_record records (record { serial = serial; slot = slot; method = method; state = InUse }) → current' ≡ set current method (Some (record { slot = slot; serial = serial }))
         → Puts slot_of slot_of' serial (Some slot) → IsKept codes' slots (serial + 1) records' slot_of' current' (slot + 1)
-    installed_at serial codes' records' slot_of' current' s c r u noted = rw (c, r, u) (rw s (installed slot_of' (rw (← s) noted)))
+    installed_at serial codes' records' slot_of' current' below_last s c r u noted = rw (c, r, u) (rw s (installed slot_of' below_last (rw (← s) noted)))
 
   -- a slot that was noted and forgotten, for want of memory
   pub forgotten : (slot_of' slot_of'' : ℕ → Option ℕ) (records' : List Code) (serial slot : ℕ) → serial ≡ length codes + 1 → records' ≡ records → Puts slot_of slot_of' serial (Some slot) → Puts slot_of' slot_of'' serial None → IsKept codes slots next records' slot_of'' current taken
@@ -368,11 +406,13 @@ module _ (codes : List Code) (slots next : ℕ) (records : List Code) (slot_of :
       rw r (record {
         numbered = kept.numbered;
         next_is = kept.next_is;
+        not_spent = kept.not_spent;
         few = kept.few;
         few_methods = kept.few_methods;
         tied = kept.tied;
         entries = kept.entries;
         full = kept.full;
+        newest = kept.newest;
         indexed = λ other. forgotten_at other (cases_eq other serial);
       })
     where
@@ -385,11 +425,13 @@ module _ (codes : List Code) (slots next : ℕ) (records : List Code) (slot_of :
       record {
         numbered = kept.numbered;
         next_is = kept.next_is;
+        not_spent = kept.not_spent;
         few = kept.few;
         few_methods = kept.few_methods;
         tied = kept.tied;
         entries = kept.entries;
         full = kept.full;
+        newest = kept.newest;
         indexed = λ serial. same serial ∙ kept.indexed serial;
       }
 
@@ -416,6 +458,17 @@ module _ (codes : List Code) (slots next : ℕ) (records : List Code) (slot_of :
 
       pub why_not : (slot : ℕ) → least_free records slots ≡ Some slot → next ≤ last_number → install_fault table method ≡ None
       why_not slot f l = no_fault table method within no_code slot (sym free_is ∙ f) (rw (← kept.next_is) l)
+
+  -- a method that gets a code has no entry
+  pub empty_entry : (method : ℕ) → install_fault table method ≡ None → slice_get current method ≡ Some None
+  empty_entry method h =
+      ⊎_elim
+      (λ there. there.2 ∙ ap Some (current_is method there.0 there.2 ∙ ap (option_map id_of) (accepted_none table method h)))
+      (λ past. (let within_methods = accepted_within table method h in absurd (omega (arith, within_methods, past.0))))
+      (slice_get_cases current method).1
+
+  pub below_last : (method : ℕ) → install_fault table method ≡ None → next ≤ last_number
+  below_last method h = omega (arith, kept.next_is, accepted_serial table method h)
 
   -- a change of state of an unfreed code
   module _ (serial : ℕ) (code : Code) (found : unfreed codes serial ≡ Some code) where
@@ -466,6 +519,7 @@ module _ (codes : List Code) (slots next : ℕ) (records : List Code) (slot_of :
           record {
             numbered = numbered_state 1 serial state codes kept.numbered;
             next_is = kept.next_is ∙ ap (λ n. n + 1) (sym (state_keeps_length serial state codes));
+            not_spent = omega (arith, kept.not_spent, state_keeps_length serial state codes);
             few = omega (arith, kept.few, length-set records code.slot after);
             few_methods = small;
             tied = tied_put (code_of codes) (code_of (with_state codes serial state)) (slice_get records) (slice_get (set records code.slot after)) after kept.tied codes_put records_put
@@ -474,6 +528,7 @@ module _ (codes : List Code) (slots next : ℕ) (records : List Code) (slot_of :
             indexed = λ other. indexed_where' slot_of' put other (cases_eq other serial);
             entries = entries;
             full = full;
+            newest = newest_stated codes serial state code kept.newest listed_there takes;
           }
 
       full_where_taken : takes_slot state ≡ true → (k : ℕ) → k < taken → (k ≡ code.slot) ⊎ (k ≡ code.slot → ⊥) → holds (slice_get (set records code.slot after) k) ≡ true

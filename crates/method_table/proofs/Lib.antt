@@ -1,5 +1,7 @@
 pub mod Walks
 pub mod Searches
 pub mod Serials
+pub mod Newest
 pub mod Ties
 pub mod KeptLemmas
+pub mod Forward

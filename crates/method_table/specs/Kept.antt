@@ -2,7 +2,8 @@
 use Rattle.std.specs.Prelude.{◌≡◌, ℕ, ◌+◌, ◌^◌, ◌<◌, ◌≤◌, ◌==◌, Bool, true, false, not, List, [], ◌∷◌, ◌++◌, length, Option, Some, None, find, slice_get, slice_set, if◌then◌else◌}
 use Rattle.frames.specs.declared.CodeId.{CodeId}
 use Rattle.method_table.specs.declared.Code.{Code}
-use Rattle.method_table.specs.Numbers.{below}
+use Rattle.method_table.specs.Numbers.{below, last_number}
+use Rattle.method_table.specs.Entries.{newest_in}
 use Rattle.method_table.specs.Codes.{is_in_use, takes_slot, id_of, code_of}
 
 -- The serials rise by one from a first.
@@ -44,16 +45,22 @@ abbrev pub kept_slot : Option Code → Option ℕ
 kept_slot None = None
 kept_slot (Some code) = if takes_slot code.state then Some code.slot else None
 
+-- Each unfreed code is the newest of its slot.
+abbrev pub AreNewest : List Code → Type 0
+AreNewest codes = (serial : ℕ) (code : Code) → code_of codes serial ≡ Some code → takes_slot code.state ≡ true → newest_in codes code.slot ≡ Some code
+
 -- The fields of a table stand for its codes.
 pub record IsKept (codes : List Code) (slots next : ℕ) (records : List Code) (slot_of : ℕ → Option ℕ) (current : List (Option CodeId)) (taken : ℕ) : Type 0 where
   pub numbered : IsNumberedFrom 1 codes
   pub next_is : next ≡ length codes + 1
+  pub not_spent : length codes ≤ last_number
   pub few : length records ≤ slots
   pub few_methods : length current < 2 ^ 32
   pub tied : IsTied (code_of codes) (slice_get records)
   pub indexed : (serial : ℕ) → slot_of serial ≡ kept_slot (code_of codes serial)
   pub entries : IsCurrent (code_of codes) (slice_get current)
   pub full : (slot : ℕ) → slot < taken → holds (slice_get records slot) ≡ true
+  pub newest : AreNewest codes
 
 -- The least slot without an unfreed code.
 abbrev pub least_free : List Code → ℕ → Option ℕ

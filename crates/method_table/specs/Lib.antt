@@ -1,7 +1,9 @@
 pub mod Numbers
 pub mod Codes
+pub mod Entries
 pub mod Stored
 pub mod Edited
 pub mod TableView
+pub mod Forward
 pub mod Kept
 pub mod Slots

@@ -1,5 +1,5 @@
 -- The method table as contracts see it: all codes that were ever installed, and its sizes.
-use Rattle.std.specs.Prelude.{◌≡◌, ℕ, ◌<◌, nat_lt, nat_le, true, List, Option, None, Some, is_none, is_some, slice_get, ◌+◌, ◌==◌, if◌then◌else◌}
+use Rattle.std.specs.Prelude.{◌≡◌, ℕ, ◌<◌, ◌≤◌, nat_lt, nat_le, true, List, Option, None, Some, is_none, is_some, slice_get, ◌+◌, ◌==◌, if◌then◌else◌}
 use Rattle.method_table.specs.declared.Code.{Code}
 use Rattle.method_table.specs.declared.table.InstallFault.{InstallFault}
 use Rattle.method_table.specs.declared.table.InstallFault.TheVariants.{NoSuchMethod, HasCode, TableFull, SerialsSpent, NoMemory}
@@ -12,6 +12,7 @@ use Rattle.method_table.specs.declared.table.FreeFault.TheVariants as free
 use Rattle.method_table.specs.declared.table.Entry.{Entry}
 use Rattle.method_table.specs.declared.table.Entry.TheVariants as entry
 use Rattle.method_table.specs.Numbers.{last_number}
+use Rattle.method_table.specs.Entries.{newest_in}
 use Rattle.method_table.specs.Codes.{is_in_use, is_not_entrant, is_zombie, id_of, unfreed, in_use_for, free_slot, next_serial}
 
 -- All codes in rising serial, how many slots there are, and how many methods.
@@ -58,10 +59,13 @@ entry_of method code =
     then (if code.method == method then entry.Enters (id_of code) else entry.NotOf)
     else entry.WrongMethod
 
--- What is true of every table: serials rise by one from 1, and unfreed codes have slots of their own.
+-- What is true of every table: serials rise by one from 1 to the last number at most, and unfreed codes have slots of their own,
+-- of which they are the newest codes.
 pub record IsTable (table : TableView) : Type 0 where
   pub serials : (place : ℕ) (code : Code) → slice_get table.codes place ≡ Some code → code.serial ≡ place + 1
+  pub in_numbers : (place : ℕ) (code : Code) → slice_get table.codes place ≡ Some code → code.serial ≤ last_number
   pub in_slots : (serial : ℕ) (code : Code) → unfreed table.codes serial ≡ Some code → code.slot < table.slots
   pub own_slots : (serial other : ℕ) (code same : Code) → unfreed table.codes serial ≡ Some code → unfreed table.codes other ≡ Some same → code.slot ≡ same.slot → code ≡ same
+  pub newest : (serial : ℕ) (code : Code) → unfreed table.codes serial ≡ Some code → newest_in table.codes code.slot ≡ Some code
   pub of_methods : (method : ℕ) (code : Code) → in_use_for table.codes method ≡ Some code → method < table.methods
   pub one_in_use : (serial : ℕ) (code : Code) → unfreed table.codes serial ≡ Some code → is_in_use code.state ≡ true → in_use_for table.codes code.method ≡ Some code

@@ -142,31 +142,14 @@ impl MethodTable {
     pub fn refusal(&self, method: u64) -> Option<InstallFault>
         ensures { result ≡ install_fault self.now method }
     {
-        if method >= self.current.len() as u64 {
-            return Some(InstallFault::NoSuchMethod);
-        }
-        if self.current[method as usize].is_some() {
-            return Some(InstallFault::HasCode);
-        }
-        let Some(slot) = least_free(&self.records, self.slots, self.taken) else {
-            return Some(InstallFault::TableFull);
-        };
-        if self.next > LAST_SERIAL {
-            return Some(InstallFault::SerialsSpent);
-        }
-        let _ = slot;
-        None
+        self.slot_for(method).err()
     }
 
-    /// A new code for the method, in use: it has the next serial and the least free slot.
-    pub fn install(&mut self, method: u64) -> Result<CodeId, InstallFault>
-        ensures slot { IfOk result (λ id. free_slot self.old.codes self.old.slots ≡ Some id.slot) }
-        ensures in_slots { IfOk result (λ id. id.slot < self.old.slots) }
-        ensures serial { IfOk result (λ id. id.serial ≡ next_serial self.old.codes) }
-        ensures codes { IfOk result (λ id. self.new ≡ record self.old { codes = with_code self.old.codes method id.slot }) }
-        ensures accepted { OnOk result (install_fault self.old method ≡ None) }
-        ensures refused { IfErr result (λ fault. install_fault self.old method ≡ reason fault) }
-        ensures unchanged { OnErr result (self.new ≡ self.old) }
+    // The slot of a new code of the method.
+    fn slot_for(&self, method: u64) -> Result<u32, InstallFault>
+        ensures slot { IfOk result (λ slot. free_slot self.now.codes self.now.slots ≡ Some slot) }
+        ensures accepted { OnOk result (install_fault self.now method ≡ None) }
+        ensures refused { IfErr result (λ fault. install_fault self.now method ≡ Some fault) }
     {
         if method >= self.current.len() as u64 {
             return Err(InstallFault::NoSuchMethod);
@@ -180,6 +163,24 @@ impl MethodTable {
         if self.next > LAST_SERIAL {
             return Err(InstallFault::SerialsSpent);
         }
+        Ok(slot)
+    }
+
+    /// A new code for the method, in use: it has the next serial and the least free slot.
+    pub fn install(&mut self, method: u64) -> Result<CodeId, InstallFault>
+        ensures slot { IfOk result (λ id. free_slot self.old.codes self.old.slots ≡ Some id.slot) }
+        ensures in_slots { IfOk result (λ id. id.slot < self.old.slots) }
+        ensures serial { IfOk result (λ id. id.serial ≡ next_serial self.old.codes) }
+        ensures codes { IfOk result (λ id. self.new ≡ record self.old { codes = with_code self.old.codes method id.slot }) }
+        ensures accepted { OnOk result (install_fault self.old method ≡ None) }
+        ensures refused { IfErr result (λ fault. install_fault self.old method ≡ reason fault) }
+        ensures sound { IsTable self.new }
+        ensures unchanged { OnErr result (self.new ≡ self.old) }
+    {
+        let slot = match self.slot_for(method) {
+            Ok(slot) => slot,
+            Err(fault) => return Err(fault),
+        };
         let code = Code {
             serial: self.next,
             slot,
@@ -212,6 +213,7 @@ impl MethodTable {
         ensures codes { OnOk result (self.new ≡ record self.old { codes = with_state self.old.codes serial NotEntrant }) }
         ensures accepted { OnOk result (invalidate_fault (unfreed self.old.codes serial) ≡ None) }
         ensures refused { IfErr result (λ fault. invalidate_fault (unfreed self.old.codes serial) ≡ Some fault) }
+        ensures sound { IsTable self.new }
         ensures unchanged { OnErr result (self.new ≡ self.old) }
     {
         let Some(code) = self.find(serial) else {
@@ -234,6 +236,7 @@ impl MethodTable {
         ensures codes { OnOk result (self.new ≡ record self.old { codes = with_state self.old.codes serial Zombie }) }
         ensures accepted { OnOk result (retire_fault (unfreed self.old.codes serial) ≡ None) }
         ensures refused { IfErr result (λ fault. retire_fault (unfreed self.old.codes serial) ≡ Some fault) }
+        ensures sound { IsTable self.new }
         ensures unchanged { OnErr result (self.new ≡ self.old) }
     {
         let Some(code) = self.find(serial) else {
@@ -255,6 +258,7 @@ impl MethodTable {
         ensures codes { OnOk result (self.new ≡ record self.old { codes = with_state self.old.codes serial Freed }) }
         ensures accepted { OnOk result (free_fault (unfreed self.old.codes serial) ≡ None) }
         ensures refused { IfErr result (λ fault. free_fault (unfreed self.old.codes serial) ≡ Some fault) }
+        ensures sound { IsTable self.new }
         ensures unchanged { OnErr result (self.new ≡ self.old) }
     {
         let Some(code) = self.find(serial) else {

@@ -145,6 +145,37 @@ fn calls_enter_code_in_use_of_their_method(rt: HostRuntime) -> Result<(), Fail> 
     Ok(())
 }
 
+// The most codes that may be there at once: as many as slots, four of each method.
+#[test]
+fn the_greatest_table_fills(rt: HostRuntime) -> Result<(), Fail> {
+    let mut table = MethodTable::new(rt.alloc(), 1024, 256)?;
+    assert_eq!(rt; table.slots(), 1024);
+    assert_eq!(rt; table.methods(), 256);
+    for slot in 0..1024u32 {
+        let method = slot as u64 % 256;
+        let serial = slot as u64 + 1;
+        if slot >= 256 {
+            assert_eq!(rt; table.refusal(method), Some(InstallFault::HasCode));
+            assert_eq!(rt; table.invalidate(serial - 256), Ok(()));
+        }
+        assert_eq!(rt; table.refusal(method), None);
+        assert_eq!(rt; table.install(method), Ok(CodeId { slot, serial }));
+    }
+    assert_eq!(rt; table.invalidate(1024), Ok(()));
+    assert_eq!(rt; table.refusal(255), Some(InstallFault::TableFull));
+    assert_eq!(rt; table.install(255), Err(InstallFault::TableFull));
+    assert_eq!(rt; table.refusal(256), Some(InstallFault::NoSuchMethod));
+    assert_eq!(rt; table.retire(300), Ok(()));
+    assert_eq!(rt; table.free(300), Ok(()));
+    let last = CodeId {
+        slot: 299,
+        serial: 1025,
+    };
+    assert_eq!(rt; table.install(255), Ok(last));
+    assert_eq!(rt; table.current(255), Some(last));
+    Ok(())
+}
+
 // Run with each allocation failing in turn, this shows that a want of memory changes nothing.
 #[test]
 fn want_of_memory_changes_nothing(rt: HostRuntime) -> Result<(), Fail> {

@@ -1,5 +1,5 @@
 -- What was read of a file is enough to answer for all of it.
-use Rattle.std.proofs.Common.{◌≡◌, ◌≢◌, ◌∙◌, inl, inr, ℕ, zero, suc, ◌+◌, ◌<◌, ◌≤◌, ◌==◌, cond, false, List, [], ◌∷◌, ◌++◌, length, length-append, take, drop, IfSome, Option, Some, None, Err, refl, sym, ap, subst, append_assoc, arith}
+use Rattle.std.proofs.Common.{◌≡◌, ◌≢◌, ◌∙◌, inl, inr, ℕ, zero, suc, ◌+◌, ◌<◌, ◌≤◌, ◌==◌, cond, false, List, [], ◌∷◌, ◌++◌, length, length-append, take, drop, IfSome, Option, Some, None, Result, Ok, Err, refl, sym, ap, subst, append_assoc, arith}
 use Rattle.std.proofs.Math.Seq.{take-append_seam}
 use Rattle.std.proofs.lemmas.List.{length-take-le}
 use Rattle.std.specs.Io.KnownBytes.{Consumes, IsAtEnd}
@@ -8,7 +8,7 @@ use Rattle.script.specs.declared.fault.ScriptFault.TheVariants.{Refused}
 use Rattle.monitor.specs.declared.fault.Fault.{Fault}
 use Rattle.monitor.specs.declared.fault.Fault.TheVariants.{BadWords, FileNotRead, BadScript, ReadFailed, WriteFailed, NoMemory}
 use Rattle.script.specs.Reads.{longest}
-use Rattle.monitor.specs.Check.{IsWrong, IsFaultOf, IsUnread, Told, ReadsEnough}
+use Rattle.monitor.specs.Check.{IsWrong, IsAnswered, IsFaultOf, Told, TextTold, ReadAndTold, ReadsEnough}
 
 append_none : (xs : List ℕ) → xs ++ [] ≡ xs
 append_none [] = refl
@@ -59,21 +59,38 @@ wrong_of input text fault (whole e) wrong = subst (λ (z : List ℕ). IsWrong z 
 wrong_of input text fault (long more all) (inl (short, is)) = inl (all, is)
 wrong_of input text fault (long more all) (inr (short, why)) = absurd (omega (arith, more, short))
 
--- nothing is told of a text that isn't had
-pub told_unread : (A : Type 0) (left got : Option (List ℕ)) (fault : Fault) (reads : ℕ) → IsUnread fault reads → IfSome left (λ input. Told {A = A} input (Err fault) got got)
-told_unread A None got fault reads h = tt
-told_unread A (Some input) got BadWords reads h = absurd h
-told_unread A (Some input) got FileNotRead reads h = refl
-told_unread A (Some input) got (BadScript flaw place) reads h = absurd h
-told_unread A (Some input) got ReadFailed reads h = absurd h
-told_unread A (Some input) got WriteFailed reads h = absurd h
-told_unread A (Some input) got NoMemory reads h = refl
+right_of : (input text line : List ℕ) → Part input text → IsAnswered text line → IsAnswered input line
+right_of input text line (whole e) is = subst (λ (z : List ℕ). IsAnswered z line) (sym e) is
+right_of input text line (long more all) (methods, is, e) = let short = is.short in absurd (omega (arith, more, short))
 
-pub told_fault : (A : Type 0) (left left' got : Option (List ℕ)) (text : List ℕ) (fault : Fault) → ReadsEnough left left' text → IsFaultOf text fault → IfSome left (λ input. Told {A = A} input (Err fault) got got)
-told_fault A None left' got text fault enough h = tt
-told_fault A (Some input) left' got text BadWords enough h = absurd h
-told_fault A (Some input) left' got text FileNotRead enough h = absurd h
-told_fault A (Some input) left' got text (BadScript flaw place) enough h = (wrong_of input text (Refused flaw place) (part_of input text left' enough) h, refl)
-told_fault A (Some input) left' got text ReadFailed enough h = absurd h
-told_fault A (Some input) left' got text WriteFailed enough h = absurd h
-told_fault A (Some input) left' got text NoMemory enough h = refl
+told_of : (A : Type 0) (result : Result A Fault) (input text : List ℕ) (got got' : Option (List ℕ)) → Part input text → Told text result got got' → Told input result got got'
+told_of A (Ok x) input text got got' part (line, is, written) = (line, right_of input text line part is, written)
+told_of A (Err BadWords) input text got got' part told = told
+told_of A (Err FileNotRead) input text got got' part told = told
+told_of A (Err (BadScript flaw place)) input text got got' part (wrong, same) = (wrong_of input text (Refused flaw place) part wrong, same)
+told_of A (Err ReadFailed) input text got got' part told = told
+told_of A (Err WriteFailed) input text got got' part (line, is, written) = (line, right_of input text line part is, written)
+told_of A (Err NoMemory) input text got got' part told = told
+
+told_by : (A : Type 0) (result : Result A Fault) (input : List ℕ) (left' got got' : Option (List ℕ)) → TextTold result (Some input) left' got got' → Told input result got got'
+told_by A result input left' got got' all = told_of A result input all.text got got' (part_of input all.text left' all.enough) all.told
+
+-- what is told of the text that was read is told of all that the source had
+pub told_all : (A : Type 0) (result : Result A Fault) (left left' got got' : Option (List ℕ)) → ReadAndTold result left left' got got' → IfSome left (λ input. Told input result got got')
+told_all A result None left' got got' h = tt
+told_all A (Ok x) (Some input) left' got got' h = told_by A (Ok x) input left' got got' h
+told_all A (Err BadWords) (Some input) left' got got' h = told_by A (Err BadWords) input left' got got' h
+told_all A (Err FileNotRead) (Some input) left' got got' h = h
+told_all A (Err (BadScript flaw place)) (Some input) left' got got' h = told_by A (Err (BadScript flaw place)) input left' got got' h
+told_all A (Err ReadFailed) (Some input) left' got got' h = told_by A (Err ReadFailed) input left' got got' h
+told_all A (Err WriteFailed) (Some input) left' got got' h = told_by A (Err WriteFailed) input left' got got' h
+told_all A (Err NoMemory) (Some input) left' got got' h = h
+
+-- of a text that is wrong its fault is told
+pub read_fault : (A : Type 0) (left left' got : Option (List ℕ)) (text : List ℕ) (fault : Fault) → ReadsEnough left left' text → IsFaultOf text fault → ReadAndTold {A = A} (Err fault) left left' got got
+read_fault A left left' got text BadWords enough h = absurd h
+read_fault A left left' got text FileNotRead enough h = absurd h
+read_fault A left left' got text (BadScript flaw place) enough h = record { text = text; enough = enough; told = (h, refl) }
+read_fault A left left' got text ReadFailed enough h = absurd h
+read_fault A left left' got text WriteFailed enough h = absurd h
+read_fault A left left' got text NoMemory enough h = refl

@@ -1,7 +1,8 @@
 -- What checking a script comes to.
-use Rattle.std.specs.Prelude.{◌≡◌, ◌⊎◌, ℕ, ◌<◌, ◌≤◌, List, [], ◌++◌, length, Option, Some, Result, Ok, Err, codes, decimal, ⊤}
+use Rattle.std.specs.Prelude.{◌≡◌, ◌⊎◌, ℕ, ◌<◌, ◌≤◌, List, [], ◌++◌, length, map, Option, Some, Result, Ok, Err, codes, decimal, ⊤}
 use Rattle.std.specs.Io.KnownBytes.{Appends, Consumes, IsAtEnd}
 use Rattle.replay.specs.Known.{AppendsPart}
+use Rattle.script.specs.declared.code.Op.{Op}
 use Rattle.script.specs.declared.fault.Fault.TheVariants.{TooLong}
 use Rattle.script.specs.declared.fault.ScriptFault.{ScriptFault}
 use Rattle.script.specs.declared.fault.ScriptFault.TheVariants.{Refused}
@@ -9,6 +10,8 @@ use Rattle.script.specs.declared.items.Script.{Script}
 use Rattle.script.specs.View.{bodies}
 use Rattle.script.specs.Reads.{longest, Reads}
 use Rattle.script.specs.Checks.{script_faults}
+use Rattle.script.specs.Checked.{AreChecked}
+use Rattle.script.specs.Layout.{routine}
 use Rattle.script.specs.Faults.{first}
 use Rattle.monitor.specs.declared.fault.Fault.{Fault}
 use Rattle.monitor.specs.declared.fault.Fault.TheVariants.{BadWords, FileNotRead, BadScript, ReadFailed, WriteFailed, NoMemory}
@@ -20,6 +23,15 @@ pub record IsRight (text : List ℕ) (methods : ℕ) : Type 0 where
   pub read : Reads text (Ok script)
   pub clean : script_faults (bodies script) ≡ []
   pub count : methods ≡ length (bodies script)
+
+-- A text is a script, nothing is wrong with it, and this is its code.
+pub record IsCodeOf (text : List ℕ) (code : List (List Op)) : Type 0 where
+  pub short : length text ≤ longest
+  pub script : Script
+  pub read : Reads text (Ok script)
+  pub clean : script_faults (bodies script) ≡ []
+  pub checked : AreChecked (bodies script)
+  pub laid : code ≡ map routine (bodies script)
 
 -- A text is a script whose first fault is this one.
 pub record IsUnchecked (text : List ℕ) (fault : ScriptFault) : Type 0 where
@@ -82,3 +94,15 @@ IsUnread NoMemory reads = reads ≡ 0
 -- All that a source had was read, or more than the longest text of it.
 abbrev pub ReadsEnough : Option (List ℕ) → Option (List ℕ) → List ℕ → Type 0
 ReadsEnough left left' text = Consumes left left' text × (IsAtEnd left' ⊎ (longest < length text))
+
+-- A text was read that is all a source had, or more of it than the longest text, and a sink got what is told of it.
+pub record TextTold {A : Type 0} (result : Result A Fault) (left left' got got' : Option (List ℕ)) : Type 0 where
+  pub text : List ℕ
+  pub enough : ReadsEnough left left' text
+  pub told : Told text result got got'
+
+-- What a sink got, also where the source doesn't tell its bytes: what is told of the text that was read, and nothing where none was had.
+abbrev pub ReadAndTold : {A : Type 0} → Result A Fault → Option (List ℕ) → Option (List ℕ) → Option (List ℕ) → Option (List ℕ) → Type 0
+ReadAndTold (Err FileNotRead) left left' got got' = got' ≡ got
+ReadAndTold (Err NoMemory) left left' got got' = got' ≡ got
+ReadAndTold result left left' got got' = TextTold result left left' got got'

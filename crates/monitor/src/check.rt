@@ -1,11 +1,11 @@
 // Checking a script.
-ghost use Rattle.std.specs.Prelude.{◌≡◌, ◌<◌, vec_len, IfOk, IfErr, IfSome, MatchResult, string_bytes};
-ghost use Rattle.monitor.specs.Check.{IsAnswered, IsFaultOf, Told, FailedCalls, IsUnread, ReadsEnough};
+ghost use Rattle.std.specs.Prelude.{◌≡◌, ◌<◌, length, vec_len, IfOk, IfErr, IfSome, MatchResult, string_bytes};
+ghost use Rattle.monitor.specs.Check.{IsCodeOf, IsFaultOf, right_line, Told, ReadAndTold, FailedCalls, IsUnread, ReadsEnough};
 
 use crate::fault::Fault;
 use replay::device::{Sink, Source};
 use replay::stream::flush;
-use script::{MAX_BYTES, check, read_script};
+use script::{Code, MAX_BYTES, check, read_script};
 use std::alloc::{AllocError, Global};
 
 /// Bytes that are read at a time.
@@ -22,25 +22,33 @@ pub fn check_script<R: Source, W: Sink>(
     requires unread { R.reads source.old ≡ 0 }
     requires sink { W.failures sink.old ≡ 0 }
     ensures told { IfSome (R.left source.old) (λ text. Told text result (W.got sink.old) (W.got sink.new)) }
+    ensures read { ReadAndTold result (R.left source.old) (R.left source.new) (W.got sink.old) (W.got sink.new) }
     ensures failed { FailedCalls result (R.failures source.new) (W.failures sink.new) }
 {
     let text = read_text(alloc, source)?;
-    let mut line = check_text(alloc, &text)?.into_bytes();
+    let code = check_text(alloc, &text)?;
+    let mut line = line_of(alloc, &code)?.into_bytes();
     match flush(&mut line, sink) {
         Ok(()) => Ok(()),
         Err(_) => Err(Fault::WriteFailed),
     }
 }
 
-/// The line for a text that is a script and right, or its first fault. `NoMemory` comes only where a growth was refused.
-pub fn check_text(alloc: Global, text: &[u8]) -> Result<String, Fault>
-    ensures line { IfOk result (λ line. IsAnswered text.now (string_bytes line)) }
+/// The code of a text that is a script and right, or the text's first fault. `NoMemory` comes only where a growth was refused.
+pub fn check_text(alloc: Global, text: &[u8]) -> Result<Code, Fault>
+    ensures code { IfOk result (IsCodeOf text.now) }
     ensures fault { IfErr result (IsFaultOf text.now) }
 {
     let script = read_script(alloc, text)?;
-    let code = check(alloc, &script)?;
+    Ok(check(alloc, &script)?)
+}
+
+/// The line for a script that is right, by its code.
+pub fn line_of(alloc: Global, code: &Code) -> Result<String, AllocError>
+    ensures { IfOk result (λ line. string_bytes line ≡ right_line (length code.now)) }
+{
     let methods = code.methods();
-    Ok(format!(in alloc; "ok {methods}\n")?)
+    format!(in alloc; "ok {methods}\n")
 }
 
 /// All that a source has, or more of it than the longest text.

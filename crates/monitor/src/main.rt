@@ -8,11 +8,10 @@ mod fault;
 mod tests;
 
 use check::check_script;
-use command_line::{Form, read_form};
+use command_line::{Form, read_form, read_words};
 use fault::Fault;
 use replay::device::{FromReader, IntoWriter};
 use replay::stream::replay;
-use std::env;
 use std::fs::File;
 use std::process::ExitCode;
 
@@ -30,10 +29,7 @@ fn main(rt: HostRuntime) -> ExitCode {
 }
 
 fn run(rt: &HostRuntime) -> Result<(), Fault> {
-    let words: Vec<String> = match env::args(rt) {
-        Ok(words) => words.skip(1).collect(rt.alloc())?,
-        Err(error) => return Err(Fault::of_words(&error)),
-    };
+    let words = read_words(rt, rt.alloc())?;
     match read_form(&words) {
         Some(Form::Replay) => answer_lines(rt),
         Some(Form::Check(name)) => check_file(rt, name),

@@ -1,9 +1,11 @@
 // What no clause says: that checks come to an end with ample memory, and what serde_json takes a text for; and devices that give
 // and take little, or fail.
-use crate::check::{check_script, check_text};
+use crate::check::{check_script, check_text, line_of};
+use crate::command_line::{Form, read_form, read_words};
 use crate::fault::Fault;
 use replay::device::{FromReader, IntoWriter};
 use std::alloc::{AllocError, Global};
+use std::env::{Env, FillError};
 use std::io::{self, Read, Write};
 use std::process::Abort;
 use std::test::Fail;
@@ -14,7 +16,7 @@ const LOOP_OF_CALLS: &[u8] =
 /// What is printed for a text, and the status.
 fn answer_to(alloc: Global, text: &[u8]) -> Result<(String, u8), AllocError> {
     match check_text(alloc, text) {
-        Ok(line) => Ok((line, 0)),
+        Ok(code) => Ok((line_of(alloc, &code)?, 0)),
         Err(fault) => Ok((format!(in alloc; "monitor: {fault}\n")?, fault.status())),
     }
 }
@@ -104,6 +106,98 @@ fn hostile_texts_are_answered(rt: HostRuntime) -> Result<(), Fail> {
     expect(&rt, alloc, &methods, "monitor: TooManyMethods at -\n")?;
     let items = text_of(alloc, b"{\"methods\":[[\"vm\"", b",\"vm\"", 65_536, b"]]}")?;
     expect(&rt, alloc, &items, "monitor: TooManyItems at 0.65536\n")?;
+    Ok(())
+}
+
+#[test]
+fn scripts_of_full_size_are_answered(rt: HostRuntime) -> Result<(), Fail> {
+    let alloc = rt.alloc();
+    let methods = text_of(
+        alloc,
+        b"{\"methods\":[[]",
+        b",[]",
+        254,
+        b",[{\"call\":255}]]}",
+    )?;
+    expect(&rt, alloc, &methods, "ok 256\n")?;
+    let items = text_of(alloc, b"{\"methods\":[[\"vm\"", b",\"vm\"", 65_535, b"]]}")?;
+    expect(&rt, alloc, &items, "ok 1\n")?;
+    let longest = text_of(alloc, b"{\"methods\":[[]]}", b" ", 1_048_560, b"")?;
+    assert_eq!(rt; longest.len(), 1_048_576);
+    expect(&rt, alloc, &longest, "ok 1\n")?;
+    let outer = text_of(
+        alloc,
+        b"{\"methods\":[[",
+        b"{\"loop\":1000000,\"body\":[",
+        8,
+        b"",
+    )?;
+    let loops = text_of(alloc, &outer, b"]}", 8, b"]]}")?;
+    expect(&rt, alloc, &loops, "ok 1\n")?;
+    Ok(())
+}
+
+// A command line, its program's name first.
+#[derive(Drop)]
+struct Line<'a> {
+    words: &'a [&'a [u8]],
+}
+
+impl Env for Line<'_> {
+    fn arg(&self, i: usize, buf: &mut [u8]) -> Result<usize, FillError> {
+        let Some(word) = self.words.get(i) else {
+            return Err(FillError::NotPresent);
+        };
+        if word.len() > buf.len() {
+            return Err(FillError::TooLong);
+        }
+        buf[..word.len()].copy_from_slice(word);
+        Ok(word.len())
+    }
+
+    fn var(&self, _name: &str, _buf: &mut [u8]) -> Result<usize, FillError> {
+        Err(FillError::NotPresent)
+    }
+
+    fn var_at(&self, _i: usize, _buf: &mut [u8]) -> Result<usize, FillError> {
+        Err(FillError::NotPresent)
+    }
+}
+
+#[test]
+fn the_programs_name_may_be_no_text(rt: HostRuntime) -> Result<(), Fail> {
+    for name in [
+        b"monitor".as_slice(),
+        b"\xff/monitor".as_slice(),
+        b"".as_slice(),
+    ] {
+        let line = [name, b"check".as_slice(), b"a.json".as_slice()];
+        let words = match read_words(&Line { words: &line }, rt.alloc()) {
+            Ok(words) => words,
+            Err(_) => return Err(Fail::from("good words")),
+        };
+        assert_eq!(rt; read_form(&words), Some(Form::Check("a.json")));
+    }
+    Ok(())
+}
+
+#[test]
+fn words_that_are_no_text_are_bad(rt: HostRuntime) -> Result<(), Fail> {
+    for line in [
+        [
+            b"monitor".as_slice(),
+            b"check".as_slice(),
+            b"\xff".as_slice(),
+        ],
+        [
+            b"monitor".as_slice(),
+            b"\x80".as_slice(),
+            b"a.json".as_slice(),
+        ],
+    ] {
+        let found = read_words(&Line { words: &line }, rt.alloc());
+        assert!(rt; matches!(found, Err(Fault::BadWords)));
+    }
     Ok(())
 }
 

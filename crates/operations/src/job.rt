@@ -1,6 +1,6 @@
 // Jobs: a boxed callback for one target.
-ghost use Rattle.std.specs.Prelude.{◌≡◌};
-ghost use Rattle.frames.specs.ImageView.{IsSettled};
+ghost use Rattle.std.specs.Prelude.{◌≡◌, ◌↔◌, ℕ};
+ghost use Rattle.frames.specs.ImageView.{ImageView, IsSettled};
 ghost use Rattle.operations.specs.Asks.{reply};
 
 use crate::Ask;
@@ -34,6 +34,7 @@ impl Job {
         ensures number { ⟦<Job as Errand>⟧.number result ≡ 0 }
         ensures whom { ⟦<Job as Errand>⟧.whom result ≡ target }
         ensures asks { ⟦<Job as Errand>⟧.asks result ≡ ask }
+        ensures callback { (image : ImageView) (reply : ℕ) → ⟦<Job as Errand>⟧.may_answer result image reply ↔ ((i : _) × (i.now ≡ image) × Call.post call i reply) }
     {
         Job {
             op: 0,
@@ -48,6 +49,7 @@ impl Job {
         ensures number { ⟦<Job as Errand>⟧.number result ≡ op }
         ensures whom { ⟦<Job as Errand>⟧.whom result ≡ ⟦<Job as Errand>⟧.whom self }
         ensures asks { ⟦<Job as Errand>⟧.asks result ≡ ⟦<Job as Errand>⟧.asks self }
+        ensures callback { (image : ImageView) (reply : ℕ) → ⟦<Job as Errand>⟧.may_answer result image reply ↔ ⟦<Job as Errand>⟧.may_answer self image reply }
     {
         let mut job = self;
         job.op = op;

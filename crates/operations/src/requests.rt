@@ -1,9 +1,10 @@
 // Which requests there can be, and whom they are of.
-ghost use Rattle.std.specs.Prelude.{◌≡◌, ◌&&◌, nat_le, length};
+ghost use Rattle.std.specs.Prelude.{◌≡◌, ◌&&◌, true, nat_le, length, IfOk, IsOk};
 ghost use Rattle.operations.specs.Names.{among, is_distinct};
-ghost use Rattle.operations.specs.Requests.{kind_of, is_target, has_targets, are_targets};
+ghost use Rattle.operations.specs.Requests.{is_census, kind_of, is_target, has_targets, are_targets};
 
-use crate::{Kind, Request};
+use crate::{Kind, Request, Targets};
+use std::alloc::{AllocError, Global};
 
 /// How many targets a handshake can have.
 pub const TARGETS: usize = 64;
@@ -45,6 +46,20 @@ impl Request {
         match self {
             Request::Handshake { targets, .. } => are_targets_of(targets.as_slice()),
             Request::Census => true,
+        }
+    }
+
+    /// The same request again, with a list of its own. It fails for want of memory alone.
+    pub fn copied(&self, alloc: Global) -> Result<Request, AllocError>
+        ensures same { IfOk result (λ copy. copy ≡ self.now) }
+        ensures succeeds { is_census self.now ≡ true → IsOk result }
+    {
+        match self {
+            Request::Handshake { targets, ask } => Ok(Request::Handshake {
+                targets: Targets::from_vec(Vec::from_slice(alloc, targets.as_slice())?),
+                ask: *ask,
+            }),
+            Request::Census => Ok(Request::Census),
         }
     }
 }

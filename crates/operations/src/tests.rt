@@ -101,9 +101,10 @@ fn asks_are_answered(rt: HostRuntime) -> Result<(), Fail> {
     Ok(())
 }
 
-// Runs an errand under another number.
+// Runs an errand under another number. It knows the trait alone, and still says whose callback replied.
 fn run_errand<J: Errand>(rt: &impl Abort, errand: J, image: &Image) -> Done
     requires { IsSettled image.now }
+    ensures { J.may_answer errand image.now result.reply }
 {
     assert_eq!(rt; errand.op_of(), 0);
     assert_eq!(rt; errand.target_of(), 9);
@@ -251,6 +252,31 @@ fn bad_targets_come_back(rt: HostRuntime) -> Result<(), Fail> {
     assert_eq!(rt; queue.refusal(&most), None);
     assert!(rt; queue.push(1, most, 4).is_ok());
     assert_eq!(rt; queue.len(), 1);
+    Ok(())
+}
+
+// That a request is the handshake of these names.
+fn is_handshake(rt: &impl Abort, request: Request, names: &[u64]) {
+    match request {
+        Request::Handshake { targets, ask } => {
+            assert_eq!(rt; targets.as_slice(), names);
+            assert_eq!(rt; ask, Ask::Top);
+        }
+        Request::Census => assert!(rt; false, "became a census"),
+    }
+}
+
+#[test]
+fn requests_are_copied_whole(rt: HostRuntime) -> Result<(), Fail> {
+    let mut names = Vec::new(rt.alloc());
+    for name in 1..65u64 {
+        names.push(name)?;
+        let request = handshake(rt.alloc(), names.as_slice())?;
+        is_handshake(&rt, request.copied(rt.alloc())?, names.as_slice());
+        is_handshake(&rt, request.copied(rt.alloc())?, names.as_slice());
+        is_handshake(&rt, request, names.as_slice());
+    }
+    assert_eq!(rt; Request::Census.copied(rt.alloc())?.kind(), Kind::Census);
     Ok(())
 }
 

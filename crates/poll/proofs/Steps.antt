@@ -115,7 +115,9 @@ poller_steps places s id c w w' k k' n r at later told same low made =
 
 -- what the rule says of the word that the poller w finds
 met : (places : ℕ) (s : Whole) (id : ℕ) (w : Watching) (k : ℕ) (r : IsRow places s) → get_elem? s.views id ≡ some (Poller w k) → w.place < places → IsMet w.cleared (get_or s.words (word_at w.place) 0)
-met places s id w k r at low = (get_or r.arming.armed w.place 0, found_is (place (get_or s.words (word_at w.place) 0) (get_or r.arming.armed w.place 0) w.cleared) (subst IsPlaceKept (its_place places s id w k r at) (r.kept w.place low)))
+met places s id w k r at low =
+    ⊎_elim (λ h. inl h.0) (λ h. let found = h.0 in let above = h.1 in inr (omega arith))
+    (found_is (place (get_or s.words (word_at w.place) 0) (get_or r.arming.armed w.place 0) w.cleared) (subst IsPlaceKept (its_place places s id w k r at) (r.kept w.place low)))
 
 polls_at : (places slots id : ℕ) (me : Me (Unit {0}) Watch) → IsPoller me.0 → (watching_of 0 me.0).place < places
     → Allows (IsRow places) slots id me (word_at (watching_of 0 me.0).place) (λ n. n) (Polls (step slots (word_at (watching_of 0 me.0).place) 0 0 none) me)

@@ -1,9 +1,9 @@
 -- A row of poll words as a table: which word is which place's, which view is which seat's, and that they meet the poll rule.
 -- The first seat is the armer's, and the pollers are split off in the order of their places.
-use Rattle.std.specs.Prelude.{◌≡◌, ◌≢◌, ℕ, suc, ◌+◌, ◌*◌, ◌<◌, ◌≤◌, ◌==◌, if◌then◌else◌, List, [], ◌∷◌, length, slice_index}
+use Rattle.std.specs.Prelude.{◌≡◌, ◌⊎◌, ℕ, suc, ◌+◌, ◌*◌, ◌<◌, ◌≤◌, ◌==◌, if◌then◌else◌, List, [], ◌∷◌, length, slice_index}
 use mathlib.Core.Option.{Option, none, some}
 use lib.ListN.{get_elem?}
-use Rattle.atomic_table.specs.Table.{State, Me, Step, Allows}
+use Rattle.atomic_table.specs.Table.{State, Me, Step}
 use Rattle.atomic_table.specs.Seated.{TableId}
 use Rattle.thread_state.specs.declared.poll_rule.Deed.{Deed}
 use Rattle.thread_state.specs.declared.poll_rule.Deed.TheVariants.{Nothing, Load, Store, Exchange}
@@ -11,7 +11,7 @@ use Rattle.thread_state.specs.declared.poll_rule.Arming.{Arming}
 use Rattle.thread_state.specs.declared.poll_rule.Watching.{Watching}
 use Rattle.poll.specs.declared.views.Watch.{Watch}
 use Rattle.poll.specs.declared.views.Watch.TheVariants.{Armer, Poller, Ended}
-use Rattle.thread_state.specs.PollRule.{PlaceState, IsPollKept, IsFound, first_arming, first_watching, armed_with, polled, exchanged, word_after}
+use Rattle.thread_state.specs.PollRule.{PlaceState, IsPollKept, first_arming, first_watching, armed_with, polled, exchanged, word_after}
 
 -- 1. What contracts see
 
@@ -30,10 +30,9 @@ pub record PollerSeen : Type 0 where
   pub seen : Watching
   pub stamp : ℕ
 
--- At a step of a poller that had cleared a number last, its word was found so: there is the number that the place was armed
--- with last at that step. The word is 0 where that number is cleared, otherwise it is that number, which is above the one cleared.
+-- What a poller that had cleared a number last may find: 0, or a greater number.
 abbrev pub IsMet : ℕ → ℕ → Type 0
-IsMet cleared found = (armed : ℕ) × IsFound record { word = found; armed = armed; cleared = cleared }
+IsMet cleared found = (found ≡ 0) ⊎ (cleared < found)
 
 -- The place of a poller at the end of a row, whose places were left with these words.
 abbrev pub place_left : List ℕ → ArmerSeen → PollerSeen → PlaceState
@@ -193,15 +192,3 @@ IsClosing v = v ≡ Armer (arming_of v) (ended_of v) (stamp_of v)
 
 abbrev pub IsPoller : Watch → Type 0
 IsPoller v = v ≡ Poller (watching_of 0 v) (stamp_of v)
-
--- 5. Steps elsewhere
-
--- The seat says that it polled, with the answer that g makes of what the step found, and its stamp rose.
-abbrev pub PollTold : Watching → ℕ → (ℕ → ℕ) → ℕ → SeatState → Type 0
-PollTold w t g found new = (watching_of 0 new.0 ≡ polled w (g found)) × (t < stamp_of new.0)
-
--- No step at a word that isn't the place's own lets its poller say so, whatever the step does to that word and whatever is
--- answered.
-abbrev pub PollsElsewhereRefused : Type 0
-PollsElsewhereRefused = (places i t : ℕ) (w : Watching) (f g : ℕ → ℕ) → w.place < places → i < words_of places → i ≢ word_at w.place
-    → ¬ Allows (IsRow places) 0 (suc w.place) (Poller w t, []) i f (PollTold w t g)

@@ -2,7 +2,8 @@
 ghost use Rattle.std.specs.Prelude.{[]};
 ghost use Rattle.thread_state.specs.PollRule.{first_arming};
 ghost use Rattle.poll.specs.declared.views.Watch.TheVariants.{Armer as IsArming, Ended as HasEnded};
-ghost use Rattle.poll.specs.Rows.{IsRow, left_of, right_of, both_of, Polls, Clears, Arms, PollsElsewhereRefused};
+ghost use Rattle.poll.specs.Rows.{IsRow, left_of, right_of, both_of, Polls, Clears, Arms};
+ghost use Rattle.poll.specs.Laws.{PollsElsewhereRefused, ClearsElsewhereRefused, ArmsElsewhereRefused, WordsTellTheCleared, WordsApart};
 
 use crate::views::Watch;
 use atomic_table::{Join, Play, Split, TableRule};
@@ -52,9 +53,30 @@ impl Play<(), Watch> for ArmPlay {
     ghost then = { Arms };
 }
 
+/// A law: the word of a place is 0 exactly where the number that it was armed with last is cleared, between any two steps.
+#[tactic(auto, using(crate::proofs::Refused::tell_the_cleared))]
+pub fn words_are_zero_where_cleared()
+    ensures { WordsTellTheCleared }
+{}
+
+/// A law: the words of two places are 8 words apart, which is a cache line.
+#[tactic(auto, using(crate::proofs::Refused::words_apart))]
+pub fn words_lie_lines_apart()
+    ensures { WordsApart }
+{}
+
+/// A law: no step at another word than its own tells a poller that it cleared, or tried to.
+pub fn no_clear_is_of_another_word()
+    ensures { ClearsElsewhereRefused }
+{}
+
+/// A law: no step at another word than the place's tells the armer that it armed the place.
+pub fn no_arming_is_of_another_word()
+    ensures { ArmsElsewhereRefused }
+{}
+
 /// A law: a poller's answer is of the word of its own place. Whatever a `Play` tells, the rule of the row allows no step at
 /// another word after which the poller has polled.
-#[tactic(auto, using(crate::proofs::Refused::elsewhere_refused))]
 pub fn no_poll_is_of_another_word()
     ensures { PollsElsewhereRefused }
 {}

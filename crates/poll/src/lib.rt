@@ -8,5 +8,8 @@ mod tests;
 pub mod views;
 mod words;
 
-pub use law::{PollLaw, no_poll_is_of_another_word};
+pub use law::{
+    PollLaw, no_arming_is_of_another_word, no_clear_is_of_another_word, no_poll_is_of_another_word,
+    words_are_zero_where_cleared, words_lie_lines_apart,
+};
 pub use row::{Armer, PollRow, Poller};

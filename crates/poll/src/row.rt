@@ -105,13 +105,13 @@ impl PollRow {
 }
 
 impl Poller {
-    /// The number that the place is armed with, 0 where nothing is armed or what was armed last is cleared: one load.
+    /// The number that the place is armed with, 0 where nothing is armed or what was armed last is cleared: one load. It is 0, or above
+    /// all that this poller has cleared.
     pub fn poll(&mut self, row: &PollRow) -> u64
         requires row { self.old.table ≡ row.now }
         ensures row { self.new.table ≡ self.old.table }
         ensures step { self.new.seen ≡ polled self.old.seen result }
         ensures stamp { self.old.stamp < self.new.stamp }
-        ensures met { IsMet self.old.seen.cleared result }
         ensures later { (result ≡ 0) ⊎ (self.old.seen.cleared < result) }
     {
         let word = self.word;

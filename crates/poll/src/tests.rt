@@ -64,6 +64,33 @@ fn words_are_left_as_they_were_armed(rt: HostRuntime) -> Result<(), Fail> {
     Ok(())
 }
 
+#[test]
+fn a_row_of_sixty_four_places(rt: HostRuntime) -> Result<(), Fail> {
+    let (row, mut armer, mut pollers) = PollRow::new(rt.alloc(), 64)?;
+    assert_eq!(rt; pollers.len(), 64);
+    let mut last = pollers.swap_remove(63);
+    armer.arm(&row, 63, 1_099_511_627_775);
+    assert_eq!(rt; last.poll(&row), 1_099_511_627_775);
+    assert_eq!(rt; armer.last(0), 0);
+    assert!(rt; last.clear(&row, 1_099_511_627_775));
+    assert_eq!(rt; last.poll(&row), 0);
+    Ok(())
+}
+
+// Makes a row of 64 places and ends it: how many words it leaves.
+fn made_and_closed(alloc: Global) -> Result<usize, AllocError> {
+    let (row, armer, pollers) = PollRow::new(alloc, 64)?;
+    let words = row.close(armer, pollers);
+    Ok(words.len())
+}
+
+#[test]
+fn a_row_is_made_after_another(rt: HostRuntime) -> Result<(), Fail> {
+    assert_eq!(rt; made_and_closed(rt.alloc())?, 64);
+    assert_eq!(rt; made_and_closed(rt.alloc())?, 64);
+    Ok(())
+}
+
 fn armed_elsewhere<R: Threads + Sync>(rt: &R, row: &PollRow, armer: Armer, n: u64) -> Armer
     requires { (armer.table ≡ row.now) × (length armer.seen.armed ≡ 1) × (slice_index armer.seen.armed 0 < n) × (n < 2 ^ 40) }
     ensures row { result.table ≡ row.now }

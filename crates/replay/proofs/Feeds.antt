@@ -8,6 +8,7 @@ use Rattle.replay.specs.Grammar.{command_of}
 use Rattle.replay.specs.Scanned.{first_at}
 use Rattle.replay.specs.Printed.{reply_text}
 use Rattle.replay.specs.Known.{AppendsPart, Grows}
+use Rattle.replay.specs.Room.{CommandTakes, LineTakes}
 use Rattle.replay.specs.Text.{SystemView, IsAt, reply_to, world_after_command, line_text, after_line, told}
 use Rattle.replay.specs.Streams.{Turned, IsPiece, ended, Front, after_lines, FedTo, Fed, ForEachStart, StoppedIn, BrokenIn}
 use Rattle.replay.proofs.Lists.{append_none, take_plus, take_all}
@@ -43,6 +44,16 @@ front_line bytes ls rest more f piece below =
       each = (join_pieces rest (take (first_at 10 more) more) piece (front_piece more), tt);
     })
 
+line_front : (tail bytes : List ℕ) (at n : ℕ) (ls : List (List ℕ)) (rest : List ℕ) → n ≡ first_at 10 (drop at bytes) → n < length (drop at bytes) → Front (tail ++ take at bytes) ls rest → IsPiece rest
+    → Front (tail ++ take (at + (n + 1)) bytes) (ls ++ (rest ++ take n (drop at bytes)) ∷ []) []
+line_front tail bytes at n ls rest first below f partial =
+    let longer : Front ((tail ++ take at bytes) ++ take (n + 1) (drop at bytes)) (ls ++ (rest ++ take n (drop at bytes)) ∷ []) []
+    = subst (λ (k : ℕ). Front ((tail ++ take at bytes) ++ take (k + 1) (drop at bytes)) (ls ++ (rest ++ take k (drop at bytes)) ∷ []) []) (sym first)
+    (front_line (tail ++ take at bytes) ls rest (drop at bytes) f partial (omega (arith, first))) in
+    let bytes_are : (tail ++ take at bytes) ++ take (n + 1) (drop at bytes) ≡ tail ++ take (at + (n + 1)) bytes
+    = append_assoc tail (take at bytes) (take (n + 1) (drop at bytes)) ∙ ap (λ z. tail ++ z) (sym (take_plus at (n + 1) bytes)) in
+    subst (λ (z : List ℕ). Front z (ls ++ (rest ++ take n (drop at bytes)) ∷ []) []) bytes_are longer
+
 fed_line : (world : Option World) (tail bytes waits : List ℕ) (got : Option (List ℕ)) (s new : Option SystemView) (held w1 w2 : List ℕ) (g1 : Option (List ℕ)) (at n : ℕ)
     → n ≡ first_at 10 (drop at bytes) → n < length (drop at bytes)
     → FedTo world tail (take at bytes) waits got s held w1 g1
@@ -55,15 +66,10 @@ fed_line world tail bytes waits got s new held w1 w2 g1 at n first below f turne
     let same : command_of (held ++ piece) ≡ command_of line = ap (λ z. command_of (z ++ piece)) f.holds ∙ enough f.rest piece in
     let said : (w2 ≡ w1 ++ line_text known line) × IsAt new (after_line known line)
     = subst (λ (k : Option Command). (w2 ≡ w1 ++ (reply_text (reply_to known k) ++ 10 ∷ [])) × IsAt new (world_after_command known k)) same (turned known f.at) in
-    let longer : Front ((tail ++ take at bytes) ++ take (n + 1) (drop at bytes)) (f.lines ++ line ∷ []) []
-    = subst (λ (k : ℕ). Front ((tail ++ take at bytes) ++ take (k + 1) (drop at bytes)) (f.lines ++ (f.rest ++ take k (drop at bytes)) ∷ []) []) (sym first)
-    (front_line (tail ++ take at bytes) f.lines f.rest (drop at bytes) f.splits.front f.splits.partial (omega (arith, first))) in
-    let bytes_are : (tail ++ take at bytes) ++ take (n + 1) (drop at bytes) ≡ tail ++ take (at + (n + 1)) bytes
-    = append_assoc tail (take at bytes) (take (n + 1) (drop at bytes)) ∙ ap (λ z. tail ++ z) (sym (take_plus at (n + 1) bytes)) in
     record {
       lines = f.lines ++ line ∷ [];
       rest = [];
-      splits = record { front = subst (λ (z : List ℕ). Front z (f.lines ++ line ∷ []) []) bytes_are longer; partial = refl };
+      splits = record { front = line_front tail bytes at n f.lines f.rest first below f.splits.front f.splits.partial; partial = refl };
       holds = refl;
       grows = subst (λ (z : List ℕ). Grows got waits g1 w2 z) (sym (told_both world f.lines (line ∷ []) ∙ ap (λ z. told world f.lines ++ z) (append_none (line_text known line))))
           (grows_on got g1 g1 waits w1 w2 (told world f.lines) (line_text known line) f.grows (grows_waits g1 w1 w2 (line_text known line) said.0));
@@ -124,16 +130,22 @@ pub all_fed : (old : Option SystemView) (held0 bytes w0 : List ℕ) (g0 : Option
 all_fed old held0 bytes w0 g0 s held w1 g1 at fed all = λ world is tail piece holds.
     subst (λ (z : List ℕ). FedTo world tail z w0 g0 s held w1 g1) (take_all at bytes all) (fed world is tail piece holds)
 
--- Memory was refused behind what was fed.
-pub stopped_at : (old : Option SystemView) (held0 bytes w0 : List ℕ) (g0 : Option (List ℕ)) (s : Option SystemView) (held w1 w2 : List ℕ) (g1 : Option (List ℕ)) (at : ℕ)
-    → Fed old held0 (take at bytes) w0 g0 s held w1 g1 → w2 ≡ w1
+-- Memory was refused at the line behind what was fed.
+pub stopped_at : (old : Option SystemView) (held0 bytes w0 : List ℕ) (g0 : Option (List ℕ)) (s : Option SystemView) (held w1 w2 p : List ℕ) (g1 : Option (List ℕ)) (at n : ℕ)
+    → Fed old held0 (take at bytes) w0 g0 s held w1 g1 → p ≡ drop at bytes → n ≡ first_at 10 p → n < length p → w2 ≡ w1
+    → ((world : Option World) → IsAt s world → LineTakes world (held ++ take n p))
     → ForEachStart old held0 (λ world tail. StoppedIn world (tail ++ bytes) w0 g0 w2 g1)
-stopped_at old held0 bytes w0 g0 s held w1 w2 g1 at fed same = λ world is tail piece holds.
+stopped_at old held0 bytes w0 g0 s held w1 w2 p g1 at n fed e first below same takes = λ world is tail piece holds.
     let f = fed world is tail piece holds in
+    let known : Option World = after_lines world f.lines in
+    let more = take n (drop at bytes) in
+    let spelled : command_of (held ++ take n p) ≡ command_of (f.rest ++ more) = ap (λ z. command_of (held ++ take n z)) e ∙ ap (λ z. command_of (z ++ more)) f.holds ∙ enough f.rest more in
     record {
       lines = f.lines;
-      rest = f.rest ++ drop at bytes;
-      front = all_of tail at bytes f.lines f.rest f.splits.front;
+      line = f.rest ++ more;
+      rest = drop (at + (n + 1)) bytes;
+      front = all_of tail (at + (n + 1)) bytes (f.lines ++ (f.rest ++ more) ∷ []) [] (line_front tail bytes at n f.lines f.rest (first ∙ ap (first_at 10) e) (omega (arith, below, ap length e)) f.splits.front f.splits.partial);
+      takes = subst (λ (k : Option Command). CommandTakes known k) spelled (takes known f.at);
       grows = subst (λ (z : List ℕ). Grows g0 w0 g1 z (told world f.lines)) (sym same) f.grows;
     }
 

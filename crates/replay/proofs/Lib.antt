@@ -8,5 +8,6 @@ pub mod Growth
 pub mod Splitting
 pub mod Feeds
 pub mod Whole
+pub mod Taking
 pub mod Spellings
 pub mod Reading

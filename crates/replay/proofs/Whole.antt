@@ -1,5 +1,5 @@
 -- Block after block, and how a call ends.
-use Rattle.std.proofs.Common.{◌≡◌, ◌≢◌, ℕ, ◌+◌, ◌∙◌, zero, suc, sym, cond, true, false, List, [], ◌∷◌, ◌++◌, length, take, drop, Option, Some, None, refl, ap, subst, arith, append_assoc}
+use Rattle.std.proofs.Common.{◌≡◌, ◌≢◌, inl, inr, ℕ, ◌+◌, ◌∙◌, zero, suc, sym, cond, true, false, List, [], ◌∷◌, ◌++◌, length, take, drop, Option, Some, None, refl, ap, subst, arith, append_assoc}
 use Rattle.std.specs.Prelude.{◌==◌, IfSome, Result, Ok, Err}
 use Rattle.replay.specs.declared.stream.Halt.{Halt}
 use Rattle.replay.specs.declared.stream.Halt.TheVariants as halt
@@ -10,10 +10,13 @@ use Rattle.std.proofs.Math.Seq.{take-append_seam}
 use Rattle.system.specs.World.{World}
 use Rattle.replay.specs.Words.{lines}
 use Rattle.replay.specs.Printed.{reply_text}
+use Rattle.replay.specs.declared.grammar.Command.{Command}
+use Rattle.replay.specs.Grammar.{command_of}
 use Rattle.replay.specs.Known.{AppendsPart, Grows}
+use Rattle.replay.specs.Room.{CommandTakes, LineTakes}
 use Rattle.replay.specs.Text.{SystemView, IsAt, line_text, told, text, reply_to}
 use Rattle.replay.specs.Streams.{Front, after_lines, last_of, FedTo, Fed, ForEachStart, StoppedIn, BrokenIn, Turned, Ended, Finished, FedBy, GaveUp}
-use Rattle.replay.specs.Outcome.{SoFar, WroteAll, WroteLines, WrotePart, WroteFront, Wrote}
+use Rattle.replay.specs.Outcome.{SoFar, WroteAll, WroteLines, WrotePart, WroteBefore, Wrote}
 use Rattle.replay.proofs.Lists.{append_none}
 use Rattle.replay.proofs.Streams.{same_line}
 use Rattle.replay.proofs.Growth.{grows_on, flushed, appended, broken, part_more, then_part, appends_on}
@@ -109,9 +112,11 @@ broken_off left0 left left2 g0 g1 g2 s held bytes w1 so consumed none fed =
 record BlockStopped (left0 left2 g0 g2 : Option (List ℕ)) (w2 : List ℕ) : Type 0 where
   read : List ℕ
   lines : List (List ℕ)
+  line : List ℕ
   rest : List ℕ
   consumed : Consumes left0 left2 read
-  front : Front read lines rest
+  front : Front read (lines ++ line ∷ []) rest
+  takes : LineTakes (after_lines None lines) line
   grows : Grows g0 [] g2 w2 (told None lines)
 
 block_stopped : (left0 left left2 g0 g1 g2 : Option (List ℕ)) (s : Option SystemView) (held bytes w1 w2 : List ℕ) → SoFar left0 left g0 g1 s held → Consumes left left2 bytes → w1 ≡ []
@@ -124,22 +129,25 @@ block_stopped left0 left left2 g0 g1 g2 s held bytes w1 w2 so consumed none fed 
     record {
       read = so.read ++ bytes;
       lines = f.lines ++ h.lines;
+      line = h.line;
       rest = h.rest;
       consumed = consumed_on left0 left left2 so.read bytes so.consumed consumed;
-      front = front_on so.read bytes f.lines h.lines f.rest h.rest f.splits.front h.front;
+      front = subst (λ (ls : List (List ℕ)). Front (so.read ++ bytes) ls h.rest) (sym (append_assoc f.lines h.lines (h.line ∷ []))) (front_on so.read bytes f.lines (h.lines ++ h.line ∷ []) f.rest h.rest f.splits.front h.front);
+      takes = subst (λ (w : Option World). LineTakes w h.line) (sym (after_both None f.lines h.lines)) h.takes;
       grows = subst (λ (z : List ℕ). Grows g0 [] g2 w2 z) (sym (told_both None f.lines h.lines)) (grows_on g0 g1 g2 [] [] w2 (told None f.lines) (told known h.lines) f.grows grows);
     }
 
 pub stopped_written : (left0 left left2 g0 g1 g2 g3 : Option (List ℕ)) (s : Option SystemView) (held bytes w1 w2 : List ℕ) → SoFar left0 left g0 g1 s held → Consumes left left2 bytes → w1 ≡ []
-    → ForEachStart s held (λ world tail. StoppedIn world (tail ++ bytes) w1 g1 w2 g2) → Appends g2 g3 w2 → WroteFront left0 left2 g0 g3
+    → ForEachStart s held (λ world tail. StoppedIn world (tail ++ bytes) w1 g1 w2 g2) → Appends g2 g3 w2 → WroteBefore left0 left2 g0 g3
 stopped_written left0 left left2 g0 g1 g2 g3 s held bytes w1 w2 so consumed none fed written =
     let b = block_stopped left0 left left2 g0 g1 g2 s held bytes w1 w2 so consumed none fed in
     record {
       read = b.read;
       lines = b.lines;
-      rest = b.rest;
+      line = b.line;
       consumed = b.consumed;
-      front = b.front;
+      next = inl (b.rest, b.front);
+      takes = b.takes;
       written = appended g0 g3 (told None b.lines) (subst (λ (z : List ℕ). Grows g0 [] g3 [] z) (append_none (told None b.lines)) (grows_on g0 g2 g3 [] w2 [] (told None b.lines) [] b.grows (flushed g2 g3 w2 written)));
     }
 
@@ -150,7 +158,8 @@ stopped_unwritten left0 left left2 g0 g1 g2 g3 s held bytes w1 w2 so consumed no
     record {
       read = b.read;
       consumed = b.consumed;
-      written = part_of_text g0 g3 b.read b.lines b.rest b.front (broken g0 g2 g3 [] w2 (told None b.lines) b.grows part);
+      written = part_of_text g0 g3 b.read (b.lines ++ b.line ∷ []) b.rest b.front
+          (subst (λ (z : List ℕ). AppendsPart g0 g3 z) (sym (told_both None b.lines (b.line ∷ []))) (part_more g0 g3 (told None b.lines) (told (after_lines None b.lines) (b.line ∷ [])) (broken g0 g2 g3 [] w2 (told None b.lines) b.grows part)));
     }
 
 -- A read failed, or there were too many.
@@ -208,15 +217,16 @@ finished_part left0 left left2 g0 g1 g2 s held so consumed finished =
           (then_part g0 g1 g2 (told None f.lines) (told known (last_of f.rest)) (appended g0 g1 (told None f.lines) f.grows) last);
     }
 
-pub finished_front : (left0 left left2 g0 g1 g2 : Option (List ℕ)) (s : Option SystemView) (held : List ℕ) → SoFar left0 left g0 g1 s held → Consumes left left2 [] → g2 ≡ g1 → WroteFront left0 left2 g0 g2
-finished_front left0 left left2 g0 g1 g2 s held so consumed same =
+pub finished_front : (left0 left left2 g0 g1 g2 : Option (List ℕ)) (s : Option SystemView) (held : List ℕ) → SoFar left0 left g0 g1 s held → Consumes left left2 [] → IsAtEnd left2 → g2 ≡ g1 → ((world : Option World) → IsAt s world → LineTakes world held) → WroteBefore left0 left2 g0 g2
+finished_front left0 left left2 g0 g1 g2 s held so consumed end same takes =
     let f = so.fed in
     record {
       read = so.read;
       lines = f.lines;
-      rest = f.rest;
+      line = f.rest;
       consumed = consumed_end left0 left left2 so.read so.consumed consumed;
-      front = f.splits.front;
+      next = inr (f.splits, end);
+      takes = subst (λ (k : Option Command). CommandTakes (after_lines None f.lines) k) (ap command_of f.holds ∙ same_line f.rest) (takes (after_lines None f.lines) f.at);
       written = subst (λ (z : Option (List ℕ)). Appends g0 z (told None f.lines)) (sym same) (appended g0 g1 (told None f.lines) f.grows);
     }
 
@@ -249,7 +259,7 @@ pub finished_wrote : {A : Type 0} (r : Result A ReplayFault) (left0 left left2 g
 finished_wrote (Ok x) left0 left left2 g0 g1 g2 s held so consumed end f = finished_all left0 left left2 g0 g1 g2 s held so consumed end f
 finished_wrote (Err ReadFailed) left0 left left2 g0 g1 g2 s held so consumed end f = absurd f
 finished_wrote (Err WriteFailed) left0 left left2 g0 g1 g2 s held so consumed end f = finished_part left0 left left2 g0 g1 g2 s held so consumed f
-finished_wrote (Err NoMemory) left0 left left2 g0 g1 g2 s held so consumed end f = finished_front left0 left left2 g0 g1 g2 s held so consumed f
+finished_wrote (Err NoMemory) left0 left left2 g0 g1 g2 s held so consumed end f = inr (finished_front left0 left left2 g0 g1 g2 s held so consumed end f.0 f.1)
 
 -- How a halt ends it.
 pub gave_up_wrote : {A : Type 0} (B : Type 0) (r : Result A Halt) (h : Halt) (fault : ReplayFault) (failures : ℕ) (left0 left left2 g0 g1 g2 g3 : Option (List ℕ)) (s s2 : Option SystemView) (held held2 bytes w1 w2 : List ℕ)
@@ -261,7 +271,7 @@ gave_up_wrote B (Err halt.NoMemory) h fault failures left0 left left2 g0 g1 g2 g
     stopped halt.WriteFailed fault e k = absurd (cc e)
     stopped halt.NoMemory ReadFailed e k = absurd k
     stopped halt.NoMemory WriteFailed e k = stopped_unwritten left0 left left2 g0 g1 g2 g3 s held bytes w1 w2 so consumed none fed k.0
-    stopped halt.NoMemory NoMemory e k = stopped_written left0 left left2 g0 g1 g2 g3 s held bytes w1 w2 so consumed none fed k.0
+    stopped halt.NoMemory NoMemory e k = inr (stopped_written left0 left left2 g0 g1 g2 g3 s held bytes w1 w2 so consumed none fed k.0)
 gave_up_wrote B (Err halt.WriteFailed) h fault failures left0 left left2 g0 g1 g2 g3 s s2 held held2 bytes w1 w2 is so consumed none fed gave = broken_by h fault (cc is) gave
   where
     broken_by : (h : Halt) (fault : ReplayFault) → halt.WriteFailed ≡ h → GaveUp h fault w2 g2 g3 failures → Wrote {A = B} (Err fault) left0 left2 g0 g3

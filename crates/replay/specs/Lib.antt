@@ -8,3 +8,4 @@ pub mod Text
 pub mod Known
 pub mod Streams
 pub mod Outcome
+pub mod Room

@@ -9,6 +9,7 @@ use Rattle.replay.specs.declared.stream.ReplayFault.{ReplayFault}
 use Rattle.replay.specs.declared.stream.ReplayFault.TheVariants.{ReadFailed, WriteFailed, NoMemory}
 use Rattle.replay.specs.Scanned.{first_at}
 use Rattle.replay.specs.Known.{AppendsPart, Grows}
+use Rattle.replay.specs.Room.{LineTakes}
 use Rattle.replay.specs.Text.{SystemView, IsAt, line_text, after_line, told}
 
 -- No newline stands in the bytes.
@@ -46,11 +47,13 @@ pub record FedTo (world : Option World) (tail bytes waits : List ℕ) (got : Opt
   pub grows : Grows got waits got' waits' (told world lines)
   pub at : IsAt new (after_lines world lines)
 
--- Memory was refused: the lines before are answered.
+-- Memory was refused at a line that takes memory: the lines before it are answered.
 pub record StoppedIn (world : Option World) (bytes waits : List ℕ) (got : Option (List ℕ)) (waits' : List ℕ) (got' : Option (List ℕ)) : Type 0 where
   pub lines : List (List ℕ)
+  pub line : List ℕ
   pub rest : List ℕ
-  pub front : Front bytes lines rest
+  pub front : Front bytes (lines ++ line ∷ []) rest
+  pub takes : LineTakes (after_lines world lines) line
   pub grows : Grows got waits got' waits' (told world lines)
 
 -- A write failed: a beginning of the answers is written.
@@ -91,7 +94,7 @@ Ended old held waits waits' = (world : Option World) → IsAt old world → wait
 abbrev pub Finished : {A : Type 0} → Result A ReplayFault → Option SystemView → List ℕ → Option (List ℕ) → Option (List ℕ) → Type 0
 Finished (Ok x) old held got got' = (world : Option World) → IsAt old world → Appends got got' (told world (last_of held))
 Finished (Err WriteFailed) old held got got' = (world : Option World) → IsAt old world → AppendsPart got got' (told world (last_of held))
-Finished (Err NoMemory) old held got got' = got' ≡ got
+Finished (Err NoMemory) old held got got' = (got' ≡ got) × ((world : Option World) → IsAt old world → LineTakes world held)
 Finished (Err ReadFailed) old held got got' = ⊥
 
 -- What is so after lines weren't answered, by the fault that is answered for that: for want of memory, what waits was written,

@@ -1,6 +1,8 @@
 // One line after another: what it does, and the reply to it.
 ghost use Rattle.std.specs.Prelude.{◌≡◌, Option, Some, None, IfOk, OnErr};
-ghost use Rattle.replay.specs.Text.{Replied};
+ghost use Rattle.system.specs.World.{World};
+ghost use Rattle.replay.specs.Room.{TakesIn};
+ghost use Rattle.replay.specs.Text.{IsAt, Replied};
 
 use crate::grammar::Command;
 use std::alloc::{AllocError, Global};
@@ -22,7 +24,8 @@ pub(crate) fn obey(
     alloc: Global,
     command: Option<Command>,
 ) -> Result<Reply, AllocError>
-    ensures { IfOk result (λ said. Replied system.old command said system.new) }
+    ensures replied { IfOk result (λ said. Replied system.old command said system.new) }
+    ensures no_memory { (world : Option World) → IsAt system.old world → OnErr result (TakesIn world command) }
 {
     match command {
         None => Ok(Reply::BadLine),
@@ -38,7 +41,8 @@ fn size(
     y: u64,
     z: u64,
 ) -> Result<Reply, AllocError>
-    ensures { IfOk result (λ said. Replied system.old (Some (Command.Size x y z)) said system.new) }
+    ensures replied { IfOk result (λ said. Replied system.old (Some (Command.Size x y z)) said system.new) }
+    ensures no_memory { (world : Option World) → IsAt system.old world → OnErr result (TakesIn world (Some (Command.Size x y z))) }
 {
     if system.is_some() {
         return Ok(Reply::BadLine);
@@ -58,7 +62,8 @@ fn event_reply(
     alloc: Global,
     event: Event,
 ) -> Result<Reply, AllocError>
-    ensures { IfOk result (λ said. Replied system.old (Some (Command.Do event)) said system.new) }
+    ensures replied { IfOk result (λ said. Replied system.old (Some (Command.Do event)) said system.new) }
+    ensures no_memory { (world : Option World) → IsAt system.old world → OnErr result (TakesIn world (Some (Command.Do event))) }
 {
     match system {
         None => Ok(Reply::BadLine),

@@ -1,5 +1,6 @@
 // The grammar of a line.
-ghost use Rattle.std.specs.Prelude.{◌≡◌, ◌≢◌, IfOk, option_map};
+ghost use Rattle.std.specs.Prelude.{◌≡◌, ◌≢◌, true, IfOk, OnErr, option_map, is_some};
+ghost use Rattle.replay.specs.Room.{is_handshake};
 ghost use Rattle.replay.specs.Words.{words_after};
 ghost use Rattle.replay.specs.Grammar.{command_of, of_word, size_of, enter_of, asking, handshake, alone, of_one, of_two, numbers};
 
@@ -20,9 +21,10 @@ pub enum Command {
 /// The longest line, without its newline.
 const LONGEST: usize = 1024;
 
-/// The command that the line spells. The names of an `ask` take memory, nothing else does.
+/// The command that the line spells. The names of a handshake take memory, nothing else does.
 pub(crate) fn parse(alloc: Global, line: &[u8]) -> Result<Option<Command>, AllocError>
-    ensures { IfOk result (λ command. command ≡ command_of line.now) }
+    ensures command { IfOk result (λ command. command ≡ command_of line.now) }
+    ensures no_memory { OnErr result (is_handshake (command_of line.now) ≡ true) }
 {
     if line.len() > LONGEST {
         return Ok(None);
@@ -101,7 +103,8 @@ fn size(tail: &[u8]) -> Option<Command>
 
 /// What the words after `ask` spell.
 fn asking(alloc: Global, tail: &[u8]) -> Result<Option<Command>, AllocError>
-    ensures { IfOk result (λ command. command ≡ asking (words_after tail.now)) }
+    ensures command { IfOk result (λ command. command ≡ asking (words_after tail.now)) }
+    ensures no_memory { OnErr result (is_handshake (asking (words_after tail.now)) ≡ true) }
 {
     if is_end(tail) {
         return Ok(None);
@@ -120,8 +123,12 @@ fn asking(alloc: Global, tail: &[u8]) -> Result<Option<Command>, AllocError>
 }
 
 fn handshake(alloc: Global, ask: Ask, tail: &[u8]) -> Result<Option<Command>, AllocError>
-    ensures { IfOk result (λ command. command ≡ handshake ask (words_after tail.now)) }
+    ensures command { IfOk result (λ command. command ≡ handshake ask (words_after tail.now)) }
+    ensures no_memory { OnErr result (is_handshake (handshake ask (words_after tail.now)) ≡ true) }
 {
+    if !are_numbers(tail) {
+        return Ok(None);
+    }
     match numbers(alloc, tail)? {
         None => Ok(None),
         Some(names) => {
@@ -129,6 +136,20 @@ fn handshake(alloc: Global, ask: Ask, tail: &[u8]) -> Result<Option<Command>, Al
             Ok(Some(Command::Do(Event::Ask(Request::Handshake { targets, ask }))))
         }
     }
+}
+
+/// Whether all words are numbers.
+fn are_numbers(tail: &[u8]) -> bool
+    ensures { result ≡ is_some (numbers (words_after tail.now)) }
+{
+    let mut rest = tail;
+    while !rest.is_empty() {
+        match next(rest) {
+            None => return false,
+            Some((_, behind)) => rest = behind,
+        }
+    }
+    true
 }
 
 /// All words as numbers.

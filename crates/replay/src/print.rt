@@ -1,7 +1,8 @@
 // The text of replies.
-ghost use Rattle.std.specs.Prelude.{◌≡◌, ◌++◌, ◌∷◌, [], ℕ, ℤ, List, OnOk, codes, decimal};
+ghost use Rattle.std.specs.Prelude.{◌≡◌, ◌++◌, ◌∷◌, ◌+◌, ◌<◌, ◌≤◌, [], ℕ, ℤ, List, true, OnOk, OnErr, codes, decimal, length, vec_len, vec_capacity};
 ghost use Rattle.std.specs.List.{flat_map};
 ghost use Rattle.thread_state.specs.StateText.{back_text, with_back, state_text};
+ghost use Rattle.replay.specs.Room.{is_short, is_short_reply};
 ghost use Rattle.replay.specs.Printed.{refusal_text, signed_text, frame_text, counted_text, kind_text, code_state_text, answer_text, reply_text};
 
 use crate::engine::Reply;
@@ -14,7 +15,10 @@ use system::answers::{Answer, CodeCount, Refusal};
 use thread_state::{Back, State};
 
 fn put_number(text: &mut Vec<u8>, n: u64) -> Result<(), AllocError>
-    ensures { OnOk result (text.new.items ≡ text.old.items ++ decimal n) }
+    ensures text { OnOk result (text.new.items ≡ text.old.items ++ decimal n) }
+    ensures grows { OnOk result (vec_len text.new ≤ vec_len text.old + 40) }
+    ensures room { OnErr result (vec_capacity text.old < vec_len text.old + 40) }
+    ensures kept { vec_capacity text.old ≤ vec_capacity text.new }
 {
     let mut buffer = Buffer::new();
     text.extend_from_slice(buffer.format(n).as_bytes())
@@ -22,14 +26,18 @@ fn put_number(text: &mut Vec<u8>, n: u64) -> Result<(), AllocError>
 
 /// A word, and a number behind it.
 fn put_counted(text: &mut Vec<u8>, word: &[u8], n: u64) -> Result<(), AllocError>
-    ensures { OnOk result (text.new.items ≡ text.old.items ++ (word.now ++ decimal n)) }
+    ensures text { OnOk result (text.new.items ≡ text.old.items ++ (word.now ++ decimal n)) }
+    ensures grows { OnOk result (vec_len text.new ≤ vec_len text.old + (length word.now + 40)) }
+    ensures room { OnErr result (vec_capacity text.old < vec_len text.old + (length word.now + 40)) }
+    ensures kept { vec_capacity text.old ≤ vec_capacity text.new }
 {
     text.extend_from_slice(word)?;
     put_number(text, n)
 }
 
 fn back_name(back: Back) -> &'static [u8]
-    ensures { result.now ≡ back_text back }
+    ensures text { result.now ≡ back_text back }
+    ensures short { length result.now ≤ 4 }
 {
     match back {
         Back::Java => b"Java",
@@ -38,7 +46,10 @@ fn back_name(back: Back) -> &'static [u8]
 }
 
 fn put_state(text: &mut Vec<u8>, state: State) -> Result<(), AllocError>
-    ensures { OnOk result (text.new.items ≡ text.old.items ++ state_text state) }
+    ensures text { OnOk result (text.new.items ≡ text.old.items ++ state_text state) }
+    ensures grows { OnOk result (vec_len text.new ≤ vec_len text.old + 24) }
+    ensures room { OnErr result (vec_capacity text.old < vec_len text.old + 24) }
+    ensures kept { vec_capacity text.old ≤ vec_capacity text.new }
 {
     match state {
         State::Vacant => text.extend_from_slice(b"Vacant"),
@@ -57,7 +68,10 @@ fn put_state(text: &mut Vec<u8>, state: State) -> Result<(), AllocError>
 
 /// A name, and the way back in round brackets.
 fn put_with_back(text: &mut Vec<u8>, name: &[u8], back: Back) -> Result<(), AllocError>
-    ensures { OnOk result (text.new.items ≡ text.old.items ++ with_back name.now back) }
+    ensures text { OnOk result (text.new.items ≡ text.old.items ++ with_back name.now back) }
+    ensures grows { OnOk result (vec_len text.new ≤ vec_len text.old + (length name.now + 6)) }
+    ensures room { OnErr result (vec_capacity text.old < vec_len text.old + (length name.now + 6)) }
+    ensures kept { vec_capacity text.old ≤ vec_capacity text.new }
 {
     text.extend_from_slice(name)?;
     text.push(b'(')?;
@@ -66,7 +80,10 @@ fn put_with_back(text: &mut Vec<u8>, name: &[u8], back: Back) -> Result<(), Allo
 }
 
 fn put_refusal(text: &mut Vec<u8>, refusal: Refusal) -> Result<(), AllocError>
-    ensures { OnOk result (text.new.items ≡ text.old.items ++ refusal_text refusal) }
+    ensures text { OnOk result (text.new.items ≡ text.old.items ++ refusal_text refusal) }
+    ensures grows { OnOk result (vec_len text.new ≤ vec_len text.old + 32) }
+    ensures room { OnErr result (vec_capacity text.old < vec_len text.old + 32) }
+    ensures kept { vec_capacity text.old ≤ vec_capacity text.new }
 {
     match refusal {
         Refusal::Illegal(state) => {
@@ -112,7 +129,10 @@ fn put_refusal(text: &mut Vec<u8>, refusal: Refusal) -> Result<(), AllocError>
 }
 
 fn put_signed(text: &mut Vec<u8>, by: i32) -> Result<(), AllocError>
-    ensures { OnOk result (text.new.items ≡ text.old.items ++ signed_text by) }
+    ensures text { OnOk result (text.new.items ≡ text.old.items ++ signed_text by) }
+    ensures grows { OnOk result (vec_len text.new ≤ vec_len text.old + 41) }
+    ensures room { OnErr result (vec_capacity text.old < vec_len text.old + 41) }
+    ensures kept { vec_capacity text.old ≤ vec_capacity text.new }
 {
     if by < 0 {
         text.push(b'-')?;
@@ -123,7 +143,8 @@ fn put_signed(text: &mut Vec<u8>, by: i32) -> Result<(), AllocError>
 }
 
 fn put_frame(text: &mut Vec<u8>, frame: Frame) -> Result<(), AllocError>
-    ensures { OnOk result (text.new.items ≡ text.old.items ++ frame_text frame) }
+    ensures text { OnOk result (text.new.items ≡ text.old.items ++ frame_text frame) }
+    ensures kept { vec_capacity text.old ≤ vec_capacity text.new }
 {
     text.push(b' ')?;
     put_number(text, frame.method as u64)?;
@@ -135,7 +156,8 @@ fn put_frame(text: &mut Vec<u8>, frame: Frame) -> Result<(), AllocError>
 }
 
 fn put_frames(text: &mut Vec<u8>, frames: &[Frame]) -> Result<(), AllocError>
-    ensures { OnOk result (text.new.items ≡ text.old.items ++ codes "stack" ++ flat_map frame_text frames.now) }
+    ensures text { OnOk result (text.new.items ≡ text.old.items ++ codes "stack" ++ flat_map frame_text frames.now) }
+    ensures kept { vec_capacity text.old ≤ vec_capacity text.new }
 {
     text.extend_from_slice(b"stack")?;
     for frame in frames {
@@ -145,7 +167,8 @@ fn put_frames(text: &mut Vec<u8>, frames: &[Frame]) -> Result<(), AllocError>
 }
 
 fn put_code_count(text: &mut Vec<u8>, counted: CodeCount) -> Result<(), AllocError>
-    ensures { OnOk result (text.new.items ≡ text.old.items ++ counted_text counted) }
+    ensures text { OnOk result (text.new.items ≡ text.old.items ++ counted_text counted) }
+    ensures kept { vec_capacity text.old ≤ vec_capacity text.new }
 {
     text.push(b' ')?;
     put_number(text, counted.serial)?;
@@ -154,7 +177,8 @@ fn put_code_count(text: &mut Vec<u8>, counted: CodeCount) -> Result<(), AllocErr
 }
 
 fn put_census(text: &mut Vec<u8>, counts: &[CodeCount]) -> Result<(), AllocError>
-    ensures { OnOk result (text.new.items ≡ text.old.items ++ codes "census" ++ flat_map counted_text counts.now) }
+    ensures text { OnOk result (text.new.items ≡ text.old.items ++ codes "census" ++ flat_map counted_text counts.now) }
+    ensures kept { vec_capacity text.old ≤ vec_capacity text.new }
 {
     text.extend_from_slice(b"census")?;
     for counted in counts {
@@ -164,14 +188,20 @@ fn put_census(text: &mut Vec<u8>, counts: &[CodeCount]) -> Result<(), AllocError
 }
 
 fn put_thread(text: &mut Vec<u8>, name: u64, place: usize) -> Result<(), AllocError>
-    ensures { OnOk result (text.new.items ≡ text.old.items ++ (codes "thread " ++ decimal name ++ codes " place " ++ decimal place)) }
+    ensures text { OnOk result (text.new.items ≡ text.old.items ++ (codes "thread " ++ decimal name ++ codes " place " ++ decimal place)) }
+    ensures grows { OnOk result (vec_len text.new ≤ vec_len text.old + 94) }
+    ensures room { OnErr result (vec_capacity text.old < vec_len text.old + 94) }
+    ensures kept { vec_capacity text.old ≤ vec_capacity text.new }
 {
     put_counted(text, b"thread ", name)?;
     put_counted(text, b" place ", place as u64)
 }
 
 fn put_change(text: &mut Vec<u8>, serial: u64, by: i32) -> Result<(), AllocError>
-    ensures { OnOk result (text.new.items ≡ text.old.items ++ (codes "change " ++ decimal serial ++ codes " " ++ signed_text by)) }
+    ensures text { OnOk result (text.new.items ≡ text.old.items ++ (codes "change " ++ decimal serial ++ codes " " ++ signed_text by)) }
+    ensures grows { OnOk result (vec_len text.new ≤ vec_len text.old + 89) }
+    ensures room { OnErr result (vec_capacity text.old < vec_len text.old + 89) }
+    ensures kept { vec_capacity text.old ≤ vec_capacity text.new }
 {
     put_counted(text, b"change ", serial)?;
     text.push(b' ')?;
@@ -179,7 +209,10 @@ fn put_change(text: &mut Vec<u8>, serial: u64, by: i32) -> Result<(), AllocError
 }
 
 fn put_opened(text: &mut Vec<u8>, operation: u64, kind: Kind) -> Result<(), AllocError>
-    ensures { OnOk result (text.new.items ≡ text.old.items ++ (codes "open " ++ decimal operation ++ kind_text kind)) }
+    ensures text { OnOk result (text.new.items ≡ text.old.items ++ (codes "open " ++ decimal operation ++ kind_text kind)) }
+    ensures grows { OnOk result (vec_len text.new ≤ vec_len text.old + 55) }
+    ensures room { OnErr result (vec_capacity text.old < vec_len text.old + 55) }
+    ensures kept { vec_capacity text.old ≤ vec_capacity text.new }
 {
     put_counted(text, b"open ", operation)?;
     match kind {
@@ -189,7 +222,10 @@ fn put_opened(text: &mut Vec<u8>, operation: u64, kind: Kind) -> Result<(), Allo
 }
 
 fn put_code_state(text: &mut Vec<u8>, state: CodeState) -> Result<(), AllocError>
-    ensures { OnOk result (text.new.items ≡ text.old.items ++ code_state_text state) }
+    ensures text { OnOk result (text.new.items ≡ text.old.items ++ code_state_text state) }
+    ensures grows { OnOk result (vec_len text.new ≤ vec_len text.old + 12) }
+    ensures room { OnErr result (vec_capacity text.old < vec_len text.old + 12) }
+    ensures kept { vec_capacity text.old ≤ vec_capacity text.new }
 {
     match state {
         CodeState::InUse => text.extend_from_slice(b"in use"),
@@ -200,7 +236,10 @@ fn put_code_state(text: &mut Vec<u8>, state: CodeState) -> Result<(), AllocError
 }
 
 fn put_answer(text: &mut Vec<u8>, answer: &Answer) -> Result<(), AllocError>
-    ensures { OnOk result (text.new.items ≡ text.old.items ++ answer_text answer.now) }
+    ensures text { OnOk result (text.new.items ≡ text.old.items ++ answer_text answer.now) }
+    ensures grows { is_short answer.now ≡ true → OnOk result (vec_len text.new ≤ vec_len text.old + 96) }
+    ensures room { is_short answer.now ≡ true → OnErr result (vec_capacity text.old < vec_len text.old + 96) }
+    ensures kept { vec_capacity text.old ≤ vec_capacity text.new }
 {
     match answer {
         Answer::Done => text.extend_from_slice(b"ok"),
@@ -238,7 +277,10 @@ fn put_answer(text: &mut Vec<u8>, answer: &Answer) -> Result<(), AllocError>
 
 /// Puts the line of text for a reply behind the text.
 pub(crate) fn put_reply(text: &mut Vec<u8>, reply: &Reply) -> Result<(), AllocError>
-    ensures { OnOk result (text.new.items ≡ text.old.items ++ (reply_text reply.now ++ 10 ∷ [])) }
+    ensures text { OnOk result (text.new.items ≡ text.old.items ++ (reply_text reply.now ++ 10 ∷ [])) }
+    ensures grows { is_short_reply reply.now ≡ true → OnOk result (vec_len text.new ≤ vec_len text.old + 97) }
+    ensures room { is_short_reply reply.now ≡ true → OnErr result (vec_capacity text.old < vec_len text.old + 97) }
+    ensures kept { vec_capacity text.old ≤ vec_capacity text.new }
 {
     match reply {
         Reply::BadLine => text.extend_from_slice(b"bad line")?,

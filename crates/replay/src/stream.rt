@@ -1,10 +1,12 @@
 // Bytes in, text out.
-ghost use Rattle.std.specs.Prelude.{◌≡◌, ◌++◌, ◌<◌, ◌≤◌, [], ℕ, List, Option, None, OnOk, OnErr, IfOk, IfSome, MatchResult, length, vec_len};
+ghost use Rattle.std.specs.Prelude.{◌≡◌, ◌++◌, ◌^◌, ◌<◌, ◌≤◌, [], ℕ, List, Option, None, OnOk, OnErr, IfOk, IfSome, MatchResult, length, vec_len, vec_capacity};
 ghost use Rattle.std.specs.Io.KnownBytes.{Appends};
+ghost use Rattle.system.specs.World.{World};
 ghost use Rattle.replay.specs.Known.{AppendsPart, Grows};
+ghost use Rattle.replay.specs.Room.{LineTakes};
 ghost use Rattle.replay.specs.Streams.{Turned, FedBy, Ended, Finished, GaveUp, failed_writes};
 ghost use Rattle.replay.specs.Outcome.{Wrote, FailedCalls};
-ghost use Rattle.replay.specs.Text.{text};
+ghost use Rattle.replay.specs.Text.{IsAt, text};
 
 use crate::device::{Failed, Sink, Source};
 use crate::engine::obey;
@@ -28,7 +30,7 @@ pub enum ReplayFault {
     ReadFailed,
     /// A write failed, or took nothing. A beginning of the text is written.
     WriteFailed,
-    /// Memory was refused. The lines before that event are answered.
+    /// Memory was refused at a line that takes memory, and the lines before it are answered; or before anything was read.
     NoMemory,
 }
 
@@ -44,6 +46,8 @@ pub fn flush<W: Sink>(waits: &mut Vec<u8>, sink: &mut W) -> Result<(), Failed>
     requires { W.failures sink.old ≡ 0 }
     ensures done { OnOk result (Appends (W.got sink.old) (W.got sink.new) waits.old.items × (waits.new.items ≡ []) × (W.failures sink.new ≡ 0)) }
     ensures part { OnErr result (AppendsPart (W.got sink.old) (W.got sink.new) waits.old.items × (W.failures sink.new ≡ 1)) }
+    ensures none_wait { OnOk result (vec_len waits.new ≡ 0) }
+    ensures kept { vec_capacity waits.old ≤ vec_capacity waits.new }
 {
     let mut at = 0;
     while at < waits.len() {
@@ -57,7 +61,10 @@ pub fn flush<W: Sink>(waits: &mut Vec<u8>, sink: &mut W) -> Result<(), Failed>
 fn relieve<W: Sink>(waits: &mut Vec<u8>, sink: &mut W) -> Result<(), Failed>
     requires { W.failures sink.old ≡ 0 }
     ensures done { OnOk result (Grows (W.got sink.old) waits.old.items (W.got sink.new) waits.new.items [] × (W.failures sink.new ≡ 0)) }
+    ensures little { OnOk result (vec_len waits.new < BLOCK) }
     ensures part { OnErr result (AppendsPart (W.got sink.old) (W.got sink.new) waits.old.items × (W.failures sink.new ≡ 1)) }
+    ensures few_wait { OnOk result (vec_len waits.new < 2 ^ 16) }
+    ensures kept { vec_capacity waits.old ≤ vec_capacity waits.new }
 {
     if waits.len() < BLOCK {
         Ok(())
@@ -74,8 +81,14 @@ fn turn(
     alloc: Global,
     line: &[u8],
 ) -> Result<(), AllocError>
+    requires text_room { 2 ^ 16 ≤ vec_capacity text.old }
+    requires waits_room { 2 ^ 17 ≤ vec_capacity waits.old }
+    requires few_wait { vec_len waits.old < 2 ^ 16 }
     ensures done { OnOk result (Turned system.old line.now waits.old.items waits.new.items system.new) }
     ensures none { OnErr result (waits.new.items ≡ waits.old.items) }
+    ensures no_memory { (world : Option World) → IsAt system.old world → OnErr result (LineTakes world line.now) }
+    ensures text_room { 2 ^ 16 ≤ vec_capacity text.new }
+    ensures waits_room { 2 ^ 17 ≤ vec_capacity waits.new }
 {
     text.clear();
     let command = parse(alloc, line)?;
@@ -93,9 +106,15 @@ fn end_line(
     alloc: Global,
     piece: &[u8],
 ) -> Result<(), AllocError>
+    requires text_room { 2 ^ 16 ≤ vec_capacity text.old }
+    requires waits_room { 2 ^ 17 ≤ vec_capacity waits.old }
+    requires few_wait { vec_len waits.old < 2 ^ 16 }
     ensures done { OnOk result (Turned system.old (held.old ++ piece.now) waits.old.items waits.new.items system.new) }
     ensures held { OnOk result (held.new ≡ []) }
     ensures none { OnErr result (waits.new.items ≡ waits.old.items) }
+    ensures no_memory { (world : Option World) → IsAt system.old world → OnErr result (LineTakes world (held.old ++ piece.now)) }
+    ensures text_room { 2 ^ 16 ≤ vec_capacity text.new }
+    ensures waits_room { 2 ^ 17 ≤ vec_capacity waits.new }
 {
     if held.is_empty() {
         return turn(system, text, waits, alloc, piece);
@@ -116,9 +135,14 @@ fn feed<W: Sink>(
     alloc: Global,
     bytes: &[u8],
 ) -> Result<(), Halt>
-    requires { W.failures sink.old ≡ 0 }
+    requires fresh { W.failures sink.old ≡ 0 }
+    requires text_room { 2 ^ 16 ≤ vec_capacity text.old }
+    requires waits_room { 2 ^ 17 ≤ vec_capacity waits.old }
+    requires few_wait { vec_len waits.old < 2 ^ 16 }
     ensures failures { MatchResult result (λ _. W.failures sink.new ≡ 0) (λ halt. W.failures sink.new ≡ failed_writes halt) }
     ensures fed { FedBy result system.old held.old bytes.now waits.old.items (W.got sink.old) system.new held.new waits.new.items (W.got sink.new) }
+    ensures text_room { 2 ^ 16 ≤ vec_capacity text.new }
+    ensures waits_room { 2 ^ 17 ≤ vec_capacity waits.new }
 {
     let mut at = 0;
     while at < bytes.len() {
@@ -164,7 +188,9 @@ pub fn replay<R: Source, W: Sink>(
 }
 
 fn buffers(alloc: Global) -> Result<(Vec<u8>, Vec<u8>, Vec<u8>), AllocError>
-    ensures { IfOk result (λ all. (0 < vec_len all.0) × (all.2.items ≡ [])) }
+    ensures block { IfOk result (λ all. 0 < vec_len all.0) }
+    ensures text { IfOk result (λ all. 2 ^ 16 ≤ vec_capacity all.1) }
+    ensures waits { IfOk result (λ all. (2 ^ 17 ≤ vec_capacity all.2) × (vec_len all.2 ≡ 0) × (all.2.items ≡ [])) }
 {
     let block = vec![in alloc; 0u8; BLOCK]?;
     let text = Vec::with_capacity(alloc, BLOCK)?;
@@ -185,6 +211,9 @@ fn answer_all<R: Source, W: Sink>(
     requires unread { R.reads source.old ≡ 0 }
     requires sink { W.failures sink.old ≡ 0 }
     requires room { 0 < vec_len block }
+    requires text_room { 2 ^ 16 ≤ vec_capacity text }
+    requires waits_room { 2 ^ 17 ≤ vec_capacity waits }
+    requires none_wait { vec_len waits ≡ 0 }
     requires none { waits.items ≡ [] }
     ensures wrote { Wrote result (R.left source.old) (R.left source.new) (W.got sink.old) (W.got sink.new) }
     ensures failed { FailedCalls result (R.reads source.new) (R.failures source.new) (W.failures sink.new) }
@@ -240,8 +269,12 @@ fn end_rest(
     waits: &mut Vec<u8>,
     alloc: Global,
 ) -> Result<(), AllocError>
+    requires text_room { 2 ^ 16 ≤ vec_capacity text.old }
+    requires waits_room { 2 ^ 17 ≤ vec_capacity waits.old }
+    requires few_wait { vec_len waits.old < 2 ^ 16 }
     ensures done { OnOk result (Ended system.old held.old waits.old.items waits.new.items) }
     ensures none { OnErr result (waits.new.items ≡ waits.old.items) }
+    ensures no_memory { (world : Option World) → IsAt system.old world → OnErr result (LineTakes world held.old) }
 {
     if held.is_empty() {
         Ok(())
@@ -260,6 +293,9 @@ fn finish<W: Sink>(
     alloc: Global,
 ) -> Result<(), ReplayFault>
     requires fresh { W.failures sink.old ≡ 0 }
+    requires text_room { 2 ^ 16 ≤ vec_capacity text.old }
+    requires waits_room { 2 ^ 17 ≤ vec_capacity waits.old }
+    requires few_wait { vec_len waits.old < 2 ^ 16 }
     requires none { waits.old.items ≡ [] }
     ensures failed { FailedCalls result 0 0 (W.failures sink.new) }
     ensures finished { Finished result system.old held.old (W.got sink.old) (W.got sink.new) }

@@ -6,8 +6,10 @@ use std::io::{self, Read, Write};
 use std::test::Fail;
 
 mod bad_lines;
+mod full_size;
 mod operation_runs;
 mod publication_runs;
+mod trap_runs;
 
 // A whole input with its answers: what a test calls it, and its lines, each `LINE => ANSWER`.
 #[derive(Clone, Copy)]
@@ -150,6 +152,12 @@ fn publications_are_answered(rt: HostRuntime) -> Result<(), Fail> {
 #[test]
 fn operations_are_answered(rt: HostRuntime) -> Result<(), Fail> {
     assert_eq!(rt; first_unanswered(rt.alloc(), &operation_runs::RUNS)?, None);
+    Ok(())
+}
+
+#[test]
+fn traps_are_answered(rt: HostRuntime) -> Result<(), Fail> {
+    assert_eq!(rt; first_unanswered(rt.alloc(), &trap_runs::RUNS)?, None);
     Ok(())
 }
 
@@ -333,7 +341,7 @@ fn each_write_may_fail_or_take_nothing(rt: HostRuntime) -> Result<(), Fail> {
     Ok(())
 }
 
-// Transcript with each allocation failing in turn, this shows that what was written is whole answers.
+// Run with each allocation failing in turn, this shows that what was written is whole answers.
 #[test]
 fn refused_memory_leaves_whole_answers(rt: HostRuntime) -> Result<(), Fail> {
     let (input, output) = sides(rt.alloc(), &operation_runs::SAFEPOINT_OF_TWO_THREADS)?;

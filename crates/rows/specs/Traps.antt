@@ -1,10 +1,10 @@
 -- Cases that are easily taken for others: events and the answers to them, line by line.
 use Rattle.std.specs.Prelude.{pos, negsuc, List, [], ◌∷◌}
 use Rattle.thread_state.specs.declared.Back.TheVariants.{Java, Vm}
-use Rattle.thread_state.specs.declared.State.TheVariants.{Vacant, New, InVm, InNative, BlockedTrans, AtPoll, Serving}
-use Rattle.system.specs.declared.answers.Refusal.TheVariants.{NoSuchPlace, Illegal, Publishing, NotBegun, ChangesLeft, Held, NoSuchMethod, Unknown, Unpublished, DepthFull, NotOf, StackNotEmpty, OperationPending, NotDone, NothingOpen, NotTold, AlreadyDone, NotSafe, SafepointOpen, HasCode, TableFull, NotInUse, NotNotEntrant, QueueFull, NoTargets, BadTargets, AlreadyOpen, QueueEmpty, AlreadyTold, NotAllHeld}
+use Rattle.thread_state.specs.declared.State.TheVariants.{Vacant, New, NewTrans, InJava, InVm, InNative, NativeTrans, Blocked, BlockedTrans, AtPoll, Serving}
+use Rattle.system.specs.declared.answers.Refusal.TheVariants.{NoSuchPlace, Illegal, Publishing, NotBegun, ChangesLeft, Held, NoSuchMethod, Unknown, Unpublished, DepthFull, NotOf, StackNotEmpty, OperationPending, NotDone, NothingOpen, NotTold, AlreadyDone, NotSafe, NotHeld, SafepointOpen, PlacesFull, HasCode, TableFull, NotInUse, NotNotEntrant, QueueFull, NoTargets, BadTargets, AlreadyOpen, QueueEmpty, AlreadyTold, NotAllHeld}
 use Rattle.system.specs.Log.{Entry}
-use Rattle.rows.specs.Lines.{◌⇒◌, begin, change, end, wake, cross, enter, enter_code, leave, edge, to_vm, from_vm, to_native, block, exit, take, finish, clear, hold, release, stack, start, install, invalidate, round, look, weigh, free, ask_depth, ask_top, ask_count, ask_census, open_oldest, tell, operate, close, count, state, resolve, ok, thread, exited, changes, no_change, go, stop, entered, wrong_method, reply, frames, interpreted, compiled, code, none, is_clear, late, not_looked, used, retired, asked, open_handshake, open_census, closed, told, gone, census, counts, freed, refused}
+use Rattle.rows.specs.Lines.{◌⇒◌, begin, change, end, wake, cross, enter, enter_code, leave, edge, to_vm, from_vm, to_native, block, exit, take, finish, clear, hold, release, stack, start, install, invalidate, round, look, weigh, free, ask_depth, ask_top, ask_count, ask_census, open_oldest, tell, operate, close, count, state, resolve, ok, thread, exited, changes, no_change, go, stop, entered, wrong_method, reply, frames, interpreted, compiled, code, none, is_clear, late, not_looked, used, retired, asked, open_handshake, open_census, closed, told, gone, census, counted, counts, freed, refused}
 
 -- A full queue is named before targets; no targets before bad ones. (1 place, 1 slot, 1 method)
 abbrev pub ask_order : List Entry
@@ -84,10 +84,11 @@ clear_order =
     ask_depth (1 ∷ []) ⇒ asked 3 ∷ open_oldest ⇒ open_handshake 3 ∷ clear 0 ⇒ refused NotTold ∷ finish 0 ⇒ refused NotTold ∷
     tell 1 ⇒ told ∷ clear 0 ⇒ refused NotDone ∷ finish 0 ⇒ reply 0 ∷ clear 0 ⇒ ok ∷ []
 
--- A full stack is named before code that isn't entrant. (1 place, 4 slots, 2 methods)
+-- A full stack is named before code that isn't entrant, and before code of another method. (1 place, 4 slots, 2 methods)
 abbrev pub depth_full_before_wrong_method : List Entry
 depth_full_before_wrong_method =
     start ⇒ thread 1 0 ∷ begin 0 ⇒ ok ∷ end 0 ⇒ ok ∷ wake 0 ⇒ ok ∷ cross 0 ⇒ go ∷ install 0 ⇒ code 1 ∷ invalidate 1 ⇒ ok ∷
+    install 1 ⇒ code 2 ∷ enter 0 0 ⇒ entered ∷ enter 0 0 ⇒ entered ∷ enter 0 0 ⇒ entered ∷ enter 0 0 ⇒ entered ∷ enter 0 0 ⇒ entered ∷
     enter 0 0 ⇒ entered ∷ enter 0 0 ⇒ entered ∷ enter 0 0 ⇒ entered ∷ enter 0 0 ⇒ entered ∷ enter 0 0 ⇒ entered ∷
     enter 0 0 ⇒ entered ∷ enter 0 0 ⇒ entered ∷ enter 0 0 ⇒ entered ∷ enter 0 0 ⇒ entered ∷ enter 0 0 ⇒ entered ∷
     enter 0 0 ⇒ entered ∷ enter 0 0 ⇒ entered ∷ enter 0 0 ⇒ entered ∷ enter 0 0 ⇒ entered ∷ enter 0 0 ⇒ entered ∷
@@ -138,15 +139,14 @@ depth_full_before_wrong_method =
     enter 0 0 ⇒ entered ∷ enter 0 0 ⇒ entered ∷ enter 0 0 ⇒ entered ∷ enter 0 0 ⇒ entered ∷ enter 0 0 ⇒ entered ∷
     enter 0 0 ⇒ entered ∷ enter 0 0 ⇒ entered ∷ enter 0 0 ⇒ entered ∷ enter 0 0 ⇒ entered ∷ enter 0 0 ⇒ entered ∷
     enter 0 0 ⇒ entered ∷ enter 0 0 ⇒ entered ∷ enter 0 0 ⇒ entered ∷ enter 0 0 ⇒ entered ∷ enter 0 0 ⇒ entered ∷
-    enter 0 0 ⇒ entered ∷ enter 0 0 ⇒ entered ∷ enter 0 0 ⇒ entered ∷ enter 0 0 ⇒ entered ∷ enter 0 0 ⇒ entered ∷
-    enter 0 0 ⇒ entered ∷ enter_code 0 0 1 ⇒ refused DepthFull ∷ enter_code 0 0 2 ⇒ refused Unknown ∷ leave 0 ⇒ go ∷
-    enter_code 0 0 1 ⇒ wrong_method ∷ []
+    enter 0 0 ⇒ entered ∷ enter_code 0 0 1 ⇒ refused DepthFull ∷ enter_code 0 0 2 ⇒ refused DepthFull ∷
+    enter_code 0 0 3 ⇒ refused Unknown ∷ leave 0 ⇒ go ∷ enter_code 0 0 1 ⇒ wrong_method ∷ enter_code 0 0 2 ⇒ refused NotOf ∷ []
 
 -- The refusals of Enter in their order. (1 place, 2 slots, 2 methods)
 abbrev pub enter_order : List Entry
 enter_order =
     install 0 ⇒ code 1 ∷ start ⇒ thread 1 0 ∷ enter_code 0 9 9 ⇒ refused (Illegal New) ∷ wake 0 ⇒ ok ∷ cross 0 ⇒ go ∷
-    enter_code 0 2 9 ⇒ refused NoSuchMethod ∷ enter_code 0 1 9 ⇒ refused Unknown ∷ enter_code 0 1 1 ⇒ refused Unpublished ∷
+    enter 0 2 ⇒ refused NoSuchMethod ∷ enter_code 0 2 9 ⇒ refused NoSuchMethod ∷ enter_code 0 1 9 ⇒ refused Unknown ∷ enter_code 0 1 1 ⇒ refused Unpublished ∷
     enter 0 0 ⇒ refused Unpublished ∷ begin 0 ⇒ ok ∷ enter_code 0 9 9 ⇒ refused Publishing ∷ end 0 ⇒ ok ∷
     enter_code 0 1 1 ⇒ refused NotOf ∷ enter_code 0 0 0 ⇒ refused Unknown ∷ []
 
@@ -300,3 +300,190 @@ wrong_method_of_any_method =
     enter_code 0 1 1 ⇒ wrong_method ∷ round ⇒ ok ∷ begin 0 ⇒ ok ∷ end 0 ⇒ ok ∷ look 1 0 ⇒ is_clear ∷ weigh 1 ⇒ retired ∷
     enter_code 0 1 1 ⇒ wrong_method ∷ free 1 ⇒ ok ∷ enter_code 0 1 1 ⇒ wrong_method ∷ enter_code 0 0 1 ⇒ wrong_method ∷
     stack 0 ⇒ frames [] ∷ []
+
+-- No place is left; an open census is named before that. (1 place, 1 slot, 1 method)
+abbrev pub start_order : List Entry
+start_order =
+    start ⇒ thread 1 0 ∷ start ⇒ refused PlacesFull ∷ ask_census ⇒ asked 1 ∷ open_oldest ⇒ open_census 1 ∷
+    start ⇒ refused SafepointOpen ∷ tell 1 ⇒ told ∷ hold 0 ⇒ ok ∷ operate ⇒ census [] ∷ clear 0 ⇒ ok ∷ release 0 ⇒ ok ∷
+    start ⇒ refused SafepointOpen ∷ close ⇒ closed 1 ∷ start ⇒ refused PlacesFull ∷ wake 0 ⇒ ok ∷ cross 0 ⇒ go ∷
+    exit 0 ⇒ exited 1 ∷ start ⇒ thread 2 0 ∷ []
+
+-- Who is held isn't held again, and who isn't held isn't released. (1 place, 1 slot, 1 method)
+abbrev pub hold_and_release : List Entry
+hold_and_release =
+    release 1 ⇒ refused NoSuchPlace ∷ release 0 ⇒ refused (Illegal Vacant) ∷ start ⇒ thread 1 0 ∷ release 0 ⇒ refused NotHeld ∷
+    ask_depth (1 ∷ []) ⇒ asked 1 ∷ open_oldest ⇒ open_handshake 1 ∷ tell 1 ⇒ told ∷ release 0 ⇒ refused NotHeld ∷ hold 0 ⇒ ok ∷
+    hold 0 ⇒ refused Held ∷ release 0 ⇒ ok ∷ release 0 ⇒ refused NotHeld ∷ hold 0 ⇒ ok ∷ []
+
+-- The refusals of Look in their order. (2 places, 1 slot, 1 method)
+abbrev pub look_order : List Entry
+look_order =
+    look 1 2 ⇒ refused Unknown ∷ install 0 ⇒ code 1 ∷ look 1 2 ⇒ refused NotNotEntrant ∷ invalidate 1 ⇒ ok ∷
+    look 1 2 ⇒ refused NoSuchPlace ∷ look 1 1 ⇒ is_clear ∷ weigh 1 ⇒ not_looked 0 ∷ look 1 0 ⇒ is_clear ∷ weigh 1 ⇒ retired ∷ []
+
+-- The refusals of Tell in their order; a thread that was told and is gone is gone. (1 place, 4 slots, 2 methods)
+abbrev pub tell_order : List Entry
+tell_order =
+    tell 1 ⇒ refused NothingOpen ∷ start ⇒ thread 1 0 ∷ begin 0 ⇒ ok ∷ end 0 ⇒ ok ∷ wake 0 ⇒ ok ∷ cross 0 ⇒ go ∷
+    ask_depth (1 ∷ []) ⇒ asked 1 ∷ open_oldest ⇒ open_handshake 1 ∷ tell 2 ⇒ refused NotOf ∷ tell 1 ⇒ told ∷
+    tell 1 ⇒ refused AlreadyTold ∷ edge 0 ⇒ stop 1 ∷ take 0 ⇒ ok ∷ finish 0 ⇒ reply 0 ∷ clear 0 ⇒ ok ∷
+    tell 1 ⇒ refused AlreadyTold ∷ cross 0 ⇒ go ∷ exit 0 ⇒ exited 1 ∷ tell 1 ⇒ gone ∷ close ⇒ closed 1 ∷
+    tell 1 ⇒ refused NothingOpen ∷ ask_census ⇒ asked 2 ∷ open_oldest ⇒ open_census 2 ∷ tell 1 ⇒ gone ∷ tell 2 ⇒ refused NotOf ∷
+    []
+
+-- Each method that there is has its code in use, or none. (1 place, 4 slots, 2 methods)
+abbrev pub resolve_by_method : List Entry
+resolve_by_method =
+    resolve 2 ⇒ refused NoSuchMethod ∷ resolve 1 ⇒ none ∷ install 1 ⇒ code 1 ∷ resolve 1 ⇒ code 1 ∷ resolve 0 ⇒ none ∷
+    invalidate 1 ⇒ ok ∷ resolve 1 ⇒ none ∷ resolve 2 ⇒ refused NoSuchMethod ∷ []
+
+-- A thread that stopped waits for a census only once that was told to it. (1 place, 4 slots, 2 methods)
+abbrev pub take_beside_an_untold_census : List Entry
+take_beside_an_untold_census =
+    start ⇒ thread 1 0 ∷ begin 0 ⇒ ok ∷ end 0 ⇒ ok ∷ wake 0 ⇒ ok ∷ cross 0 ⇒ go ∷ ask_depth (1 ∷ []) ⇒ asked 1 ∷
+    open_oldest ⇒ open_handshake 1 ∷ tell 1 ⇒ told ∷ edge 0 ⇒ stop 1 ∷ hold 0 ⇒ ok ∷ finish 0 ⇒ reply 0 ∷ clear 0 ⇒ ok ∷
+    release 0 ⇒ ok ∷ close ⇒ closed 1 ∷ ask_census ⇒ asked 2 ∷ open_oldest ⇒ open_census 2 ∷ take 0 ⇒ ok ∷ cross 0 ⇒ go ∷
+    tell 1 ⇒ told ∷ edge 0 ⇒ stop 2 ∷ take 0 ⇒ refused NotDone ∷ []
+
+-- The refusals of Close in their order; a live target that wasn't told isn't done. (1 place, 4 slots, 2 methods)
+abbrev pub close_order : List Entry
+close_order =
+    close ⇒ refused NothingOpen ∷ start ⇒ thread 1 0 ∷ begin 0 ⇒ ok ∷ end 0 ⇒ ok ∷ wake 0 ⇒ ok ∷ cross 0 ⇒ go ∷
+    ask_depth (1 ∷ []) ⇒ asked 1 ∷ open_oldest ⇒ open_handshake 1 ∷ close ⇒ refused NotDone ∷ tell 1 ⇒ told ∷
+    close ⇒ refused NotDone ∷ to_native 0 ⇒ ok ∷ hold 0 ⇒ ok ∷ close ⇒ refused Held ∷ finish 0 ⇒ reply 0 ∷ release 0 ⇒ ok ∷
+    close ⇒ refused NotDone ∷ hold 0 ⇒ ok ∷ clear 0 ⇒ ok ∷ close ⇒ refused Held ∷ release 0 ⇒ ok ∷ close ⇒ closed 1 ∷ []
+
+-- A census that wasn't operated isn't done, although nobody lives. (1 place, 1 slot, 1 method)
+abbrev pub census_of_nobody : List Entry
+census_of_nobody =
+    ask_census ⇒ asked 1 ∷ open_oldest ⇒ open_census 1 ∷ close ⇒ refused NotDone ∷ operate ⇒ census [] ∷
+    operate ⇒ refused AlreadyDone ∷ close ⇒ closed 1 ∷ []
+
+-- The refusals of Operate in their order. (1 place, 4 slots, 2 methods)
+abbrev pub operate_order : List Entry
+operate_order =
+    operate ⇒ refused NothingOpen ∷ start ⇒ thread 1 0 ∷ begin 0 ⇒ ok ∷ end 0 ⇒ ok ∷ wake 0 ⇒ ok ∷ cross 0 ⇒ go ∷
+    ask_depth (9 ∷ []) ⇒ asked 1 ∷ open_oldest ⇒ open_handshake 1 ∷ operate ⇒ refused NotOf ∷ close ⇒ closed 1 ∷
+    ask_census ⇒ asked 2 ∷ open_oldest ⇒ open_census 2 ∷ begin 0 ⇒ ok ∷ operate ⇒ refused NotAllHeld ∷ end 0 ⇒ ok ∷
+    tell 1 ⇒ told ∷ edge 0 ⇒ stop 2 ∷ hold 0 ⇒ ok ∷ begin 0 ⇒ ok ∷ operate ⇒ refused Publishing ∷ end 0 ⇒ ok ∷
+    operate ⇒ census [] ∷ release 0 ⇒ ok ∷ operate ⇒ refused AlreadyDone ∷ close ⇒ refused NotDone ∷ take 0 ⇒ ok ∷
+    clear 0 ⇒ ok ∷ close ⇒ closed 2 ∷ []
+
+-- Wake and Take name the state before they name that the thread is held. (1 place, 4 slots, 2 methods)
+abbrev pub state_before_held : List Entry
+state_before_held =
+    start ⇒ thread 1 0 ∷ begin 0 ⇒ ok ∷ end 0 ⇒ ok ∷ wake 0 ⇒ ok ∷ cross 0 ⇒ go ∷ ask_depth (1 ∷ []) ⇒ asked 1 ∷
+    open_oldest ⇒ open_handshake 1 ∷ tell 1 ⇒ told ∷ edge 0 ⇒ stop 1 ∷ hold 0 ⇒ ok ∷ wake 0 ⇒ refused (Illegal (AtPoll Java)) ∷
+    take 0 ⇒ refused Held ∷ finish 0 ⇒ reply 0 ∷ clear 0 ⇒ ok ∷ release 0 ⇒ ok ∷ take 0 ⇒ ok ∷ cross 0 ⇒ go ∷ close ⇒ closed 1 ∷
+    to_native 0 ⇒ ok ∷ ask_depth (1 ∷ []) ⇒ asked 2 ∷ open_oldest ⇒ open_handshake 2 ∷ tell 1 ⇒ told ∷ hold 0 ⇒ ok ∷
+    take 0 ⇒ refused (Illegal (InNative Java)) ∷ wake 0 ⇒ refused Held ∷ []
+
+-- A census leaves out a code that is no longer on a stack, and one that never was. (1 place, 4 slots, 3 methods)
+abbrev pub census_without_zeros : List Entry
+census_without_zeros =
+    start ⇒ thread 1 0 ∷ begin 0 ⇒ ok ∷ end 0 ⇒ ok ∷ wake 0 ⇒ ok ∷ cross 0 ⇒ go ∷ install 0 ⇒ code 1 ∷ install 1 ⇒ code 2 ∷
+    install 2 ⇒ code 3 ∷ enter_code 0 0 1 ⇒ entered ∷ begin 0 ⇒ ok ∷ change 0 ⇒ changes 1 (pos 1) ∷ end 0 ⇒ ok ∷ leave 0 ⇒ go ∷
+    enter_code 0 1 2 ⇒ entered ∷ enter_code 0 1 2 ⇒ entered ∷ begin 0 ⇒ ok ∷ change 0 ⇒ changes 1 (negsuc 0) ∷
+    change 0 ⇒ changes 2 (pos 2) ∷ end 0 ⇒ ok ∷ count 1 ⇒ counts 0 ∷ count 2 ⇒ counts 2 ∷ count 3 ⇒ counts 0 ∷
+    ask_census ⇒ asked 1 ∷ open_oldest ⇒ open_census 1 ∷ tell 1 ⇒ told ∷ to_native 0 ⇒ ok ∷ hold 0 ⇒ ok ∷
+    operate ⇒ census (counted 2 2 ∷ []) ∷ []
+
+-- In each state those acts are illegal that the tables of states and of events leave out. (1 place, 1 slot, 1 method)
+abbrev pub acts_by_state : List Entry
+acts_by_state =
+    start ⇒ thread 1 0 ∷ cross 0 ⇒ refused (Illegal New) ∷ enter 0 0 ⇒ refused (Illegal New) ∷ leave 0 ⇒ refused (Illegal New) ∷
+    edge 0 ⇒ refused (Illegal New) ∷ to_vm 0 ⇒ refused (Illegal New) ∷ from_vm 0 ⇒ refused (Illegal New) ∷
+    to_native 0 ⇒ refused (Illegal New) ∷ block 0 ⇒ refused (Illegal New) ∷ exit 0 ⇒ refused (Illegal New) ∷
+    take 0 ⇒ refused (Illegal New) ∷ finish 0 ⇒ refused (Illegal New) ∷ clear 0 ⇒ refused (Illegal New) ∷ wake 0 ⇒ ok ∷
+    begin 0 ⇒ refused (Illegal NewTrans) ∷ wake 0 ⇒ refused (Illegal NewTrans) ∷ enter 0 0 ⇒ refused (Illegal NewTrans) ∷
+    leave 0 ⇒ refused (Illegal NewTrans) ∷ edge 0 ⇒ refused (Illegal NewTrans) ∷ to_vm 0 ⇒ refused (Illegal NewTrans) ∷
+    from_vm 0 ⇒ refused (Illegal NewTrans) ∷ to_native 0 ⇒ refused (Illegal NewTrans) ∷ block 0 ⇒ refused (Illegal NewTrans) ∷
+    exit 0 ⇒ refused (Illegal NewTrans) ∷ take 0 ⇒ refused (Illegal NewTrans) ∷ finish 0 ⇒ refused (Illegal NewTrans) ∷
+    clear 0 ⇒ refused (Illegal NewTrans) ∷ cross 0 ⇒ go ∷ wake 0 ⇒ refused (Illegal InJava) ∷
+    cross 0 ⇒ refused (Illegal InJava) ∷ from_vm 0 ⇒ refused (Illegal InJava) ∷ block 0 ⇒ refused (Illegal InJava) ∷
+    take 0 ⇒ refused (Illegal InJava) ∷ finish 0 ⇒ refused (Illegal InJava) ∷ clear 0 ⇒ refused (Illegal InJava) ∷
+    to_native 0 ⇒ ok ∷ begin 0 ⇒ refused (Illegal (InNative Java)) ∷ cross 0 ⇒ refused (Illegal (InNative Java)) ∷
+    enter 0 0 ⇒ refused (Illegal (InNative Java)) ∷ leave 0 ⇒ refused (Illegal (InNative Java)) ∷
+    edge 0 ⇒ refused (Illegal (InNative Java)) ∷ to_vm 0 ⇒ refused (Illegal (InNative Java)) ∷
+    from_vm 0 ⇒ refused (Illegal (InNative Java)) ∷ to_native 0 ⇒ refused (Illegal (InNative Java)) ∷
+    block 0 ⇒ refused (Illegal (InNative Java)) ∷ exit 0 ⇒ refused (Illegal (InNative Java)) ∷
+    take 0 ⇒ refused (Illegal (InNative Java)) ∷ finish 0 ⇒ refused (Illegal (InNative Java)) ∷
+    clear 0 ⇒ refused (Illegal (InNative Java)) ∷ wake 0 ⇒ ok ∷ begin 0 ⇒ refused (Illegal (NativeTrans Java)) ∷
+    wake 0 ⇒ refused (Illegal (NativeTrans Java)) ∷ enter 0 0 ⇒ refused (Illegal (NativeTrans Java)) ∷
+    leave 0 ⇒ refused (Illegal (NativeTrans Java)) ∷ edge 0 ⇒ refused (Illegal (NativeTrans Java)) ∷
+    to_vm 0 ⇒ refused (Illegal (NativeTrans Java)) ∷ from_vm 0 ⇒ refused (Illegal (NativeTrans Java)) ∷
+    to_native 0 ⇒ refused (Illegal (NativeTrans Java)) ∷ block 0 ⇒ refused (Illegal (NativeTrans Java)) ∷
+    exit 0 ⇒ refused (Illegal (NativeTrans Java)) ∷ take 0 ⇒ refused (Illegal (NativeTrans Java)) ∷
+    finish 0 ⇒ refused (Illegal (NativeTrans Java)) ∷ clear 0 ⇒ refused (Illegal (NativeTrans Java)) ∷ cross 0 ⇒ go ∷
+    edge 0 ⇒ go ∷ to_vm 0 ⇒ ok ∷ wake 0 ⇒ refused (Illegal InVm) ∷ cross 0 ⇒ refused (Illegal InVm) ∷
+    enter 0 0 ⇒ refused (Illegal InVm) ∷ leave 0 ⇒ refused (Illegal InVm) ∷ edge 0 ⇒ refused (Illegal InVm) ∷
+    to_vm 0 ⇒ refused (Illegal InVm) ∷ take 0 ⇒ refused (Illegal InVm) ∷ finish 0 ⇒ refused (Illegal InVm) ∷
+    clear 0 ⇒ refused (Illegal InVm) ∷ to_native 0 ⇒ ok ∷ begin 0 ⇒ refused (Illegal (InNative Vm)) ∷
+    cross 0 ⇒ refused (Illegal (InNative Vm)) ∷ enter 0 0 ⇒ refused (Illegal (InNative Vm)) ∷
+    leave 0 ⇒ refused (Illegal (InNative Vm)) ∷ edge 0 ⇒ refused (Illegal (InNative Vm)) ∷
+    to_vm 0 ⇒ refused (Illegal (InNative Vm)) ∷ from_vm 0 ⇒ refused (Illegal (InNative Vm)) ∷
+    to_native 0 ⇒ refused (Illegal (InNative Vm)) ∷ block 0 ⇒ refused (Illegal (InNative Vm)) ∷
+    exit 0 ⇒ refused (Illegal (InNative Vm)) ∷ take 0 ⇒ refused (Illegal (InNative Vm)) ∷
+    finish 0 ⇒ refused (Illegal (InNative Vm)) ∷ clear 0 ⇒ refused (Illegal (InNative Vm)) ∷ wake 0 ⇒ ok ∷
+    begin 0 ⇒ refused (Illegal (NativeTrans Vm)) ∷ wake 0 ⇒ refused (Illegal (NativeTrans Vm)) ∷
+    enter 0 0 ⇒ refused (Illegal (NativeTrans Vm)) ∷ leave 0 ⇒ refused (Illegal (NativeTrans Vm)) ∷
+    edge 0 ⇒ refused (Illegal (NativeTrans Vm)) ∷ to_vm 0 ⇒ refused (Illegal (NativeTrans Vm)) ∷
+    from_vm 0 ⇒ refused (Illegal (NativeTrans Vm)) ∷ to_native 0 ⇒ refused (Illegal (NativeTrans Vm)) ∷
+    block 0 ⇒ refused (Illegal (NativeTrans Vm)) ∷ exit 0 ⇒ refused (Illegal (NativeTrans Vm)) ∷
+    take 0 ⇒ refused (Illegal (NativeTrans Vm)) ∷ finish 0 ⇒ refused (Illegal (NativeTrans Vm)) ∷
+    clear 0 ⇒ refused (Illegal (NativeTrans Vm)) ∷ cross 0 ⇒ go ∷ block 0 ⇒ ok ∷ begin 0 ⇒ refused (Illegal Blocked) ∷
+    cross 0 ⇒ refused (Illegal Blocked) ∷ enter 0 0 ⇒ refused (Illegal Blocked) ∷ leave 0 ⇒ refused (Illegal Blocked) ∷
+    edge 0 ⇒ refused (Illegal Blocked) ∷ to_vm 0 ⇒ refused (Illegal Blocked) ∷ from_vm 0 ⇒ refused (Illegal Blocked) ∷
+    to_native 0 ⇒ refused (Illegal Blocked) ∷ block 0 ⇒ refused (Illegal Blocked) ∷ exit 0 ⇒ refused (Illegal Blocked) ∷
+    take 0 ⇒ refused (Illegal Blocked) ∷ finish 0 ⇒ refused (Illegal Blocked) ∷ clear 0 ⇒ refused (Illegal Blocked) ∷
+    wake 0 ⇒ ok ∷ begin 0 ⇒ refused (Illegal BlockedTrans) ∷ wake 0 ⇒ refused (Illegal BlockedTrans) ∷
+    enter 0 0 ⇒ refused (Illegal BlockedTrans) ∷ leave 0 ⇒ refused (Illegal BlockedTrans) ∷
+    edge 0 ⇒ refused (Illegal BlockedTrans) ∷ to_vm 0 ⇒ refused (Illegal BlockedTrans) ∷
+    from_vm 0 ⇒ refused (Illegal BlockedTrans) ∷ to_native 0 ⇒ refused (Illegal BlockedTrans) ∷
+    block 0 ⇒ refused (Illegal BlockedTrans) ∷ exit 0 ⇒ refused (Illegal BlockedTrans) ∷
+    take 0 ⇒ refused (Illegal BlockedTrans) ∷ finish 0 ⇒ refused (Illegal BlockedTrans) ∷
+    clear 0 ⇒ refused (Illegal BlockedTrans) ∷ cross 0 ⇒ go ∷ ask_depth (1 ∷ []) ⇒ asked 1 ∷ open_oldest ⇒ open_handshake 1 ∷
+    tell 1 ⇒ told ∷ from_vm 0 ⇒ stop 1 ∷ begin 0 ⇒ refused (Illegal (AtPoll Java)) ∷ wake 0 ⇒ refused (Illegal (AtPoll Java)) ∷
+    cross 0 ⇒ refused (Illegal (AtPoll Java)) ∷ enter 0 0 ⇒ refused (Illegal (AtPoll Java)) ∷
+    leave 0 ⇒ refused (Illegal (AtPoll Java)) ∷ edge 0 ⇒ refused (Illegal (AtPoll Java)) ∷
+    to_vm 0 ⇒ refused (Illegal (AtPoll Java)) ∷ from_vm 0 ⇒ refused (Illegal (AtPoll Java)) ∷
+    to_native 0 ⇒ refused (Illegal (AtPoll Java)) ∷ block 0 ⇒ refused (Illegal (AtPoll Java)) ∷
+    exit 0 ⇒ refused (Illegal (AtPoll Java)) ∷ finish 0 ⇒ refused (Illegal (AtPoll Java)) ∷
+    clear 0 ⇒ refused (Illegal (AtPoll Java)) ∷ take 0 ⇒ ok ∷ wake 0 ⇒ refused (Illegal (Serving Java)) ∷
+    enter 0 0 ⇒ refused (Illegal (Serving Java)) ∷ leave 0 ⇒ refused (Illegal (Serving Java)) ∷
+    edge 0 ⇒ refused (Illegal (Serving Java)) ∷ to_vm 0 ⇒ refused (Illegal (Serving Java)) ∷
+    from_vm 0 ⇒ refused (Illegal (Serving Java)) ∷ to_native 0 ⇒ refused (Illegal (Serving Java)) ∷
+    block 0 ⇒ refused (Illegal (Serving Java)) ∷ exit 0 ⇒ refused (Illegal (Serving Java)) ∷
+    take 0 ⇒ refused (Illegal (Serving Java)) ∷ finish 0 ⇒ reply 0 ∷ clear 0 ⇒ ok ∷ cross 0 ⇒ go ∷ edge 0 ⇒ go ∷
+    close ⇒ closed 1 ∷ to_vm 0 ⇒ ok ∷ to_native 0 ⇒ ok ∷ wake 0 ⇒ ok ∷ ask_depth (1 ∷ []) ⇒ asked 2 ∷
+    open_oldest ⇒ open_handshake 2 ∷ tell 1 ⇒ told ∷ cross 0 ⇒ stop 2 ∷ begin 0 ⇒ refused (Illegal (AtPoll Vm)) ∷
+    wake 0 ⇒ refused (Illegal (AtPoll Vm)) ∷ cross 0 ⇒ refused (Illegal (AtPoll Vm)) ∷
+    enter 0 0 ⇒ refused (Illegal (AtPoll Vm)) ∷ leave 0 ⇒ refused (Illegal (AtPoll Vm)) ∷
+    edge 0 ⇒ refused (Illegal (AtPoll Vm)) ∷ to_vm 0 ⇒ refused (Illegal (AtPoll Vm)) ∷
+    from_vm 0 ⇒ refused (Illegal (AtPoll Vm)) ∷ to_native 0 ⇒ refused (Illegal (AtPoll Vm)) ∷
+    block 0 ⇒ refused (Illegal (AtPoll Vm)) ∷ exit 0 ⇒ refused (Illegal (AtPoll Vm)) ∷
+    finish 0 ⇒ refused (Illegal (AtPoll Vm)) ∷ clear 0 ⇒ refused (Illegal (AtPoll Vm)) ∷ take 0 ⇒ ok ∷
+    wake 0 ⇒ refused (Illegal (Serving Vm)) ∷ enter 0 0 ⇒ refused (Illegal (Serving Vm)) ∷
+    leave 0 ⇒ refused (Illegal (Serving Vm)) ∷ edge 0 ⇒ refused (Illegal (Serving Vm)) ∷
+    to_vm 0 ⇒ refused (Illegal (Serving Vm)) ∷ from_vm 0 ⇒ refused (Illegal (Serving Vm)) ∷
+    to_native 0 ⇒ refused (Illegal (Serving Vm)) ∷ block 0 ⇒ refused (Illegal (Serving Vm)) ∷
+    exit 0 ⇒ refused (Illegal (Serving Vm)) ∷ take 0 ⇒ refused (Illegal (Serving Vm)) ∷ cross 0 ⇒ stop 2 ∷ take 0 ⇒ ok ∷
+    finish 0 ⇒ reply 0 ∷ clear 0 ⇒ ok ∷ cross 0 ⇒ go ∷ from_vm 0 ⇒ go ∷ exit 0 ⇒ exited 1 ∷ begin 0 ⇒ refused (Illegal Vacant) ∷
+    wake 0 ⇒ refused (Illegal Vacant) ∷ cross 0 ⇒ refused (Illegal Vacant) ∷ enter 0 0 ⇒ refused (Illegal Vacant) ∷
+    leave 0 ⇒ refused (Illegal Vacant) ∷ edge 0 ⇒ refused (Illegal Vacant) ∷ to_vm 0 ⇒ refused (Illegal Vacant) ∷
+    from_vm 0 ⇒ refused (Illegal Vacant) ∷ to_native 0 ⇒ refused (Illegal Vacant) ∷ block 0 ⇒ refused (Illegal Vacant) ∷
+    exit 0 ⇒ refused (Illegal Vacant) ∷ take 0 ⇒ refused (Illegal Vacant) ∷ finish 0 ⇒ refused (Illegal Vacant) ∷
+    clear 0 ⇒ refused (Illegal Vacant) ∷ change 0 ⇒ refused (Illegal Vacant) ∷ end 0 ⇒ refused (Illegal Vacant) ∷
+    hold 0 ⇒ refused (Illegal Vacant) ∷ release 0 ⇒ refused (Illegal Vacant) ∷ stack 0 ⇒ refused (Illegal Vacant) ∷ []
+
+-- An open publication leaves Change, End and Stack alone. (1 place, 1 slot, 1 method)
+abbrev pub acts_while_publishing : List Entry
+acts_while_publishing =
+    start ⇒ thread 1 0 ∷ begin 0 ⇒ ok ∷ end 0 ⇒ ok ∷ wake 0 ⇒ ok ∷ cross 0 ⇒ go ∷ begin 0 ⇒ ok ∷ begin 0 ⇒ refused Publishing ∷
+    wake 0 ⇒ refused Publishing ∷ cross 0 ⇒ refused Publishing ∷ enter 0 0 ⇒ refused Publishing ∷ leave 0 ⇒ refused Publishing ∷
+    edge 0 ⇒ refused Publishing ∷ to_vm 0 ⇒ refused Publishing ∷ from_vm 0 ⇒ refused Publishing ∷
+    to_native 0 ⇒ refused Publishing ∷ block 0 ⇒ refused Publishing ∷ exit 0 ⇒ refused Publishing ∷
+    take 0 ⇒ refused Publishing ∷ finish 0 ⇒ refused Publishing ∷ clear 0 ⇒ refused Publishing ∷ hold 0 ⇒ refused Publishing ∷
+    release 0 ⇒ refused Publishing ∷ stack 0 ⇒ frames [] ∷ change 0 ⇒ no_change ∷ end 0 ⇒ ok ∷ end 0 ⇒ refused NotBegun ∷
+    release 0 ⇒ refused NotHeld ∷ []

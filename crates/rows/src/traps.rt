@@ -37,7 +37,7 @@ pub fn clear_order()
     ensures { Plays 2 4 2 Traps.clear_order }
 {}
 
-/// A full stack is named before code that isn't entrant.
+/// A full stack is named before code that isn't entrant, and before code of another method.
 pub fn depth_full_before_wrong_method()
     ensures { Plays 1 4 2 Traps.depth_full_before_wrong_method }
 {}
@@ -145,4 +145,69 @@ pub fn weighed_while_publishing()
 /// Code that isn't in use is sent away, whatever method it was for.
 pub fn wrong_method_of_any_method()
     ensures { Plays 1 4 2 Traps.wrong_method_of_any_method }
+{}
+
+/// No place is left; an open census is named before that.
+pub fn start_order()
+    ensures { Plays 1 1 1 Traps.start_order }
+{}
+
+/// Who is held isn't held again, and who isn't held isn't released.
+pub fn hold_and_release()
+    ensures { Plays 1 1 1 Traps.hold_and_release }
+{}
+
+/// The refusals of Look in their order.
+pub fn look_order()
+    ensures { Plays 2 1 1 Traps.look_order }
+{}
+
+/// The refusals of Tell in their order; a thread that was told and is gone is gone.
+pub fn tell_order()
+    ensures { Plays 1 4 2 Traps.tell_order }
+{}
+
+/// Each method that there is has its code in use, or none.
+pub fn resolve_by_method()
+    ensures { Plays 1 4 2 Traps.resolve_by_method }
+{}
+
+/// A thread that stopped waits for a census only once that was told to it.
+pub fn take_beside_an_untold_census()
+    ensures { Plays 1 4 2 Traps.take_beside_an_untold_census }
+{}
+
+/// The refusals of Close in their order; a live target that wasn't told isn't done.
+pub fn close_order()
+    ensures { Plays 1 4 2 Traps.close_order }
+{}
+
+/// A census that wasn't operated isn't done, although nobody lives.
+pub fn census_of_nobody()
+    ensures { Plays 1 1 1 Traps.census_of_nobody }
+{}
+
+/// The refusals of Operate in their order.
+pub fn operate_order()
+    ensures { Plays 1 4 2 Traps.operate_order }
+{}
+
+/// Wake and Take name the state before they name that the thread is held.
+pub fn state_before_held()
+    ensures { Plays 1 4 2 Traps.state_before_held }
+{}
+
+/// A census leaves out a code that is no longer on a stack, and one that never was.
+pub fn census_without_zeros()
+    ensures { Plays 1 4 3 Traps.census_without_zeros }
+{}
+
+/// In each state those acts are illegal that the tables of states and of events leave out.
+pub fn acts_by_state()
+    ensures { Plays 1 1 1 Traps.acts_by_state }
+{}
+
+/// An open publication leaves Change, End and Stack alone.
+pub fn acts_while_publishing()
+    ensures { Plays 1 1 1 Traps.acts_while_publishing }
 {}

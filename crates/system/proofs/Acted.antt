@@ -22,7 +22,7 @@ use Rattle.system.specs.World.{World}
 use Rattle.system.specs.Places.{Effect, becomes, leaves, here}
 use Rattle.system.specs.Step.{outcome, lands}
 use Rattle.system.specs.Runs.{after, answer_to}
-use Rattle.system.specs.Keeps.{SameThread, Reach, seats, finishes, clears, reach_of, Lands, Becomes, marked_by, timed_by, number_of}
+use Rattle.system.specs.Keeps.{SameThread, Reach, seats, finishes, clears, reach_of, Lands, Becomes, marked_by, timed_by, serves}
 use Rattle.system.specs.Stands.{Matches, SameAt, SameMoments, DoesIn}
 use Rattle.system.proofs.Outcomes.{seated}
 use Rattle.system.proofs.Logs.{IsQuiet, IsElsewhere}
@@ -110,7 +110,7 @@ timed p now Release a m log is h = record { begun_is = h.begun_is; stored_is = h
 timed p now Stack a m log is h = record { begun_is = h.begun_is; stored_is = h.stored_is }
 
 -- a refusal leaves the system
-same_matches : (s new : Core) (w : World) → SameRest s new → new.places.items ≡ s.places.items → Matches s w → Matches new w
+pub same_matches : (s new : Core) (w : World) → SameRest s new → new.places.items ≡ s.places.items → Matches s w → Matches new w
 same_matches s new w rest places m = record {
   slots = ap (λ tb. tb.slots) rest.table ∙ m.slots;
   methods = ap (λ tb. tb.methods) rest.table ∙ m.methods;
@@ -122,8 +122,7 @@ same_matches s new w rest places m = record {
   numbers = ap (λ r. r.numbers) rest.requests ∙ m.numbers;
   waiting = rw rest.requests m.waiting;
   opened = rw rest.requests m.opened;
-  index_slots = ap (λ ix. ix.slots) rest.index ∙ m.index_slots;
-  index = λ serial. rw rest.index (m.index serial);
+  index = rw rest.index m.index;
 }
 
 pub refused_in : (s new : Core) (w : World) (e : Event) (r : Refusal) (said : Answer) → SameRest s new → new.places.items ≡ s.places.items → Matches s w → outcome w e ≡ refused r → said ≡ answer.Refused r → DoesIn e said new w
@@ -136,26 +135,26 @@ refused_in s new w e r said rest places m is says = record {
 pub done_at : (w : World) (p : ℕ) (act : Act) (t : Thread) (v : Verdict Effect) → slice_get w.places p ≡ Some (Some t) → here w act t ≡ v → outcome w (event.At p act) ≡ lands w p v
 done_at w p act t v there is = rw there (ap (lands w p) is)
 
-marks_stay : (act : Act) (n : ℕ) (requests : Requests) (open_ : Option Rattle.system.specs.declared.requests.Open.Open) (m : Rattle.system.specs.declared.thread.Marks.Marks) (u : Thread) (kept : Kept) (t : Thread) → Lands (reach_of act open_ requests) (becomes u) kept t → (marked_by act n m ≡ m) × SameThread kept u
-marks_stay Begin n requests open_ m u kept t h = (refl, h)
-marks_stay Change n requests open_ m u kept t h = (refl, h)
-marks_stay End n requests open_ m u kept t h = (refl, h)
-marks_stay Wake n requests open_ m u kept t h = (refl, h)
-marks_stay Cross n requests open_ m u kept t h = (refl, h)
-marks_stay (Enter me c) n requests open_ m u kept t h = (refl, h)
-marks_stay Leave n requests open_ m u kept t h = (refl, h)
-marks_stay Edge n requests open_ m u kept t h = (refl, h)
-marks_stay ToVm n requests open_ m u kept t h = (refl, h)
-marks_stay FromVm n requests open_ m u kept t h = (refl, h)
-marks_stay ToNative n requests open_ m u kept t h = (refl, h)
-marks_stay Block n requests open_ m u kept t h = (refl, h)
-marks_stay Exit n requests open_ m u kept t h = (refl, h)
-marks_stay Take n requests open_ m u kept t h = (refl, h)
-marks_stay Finish n requests open_ m u kept t h = absurd h
-marks_stay Clear n requests open_ m u kept t h = absurd h
-marks_stay Hold n requests open_ m u kept t h = (refl, h)
-marks_stay Release n requests open_ m u kept t h = (refl, h)
-marks_stay Stack n requests open_ m u kept t h = (refl, h)
+marks_stay : (act : Act) (n : ℕ) (requests : Requests) (m : Rattle.system.specs.declared.thread.Marks.Marks) (u : Thread) (kept : Kept) (t : Thread) → Lands (reach_of act n requests) (becomes u) kept t → (marked_by act n m ≡ m) × SameThread kept u
+marks_stay Begin n requests m u kept t h = (refl, h)
+marks_stay Change n requests m u kept t h = (refl, h)
+marks_stay End n requests m u kept t h = (refl, h)
+marks_stay Wake n requests m u kept t h = (refl, h)
+marks_stay Cross n requests m u kept t h = (refl, h)
+marks_stay (Enter me c) n requests m u kept t h = (refl, h)
+marks_stay Leave n requests m u kept t h = (refl, h)
+marks_stay Edge n requests m u kept t h = (refl, h)
+marks_stay ToVm n requests m u kept t h = (refl, h)
+marks_stay FromVm n requests m u kept t h = (refl, h)
+marks_stay ToNative n requests m u kept t h = (refl, h)
+marks_stay Block n requests m u kept t h = (refl, h)
+marks_stay Exit n requests m u kept t h = (refl, h)
+marks_stay Take n requests m u kept t h = (refl, h)
+marks_stay Finish n requests m u kept t h = absurd h
+marks_stay Clear n requests m u kept t h = absurd h
+marks_stay Hold n requests m u kept t h = (refl, h)
+marks_stay Release n requests m u kept t h = (refl, h)
+marks_stay Stack n requests m u kept t h = (refl, h)
 
 never_leaves : (reach : Reach) (kept : Kept) (t : Thread) → Lands reach leaves kept t → ⊥
 never_leaves seats kept t h = h
@@ -167,9 +166,9 @@ parts_stay : (kept after : Kept) (t u : Thread) → SameThread kept t → SameTh
 parts_stay kept after t u same now bag code = sym (now.image.counted code) ∙ (bag code ∙ same.image.counted code)
 
 pub became : (s new : Core) (w : World) (p : ℕ) (act : Act) (kept after : Kept) (t u : Thread) (a : Answer) → Matches s w → SameRest s new → new.places.items ≡ slice_set s.places.items p (Some after) → slice_get w.places p ≡ Some (Some t) → SameAt w p kept t
-    → Lands (reach_of act s.requests.open w.requests) (becomes u) after t → Becomes (marked_by act (number_of s.requests.open) kept.marks) (timed_by act s.moment kept.moments) kept after → Matches new (seated w p (Some u) (event.At p act) a)
+    → Lands (reach_of act (serves act s.requests.opens kept) w.requests) (becomes u) after t → Becomes (marked_by act (serves act s.requests.opens kept) kept.marks) (timed_by act s.moment kept.moments) kept after → Matches new (seated w p (Some u) (event.At p act) a)
 became s new w p act kept after t u a m rest places there same lands_ becomes_ =
-    let both = marks_stay act (number_of s.requests.open) w.requests s.requests.open kept.marks u after t lands_ in
+    let both = marks_stay act (serves act s.requests.opens kept) w.requests kept.marks u after t lands_ in
     let name : u.name ≡ t.name = sym both.1.name ∙ (becomes_.name ∙ same.thread.name) in
     let marks_is : after.marks ≡ kept.marks = becomes_.marks_are ∙ both.0 in
     seated_matches s new w p kept after t u (event.At p act) a m (record {

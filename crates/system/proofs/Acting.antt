@@ -7,8 +7,7 @@ use mathlib.Core.Logic.{dite}
 use native.Mathlib.Decide.{ℕ_discrete}
 use Rattle.frames.specs.declared.CodeId.{CodeId}
 use Rattle.method_table.specs.declared.Code.{Code}
-use Rattle.activation_index.specs.Counts.{count_in}
-use Rattle.method_table.specs.Codes.{code_of, id_of}
+use Rattle.method_table.specs.Codes.{id_of}
 use Rattle.system.specs.declared.events.Event.{Event}
 use Rattle.system.specs.declared.answers.Answer.{Answer}
 use Rattle.system.specs.declared.thread.Thread.{Thread as Kept}
@@ -17,8 +16,10 @@ use Rattle.system.specs.Log.{Entry}
 use Rattle.system.specs.Threads.{Thread, part}
 use Rattle.system.specs.World.{World, thread_at, found, threads, part_at}
 use Rattle.system.specs.Keeps.{SameThread}
-use Rattle.system.specs.Stands.{Matches, SamePlace, SamePlaces, SameAt, SameMarks, SameMoments, kept_at, held_at, walk_of}
+use Rattle.system.specs.Marking.{SameMarks}
+use Rattle.system.specs.Stands.{Matches, SamePlace, SamePlaces, SameAt, SameMoments, kept_at, held_at, walk_of, SameCells}
 use Rattle.system.proofs.Outcomes.{seated}
+use Rattle.system.proofs.Cells.{cells_over}
 use Rattle.system.proofs.Seats.{get_set_same, get_set_other}
 use Rattle.system.proofs.Logs.{IsQuiet, IsElsewhere, moments_next, place_over, records_next, opened_over, quiet_names, quiet_moment, quiet_operations}
 
@@ -89,7 +90,6 @@ places_set ks new w v p k t same is places low others own = record {
 pub record SameOthers (s new : Core) : Type 0 where
   pub table : new.table ≡ s.table
   pub records : new.records ≡ s.records
-  pub slots : new.index.slots ≡ s.index.slots
   pub names : new.names ≡ s.names
   pub moment : new.moment ≡ s.moment
   pub requests : new.requests ≡ s.requests
@@ -103,7 +103,7 @@ pub record Counts (s new : Core) (w : World) (p : ℕ) (kept after : Kept) (t u 
   pub name : u.name ≡ t.name
   pub marks : SameMarks after.marks w.requests u.name
   pub moments : SameMoments after.moments (record { event = e; answer = a } ∷ w.log) p
-  pub index : (serial : ℕ) → count_in new.index.entries serial ≡ walk_of (seated w p (Some u) e a) (code_of w.codes serial)
+  pub index : SameCells new.index (seated w p (Some u) e a)
   pub quiet : IsQuiet (record { event = e; answer = a })
   pub elsewhere : (q : ℕ) → q ≢ p → IsElsewhere q (record { event = e; answer = a })
 
@@ -124,8 +124,7 @@ counted_matches s new w p kept after t u e a m k =
       moment_is = k.rest.moment ∙ (m.moment_is ∙ sym (quiet_moment entry w.log k.quiet));
       numbers = ap (λ r. r.numbers) k.rest.requests ∙ (m.numbers ∙ sym (quiet_operations entry w.log k.quiet));
       waiting = rw k.rest.requests m.waiting;
-      opened = rw k.rest.requests (opened_over s.requests.open w.requests.opened w v (omega (arith, quiet_names entry w.log k.quiet)) (λ name lives. sym (any_seat name w.places p t u k.there k.name) ∙ lives) m.opened);
-      index_slots = k.rest.slots ∙ m.index_slots;
+      opened = rw k.rest.requests (opened_over s.requests.opens w.requests.opened w v (omega (arith, quiet_names entry w.log k.quiet)) (λ name lives. sym (any_seat name w.places p t u k.there k.name) ∙ lives) m.opened);
       index = k.index;
     }
 
@@ -144,14 +143,14 @@ pub record Seats (s new : Core) (w : World) (p : ℕ) (kept after : Kept) (t u :
 
 pub seated_matches : (s new : Core) (w : World) (p : ℕ) (kept after : Kept) (t u : Thread) (e : Event) (a : Answer) → Matches s w → Seats s new w p kept after t u e a → Matches new (seated w p (Some u) e a)
 seated_matches s new w p kept after t u e a m k = counted_matches s new w p kept after t u e a m (record {
-  rest = record { table = k.rest.table; records = k.rest.records; slots = ap (λ ix. ix.slots) k.rest.index; names = k.rest.names; moment = k.rest.moment; requests = k.rest.requests };
+  rest = record { table = k.rest.table; records = k.rest.records; names = k.rest.names; moment = k.rest.moment; requests = k.rest.requests };
   places = k.places;
   there = k.there;
   thread = k.thread;
   name = k.name;
   marks = k.marks;
   moments = k.moments;
-  index = λ serial. rw k.rest.index (m.index serial ∙ sym (walk_same w p t u e a (code_of w.codes serial) k.there k.parts));
+  index = rw k.rest.index (cells_over s.index w (seated w p (Some u) e a) refl refl (λ o. walk_same w p t u e a o k.there k.parts) m.index);
   quiet = k.quiet;
   elsewhere = k.elsewhere;
 })

@@ -1,6 +1,7 @@
 -- Each event comes to one of the cases.
 use Rattle.std.proofs.Common.{◌≡◌, ◌⊎◌, ℕ, suc, ◌+◌, ◌<◌, Bool, true, false, cond, List, [], ◌∷◌, length, Option, Some, None, sym, refl, ap, inl, inr, subst, arith}
-use Rattle.std.specs.Prelude.{not, ◌||◌, ◌&&◌, ◌==◌, is_some, is_none, nat_lt, nat_le, slice_get, slice_set, option_map}
+use Rattle.std.specs.Prelude.{not, ◌||◌, ◌&&◌, ◌==◌, is_some, is_none, nat_lt, nat_le, slice_get, slice_set, option_map, find, filter}
+use Rattle.std.specs.List.{list_any}
 use Rattle.std.proofs.lemmas.Bool.{false≢true, and_parts, not-true, ltb-true, leb-true, eqb-true, eqb-false}
 use Rattle.std.proofs.lemmas.Option.{slice_get_within}
 use Rattle.frames.specs.declared.CodeId.{CodeId}
@@ -29,12 +30,12 @@ use Rattle.system.specs.Threads.{Thread, is_publishing, next_change, is_settled}
 use Rattle.system.specs.Operations.{Waiting, Opened, is_marked, with_mark, poll_of, awaits_census, is_safepoint}
 use Rattle.system.specs.Log.{names_given, operations_given, moment}
 use Rattle.system.specs.World.{World, is_live_target, vacant_place, walk, covered, census}
-use Rattle.system.specs.Places.{Effect, becomes, leaves, marks, does, is_lawful, may_while_publishing, to_state, move_by, crosses, polls, changes, pushed, enters, calls, is_known, popped, finish, clear, hold, in_open, go_or_stop}
-use Rattle.system.specs.Step.{lands, at, new_thread, start_at, start, install_in, install, of_code, invalidate, clear_or_late, look, unlooked, weigh_all, weigh, free, open_oldest, may_open, may_tell, tell, all_threads, operate, is_over, close, count, code_or_none}
+use Rattle.system.specs.Places.{Effect, becomes, leaves, marks, does, is_lawful, may_while_publishing, to_state, move_by, crosses, polls, changes, pushed, enters, calls, is_known, popped, was_told, is_undone, is_uncleared, in_found, finish_in, clear_in, in_open, go_or_stop}
+use Rattle.system.specs.Step.{lands, at, new_thread, start_at, start, install_in, install, of_code, invalidate, clear_or_late, look, unlooked, weigh_all, weigh, free, open_oldest, may_open, may_tell, tell_in, tell_oldest, all_threads, operate, is_over, close, count, code_or_none}
 use Rattle.system.specs.Runs.{world_of, answer_of, after, answer_to}
-use Rattle.system.proofs.Outcomes.{coded, with_told, with_request, with_operated, without_opened, Stands, Acts, is_move, move_of, IsCode, Calls}
+use Rattle.system.proofs.Outcomes.{coded, with_request, with_operated, without_opened, Stands, Acts, is_move, move_of, IsCode, Calls}
 use Rattle.system.proofs.Cases.{Cases}
-use Rattle.system.proofs.Lists.{found_passes}
+use Rattle.system.proofs.Lists.{found_passes, find_place, any_at, filter_at}
 
 -- A chain of tests: where one fails the event is refused.
 chain1 : {A : Type 0} (Q : Verdict A → Type 0) → ((r : Refusal) → Q (refused r)) → (a : Bool) (r : Refusal) (v : Verdict A) → (a ≡ true → Q v) → Q (unless a refuse r then v)
@@ -231,6 +232,15 @@ opened_case w Q stop work h = on w.requests.opened refl
     on [] e = stop
     on (o ∷ os) e = h o os e
 
+-- By the oldest that passes, where there is one.
+found_case : (w : World) {A : Type 0} (Q : Verdict A → Type 0) (r : Refusal) → Q (refused r) → (test : Opened → Bool) (os : List Opened) (work : Opened → Verdict A)
+    → ((o : Opened) → find test os ≡ Some o → ((i : ℕ) × (slice_get os i ≡ Some o)) → Q (work o)) → Q (in_found r (find test os) work)
+found_case w Q r stop test os work h = on (find test os) refl
+  where
+    on : (o : Option Opened) → find test os ≡ o → Q (in_found r o work)
+    on None e = stop
+    on (Some o) e = h o e (find_place test os o e)
+
 -- Each act.
 acts_of : (w : World) (p : ℕ) (t : Thread) (a : Act) → Stands w p t → (not (is_publishing t) || may_while_publishing a) ≡ true → is_lawful a t ≡ true → may_while_publishing a ≡ false → Acts w p t a
 acts_of w p t a s q l stop = record { stands = s; quiet = quiet_of (is_publishing t) (may_while_publishing a) q stop; lawful = l }
@@ -264,21 +274,31 @@ does_case w P c p t act.Exit s q l = chain3 (Lands w P p act.Exit) (c.refuses (e
     (λ e z n. c.exits p t (record { acts = acts_of w p t act.Exit s q l refl; empty = e; settled = z; nothing_told = none_of (poll_of w.requests t.name) n }))
 does_case w P c p t act.Take s q l = chain2 (Lands w P p act.Take) (c.refuses (event.At p act.Take)) (not t.held) refusal.Held (not (awaits_census w.requests t.name)) refusal.NotDone (move_by t move.Take)
     (λ h k. goes_by_move w P c p act.Take t move.Take (acts_of w p t act.Take s q l refl) refl refl (inl (not-true t.held h)))
-does_case w P c p t act.Finish s q l = opened_case w (Lands w P p act.Finish) (c.refuses (event.At p act.Finish) refusal.NothingOpen) (finish w.requests t) (λ o os e.
-    chain4 (Lands w P p act.Finish) (c.refuses (event.At p act.Finish)) (lists o.request t.name) refusal.NotOf (is_marked w.requests.told o.number t.name) refusal.NotTold
-    (not (is_marked w.requests.done o.number t.name)) refusal.AlreadyDone (is_settled t) refusal.Unpublished
+does_case w P c p t act.Finish s q l =
+    chain3 (Lands w P p act.Finish) (c.refuses (event.At p act.Finish)) (not (is_empty w.requests.opened)) refusal.NothingOpen (list_any (λ o. lists o.request t.name) w.requests.opened) refusal.NotOf
+    (list_any (was_told w.requests t.name) w.requests.opened) refusal.NotTold (in_found refusal.AlreadyDone (find (is_undone w.requests t.name) w.requests.opened) (finish_in w.requests t))
+    (λ some listed told. found_case w (Lands w P p act.Finish) refusal.AlreadyDone (c.refuses (event.At p act.Finish) refusal.AlreadyDone) (is_undone w.requests t.name) w.requests.opened (finish_in w.requests t) (λ o e at.
+    chain1 (Lands w P p act.Finish) (c.refuses (event.At p act.Finish)) (is_settled t) refusal.Unpublished
     (accepted (marks (record w.requests { done = with_mark w.requests.done o.number t.name })) (answer.Reply (reply_to o.request t.stack)))
-    (λ listed told done settled. c.finishes p t o os (record { acts = acts_of w p t act.Finish s q l refl; opened_is = e; listed = listed; told = told; not_done = not-true (is_marked w.requests.done o.number t.name) done; settled = settled })))
-does_case w P c p t act.Clear s q l = opened_case w (Lands w P p act.Clear) (c.refuses (event.At p act.Clear) refusal.NothingOpen) (clear w.requests t) (λ o os e.
-    chain4 (Lands w P p act.Clear) (c.refuses (event.At p act.Clear)) (is_target o.request t.name) refusal.NotOf (is_marked w.requests.told o.number t.name) refusal.NotTold
-    (is_marked w.requests.done o.number t.name) refusal.NotDone (not (is_marked w.requests.cleared o.number t.name)) refusal.AlreadyDone
+    (λ settled. (let both = and_parts (is_marked w.requests.told o.number t.name) (not (is_marked w.requests.done o.number t.name)) (found_passes (is_undone w.requests t.name) w.requests.opened o e) in
+    c.finishes p t o (record { acts = acts_of w p t act.Finish s q l refl; listed = listed; least = e; open_is = record { position = at.0; here = at.1 }; told = both.0; not_done = not-true (is_marked w.requests.done o.number t.name) both.1; settled = settled })))))
+does_case w P c p t act.Clear s q l =
+    chain3 (Lands w P p act.Clear) (c.refuses (event.At p act.Clear)) (not (is_empty w.requests.opened)) refusal.NothingOpen (list_any (λ o. is_target o.request t.name) w.requests.opened) refusal.NotOf
+    (list_any (was_told w.requests t.name) w.requests.opened) refusal.NotTold (in_found refusal.AlreadyDone (find (is_uncleared w.requests t.name) w.requests.opened) (clear_in w.requests t))
+    (λ some target told. found_case w (Lands w P p act.Clear) refusal.AlreadyDone (c.refuses (event.At p act.Clear) refusal.AlreadyDone) (is_uncleared w.requests t.name) w.requests.opened (clear_in w.requests t) (λ o e at.
+    chain1 (Lands w P p act.Clear) (c.refuses (event.At p act.Clear)) (is_marked w.requests.done o.number t.name) refusal.NotDone
     (accepted (marks (record w.requests { cleared = with_mark w.requests.cleared o.number t.name })) answer.Done)
-    (λ target told done cleared. c.clears p t o os (record { acts = acts_of w p t act.Clear s q l refl; opened_is = e; target = target; told = told; done = done; not_cleared = not-true (is_marked w.requests.cleared o.number t.name) cleared })))
-does_case w P c p t act.Hold s q l = opened_case w (Lands w P p act.Hold) (c.refuses (event.At p act.Hold) refusal.NothingOpen) (hold w.requests t) (λ o os e.
-    chain5 (Lands w P p act.Hold) (c.refuses (event.At p act.Hold)) (is_target o.request t.name) refusal.NotOf (is_marked w.requests.told o.number t.name) refusal.NotTold
-    (not (is_marked w.requests.cleared o.number t.name)) refusal.AlreadyDone (not t.held) refusal.Held (is_safe t.state) refusal.NotSafe
+    (λ done. (let both = and_parts (is_marked w.requests.told o.number t.name) (not (is_marked w.requests.cleared o.number t.name)) (found_passes (is_uncleared w.requests t.name) w.requests.opened o e) in
+    c.clears p t o (record { acts = acts_of w p t act.Clear s q l refl; least = e; open_is = record { position = at.0; here = at.1 }; told = both.0; done = done; not_cleared = not-true (is_marked w.requests.cleared o.number t.name) both.1 })))))
+does_case w P c p t act.Hold s q l =
+    chain4 (Lands w P p act.Hold) (c.refuses (event.At p act.Hold)) (not (is_empty w.requests.opened)) refusal.NothingOpen (list_any (λ o. is_target o.request t.name) w.requests.opened) refusal.NotOf
+    (list_any (was_told w.requests t.name) w.requests.opened) refusal.NotTold (list_any (is_uncleared w.requests t.name) w.requests.opened) refusal.AlreadyDone
+    (unless not t.held refuse refusal.Held then unless is_safe t.state refuse refusal.NotSafe then accepted (becomes (record t { held = true })) answer.Done)
+    (λ some target told uncleared. chain2 (Lands w P p act.Hold) (c.refuses (event.At p act.Hold)) (not t.held) refusal.Held (is_safe t.state) refusal.NotSafe
     (accepted (becomes (record t { held = true })) answer.Done)
-    (λ target told cleared held safe. c.holds p t o os (record { acts = acts_of w p t act.Hold s q l refl; opened_is = e; target = target; told = told; not_cleared = not-true (is_marked w.requests.cleared o.number t.name) cleared; not_held = not-true t.held held; safe = safe })))
+    (λ held safe. (let a = any_at (is_uncleared w.requests t.name) w.requests.opened uncleared in
+    let both = and_parts (is_marked w.requests.told a.1.number t.name) (not (is_marked w.requests.cleared a.1.number t.name)) a.3 in
+    c.holds p t a.1 (record { acts = acts_of w p t act.Hold s q l refl; open_is = record { position = a.0; here = a.2 }; told = both.0; not_cleared = not-true (is_marked w.requests.cleared a.1.number t.name) both.1; not_held = not-true t.held held; safe = safe }))))
 does_case w P c p t act.Release s q l = chain1 (Lands w P p act.Release) (c.refuses (event.At p act.Release)) t.held refusal.NotHeld (accepted (becomes (record t { held = false })) answer.Done)
     (λ h. c.releases p t (record { acts = acts_of w p t act.Release s q l refl; was_held = h }))
 does_case w P c p t act.Stack s q l = c.shows p t s
@@ -364,26 +384,41 @@ by_cases w P c (event.Free serial) = code_case w (Comes w P (event.Free serial))
 by_cases w P c (event.Ask request) = chain4 (Comes w P (event.Ask request)) (c.refuses (event.Ask request)) (nat_lt (operations_given w.log) last_number) refusal.Spent (nat_lt (length w.requests.waiting) 64) refusal.QueueFull
     (has_targets request) refusal.NoTargets (are_targets request) refusal.BadTargets (accepted (record w { requests = with_request w request }) (answer.Asked (operations_given w.log + 1)))
     (λ room queue some lawful. c.asks request (record { room = ltb-true (operations_given w.log) last_number room; queue_room = ltb-true (length w.requests.waiting) 64 queue; some_target = some; lawful_targets = lawful }))
-by_cases w P c event.Open = chain1 (Comes w P event.Open) (c.refuses event.Open) (may_open w.requests) refusal.AlreadyOpen (open_oldest w w.requests.waiting) (λ none. on (empty_of w.requests.opened none) w.requests.waiting refl)
+by_cases w P c event.Open = chain1 (Comes w P event.Open) (c.refuses event.Open) (may_open w.requests) refusal.AlreadyOpen (open_oldest w w.requests.waiting) (λ may. on may w.requests.waiting refl)
   where
-    on : w.requests.opened ≡ [] → (ws : List Waiting) → w.requests.waiting ≡ ws → Comes w P event.Open (open_oldest w ws)
-    on none [] e = c.refuses event.Open refusal.QueueEmpty
-    on none (oldest ∷ others) e = c.opens oldest others (record { none_open = none; waiting_is = e })
-by_cases w P c (event.Tell name) = opened_case w (Comes w P (event.Tell name)) (c.refuses (event.Tell name) refusal.NothingOpen) (tell w name) (λ o os e.
-    let told : Verdict World = accepted (record w { requests = with_told w.requests o name }) answer.Told in
-    chain1 (Comes w P (event.Tell name)) (c.refuses (event.Tell name)) (may_tell w o.request name) refusal.NotOf
-    (cond (is_live_target w o name) (unless not (is_marked w.requests.told o.number name) refuse refusal.AlreadyTold then told) (accepted w answer.Gone))
-    (λ may. either_way (Comes w P (event.Tell name)) (is_live_target w o name) (unless not (is_marked w.requests.told o.number name) refuse refusal.AlreadyTold then told) (accepted w answer.Gone)
-    (λ live. chain1 (Comes w P (event.Tell name)) (c.refuses (event.Tell name)) (not (is_marked w.requests.told o.number name)) refusal.AlreadyTold told
-    (λ new. c.tells name o os (record { opened_is = e; may = may; live = live; not_told = not-true (is_marked w.requests.told o.number name) new })))
-    (λ gone. c.finds_gone name o os (record { opened_is = e; may = may; gone = gone }))))
+    on : may_open w.requests ≡ true → (ws : List Waiting) → w.requests.waiting ≡ ws → Comes w P event.Open (open_oldest w ws)
+    on may [] e = c.refuses event.Open refusal.QueueEmpty
+    on may (oldest ∷ others) e =
+        let none : w.requests.opened ≡ [] = empty_of w.requests.opened may in
+        c.opens oldest others (record {
+          few = subst (λ (os : List Opened). length os < 4) (sym none) (omega arith);
+          no_safepoint = ap (λ (os : List Opened). list_any (λ o. is_census o.request) os) none;
+          alone = λ census. none;
+          none_open = none;
+          waiting_is = e;
+        })
+by_cases w P c (event.Tell name) = chain2 (Comes w P (event.Tell name)) (c.refuses (event.Tell name)) (not (is_empty w.requests.opened)) refusal.NothingOpen
+    (list_any (λ o. may_tell w o.request name) w.requests.opened) refusal.NotOf (tell_oldest w name (filter (λ o. is_live_target w o name) w.requests.opened))
+    (λ some may. on may (filter (λ o. is_live_target w o name) w.requests.opened) refl)
+  where
+    on : list_any (λ o. may_tell w o.request name) w.requests.opened ≡ true → (os : List Opened) → filter (λ o. is_live_target w o name) w.requests.opened ≡ os → Comes w P (event.Tell name) (tell_oldest w name os)
+    on may [] e = c.finds_gone name (record { may = may; gone = e })
+    on may (x ∷ xs) e = found_case w (Comes w P (event.Tell name)) refusal.AlreadyTold (c.refuses (event.Tell name) refusal.AlreadyTold) (λ o. not (is_marked w.requests.told o.number name)) (x ∷ xs) (tell_in w name) (λ o f at.
+        (let g = filter_at (λ o. is_live_target w o name) w.requests.opened at.0 o (subst (λ os. slice_get os at.0 ≡ Some o) (sym e) at.1) in
+        c.tells name o (record {
+          least = subst (λ os. find (λ (o : Opened). not (is_marked w.requests.told o.number name)) os ≡ Some o) (sym e) f;
+          open_is = record { position = g.0; here = g.1 };
+          live = g.2;
+          not_told = not-true (is_marked w.requests.told o.number name) (found_passes (λ (o : Opened). not (is_marked w.requests.told o.number name)) (x ∷ xs) o f);
+        })))
 by_cases w P c event.Operate = opened_case w (Comes w P event.Operate) (c.refuses event.Operate refusal.NothingOpen) (operate w) (λ o os e.
     chain5 (Comes w P event.Operate) (c.refuses event.Operate) (is_census o.request) refusal.NotOf (not o.operated) refusal.AlreadyDone (all_threads (λ t. t.held) w) refusal.NotAllHeld
     (all_threads (λ t. not (is_publishing t)) w) refusal.Publishing (all_threads is_settled w) refusal.Unpublished (accepted (record w { requests = with_operated w o }) (answer.Census (census w)))
     (λ census new held quiet settled. c.operates o os (record { opened_is = e; census = census; not_operated = not-true o.operated new; held = held; quiet = quiet; settled = settled })))
 by_cases w P c event.Close = opened_case w (Comes w P event.Close) (c.refuses event.Close refusal.NothingOpen) (close w) (λ o os e.
-    chain2 (Comes w P event.Close) (c.refuses event.Close) (all_threads (λ t. not t.held) w) refusal.Held (is_over w o) refusal.NotDone (accepted (record w { requests = without_opened w o }) (answer.Closed o.number))
-    (λ held over. c.closes o os (record { opened_is = e; none_held = held; over = over })))
+    chain2 (Comes w P event.Close) (c.refuses event.Close) (all_threads (λ t. not (t.held && is_target o.request t.name)) w) refusal.Held (is_over w o) refusal.NotDone
+    (accepted (record w { requests = without_opened w o }) (answer.Closed o.number))
+    (λ held over. c.closes o (record { open_is = record { position = 0; here = subst (λ (xs : List Opened). slice_get xs 0 ≡ Some o) (sym e) refl }; none_held = held; over = over })))
 by_cases w P c (event.Count serial) = code_case w (Comes w P (event.Count serial)) (c.refuses (event.Count serial) refusal.Unknown) serial (count w) (λ code found same. c.counts serial code found)
 by_cases w P c (event.CodeState serial) = on (code_of w.codes serial) refl
   where

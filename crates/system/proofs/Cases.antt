@@ -42,11 +42,11 @@ pub record Cases (w : World) (P : Event → Answer → World → Type 0) : Type 
   pub leaves : (p : ℕ) (t : Thread) (state : State) → Leaves w p t state
       → P (event.At p act.Leave) (go_or_stop (poll_of w.requests t.name)) (seated w p (Some (moved (popped t) state)) (event.At p act.Leave) (go_or_stop (poll_of w.requests t.name)))
   pub exits : (p : ℕ) (t : Thread) → Exits w p t → P (event.At p act.Exit) (answer.Exited t.name) (seated w p None (event.At p act.Exit) (answer.Exited t.name))
-  pub finishes : (p : ℕ) (t : Thread) (opened : Opened) (others : List Opened) → Finishes w p t opened others
+  pub finishes : (p : ℕ) (t : Thread) (opened : Opened) → Finishes w p t opened
       → P (event.At p act.Finish) (answer.Reply (reply_to opened.request t.stack)) (asked w (with_done w.requests opened t.name) (event.At p act.Finish) (answer.Reply (reply_to opened.request t.stack)))
-  pub clears : (p : ℕ) (t : Thread) (opened : Opened) (others : List Opened) → Clears w p t opened others
+  pub clears : (p : ℕ) (t : Thread) (opened : Opened) → Clears w p t opened
       → P (event.At p act.Clear) answer.Done (asked w (with_cleared w.requests opened t.name) (event.At p act.Clear) answer.Done)
-  pub holds : (p : ℕ) (t : Thread) (opened : Opened) (others : List Opened) → Holds w p t opened others
+  pub holds : (p : ℕ) (t : Thread) (opened : Opened) → Holds w p t opened
       → P (event.At p act.Hold) answer.Done (seated w p (Some (held t)) (event.At p act.Hold) answer.Done)
   pub releases : (p : ℕ) (t : Thread) → Releases w p t → P (event.At p act.Release) answer.Done (seated w p (Some (released t)) (event.At p act.Release) answer.Done)
   pub shows : (p : ℕ) (t : Thread) → Stands w p t → P (event.At p act.Stack) (answer.Frames t.stack) (seated w p (Some t) (event.At p act.Stack) (answer.Frames t.stack))
@@ -71,14 +71,13 @@ pub record Cases (w : World) (P : Event → Answer → World → Type 0) : Type 
       → P (event.Ask request) (answer.Asked (operations_given w.log + 1)) (asked w (with_request w request) (event.Ask request) (answer.Asked (operations_given w.log + 1)))
   pub opens : (oldest : Waiting) (others : List Waiting) → Opens w oldest others
       → P event.Open (answer.Opened oldest.number (kind_of oldest.request)) (asked w (with_opened w oldest others) event.Open (answer.Opened oldest.number (kind_of oldest.request)))
-  pub tells : (name : ℕ) (opened : Opened) (others : List Opened) → Tells w name opened others
+  pub tells : (name : ℕ) (opened : Opened) → Tells w name opened
       → P (event.Tell name) answer.Told (asked w (with_told w.requests opened name) (event.Tell name) answer.Told)
-  pub finds_gone : (name : ℕ) (opened : Opened) (others : List Opened) → FindsGone w name opened others
+  pub finds_gone : (name : ℕ) → FindsGone w name
       → P (event.Tell name) answer.Gone (noted w (event.Tell name) answer.Gone)
   pub operates : (opened : Opened) (others : List Opened) → Operates w opened others
       → P event.Operate (answer.Census (census w)) (asked w (with_operated w opened) event.Operate (answer.Census (census w)))
-  pub closes : (opened : Opened) (others : List Opened) → Closes w opened others
-      → P event.Close (answer.Closed opened.number) (asked w (without_opened w opened) event.Close (answer.Closed opened.number))
+  pub closes : (opened : Opened) → Closes w opened → P event.Close (answer.Closed opened.number) (asked w (without_opened w opened) event.Close (answer.Closed opened.number))
   pub counts : (serial : ℕ) (code : Code) → unfreed w.codes serial ≡ Some code
       → P (event.Count serial) (answer.Count (walk w (id_of code))) (noted w (event.Count serial) (answer.Count (walk w (id_of code))))
   pub says_state : (serial : ℕ) (code : Code) → code_of w.codes serial ≡ Some code

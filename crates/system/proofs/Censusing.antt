@@ -1,16 +1,23 @@
 -- A census: when it is refused, that the index answers it, and what the system has afterwards.
-use Rattle.std.proofs.Common.{◌≡◌, ◌≢◌, ◌∙◌, ◌+◌, ◌<◌, ◌≤◌, sym, ap, ap₂, refl, subst, ℕ, suc, Bool, true, false, not, ◌&&◌, ◌||◌, ◌==◌, eqb, cond, List, [], ◌∷◌, Option, Some, None, length, map, arith}
-use Rattle.std.specs.Prelude.{slice_get, filter, is_none, IsTrue, ◌↔◌}
-use Rattle.std.specs.List.{list_all}
+use Rattle.std.proofs.Common.{◌≡◌, ◌≢◌, ◌∙◌, ◌+◌, ◌<◌, ◌≤◌, sym, ap, ap₂, refl, subst, ℕ, zero, suc, Bool, true, false, not, ◌&&◌, ◌||◌, ◌==◌, eqb, cond, List, [], ◌∷◌, Option, Some, None, length, map, arith}
+use Rattle.std.specs.Prelude.{slice_get, sum_by, filter, is_none, IsTrue, ◌↔◌}
+use Rattle.std.specs.List.{list_all, cons_option}
+use Rattle.std.proofs.lemmas.List.Sums.{sum_by-cons}
+use Rattle.std.proofs.lemmas.List.Sorted.{sum_by-IsPermutation}
 use Rattle.std.proofs.lemmas.Bool.Decides.{nat_tests}
 use Rattle.std.proofs.lemmas.List.Folds.{list_any-append}
 use Rattle.frames.specs.declared.CodeId.{CodeId}
 use Rattle.frames.specs.ImageView.{ImageView, IsSettled, next_code}
-use Rattle.frames.proofs.Fewer.{none_next}
+use Rattle.frames.proofs.Uncounted.{none_next}
 use Rattle.method_table.specs.declared.Code.{Code}
-use Rattle.method_table.specs.Codes.{code_of, id_of}
+use Rattle.method_table.specs.declared.CodeState.{CodeState}
+use Rattle.method_table.specs.declared.CodeState.TheVariants.{InUse, NotEntrant, Zombie, Freed}
+use Rattle.method_table.specs.Codes.{code_of, id_of, takes_slot}
 use Rattle.activation_index.specs.declared.Entry.{Entry}
 use Rattle.activation_index.specs.Counts.{count_in, IsRisingFrom}
+use Rattle.activation_index.specs.Cells.{cell_of}
+use Rattle.activation_index.specs.Cells.{counted as in_cells}
+use Rattle.activation_index.specs.Pairs.{of_serial, IsRisingPairs}
 use Rattle.operations.specs.Names.{among}
 use Rattle.operations.specs.Requests.{is_census}
 use Rattle.system.specs.declared.events.Event.TheVariants as event
@@ -27,13 +34,17 @@ use Rattle.system.specs.Verdict.{Verdict, refused, accepted, unless◌refuse◌t
 use Rattle.system.specs.Operations.{Opened, Mark, is_marked, marks_of}
 use Rattle.system.specs.Log.{Entry as Logged}
 use Rattle.system.specs.Threads.{Thread, is_publishing, is_settled}
-use Rattle.system.specs.World.{World, found, thread_at, threads, live_names, frames_of, census}
+use Rattle.system.specs.World.{World, found, thread_at, threads, live_names, walk, frames_of, census}
 use Rattle.system.specs.Places.{in_open}
 use Rattle.system.specs.Step.{outcome, operate, operated_if}
-use Rattle.system.specs.Facts.{IsSound}
+use Rattle.system.specs.Facts.{IsSound, may_stand}
+use Rattle.system.specs.Memory.{Accepts}
+use Rattle.system.specs.Runs.{answer_to}
+use Rattle.system.specs.Safepoints.{is_accepted}
 use Rattle.system.specs.Keeps.{SameThread}
-use Rattle.system.specs.Censuses.{holds_at, is_held_kept, is_quiet_kept, is_settled_kept, operate_refusal, operated, census_of}
-use Rattle.system.specs.Stands.{Matches, SamePlace, SameMarks, SameOpen, SameOpened, DoesIn, Does, kept_at, walk_of, done_by, waiting_of}
+use Rattle.system.specs.Censuses.{holds_at, is_held_kept, is_quiet_kept, is_settled_kept, operate_refusal, operated, named, IsCensus}
+use Rattle.system.specs.Marking.{SameOpened, SameOpens}
+use Rattle.system.specs.Stands.{Matches, SamePlace, DoesIn, Does, kept_at, walk_of, waiting_of}
 use Rattle.system.proofs.Outcomes.{asked, with_operated}
 use Rattle.system.proofs.Lists.{all_at, find_place}
 use Rattle.system.proofs.Logs.{operations_next}
@@ -43,8 +54,10 @@ use Rattle.system.proofs.Seats.{there_of}
 use Rattle.system.proofs.Table.{code_serial}
 use Rattle.system.proofs.Images.{is_settled_by, counted_none}
 use Rattle.system.proofs.Safely.{index_is}
-use Rattle.system.proofs.Slots.{below_none, own}
-use Rattle.system.proofs.Requesting.{Rerequests, IsOfRequests, OneOpen, one_open, none_open, asked_live, sizes_stay, among_names, names_stay}
+use Rattle.system.proofs.Requesting.{Rerequests, IsOfRequests, asked_live, sizes_stay, among_names, names_stay}
+use Rattle.system.proofs.Marking.{operated_own}
+use Rattle.system.proofs.Pairs.{Oldest, oldest_of, none_open}
+use Rattle.system.proofs.Codings.{unstood}
 
 none_of : (o : Option CodeId) → is_none o ≡ true → o ≡ None
 none_of None h = refl
@@ -59,11 +72,6 @@ settled_test image false iff = by image.publishing (is_none (next_code image)) r
     by true n e f = refl
     by false false e f = refl
     by false true e f = let bad : IsTrue false = iff.1 (e, none_next image (none_of (next_code image) f)) in cc
-
--- The entries as pairs, and these under their names.
-pub named_counts : (es : List Entry) → map (λ (c : ℕ × ℕ). record { serial = c.0; count = c.1 }) (map (λ (e : Entry). (e.serial, e.count)) es) ≡ census_of es
-named_counts [] = refl
-named_counts (e ∷ es) = ap (λ cs. record { serial = e.serial; count = e.count } ∷ cs) (named_counts es)
 
 -- A test of all threads is one of all that the system keeps.
 abbrev Agree : (Kept → Bool) → (Thread → Bool) → Option Kept → Option Thread → Type 0
@@ -98,9 +106,6 @@ quiet_same s w m = all_threads_same is_quiet_kept (λ t. not (is_publishing t)) 
 
 settled_same : (s : Core) (w : World) → Matches s w → list_all is_settled (threads w.places) ≡ list_all (holds_at is_settled_kept) s.places.items
 settled_same s w m = all_threads_same is_settled_kept is_settled s w m (λ kept u same. sym (is_settled_by kept.image u same.image))
-
-operated_list : (w : World) (o : Opened) → w.requests.opened ≡ o ∷ [] → map (operated_if o.number) w.requests.opened ≡ record o { operated = true } ∷ []
-operated_list w o is = let self : eqb o.number o.number ≡ true = grind (arith, nat_tests) in ap (map (operated_if o.number)) is ∙ rw self refl
 
 -- The tests in their order.
 abbrev tests : World → Opened → Bool → Bool → Bool → Bool → Bool → Verdict World
@@ -138,10 +143,7 @@ passed w o true false true true false h = cc
 passed w o true false true true true h = record { is = refl; asked = refl; settled = refl }
 
 -- What the world tests is what the system does.
-module _ (s : Core) (w : World) (m : Matches s w) (open_ : Open) (k : OneOpen open_ w.requests.opened w) where
-  kept_tests : Verdict World
-  kept_tests = tests w k.o (is_census open_.request) open_.operated (list_all (holds_at is_held_kept) s.places.items) (list_all (holds_at is_quiet_kept) s.places.items) (list_all (holds_at is_settled_kept) s.places.items)
-
+module _ (s : Core) (w : World) (m : Matches s w) (open_ : Open) (k : Oldest open_ s.requests.opens w.requests.opened w) where
   outcome_is : outcome w event.Operate ≡ tests w k.o (is_census open_.request) open_.operated (list_all (holds_at is_held_kept) s.places.items) (list_all (holds_at is_quiet_kept) s.places.items) (list_all (holds_at is_settled_kept) s.places.items)
   outcome_is =
       let one : outcome w event.Operate ≡ operate w k.o = ap (λ os. in_open os (operate w)) k.is in
@@ -152,17 +154,30 @@ module _ (s : Core) (w : World) (m : Matches s w) (open_ : Open) (k : OneOpen op
       let settled = settled_same s w m in
       one ∙ (λ i. tests w k.o (request i) (done i) (held i) (quiet i) (settled i))
 
-refused_by : (s : Core) (w : World) (o : Option Open) (r : Refusal) → Matches s w → s.requests.open ≡ o → operate_refusal o s.places.items ≡ Some r → outcome w event.Operate ≡ refused r
-refused_by s w None r m is h =
-    let none = none_open s.requests.open w.requests.opened w m.opened is in
+refused_by : (s : Core) (w : World) (opens : List Open) (r : Refusal) → Matches s w → s.requests.opens ≡ opens → operate_refusal opens s.places.items ≡ Some r → outcome w event.Operate ≡ refused r
+refused_by s w [] r m is h =
+    let none = none_open s.requests.opens w.requests.opened w m.opened is in
     let r_is : NothingOpen ≡ r = cc in
     ap (λ os. in_open os (operate w)) none ∙ ap refused r_is
-refused_by s w (Some open_) r m is h =
-    let k = one_open s.requests.open w.requests.opened w open_ m.opened is in
+refused_by s w (open_ ∷ later) r m is h =
+    let k = oldest_of s.requests.opens w.requests.opened w open_ m.opened (ap (λ opens. slice_get opens 0) is) in
     outcome_is s w m open_ k ∙ tests_refused w k.o (is_census open_.request) open_.operated (list_all (holds_at is_held_kept) s.places.items) (list_all (holds_at is_quiet_kept) s.places.items) (list_all (holds_at is_settled_kept) s.places.items) r h
 
-pub operate_refused : (s : Core) (r : Refusal) → operate_refusal s.requests.open s.places.items ≡ Some r → Does event.Operate s (answer.Refused r) s
-operate_refused s r h = refused_does s event.Operate r (λ w m. refused_by s w s.requests.open r m refl h)
+pub operate_refused : (s : Core) (r : Refusal) → operate_refusal s.requests.opens s.places.items ≡ Some r → Does event.Operate s (answer.Refused r) s
+operate_refused s r h = refused_does s event.Operate r (λ w m. refused_by s w s.requests.opens r m refl h)
+
+-- Entries as a census answers them.
+abbrev census_of : List Entry → List CodeCount
+census_of es = map (λ entry. record { serial = entry.serial; count = entry.count }) es
+
+own : (e : Entry) (es : List Entry) (least : ℕ) → IsRisingFrom least (e ∷ es) → 0 < count_in (e ∷ es) e.serial
+own e es least r = let self : eqb e.serial e.serial ≡ true = grind (arith, nat_tests) in rw self r.1
+
+below_none : (es : List Entry) (least q : ℕ) → IsRisingFrom least es → q < least → count_in es q ≡ 0
+below_none [] least q r low = refl
+below_none (e ∷ es) least q r low =
+    let other : eqb e.serial q ≡ false = (let x = r.0 in grind (arith, nat_tests)) in
+    rw other (below_none es (e.serial + 1) q r.2 (let x = r.0 in omega arith))
 
 -- Rising entries without zeros that count as the codes do are the codes' counts without zeros.
 abbrev count_of : (Code → ℕ) → Option Code → ℕ
@@ -237,10 +252,158 @@ from_one : (es : List Entry) → IsRisingFrom 0 es → count_in es 0 ≡ 0 → I
 from_one [] r none = tt
 from_one (e ∷ es) r none = rising_later e es 0 r (λ is. let now = count_now e es 0 is in let some = r.1 in absurd (omega (arith, now, some, none)))
 
+-- What the cells of a serial count: nothing, or what one of them has.
+abbrev share : ℕ → ℕ × ℕ → ℕ
+share q pair = cond (eqb pair.0 q) pair.1 0
+
+abbrev total : ℕ → List Entry → ℕ
+total q cells = sum_by (share q) (in_cells cells)
+
+abbrev one_or_none : ℕ → ℕ × ℕ → ℕ
+one_or_none q pair = cond (eqb pair.0 q) 1 0
+
+total-cons : (q : ℕ) (e : Entry) (es : List Entry) → total q (e ∷ es) ≡ cond (eqb e.serial q) e.count 0 + total q es
+total-cons q e es = by (eqb e.count 0) refl
+  where
+    none : (b : Bool) → e.count ≡ 0 → total q es ≡ cond b e.count 0 + total q es
+    none true zero_ = omega (arith, zero_)
+    none false zero_ = omega arith
+
+    by : (b : Bool) → eqb e.count 0 ≡ b → sum_by (share q) (cons_option (cond b None (Some (e.serial, e.count))) (in_cells es)) ≡ cond (eqb e.serial q) e.count 0 + total q es
+    by true h = none (eqb e.serial q) (grind (arith, nat_tests))
+    by false h = sum_by-cons (share q) (e.serial, e.count) (in_cells es)
+
+few-cons : (q : ℕ) (e : Entry) (es : List Entry) → of_serial q (in_cells (e ∷ es)) ≡ cond (eqb e.count 0) 0 (cond (eqb e.serial q) 1 0) + of_serial q (in_cells es)
+few-cons q e es = by (eqb e.count 0) refl
+  where
+    by : (b : Bool) → eqb e.count 0 ≡ b → of_serial q (cons_option (cond b None (Some (e.serial, e.count))) (in_cells es)) ≡ cond b 0 (cond (eqb e.serial q) 1 0) + of_serial q (in_cells es)
+    by true h = omega arith
+    by false h = sum_by-cons (one_or_none q) (e.serial, e.count) (in_cells es)
+
+record Counting (q n : ℕ) (cells : List Entry) : Type 0 where
+  sum_is : total q cells ≡ n
+  few : of_serial q (in_cells cells) ≤ 1
+
+abbrev IsQuiet : ℕ → Entry → Type 0
+IsQuiet q cell = cell.serial ≡ q → cell.count ≡ 0
+
+quiet_share : (q : ℕ) (e : Entry) → IsQuiet q e → (cond (eqb e.serial q) e.count 0 ≡ 0) × (cond (eqb e.count 0) 0 (cond {A = ℕ} (eqb e.serial q) 1 0) ≡ 0)
+quiet_share q e h = by (eqb e.serial q) refl
+  where
+    nothing : (b : Bool) → cond {A = ℕ} b 0 0 ≡ 0
+    nothing true = refl
+    nothing false = refl
+
+    by : (b : Bool) → eqb e.serial q ≡ b → (cond b e.count 0 ≡ 0) × (cond (eqb e.count 0) 0 (cond {A = ℕ} b 1 0) ≡ 0)
+    by false k = (refl, nothing (eqb e.count 0))
+    by true k =
+        let none : e.count ≡ 0 = h (grind (arith, nat_tests)) in
+        let is : eqb e.count 0 ≡ true = grind (arith, nat_tests) in (none, rw is refl)
+
+all_quiet : (q : ℕ) (cells : List Entry) → ((i : ℕ) (cell : Entry) → slice_get cells i ≡ Some cell → IsQuiet q cell) → (total q cells ≡ 0) × (of_serial q (in_cells cells) ≡ 0)
+all_quiet q [] h = (refl, refl)
+all_quiet q (e ∷ es) h =
+    let rest = all_quiet q es (λ i cell x. h (suc i) cell x) in
+    let mine = quiet_share q e (h 0 e refl) in
+    let a = total-cons q e es in let b = few-cons q e es in
+    let r0 = rest.0 in let r1 = rest.1 in let m0 = mine.0 in let m1 = mine.1 in
+    (omega (arith, a, r0, m0), omega (arith, b, r1, m1))
+
+one_cell : (q i : ℕ) (cells : List Entry) (cell : Entry) → slice_get cells i ≡ Some cell → cell.serial ≡ q → ((j : ℕ) (other : Entry) → j ≢ i → slice_get cells j ≡ Some other → IsQuiet q other) → Counting q cell.count cells
+one_cell q i [] cell x is h = cc
+one_cell q zero (e ∷ es) cell x is h =
+    let same : e ≡ cell = cc in
+    let rest = all_quiet q es (λ i other y. h (suc i) other (λ z. omega (arith, z)) y) in
+    let a = total-cons q e es in let b = few-cons q e es in
+    let self : eqb e.serial q ≡ true = (let s : e.serial ≡ q = ap (λ (c : Entry). c.serial) same ∙ is in grind (arith, nat_tests)) in
+    let r0 = rest.0 in let r1 = rest.1 in
+    let a1 = rw self at a in let b1 = rw self at b in
+    let count_is : e.count ≡ cell.count = ap (λ (c : Entry). c.count) same in
+    record { sum_is = omega (arith, a1, r0, count_is); few = (let most = at_most (eqb e.count 0) in omega (arith, b1, r1, most)) }
+  where
+    at_most : (b : Bool) → cond {A = ℕ} b 0 1 ≤ 1
+    at_most true = omega arith
+    at_most false = omega arith
+one_cell q (suc i) (e ∷ es) cell x is h =
+    let rest = one_cell q i es cell x is (λ j other differ y. h (suc j) other (λ z. differ (omega (arith, z))) y) in
+    let mine = quiet_share q e (h 0 e (λ z. omega (arith, z)) refl) in
+    let a = total-cons q e es in let b = few-cons q e es in
+    let m0 = mine.0 in let m1 = mine.1 in let r0 = rest.sum_is in let r1 = rest.few in
+    record { sum_is = omega (arith, a, m0, r0); few = omega (arith, b, m1, r1) }
+
+untaken : (state : CodeState) → takes_slot state ≡ false → may_stand state ≡ false
+untaken InUse h = cc
+untaken NotEntrant h = cc
+untaken Zombie h = cc
+untaken Freed h = refl
+
+-- the cells of a serial count what its code has
+serial_counts : (s : Core) (w : World) → Matches s w → IsSound w → (q : ℕ) → Counting q (walk_of w (code_of w.codes q)) s.index
+serial_counts s w m sound q = by (code_of w.codes q) refl
+  where
+    zero_or : (n : ℕ) → (0 < n → ⊥) → n ≡ 0
+    zero_or zero h = refl
+    zero_or (suc n) h = absurd (h (omega arith))
+
+    quiet : (total q s.index ≡ 0) × (of_serial q (in_cells s.index) ≡ 0) → (n : ℕ) → n ≡ 0 → Counting q n s.index
+    quiet h n e = record { sum_is = h.0 ∙ sym e; few = (let z = h.1 in omega (arith, z)) }
+
+    by : (o : Option Code) → code_of w.codes q ≡ o → Counting q (walk_of w o) s.index
+    by None e = quiet (all_quiet q s.index (λ i cell x is. zero_or cell.count (λ some. (let o = m.index.own i cell x some in let bad : None ≡ Some o.0 = sym e ∙ (ap (code_of w.codes) (sym is) ∙ o.1) in cc)))) 0 refl
+    by (Some k) e = by_state (takes_slot k.state) refl
+      where
+        by_state : (b : Bool) → takes_slot k.state ≡ b → Counting q (walk w (id_of k)) s.index
+        by_state true t = one_cell q k.slot s.index (cell_of q (walk w (id_of k))) (m.index.here q k e t) refl
+            (λ j other differ x is. zero_or other.count (λ some. (
+            let o = m.index.own j other x some in
+            let are : Some k ≡ Some o.0 = sym e ∙ (ap (code_of w.codes) (sym is) ∙ o.1) in
+            let same : k ≡ o.0 = cc in
+            differ (sym (ap (λ (c : Code). c.slot) same ∙ o.3)))))
+        by_state false t = quiet (all_quiet q s.index (λ i cell x is. zero_or cell.count (λ some. (
+            let o = m.index.own i cell x some in
+            let are : Some k ≡ Some o.0 = sym e ∙ (ap (code_of w.codes) (sym is) ∙ o.1) in
+            let same : k ≡ o.0 = cc in
+            let bad : false ≡ true = sym t ∙ (ap (λ (c : Code). takes_slot c.state) same ∙ o.2) in cc)))) (walk w (id_of k)) (unstood w sound q k e (untaken k.state t))
+
+-- Pairs as entries: their counts by serial are the sums.
+abbrev entries : List (ℕ × ℕ) → List Entry
+entries pairs = map (λ (pair : ℕ × ℕ). cell_of pair.0 pair.1) pairs
+
+entries_named : (pairs : List (ℕ × ℕ)) → map named pairs ≡ census_of (entries pairs)
+entries_named [] = refl
+entries_named (pair ∷ pairs) = ap (λ cs. named pair ∷ cs) (entries_named pairs)
+
+entries_rising : (least : ℕ) (pairs : List (ℕ × ℕ)) → IsRisingPairs least pairs → IsRisingFrom least (entries pairs)
+entries_rising least [] r = tt
+entries_rising least (pair ∷ pairs) r = (r.0, r.1, entries_rising (pair.0 + 1) pairs r.2)
+
+none_below : (q least : ℕ) (pairs : List (ℕ × ℕ)) → IsRisingPairs least pairs → q < least → sum_by (share q) pairs ≡ 0
+none_below q least [] r low = refl
+none_below q least (pair ∷ pairs) r low =
+    let r0 = r.0 in
+    let other : eqb pair.0 q ≡ false = grind (arith, nat_tests) in
+    let rest = none_below q (pair.0 + 1) pairs r.2 (omega (arith, r0, low)) in
+    sum_by-cons (share q) pair pairs ∙ rw other (omega (arith, rest))
+
+entries_count : (q least : ℕ) (pairs : List (ℕ × ℕ)) → IsRisingPairs least pairs → count_in (entries pairs) q ≡ sum_by (share q) pairs
+entries_count q least [] r = refl
+entries_count q least (pair ∷ pairs) r = by (entries_count q (pair.0 + 1) pairs r.2) (eqb pair.0 q) refl ∙ sym (sum_by-cons (share q) pair pairs)
+  where
+    by : count_in (entries pairs) q ≡ sum_by (share q) pairs → (b : Bool) → eqb pair.0 q ≡ b → cond b pair.1 (count_in (entries pairs) q) ≡ cond b pair.1 0 + sum_by (share q) pairs
+    by rest true h =
+        let same : pair.0 ≡ q = grind (arith, nat_tests) in
+        let none = none_below q (pair.0 + 1) pairs r.2 (omega (arith, same)) in omega (arith, none)
+    by rest false h = omega (arith, rest)
+
 -- The index answers the census where all are settled.
-census_is : (s : Core) (w : World) → Matches s w → IsSound w → IsRisingFrom 0 s.index.entries → list_all is_settled (threads w.places) ≡ true → census_of s.index.entries ≡ census w
-census_is s w m sound rising settled =
-    census_matches (λ code. frames_of w (id_of code)) w.codes 1 s.index.entries (are_from 1 w.codes (λ i code e. sound.table.serial_is i code e)) (from_one s.index.entries rising (m.index 0 ∙ zero_free (code_of w.codes 0) refl)) (λ q low. m.index q ∙ same (code_of w.codes q))
+census_is : (s : Core) (w : World) (counts : List CodeCount) → Matches s w → IsSound w → IsCensus s.index counts → list_all is_settled (threads w.places) ≡ true → counts ≡ census w
+census_is s w counts m sound k settled =
+    let rising : IsRisingPairs 0 k.pairs = k.rising (λ q. (serial_counts s w m sound q).few) in
+    let es : List Entry = entries k.pairs in
+    let is : (q : ℕ) → count_in es q ≡ walk_of w (code_of w.codes q) = λ q. entries_count q 0 k.pairs rising ∙ (sum_by-IsPermutation (share q) (in_cells s.index) k.pairs k.same ∙ (serial_counts s w m sound q).sum_is) in
+    let ordered : IsRisingFrom 0 es = entries_rising 0 k.pairs rising in
+    k.counts_are ∙ (entries_named k.pairs
+    ∙ census_matches (λ code. frames_of w (id_of code)) w.codes 1 es (are_from 1 w.codes (λ i code e. sound.table.serial_is i code e)) (from_one es ordered (is 0 ∙ zero_free (code_of w.codes 0) refl)) (λ q low. is q ∙ same (code_of w.codes q)))
   where
     settled_at : (p : ℕ) (t : Thread) → slice_get w.places p ≡ Some (Some t) → is_settled t ≡ true
     settled_at p t x = let r = threads_has w.places p t x in all_at is_settled (threads w.places) r.0 t settled r.1
@@ -257,56 +420,40 @@ census_is s w m sound rising settled =
         let zero = code_serial w.codes 0 code e in
         absurd (omega (arith, is, zero))
 
--- The marks of all live threads.
-marked_all : (n name : ℕ) (names : List ℕ) → among name names ≡ true → is_marked (marks_of n names) n name ≡ true
-marked_all n name [] h = cc
-marked_all n name (x ∷ xs) h = by (eqb x name) h (marked_all n name xs)
-  where
-    self : eqb n n ≡ true
-    self = grind (arith, nat_tests)
-
-    by : (b : Bool) → (b || among name xs) ≡ true → (among name xs ≡ true → is_marked (marks_of n xs) n name ≡ true) → ((eqb n n && b) || is_marked (marks_of n xs) n name) ≡ true
-    by true k rest = rw self refl
-    by false k rest = rw self (rest k)
-
-or_true : (a b : Bool) → a ≡ true → (a || b) ≡ true
-or_true true b h = refl
-or_true false b h = cc
-
-operated_marks : (w : World) (o : Opened) (m : Marks) (p : ℕ) (u : Thread) → w.requests.opened ≡ o ∷ [] → is_census o.request ≡ true → thread_at w p ≡ Some u → SameMarks m w.requests u.name → SameMarks m (with_operated w o) u.name
-operated_marks w o m p u is asked there h = record {
-  told_last = h.told_last;
-  told_is = h.told_is;
-  cleared_is = h.cleared_is;
-  older = h.older;
-  cleared_old = h.cleared_old;
-  done_old = h.done_old;
-  done_is = λ other e told. (
-      let one : record o { operated = true } ∷ [] ≡ other ∷ [] = sym (operated_list w o is) ∙ e in
-      let same : record o { operated = true } ≡ other = cc in
-      let lives : among u.name (live_names w) ≡ true = among_names u.name (threads w.places) ∙ live_has w p u (there_of w p u there) in
-      let marked : is_marked (with_operated w o).done o.number u.name ≡ true =
-      list_any-append (λ (mark : Mark). (mark.operation == o.number) && (mark.name == u.name)) (marks_of o.number (live_names w)) w.requests.done
-      ∙ or_true (is_marked (marks_of o.number (live_names w)) o.number u.name) (is_marked w.requests.done o.number u.name) (marked_all o.number u.name (live_names w) lives) in
-      subst (λ (q : Opened). is_marked (with_operated w o).done q.number u.name ≡ done_by q m) same (marked ∙ rw asked refl));
-}
-
 of_operate : (a : Answer) → IsOfRequests event.Operate a
 of_operate a = record { starts_none = refl; rounds_none = refl; invalidates_none = λ r. refl; looks_none = λ r place. refl; elsewhere = λ place. record { starts_not = refl; begins_not = refl; ends_not = refl } }
 
-done_in : (s new : Core) (w : World) (o : Option Open) → Matches s w → IsSound w → Rerequests s new → new.requests ≡ record s.requests { «open» = operated s.requests.open } → IsRisingFrom 0 s.index.entries → s.requests.open ≡ o → operate_refusal o s.places.items ≡ None
-    → DoesIn event.Operate (answer.Census (census_of s.index.entries)) new w
-done_in s new w None m sound rest requests rising is h = cc
-done_in s new w (Some open_) m sound rest requests rising is h =
-    let k = one_open s.requests.open w.requests.opened w open_ m.opened is in
+-- A census is open alone.
+alone : (w : World) (o : Opened) (others : List Opened) → IsSound w → w.requests.opened ≡ o ∷ others → is_census o.request ≡ true → others ≡ []
+alone w o [] sound is asks = refl
+alone w o (x ∷ xs) sound is asks =
+    let few = sound.numbers.census_alone 0 o (ap (λ os. slice_get os 0) is) asks in
+    let long : length w.requests.opened ≡ suc (suc (length xs)) = ap (λ (os : List Opened). length os) is in
+    absurd (omega (arith, few, long))
+
+none_later : (opens : List Open) (w : World) → SameOpens opens [] w → opens ≡ []
+none_later [] w h = refl
+none_later (a ∷ opens) w h = absurd h
+
+operated_one : (w : World) (o : Opened) → w.requests.opened ≡ o ∷ [] → map (operated_if o.number) w.requests.opened ≡ record o { operated = true } ∷ []
+operated_one w o is = let self : eqb o.number o.number ≡ true = grind (arith, nat_tests) in ap (map (operated_if o.number)) is ∙ rw self refl
+
+done_in : (s new : Core) (w : World) (opens : List Open) → Matches s w → IsSound w → Rerequests s new → new.requests ≡ record s.requests { opens = operated s.requests.opens } → (counts : List CodeCount) → IsCensus s.index counts → s.requests.opens ≡ opens → operate_refusal opens s.places.items ≡ None
+    → DoesIn event.Operate (answer.Census counts) new w
+done_in s new w [] m sound rest requests counts rising is h = cc
+done_in s new w (open_ ∷ xs) m sound rest requests counts rising is h =
+    let k = oldest_of s.requests.opens w.requests.opened w open_ m.opened (ap (λ opens. slice_get opens 0) is) in
     let a : Answer = answer.Census (census w) in
     let entry : Logged = record { event = event.Operate; answer = a } in
     let pass = passed w k.o (is_census open_.request) open_.operated (list_all (holds_at is_held_kept) s.places.items) (list_all (holds_at is_quiet_kept) s.places.items) (list_all (holds_at is_settled_kept) s.places.items) h in
     let asks : is_census k.o.request ≡ true = ap is_census (sym k.same.request) ∙ pass.asked in
     let settled : list_all is_settled (threads w.places) ≡ true = settled_same s w m ∙ pass.settled in
     let goes : outcome w event.Operate ≡ accepted (record w { requests = with_operated w k.o }) a = outcome_is s w m open_ k ∙ pass.is in
-    let open_is : new.requests.open ≡ Some (record open_ { operated = true }) = ap (λ r. r.«open») requests ∙ ap operated is in
-    let list_is = operated_list w k.o k.is in
+    let others : k.others ≡ [] = alone w k.o k.others sound k.is asks in
+    let one : w.requests.opened ≡ k.o ∷ [] = k.is ∙ ap (λ os. k.o ∷ os) others in
+    let later : k.later ≡ [] = none_later k.later w (subst (λ os. SameOpens k.later os w) others k.rest) in
+    let opens_are : new.requests.opens ≡ record open_ { operated = true } ∷ [] = ap (λ r. r.opens) requests ∙ (ap operated k.opens_are ∙ ap (λ ys. record open_ { operated = true } ∷ ys) later) in
+    let list_is = operated_one w k.o one in
     let v : World = asked w (with_operated w k.o) event.Operate a in
     let same : SameOpened (record open_ { operated = true }) (record k.o { operated = true }) v = record {
       number = k.same.number;
@@ -315,19 +462,30 @@ done_in s new w (Some open_) m sound rest requests rising is h =
       names = (let n = names_stay w event.Operate a (of_operate a) in let low = k.same.names in omega (arith, n, low));
       live = k.same.live;
     } in
-    subst (λ counts. DoesIn event.Operate (answer.Census counts) new w) (sym (census_is s w m sound rising settled))
+    subst (λ counts. DoesIn event.Operate (answer.Census counts) new w) (sym (census_is s w counts m sound rising settled))
     (accepted_in new w (record w { requests = with_operated w k.o }) event.Operate a goes (asked_live s new w (with_operated w k.o) event.Operate a m (record {
       rest = rest;
       entry = of_operate a;
       numbers = ap (λ r. r.numbers) requests ∙ (let n = operations_next entry w.log in let same = m.numbers in omega (arith, n, same));
       waiting = ap (λ r. map waiting_of r.waiting) requests ∙ m.waiting;
-      opened = subst (λ os. SameOpen new.requests.open os v) (sym list_is) (subst (λ x. SameOpen x (record k.o { operated = true } ∷ []) v) (sym open_is) same);
-      marks = λ x p u there h. operated_marks w k.o x p u k.is asks there h;
+      opened = subst (λ os. SameOpens new.requests.opens os v) (sym list_is) (subst (λ ys. SameOpens ys (record k.o { operated = true } ∷ []) v) (sym opens_are) (same, tt));
+      marks = λ x p u there h. operated_own w k.o u.name x one asks (among_names u.name (threads w.places) ∙ live_has w p u (there_of w p u there)) h;
     })))
 
-pub operate_done : (s new : Core) → Rerequests s new → new.requests ≡ record s.requests { «open» = operated s.requests.open } → IsRisingFrom 0 s.index.entries → operate_refusal s.requests.open s.places.items ≡ None
-    → Does event.Operate s (answer.Census (census_of s.index.entries)) new
-operate_done s new rest requests rising h = record {
-  each = λ w sound m. done_in s new w s.requests.open m sound rest requests rising refl h;
+pub operate_done : (s new : Core) (counts : List CodeCount) → Rerequests s new → new.requests ≡ record s.requests { opens = operated s.requests.opens } → IsCensus s.index counts → operate_refusal s.requests.opens s.places.items ≡ None
+    → Does event.Operate s (answer.Census counts) new
+operate_done s new counts rest requests rising h = record {
+  each = λ w sound m. done_in s new w s.requests.opens m sound rest requests counts rising refl h;
   sizes = sizes_stay s new rest;
 }
+
+may_in : (s : Core) (w : World) (opens : List Open) → Matches s w → s.requests.opens ≡ opens → operate_refusal opens s.places.items ≡ None → is_accepted (answer_to w event.Operate) ≡ true
+may_in s w [] m is h = cc
+may_in s w (open_ ∷ xs) m is h =
+    let k = oldest_of s.requests.opens w.requests.opened w open_ m.opened (ap (λ opens. slice_get opens 0) is) in
+    let pass = passed w k.o (is_census open_.request) open_.operated (list_all (holds_at is_held_kept) s.places.items) (list_all (holds_at is_quiet_kept) s.places.items) (list_all (holds_at is_settled_kept) s.places.items) h in
+    let goes : outcome w event.Operate ≡ accepted (record w { requests = with_operated w k.o }) (answer.Census (census w)) = outcome_is s w m open_ k ∙ pass.is in
+    rw goes refl
+
+pub may_operate : (s : Core) → operate_refusal s.requests.opens s.places.items ≡ None → Accepts s event.Operate
+may_operate s h = λ w sound m. may_in s w s.requests.opens m refl h

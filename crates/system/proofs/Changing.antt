@@ -1,7 +1,8 @@
 -- A change of the open publication moves the count of one code.
-use Rattle.std.proofs.Common.{◌≡◌, ◌≢◌, ◌∙◌, ◌+◌, ◌<◌, ◌≤◌, sym, ap, ap₂, refl, subst, ℕ, zero, suc, Bool, true, false, not, ◌||◌, cond, List, [], ◌∷◌, Option, Some, None, Result, Ok, Err, length, arith, ℤ, pos, ◌+ℤ◌, ◌-ℤ◌}
+use Rattle.std.proofs.Common.{◌≡◌, ◌≢◌, ◌∙◌, ◌+◌, ◌<◌, ◌≤◌, sym, ap, ap₂, refl, subst, ℕ, zero, suc, Bool, true, false, not, ◌||◌, eqb, cond, List, [], ◌∷◌, Option, Some, None, Result, Ok, Err, length, arith, ℤ, pos, ◌+ℤ◌, ◌-ℤ◌}
 use Rattle.std.specs.Prelude.{slice_get, slice_set, sum_by, ◌≤ℤ◌}
 use Rattle.std.proofs.lemmas.Int.{ints}
+use Rattle.std.proofs.lemmas.Bool.Decides.{nat_tests}
 use Rattle.std.proofs.lemmas.List.Sums.{sum_by-cons}
 use Rattle.std.proofs.lemmas.Option.{slice_get_within}
 use mathlib.Core.Logic.{dite}
@@ -9,11 +10,12 @@ use native.Mathlib.Decide.{ℕ_discrete}
 use Rattle.frames.specs.declared.CodeId.{CodeId}
 use Rattle.frames.specs.declared.Change.{Change as CodeChange}
 use Rattle.frames.specs.Stack.{same_code, act, times}
+use Rattle.frames.specs.ImageView.{Counts}
 use Rattle.thread_state.specs.declared.State.TheVariants.{Vacant}
 use Rattle.method_table.specs.declared.Code.{Code}
-use Rattle.method_table.specs.Codes.{code_of, id_of}
-use Rattle.activation_index.specs.declared.Entry.{Entry}
-use Rattle.activation_index.specs.Counts.{count_in, IsRisingFrom}
+use Rattle.method_table.specs.Codes.{code_of, id_of, next_serial}
+use Rattle.activation_index.specs.declared.Entry.{Entry as Cell}
+use Rattle.activation_index.specs.Cells.{count_if, count_at, cell_of}
 use Rattle.system.specs.declared.events.Act.TheVariants.{Change}
 use Rattle.system.specs.declared.events.Event.TheVariants as event
 use Rattle.system.specs.declared.answers.Answer.{Answer}
@@ -31,7 +33,7 @@ use Rattle.system.specs.Step.{outcome, with_place}
 use Rattle.system.specs.Facts.{IsSound, IsLive, ThreadsAreSound}
 use Rattle.system.specs.Keeps.{SameThread, DidNext, Counted, said_change}
 use Rattle.system.specs.Steps.{DidChange, DidCountAt, CountedAt}
-use Rattle.system.specs.Stands.{Matches, SameAt, DoesIn, Does, SameSizes, walk_of}
+use Rattle.system.specs.Stands.{Matches, SameAt, DoesIn, Does, SameSizes, SameCells, walk_of}
 use Rattle.system.proofs.Outcomes.{Stands, seated, changed_by, difference}
 use Rattle.system.proofs.Threads.{threads_kept}
 use Rattle.system.proofs.Sound.{counts_sound}
@@ -42,10 +44,12 @@ use Rattle.system.proofs.Found.{put_back}
 use Rattle.system.proofs.Acting.{SameRest, SameOthers, counted_matches, length_set, walk_seat}
 use Rattle.system.proofs.Acted.{became, refused_in, act_quiet, act_elsewhere, timed}
 use Rattle.system.proofs.Plain.{nowhere, vacant, seat, at_place, accepted_in}
-use Rattle.system.proofs.Slots.{live_has, counted_has, has_room}
+use Rattle.system.proofs.Slots.{takes, two_slots}
+use Rattle.system.proofs.Seats.{get_set_same, get_set_other}
+use Rattle.system.proofs.Lists.{same_at}
 
 -- what a change was
-pub record WasChanged (s : Core) (w : World) (p serial : ℕ) (by : ℤ) (new : List (Option Kept)) : Type 0 where
+pub record WasChanged (s : Core) (w : World) (p slot serial : ℕ) (by : ℤ) (new : List (Option Kept)) : Type 0 where
   pub kept : Kept
   pub after : Kept
   pub t : Thread
@@ -54,6 +58,7 @@ pub record WasChanged (s : Core) (w : World) (p serial : ℕ) (by : ℤ) (new : 
   pub same : SameAt w p kept t
   pub publishing : is_publishing t ≡ true
   pub next : next_change t ≡ Some code
+  pub slot_is : slot ≡ code.slot
   pub serial_is : serial ≡ code.serial
   pub by_is : by ≡ pos (act code t.stack) -ℤ pos (act code t.shown)
   pub thread : SameThread after (changed_by t code)
@@ -90,7 +95,23 @@ none_changed change h = cc
 no_change : (code : CodeId) (t : Thread) → difference t code ≡ said_change None → ⊥
 no_change code t h = cc
 
-pub was_changed : (s : Core) (w : World) (p : ℕ) (change : CodeChange) (new : List (Option Kept)) → Matches s w → DidChange p s.places.items new (Ok (Some change)) → WasChanged s w p change.code.serial change.by new
+-- the code that changed is the one that was next: no other code of the serial moves
+part_self : (t : Thread) (code : CodeId) → part code (changed_by t code) ≡ act code t.stack
+part_self t code = ap (λ b. cond (b || has_changed t code) (act code t.stack) (act code t.shown)) (same_refl code)
+
+code_is : (kept after_ : Kept) (t : Thread) (code : CodeId) (change : CodeChange) → SameThread kept t → next_change t ≡ Some code → Counts kept.image after_.image change → SameThread after_ (changed_by t code) → change.code ≡ code
+code_is kept after_ t code change same next counts thread = by (same_code code change.code) refl
+  where
+    by : (b : Bool) → same_code code change.code ≡ b → change.code ≡ code
+    by true e = sym (same_is code change.code e)
+    by false e =
+        let was : part code t ≡ act code t.shown = ap (λ b. cond b (act code t.stack) (act code t.shown)) (left_is_new t code next) in
+        let all : act code t.stack ≡ act code t.shown = sym (part_self t code) ∙ (sym (thread.image.counted code) ∙ (counts.others code e ∙ (same.image.counted code ∙ was))) in
+        let equal : eqb (act code t.stack) (act code t.shown) ≡ true = grind (arith, nat_tests) in
+        let left = rw (left_is_new t code next, equal) at (next_left t code next) in
+        let no : false ≡ true = left in cc
+
+pub was_changed : (s : Core) (w : World) (p : ℕ) (change : CodeChange) (new : List (Option Kept)) → Matches s w → DidChange p s.places.items new (Ok (Some change)) → WasChanged s w p change.code.slot change.code.serial change.by new
 was_changed s w p change new m did = elim (at_place s w p m) [
   | nowhere e x ↦ (let d = rw e at did in absurd (never (Some change) NoSuchPlace d.0))
   | vacant e x ↦ (let d = rw e at did in absurd (never (Some change) (Illegal Vacant) d.0))
@@ -99,7 +120,7 @@ was_changed s w p change new m did = elim (at_place s w p m) [
       by kept d.after t x same d.places (is_publishing t) (next_change t) refl refl (d.did w t same.thread))
 ]
   where
-    by : (kept after_ : Kept) (t : Thread) → slice_get w.places p ≡ Some (Some t) → SameAt w p kept t → new ≡ slice_set s.places.items p (Some after_) → (b : Bool) (o : Option CodeId) → is_publishing t ≡ b → next_change t ≡ o → DidNext (says t b o) kept after_ t (Ok (Some change)) → WasChanged s w p change.code.serial change.by new
+    by : (kept after_ : Kept) (t : Thread) → slice_get w.places p ≡ Some (Some t) → SameAt w p kept t → new ≡ slice_set s.places.items p (Some after_) → (b : Bool) (o : Option CodeId) → is_publishing t ≡ b → next_change t ≡ o → DidNext (says t b o) kept after_ t (Ok (Some change)) → WasChanged s w p change.code.slot change.code.serial change.by new
     by kept after_ t x same places false o pub_is next_is did = absurd (never (Some change) NotBegun did.0)
     by kept after_ t x same places true None pub_is next_is did = absurd (none_changed change (subst (λ o. answer.NoChange ≡ said_change o) (sym (same_change (Some change) did.0 did.1)) did.2))
     by kept after_ t x same places true (Some code) pub_is next_is did =
@@ -115,6 +136,7 @@ was_changed s w p change new m did = elim (at_place s w p m) [
           same = same;
           publishing = pub_is;
           next = next_is;
+          slot_is = ap (λ (x : CodeId). x.slot) (code_is kept after_ t code change same.thread next_is counted.0 did.3);
           serial_is = cc;
           by_is = cc;
           thread = did.3;
@@ -136,9 +158,6 @@ walk_moved (o ∷ os) zero t u code h =
 walk_moved (o ∷ os) (suc p) t u code h =
     omega (arith, sum_by-cons (part_at code) o (slice_set os p (Some u)), sum_by-cons (part_at code) o os, walk_moved os p t u code h)
 
-part_self : (t : Thread) (code : CodeId) → part code (changed_by t code) ≡ act code t.stack
-part_self t code = ap (λ b. cond (b || has_changed t code) (act code t.stack) (act code t.shown)) (same_refl code)
-
 part_other : (t : Thread) (code other : CodeId) → same_code code other ≡ false → part other (changed_by t code) ≡ part other t
 part_other t code other h = ap (λ b. cond (b || has_changed t other) (act other t.stack) (act other t.shown)) h
 
@@ -159,7 +178,7 @@ other_walk w p t code serial q there is differ = by (code_of w.codes q) refl
         let apart : k.serial ≢ code.serial = λ same. differ (sym (code_serial w.codes q k e) ∙ (same ∙ sym is)) in
         walk_seat w.places p t (changed_by t code) (id_of k) there (part_other t code (id_of k) (not_same code k apart))
 
-module _ (s : Core) (w : World) (p serial : ℕ) (by : ℤ) (new : List (Option Kept)) (c : WasChanged s w p serial by new) where
+module _ (s : Core) (w : World) (p slot serial : ℕ) (by : ℤ) (new : List (Option Kept)) (c : WasChanged s w p slot serial by new) where
   goes : outcome w (event.At p Change) ≡ accepted (with_place w p (Some (changed_by c.t c.code))) (difference c.t c.code)
   goes = rw (c.there, c.publishing, c.next) refl
 
@@ -184,17 +203,31 @@ module _ (s : Core) (w : World) (p serial : ℕ) (by : ℤ) (new : List (Option 
       let now = part_self c.t c.code in
       omega (arith, ints, moved, part_is, now, c.by_is)
 
-  found_walk : IsSound w → (v : World) → walk_of v (code_of w.codes serial) ≡ walk v c.code
-  found_walk sound v = let live = code_live sound in ap (walk_of v) (ap (code_of w.codes) c.serial_is ∙ live.1) ∙ ap (walk v) live.2
+  -- the cell of the code
+  cell_is : Matches s w → IsSound w → slice_get s.index slot ≡ Some (cell_of serial (walk w c.code))
+  cell_is m sound =
+      let live = code_live sound in
+      let there : slice_get s.index (id_of live.0).slot ≡ Some (cell_of serial (walk w (id_of live.0))) = m.index.here serial live.0 (ap (code_of w.codes) c.serial_is ∙ live.1) (takes live.0.state live.3) in
+      let P : CodeId → Type 0 = λ x. slice_get s.index x.slot ≡ Some (cell_of serial (walk w x)) in
+      subst (λ n. slice_get s.index n ≡ Some (cell_of serial (walk w c.code))) (sym c.slot_is) (subst P live.2 there)
+
+  counts_now : Matches s w → IsSound w → count_at s.index slot serial ≡ walk w c.code
+  counts_now m sound = let self : eqb serial serial ≡ true = grind (arith, nat_tests) in ap (count_if serial) (cell_is m sound) ∙ rw self refl
+
+  pub within : Matches s w → IsSound w → slot < length s.index
+  within m sound = slice_get_within s.index slot (cell_of serial (walk w c.code)) (cell_is m sound)
+
+  pub of_serial : Matches s w → IsSound w → (cell : Cell) → slice_get s.index slot ≡ Some cell → cell.serial ≡ serial
+  of_serial m sound cell at_slot = ap (λ (x : Cell). x.serial) (same_at s.index slot cell (cell_of serial (walk w c.code)) at_slot (cell_is m sound))
 
   -- the count is as the index takes it
-  pub counts_to : Matches s w → IsSound w → pos (count_in s.index.entries serial) +ℤ by ≡ pos (walk (changed_world w p c.t c.code) c.code)
-  counts_to m sound = let was = m.index serial ∙ found_walk sound w in rw was moves
+  pub counts_to : Matches s w → IsSound w → pos (count_at s.index slot serial) +ℤ by ≡ pos (walk (changed_world w p c.t c.code) c.code)
+  counts_to m sound = let was = counts_now m sound in rw was moves
 
-  pub low : Matches s w → IsSound w → pos 0 ≤ℤ (pos (count_in s.index.entries serial) +ℤ by)
+  pub low : Matches s w → IsSound w → pos 0 ≤ℤ (pos (count_at s.index slot serial) +ℤ by)
   low m sound = omega (arith, ints, counts_to m sound)
 
-  pub high : Matches s w → IsSound w → length s.places.items ≤ 64 → (pos (count_in s.index.entries serial) +ℤ by) ≤ℤ pos 16384
+  pub high : Matches s w → IsSound w → length s.places.items ≤ 64 → (pos (count_at s.index slot serial) +ℤ by) ≤ℤ pos 16384
   high m sound few =
       let v : World = changed_world w p c.t c.code in
       let stands : Stands w p c.t = record { there = c.there; low = slice_get_within w.places p (Some c.t) c.there } in
@@ -203,22 +236,48 @@ module _ (s : Core) (w : World) (p serial : ℕ) (by : ℤ) (new : List (Option 
       let long : length v.places ≡ length s.places.items = length_set w.places p (Some (changed_by c.t c.code)) ∙ sym m.places.lengths in
       omega (arith, ints, counts_to m sound, most, long, few)
 
-  pub room : Matches s w → IsSound w → IsRisingFrom 0 s.index.entries → count_in s.index.entries serial ≡ 0 → length s.index.entries < s.index.slots
-  room m sound rising none =
-      let fewer = has_room w sound s.index.entries rising (λ q some. counted_has w q sound (subst (λ n. 0 < n) (m.index q) some)) serial (live_has w.codes c.code serial (sym c.serial_is) (code_live sound)) none in
-      omega (arith, fewer, m.index_slots)
+  -- the cells after it are those of the world after it
+  cells_moved : Matches s w → IsSound w → (n : ℕ) → pos n ≡ pos (count_at s.index slot serial) +ℤ by → SameCells (slice_set s.index slot (cell_of serial n)) (changed_world w p c.t c.code)
+  cells_moved m sound n moved = record {
+    lengths = length_set s.index slot (cell_of serial n) ∙ m.index.lengths;
+    here = λ q k found takes_one. dite (ℕ_discrete q serial)
+        (λ same. (
+        let are : Some live.0 ≡ Some k = sym mine ∙ (ap (code_of w.codes) (sym same) ∙ found) in
+        let one : live.0 ≡ k = cc in
+        let P : Code → Type 0 = λ x. slice_get (slice_set s.index slot (cell_of serial n)) x.slot ≡ Some (cell_of q (walk v (id_of x))) in
+        subst P one (subst (λ m. slice_get (slice_set s.index slot (cell_of serial n)) m ≡ Some (cell_of q (walk v (id_of live.0)))) slot_of
+        (placed ∙ ap₂ (λ x y. Some (cell_of x y)) (sym same) (count ∙ ap (walk v) (sym live.2))))))
+        (λ differ. get_set_other s.index slot k.slot (cell_of serial n) (λ same. two_slots w sound q serial k live.0 found mine takes_one (takes live.0.state live.3) differ (same ∙ slot_of))
+        ∙ (m.index.here q k found takes_one ∙ ap (λ z. Some (cell_of q z)) (sym (sym (ap (walk_of v) found) ∙ (other_walk w p c.t c.code serial q c.there c.serial_is differ ∙ ap (walk_of w) found)))));
+    own = λ at cell at_slot some. dite (ℕ_discrete at slot)
+        (λ same. (let is : cell ≡ cell_of serial n = same_at (slice_set s.index slot (cell_of serial n)) slot cell (cell_of serial n) (subst (λ m. slice_get (slice_set s.index slot (cell_of serial n)) m ≡ Some cell) same at_slot) placed in
+        (live.0, ap (λ (x : Cell). code_of w.codes x.serial) is ∙ mine, takes live.0.state live.3, sym slot_of ∙ sym same)))
+        (λ differ. m.index.own at cell (sym (get_set_other s.index slot at (cell_of serial n) differ) ∙ at_slot) some);
+    low = λ at cell at_slot. dite (ℕ_discrete at slot)
+        (λ same. (let is : cell ≡ cell_of serial n = same_at (slice_set s.index slot (cell_of serial n)) slot cell (cell_of serial n) (subst (λ m. slice_get (slice_set s.index slot (cell_of serial n)) m ≡ Some cell) same at_slot) placed in
+        subst (λ (x : Cell). x.serial < next_serial w.codes) (sym is) (m.index.low slot (cell_of serial (walk w c.code)) (cell_is m sound))))
+        (λ differ. m.index.low at cell (sym (get_set_other s.index slot at (cell_of serial n) differ) ∙ at_slot));
+  }
+    where
+      v : World
+      v = changed_world w p c.t c.code
 
-  -- the counts after it are those of the world after it
-  index_moved : Matches s w → IsSound w → (entries : List Entry) → pos (count_in entries serial) ≡ pos (count_in s.index.entries serial) +ℤ by → ((q : ℕ) → q ≢ serial → count_in entries q ≡ count_in s.index.entries q)
-      → (q : ℕ) → count_in entries q ≡ walk_of (changed_world w p c.t c.code) (code_of w.codes q)
-  index_moved m sound entries here others q = dite (ℕ_discrete q serial)
-      (λ same. (
-      let v : World = changed_world w p c.t c.code in
-      let count : count_in entries serial ≡ walk v c.code = omega (arith, ints, here, counts_to m sound) in
-      subst (λ n. count_in entries n ≡ walk_of v (code_of w.codes n)) (sym same) (count ∙ sym (found_walk sound v))))
-      (λ differ. others q differ ∙ (m.index q ∙ sym (other_walk w p c.t c.code serial q c.there c.serial_is differ)))
+      live : IsLive w.codes c.code
+      live = code_live sound
 
-  pub change_in : (after_ : Core) → Matches s w → IsSound w → SameOthers s after_ → after_.places.items ≡ new → pos (count_in after_.index.entries serial) ≡ pos (count_in s.index.entries serial) +ℤ by → ((q : ℕ) → q ≢ serial → count_in after_.index.entries q ≡ count_in s.index.entries q)
+      mine : code_of w.codes serial ≡ Some live.0
+      mine = ap (code_of w.codes) c.serial_is ∙ live.1
+
+      slot_of : slot ≡ live.0.slot
+      slot_of = c.slot_is ∙ sym (ap (λ (x : CodeId). x.slot) live.2)
+
+      count : n ≡ walk v c.code
+      count = omega (arith, ints, moved, counts_to m sound)
+
+      placed : slice_get (slice_set s.index slot (cell_of serial n)) slot ≡ Some (cell_of serial n)
+      placed = get_set_same s.index slot (cell_of serial n) (within m sound)
+
+  pub change_in : (after_ : Core) → Matches s w → IsSound w → SameOthers s after_ → after_.places.items ≡ new → pos (count_at after_.index slot serial) ≡ pos (count_at s.index slot serial) +ℤ by → after_.index ≡ slice_set s.index slot (cell_of serial (count_at after_.index slot serial))
       → DoesIn (event.At p Change) (answer.Changed serial by) after_ w
   change_in after_ m sound rest places here others =
       let a : Answer = difference c.t c.code in
@@ -231,7 +290,7 @@ module _ (s : Core) (w : World) (p serial : ℕ) (by : ℤ) (new : List (Option 
         name = refl;
         marks = rw c.marks c.same.marks;
         moments = rw c.moments (timed p s.moment Change a c.kept.moments w.log m.moment_is c.same.moments);
-        index = index_moved m sound after_.index.entries here others;
+        index = subst (λ cells. SameCells cells (changed_world w p c.t c.code)) (sym others) (cells_moved m sound (count_at after_.index slot serial) here);
         quiet = act_quiet p Change a;
         elsewhere = λ q differ. act_elsewhere p q Change a differ;
       }))
@@ -282,10 +341,10 @@ count_length p None old new result d = ap length d.1
 count_length p (Some None) old new result d = ap length d.1
 count_length p (Some (Some kept)) old new result d = ap length d.places ∙ length_set old p (Some d.after)
 
-pub change_does : (s new : Core) (p : ℕ) (change : CodeChange) → SameOthers s new → DidChange p s.places.items new.places.items (Ok (Some change)) → pos (count_in new.index.entries change.code.serial) ≡ pos (count_in s.index.entries change.code.serial) +ℤ change.by
-    → ((q : ℕ) → q ≢ change.code.serial → count_in new.index.entries q ≡ count_in s.index.entries q) → Does (event.At p Change) s (answer.Changed change.code.serial change.by) new
+pub change_does : (s new : Core) (p : ℕ) (change : CodeChange) → SameOthers s new → DidChange p s.places.items new.places.items (Ok (Some change)) → pos (count_at new.index change.code.slot change.code.serial) ≡ pos (count_at s.index change.code.slot change.code.serial) +ℤ change.by
+    → new.index ≡ slice_set s.index change.code.slot (cell_of change.code.serial (count_at new.index change.code.slot change.code.serial)) → Does (event.At p Change) s (answer.Changed change.code.serial change.by) new
 change_does s new p change rest did here others = record {
-  each = λ w sound m. change_in s w p change.code.serial change.by new.places.items (was_changed s w p change new.places.items m did) new m sound rest refl here others;
+  each = λ w sound m. change_in s w p change.code.slot change.code.serial change.by new.places.items (was_changed s w p change new.places.items m did) new m sound rest refl here others;
   sizes = record {
     places = count_length p (slice_get s.places.items p) s.places.items new.places.items (Ok (Some change)) did;
     slots = ap (λ tb. tb.slots) rest.table;

@@ -1,21 +1,23 @@
 -- The events of codes: what they answer, and what the system has after them.
-use Rattle.std.proofs.Common.{◌≡◌, ◌≢◌, ◌∙◌, ◌+◌, ◌<◌, sym, ap, refl, subst, ℕ, zero, suc, Bool, true, false, ◌&&◌, cond, List, [], ◌∷◌, Option, Some, None, length, arith}
-use Rattle.std.specs.Prelude.{slice_get, option_map, is_some, is_none, nat_lt, nat_le, sum_by, ◌==◌}
-use Rattle.std.proofs.lemmas.Bool.{eqb-true, and_parts}
+use Rattle.std.proofs.Common.{◌≡◌, ◌≢◌, ◌∙◌, ◌+◌, ◌<◌, sym, ap, ap₂, refl, subst, ⊎_elim, ℕ, zero, suc, Bool, true, false, ◌&&◌, cond, List, [], ◌∷◌, Option, Some, None, length, arith}
+use Rattle.std.specs.Prelude.{not, slice_get, slice_set, option_map, is_some, is_none, nat_lt, nat_le, sum_by, ◌==◌}
+use Rattle.std.proofs.lemmas.Bool.{eqb-true, eqb-false, false≢true, not-true, and_parts, and_cases}
 use Rattle.std.proofs.lemmas.List.Sums.{sum_by-cons}
 use mathlib.Core.Logic.{dite}
 use native.Mathlib.Decide.{ℕ_discrete}
 use Rattle.frames.specs.declared.CodeId.{CodeId}
 use Rattle.frames.specs.Stack.{act}
-use Rattle.activation_index.specs.Counts.{count_in}
+use Rattle.activation_index.specs.declared.Entry.{Entry as Cell}
+use Rattle.activation_index.specs.Cells.{cell_of, count_at}
 use Rattle.method_table.specs.declared.Code.{Code}
 use Rattle.method_table.specs.declared.CodeState.{CodeState}
-use Rattle.method_table.specs.declared.CodeState.TheVariants.{InUse, NotEntrant, Freed}
+use Rattle.method_table.specs.declared.CodeState.TheVariants.{InUse, NotEntrant, Zombie, Freed}
 use Rattle.method_table.specs.declared.table.InstallFault.{InstallFault}
 use Rattle.method_table.specs.declared.table.InstallFault.TheVariants as fault
+use Rattle.method_table.specs.declared.table.FreeFault.TheVariants as free_faults
 use Rattle.method_table.specs.TableView.{TableView, install_fault, free_fault}
-use Rattle.method_table.specs.Numbers.{last_number}
-use Rattle.method_table.specs.Codes.{id_of, is_zombie, takes_slot, code_of, unfreed, in_use_for, free_slot, next_serial, with_code, in_state, with_state}
+use Rattle.method_table.specs.Numbers.{last_number, below}
+use Rattle.method_table.specs.Codes.{id_of, is_zombie, takes_slot, is_taken, code_of, unfreed, in_use_for, free_slot, next_serial, with_code, in_state, with_state}
 use Rattle.system.specs.declared.events.Event.{Event}
 use Rattle.system.specs.declared.events.Event.TheVariants as event
 use Rattle.system.specs.declared.answers.Answer.{Answer}
@@ -29,12 +31,28 @@ use Rattle.system.specs.Threads.{Thread, has_changed, part}
 use Rattle.system.specs.Log.{Entry, is_start, is_ask, is_round, is_invalidate, is_look, says_clear, names_given, operations_given, moment}
 use Rattle.system.specs.World.{World, thread_at, part_at, walk}
 use Rattle.system.specs.Step.{outcome, of_code, install_in, free, count}
-use Rattle.system.specs.Facts.{IsGiven, IsSound}
-use Rattle.system.specs.Stands.{Matches, SamePlaces, SameRecord, SameRecords, DoesIn, Does, walk_of, kept_at}
-use Rattle.system.proofs.Lists.{found_passes, find_place, find_push, find_push_none, at_low}
+use Rattle.system.specs.Facts.{IsGiven, IsSound, may_stand}
+use Rattle.system.specs.Memory.{Accepts}
+use Rattle.system.specs.Runs.{answer_to}
+use Rattle.system.specs.Safepoints.{is_accepted}
+use Rattle.system.specs.Stands.{Matches, SamePlaces, SameRecord, SameRecords, DoesIn, Does, walk_of, kept_at, SameCells}
+use Rattle.system.proofs.Lists.{found_passes, find_place, find_push, find_push_none, at_low, same_at, any_none_at, below_low, map_length, push_length}
+use Rattle.system.proofs.Cells.{count_here}
+use Rattle.system.proofs.Seats.{get_set_same, get_set_other}
+use Rattle.system.proofs.Acting.{length_set}
 use Rattle.system.proofs.Outcomes.{coded}
-use Rattle.system.proofs.Table.{code_serial, code_with_state, in_state_id, in_state_here, in_state_other, unfreed_code}
+use Rattle.system.proofs.Table.{code_serial, code_with_state, in_state_here, in_state_other, in_state_slot, unfreed_code, unfreed_takes}
 use Rattle.system.proofs.Logs.{IsElsewhere, names_next, operations_next, moment_next, left_next, looked_next, moments_next, place_over, opened_over, noted_matches}
+
+-- An event does the same where its answer is another name of the same.
+pub answered_as : (s t : Core) (e : Event) (a b : Answer) → a ≡ b → Does e s a t → Does e s b t
+answered_as s t e a b same does = subst (λ x. Does e s x t) same does
+
+pub none_some : {A : Type 0} {x : A} → None ≡ Some x → ⊥
+none_some e = cc
+
+pub same_some : {A : Type 0} {x y : A} → Some x ≡ Some y → x ≡ y
+same_some e = cc
 
 -- An outcome that is known decides what is answered and what is after it.
 pub accepted_in : (s : Core) (w v : World) (e : Event) (a : Answer) → outcome w e ≡ accepted v a → Matches s (record v { log = record { event = e; answer = a } ∷ w.log }) → DoesIn e a s w
@@ -50,7 +68,6 @@ refused_does s e r h = record { each = λ w sound m. refused_in s w e r (h w m) 
 pub record Recodes (s t : Core) (codes : List Code) : Type 0 where
   pub table : t.table ≡ record s.table { codes = codes }
   pub places : t.places ≡ s.places
-  pub index : t.index ≡ s.index
   pub names : t.names ≡ s.names
   pub moment_is : t.moment ≡ s.moment
   pub requests : t.requests ≡ s.requests
@@ -63,8 +80,8 @@ pub record IsOfCodes (e : Event) (a : Answer) : Type 0 where
   pub elsewhere : (place : ℕ) → IsElsewhere place (record { event = e; answer = a })
 
 pub coded_matches : (s t : Core) (w : World) (codes : List Code) (e : Event) (a : Answer) → Recodes s t codes → IsOfCodes e a → Matches s w → SameRecords t.records.items (coded w codes e a)
-    → ((serial : ℕ) → walk_of w (code_of codes serial) ≡ walk_of w (code_of w.codes serial)) → Matches t (coded w codes e a)
-coded_matches s t w codes e a k q m records walks =
+    → SameCells t.index (coded w codes e a) → Matches t (coded w codes e a)
+coded_matches s t w codes e a k q m records cells =
     let entry : Entry = record { event = e; answer = a } in
     let names : names_given (entry ∷ w.log) ≡ names_given w.log = (let n = names_next entry w.log ∙ ap (λ b. cond b 1 0 + names_given w.log) q.starts_none in omega arith) in
     let numbers : operations_given (entry ∷ w.log) ≡ operations_given w.log = (let n = operations_next entry w.log ∙ ap (λ b. cond b 1 0 + operations_given w.log) q.asks_none in omega arith) in
@@ -84,9 +101,8 @@ coded_matches s t w codes e a k q m records walks =
       moment_is = k.moment_is ∙ (m.moment_is ∙ sym now);
       numbers = rw k.requests (m.numbers ∙ sym numbers);
       waiting = rw k.requests m.waiting;
-      opened = rw k.requests (opened_over s.requests.«open» w.requests.opened w (coded w codes e a) (omega arith) (λ name lives. lives) m.opened);
-      index_slots = rw k.index m.index_slots;
-      index = λ serial. rw k.index (m.index serial ∙ sym (walks serial));
+      opened = rw k.requests (opened_over s.requests.opens w.requests.opened w (coded w codes e a) (omega arith) (λ name lives. lives) m.opened);
+      index = cells;
     }
 
 -- A record stays where the entry is no invalidation of its code and no look for it.
@@ -118,13 +134,32 @@ restated_records records w s state e a differs stays unlooked h = record {
       (λ ne was. record_next r w (with_state w.codes s state) e a code (stays code.serial) (unlooked code.serial) (h.each serial code r was is at_slot));
 }
 
--- The walk of a code doesn't see its state.
-pub restated_walks : (w : World) (s : ℕ) (state : CodeState) (serial : ℕ) → walk_of w (code_of (with_state w.codes s state) serial) ≡ walk_of w (code_of w.codes serial)
-restated_walks w s state serial = ap (walk_of w) (code_with_state w.codes s state serial) ∙ by (code_of w.codes serial)
+-- A code takes its cell into another state, unless it is freed: then it counts nothing.
+pub restated_cells : (cells : List Cell) (w : World) (s : ℕ) (state : CodeState) (e : Event) (a : Answer) → ((k : Code) → code_of w.codes s ≡ Some k → takes_slot k.state ≡ true)
+    → ((k : Code) → code_of w.codes s ≡ Some k → takes_slot state ≡ false → walk w (id_of k) ≡ 0) → SameCells cells w → SameCells cells (coded w (with_state w.codes s state) e a)
+restated_cells cells w s state e a taken none h = record {
+  lengths = h.lengths;
+  here = λ serial code found takes. restated_at w.codes s state serial code found
+      (λ k was is new. subst (λ (c : Code). slice_get cells c.slot ≡ Some (cell_of serial (walk w (id_of c)))) (sym new) (h.here serial k was (taken k (ap (code_of w.codes) (sym is ∙ code_serial w.codes serial k was) ∙ was))))
+      (λ ne was. h.here serial code was takes);
+  own = λ slot cell at_slot some. (let o = h.own slot cell at_slot some in
+      (in_state s state o.0, code_with_state w.codes s state cell.serial ∙ ap (option_map (in_state s state)) o.1, stays slot cell at_slot some o.0 o.1 o.2 o.3, in_state_slot s state o.0 ∙ o.3));
+  low = λ slot cell at_slot. (let l = h.low slot cell at_slot in let e = map_length (in_state s state) w.codes in omega arith);
+}
   where
-    by : (o : Option Code) → walk_of w (option_map (in_state s state) o) ≡ walk_of w o
-    by None = refl
-    by (Some k) = ap (walk w) (in_state_id s state k)
+    stays : (slot : ℕ) (cell : Cell) → slice_get cells slot ≡ Some cell → 0 < cell.count → (k : Code) → code_of w.codes cell.serial ≡ Some k → takes_slot k.state ≡ true → k.slot ≡ slot → takes_slot (in_state s state k).state ≡ true
+    stays slot cell at_slot some k found takes is = dite (ℕ_discrete k.serial s)
+        (λ same. ap (λ (c : Code). takes_slot c.state) (in_state_here s state k same) ∙ by same (takes_slot state) refl)
+        (λ differ. ap (λ (c : Code). takes_slot c.state) (in_state_other s state k differ) ∙ takes)
+      where
+        by : k.serial ≡ s → (b : Bool) → takes_slot state ≡ b → takes_slot state ≡ true
+        by same true e = e
+        by same false e =
+            let nothing : walk w (id_of k) ≡ 0 = none k (ap (code_of w.codes) (sym same ∙ code_serial w.codes cell.serial k found) ∙ found) e in
+            let there : slice_get cells slot ≡ Some (cell_of cell.serial (walk w (id_of k))) = subst (λ n. slice_get cells n ≡ Some (cell_of cell.serial (walk w (id_of k)))) is (h.here cell.serial k found takes) in
+            let cell_is : cell ≡ cell_of cell.serial (walk w (id_of k)) = same_at cells slot cell (cell_of cell.serial (walk w (id_of k))) at_slot there in
+            let count_is = ap (λ (c : Cell). c.count) cell_is in
+            absurd (omega (arith, count_is, nothing, some))
 
 -- No thread has a frame of the next code.
 none_of : (w : World) → IsSound w → (c : CodeId) → c.serial ≡ next_serial w.codes → IsGiven w.codes c → ⊥
@@ -150,19 +185,65 @@ next_unwalked w sound c is = sum_none c w.places (λ p t x. by t (sound.threads.
     by t stacked shown true = zero_where (act c t.stack) (stacked c)
     by t stacked shown false = zero_where (act c t.shown) (shown c)
 
-installed_walks : (w : World) (method slot : ℕ) → IsSound w → (serial : ℕ) → walk_of w (code_of (with_code w.codes method slot) serial) ≡ walk_of w (code_of w.codes serial)
-installed_walks w method slot sound serial = by (code_of w.codes serial) refl
+-- a free slot is that of no unfreed code
+free_apart : (w : World) (slot : ℕ) → free_slot w.codes w.slots ≡ Some slot → (serial : ℕ) (k : Code) → code_of w.codes serial ≡ Some k → takes_slot k.state ≡ true → k.slot ≢ slot
+free_apart w slot least serial k found takes e =
+    let place = find_place (λ (x : Code). x.serial == serial) w.codes k found in
+    let free : is_taken w.codes slot ≡ false = not-true (is_taken w.codes slot) (found_passes (λ s. not (is_taken w.codes s)) (below w.slots) slot least) in
+    let fails : (k.slot == slot) && takes_slot k.state ≡ false = any_none_at (λ (x : Code). (x.slot == slot) && takes_slot x.state) w.codes place.0 k free place.1 in
+    ⊎_elim (λ d. eqb-false k.slot slot d e) (λ d. false≢true (sym d ∙ takes)) (and_cases (k.slot == slot) (takes_slot k.state) fails)
+
+slot_is_low : (w : World) (slot : ℕ) → free_slot w.codes w.slots ≡ Some slot → slot < w.slots
+slot_is_low w slot least = let place = find_place (λ s. not (is_taken w.codes s)) (below w.slots) slot least in below_low w.slots place.0 slot place.1
+
+-- what the system may rely on where it places a code: the free slot's cell counts nothing, and its serial is less
+pub free_cell : (cells : List Cell) (w : World) (slot : ℕ) → free_slot w.codes w.slots ≡ Some slot → SameCells cells w → (cell : Cell) → slice_get cells slot ≡ Some cell → (cell.count ≡ 0) × (cell.serial < next_serial w.codes)
+free_cell cells w slot least h cell at_slot = (by cell.count refl, h.low slot cell at_slot)
+  where
+    by : (n : ℕ) → cell.count ≡ n → cell.count ≡ 0
+    by zero e = e
+    by (suc n) e = (let o = h.own slot cell at_slot (omega (arith, e)) in absurd (free_apart w slot least cell.serial o.0 o.1 o.2 o.3))
+
+installed_cells : (cells : List Cell) (w : World) (method slot : ℕ) (a : Answer) → IsSound w → free_slot w.codes w.slots ≡ Some slot → SameCells cells w
+    → SameCells (slice_set cells slot (cell_of (next_serial w.codes) 0)) (coded w (with_code w.codes method slot) (event.Install method) a)
+installed_cells cells w method slot a sound least h = record {
+  lengths = length_set cells slot zero_cell ∙ h.lengths;
+  here = λ serial code found takes. here_by serial code (code_of w.codes serial) refl found takes;
+  own = λ at cell at_slot some. dite (ℕ_discrete at slot)
+      (λ same. (let is : cell ≡ zero_cell = same_at (slice_set cells slot zero_cell) slot cell zero_cell (subst (λ n. slice_get (slice_set cells slot zero_cell) n ≡ Some cell) same at_slot) placed in
+      let count_is = ap (λ (c : Cell). c.count) is in absurd (omega (arith, count_is, some))))
+      (λ differ. (let o = h.own at cell (sym (get_set_other cells slot at zero_cell differ) ∙ at_slot) some in (o.0, find_push (λ (x : Code). x.serial == cell.serial) w.codes new o.0 o.1, o.2, o.3)));
+  low = λ at cell at_slot. dite (ℕ_discrete at slot)
+      (λ same. (let is : cell ≡ zero_cell = same_at (slice_set cells slot zero_cell) slot cell zero_cell (subst (λ n. slice_get (slice_set cells slot zero_cell) n ≡ Some cell) same at_slot) placed in
+      let serial_is = ap (λ (c : Cell). c.serial) is in let more = push_length w.codes new in omega (arith, serial_is, more)))
+      (λ differ. (let l = h.low at cell (sym (get_set_other cells slot at zero_cell differ) ∙ at_slot) in let more = push_length w.codes new in omega (arith, l, more)));
+}
   where
     new : Code
     new = record { serial = next_serial w.codes; slot = slot; method = method; state = InUse }
 
-    two : (b : Bool) → walk_of w (cond b (Some (record { serial = next_serial w.codes; slot = slot; method = method; state = InUse })) None) ≡ 0
-    two true = next_unwalked w sound (record { slot = slot; serial = next_serial w.codes }) refl
-    two false = refl
+    zero_cell : Cell
+    zero_cell = cell_of (next_serial w.codes) 0
 
-    by : (o : Option Code) → code_of w.codes serial ≡ o → walk_of w (code_of (with_code w.codes method slot) serial) ≡ walk_of w o
-    by (Some k) is = ap (walk_of w) (find_push (λ (x : Code). x.serial == serial) w.codes new k is)
-    by None is = ap (walk_of w) (find_push_none (λ (x : Code). x.serial == serial) w.codes new is) ∙ two (next_serial w.codes == serial)
+    placed : slice_get (slice_set cells slot (cell_of (next_serial w.codes) 0)) slot ≡ Some (cell_of (next_serial w.codes) 0)
+    placed = get_set_same cells slot (cell_of (next_serial w.codes) 0) (let low = slot_is_low w slot least in let long = h.lengths in omega arith)
+
+    here_by : (serial : ℕ) (code : Code) (o : Option Code) → code_of w.codes serial ≡ o → code_of (with_code w.codes method slot) serial ≡ Some code → takes_slot code.state ≡ true
+        → slice_get (slice_set cells slot (cell_of (next_serial w.codes) 0)) code.slot ≡ Some (cell_of serial (walk w (id_of code)))
+    here_by serial code (Some k) was found takes =
+        let is : Some k ≡ Some code = sym (find_push (λ (x : Code). x.serial == serial) w.codes new k was) ∙ found in
+        let old : code_of w.codes serial ≡ Some code = was ∙ is in
+        get_set_other cells slot code.slot (cell_of (next_serial w.codes) 0) (free_apart w slot least serial code old takes) ∙ h.here serial code old takes
+    here_by serial code None was found takes = by (next_serial w.codes == serial) refl (sym (find_push_none (λ (x : Code). x.serial == serial) w.codes new was) ∙ found)
+      where
+        by : (b : Bool) → (next_serial w.codes == serial) ≡ b → cond b (Some (record { serial = next_serial w.codes; slot = slot; method = method; state = InUse })) None ≡ Some code
+            → slice_get (slice_set cells slot (cell_of (next_serial w.codes) 0)) code.slot ≡ Some (cell_of serial (walk w (id_of code)))
+        by false e is = cc
+        by true e is =
+            let code_is : record { serial = next_serial w.codes; slot = slot; method = method; state = InUse } ≡ code = cc in
+            let serial_is : next_serial w.codes ≡ serial = eqb-true (next_serial w.codes) serial e in
+            subst (λ (c : Code). slice_get (slice_set cells slot (cell_of (next_serial w.codes) 0)) c.slot ≡ Some (cell_of serial (walk w (id_of c)))) code_is
+            (placed ∙ ap₂ (λ s n. Some (cell_of s n)) serial_is (sym (next_unwalked w sound (record { slot = slot; serial = next_serial w.codes }) refl)))
 
 installed_records : (records : List Record) (w : World) (method slot : ℕ) (a : Answer) → SameRecords records w → SameRecords records (coded w (with_code w.codes method slot) (event.Install method) a)
 installed_records records w method slot a h = record {
@@ -190,6 +271,19 @@ table_over t codes slots methods a b c = rw (← a, ← b, ← c) refl
 
 pub table_is : (s : Core) (w : World) → Matches s w → s.table ≡ record { codes = w.codes; slots = w.slots; methods = w.methods }
 table_is s w m = table_over s.table w.codes w.slots w.methods m.codes m.slots m.methods
+
+world_slot : (s : Core) (w : World) (slot : ℕ) → Matches s w → free_slot s.table.codes s.table.slots ≡ Some slot → free_slot w.codes w.slots ≡ Some slot
+world_slot s w slot m is = ap (λ (x : TableView). free_slot x.codes x.slots) (sym (table_is s w m)) ∙ is
+
+pub free_within : (s : Core) (w : World) (slot : ℕ) → Matches s w → free_slot s.table.codes s.table.slots ≡ Some slot → slot < length s.index
+free_within s w slot m is = let low = slot_is_low w slot (world_slot s w slot m is) in let long = m.index.lengths in omega arith
+
+pub free_for : (s : Core) (w : World) (slot serial : ℕ) → Matches s w → free_slot s.table.codes s.table.slots ≡ Some slot → serial ≡ next_serial s.table.codes
+    → (cell : Cell) → slice_get s.index slot ≡ Some cell → (cell.count ≡ 0) × (cell.serial < serial)
+free_for s w slot serial m is at cell at_slot =
+    let f = free_cell s.index w slot (world_slot s w slot m is) m.index cell at_slot in
+    let next : serial ≡ next_serial w.codes = at ∙ ap next_serial m.codes in
+    (f.0, subst (λ n. cell.serial < n) (sym next) f.1)
 
 -- What a fault of an install is refused with.
 abbrev pub install_refusal : InstallFault → Option Refusal
@@ -228,8 +322,8 @@ no_install s method f r h is = refused_does s (event.Install method) r (λ w m.
     (ap (λ t. install_fault t method) (sym (table_is s w m)) ∙ h) is)
 
 pub installed : (s t : Core) (method slot serial : ℕ) → install_fault s.table method ≡ None → free_slot s.table.codes s.table.slots ≡ Some slot → serial ≡ next_serial s.table.codes
-    → Recodes s t (with_code s.table.codes method slot) → t.records ≡ s.records → Does (event.Install method) s (answer.Code serial) t
-installed s t method slot serial h is at k records = record {
+    → Recodes s t (with_code s.table.codes method slot) → t.records ≡ s.records → t.index ≡ slice_set s.index slot (cell_of serial 0) → Does (event.Install method) s (answer.Code serial) t
+installed s t method slot serial h is at k records index = record {
   each = λ w sound m. (
       let serial_is : serial ≡ next_serial w.codes = at ∙ ap next_serial m.codes in
       let codes : Recodes s t (with_code w.codes method slot) = subst (λ cs. Recodes s t (with_code cs method slot)) m.codes k in
@@ -239,7 +333,8 @@ installed s t method slot serial h is at k records = record {
       rw serial_is (accepted_in t w (record w { codes = with_code w.codes method slot }) (event.Install method) (answer.Code (next_serial w.codes)) said
       (coded_matches s t w (with_code w.codes method slot) (event.Install method) (answer.Code (next_serial w.codes)) codes
       (record { starts_none = refl; asks_none = refl; rounds_none = refl; elsewhere = λ place. record { starts_not = refl; begins_not = refl; ends_not = refl } }) m
-      (rw records (installed_records s.records.items w method slot (answer.Code (next_serial w.codes)) m.records)) (installed_walks w method slot sound))));
+      (rw records (installed_records s.records.items w method slot (answer.Code (next_serial w.codes)) m.records))
+      (rw (index, serial_is) (installed_cells s.index w method slot (answer.Code (next_serial w.codes)) sound (ap (λ (x : TableView). free_slot x.codes x.slots) (sym (table_is s w m)) ∙ is) m.index)))));
   sizes = record { places = ap (λ v. length v.items) k.places; slots = ap (λ (x : TableView). x.slots) k.table; methods = ap (λ (x : TableView). x.methods) k.table };
 }
 
@@ -255,8 +350,43 @@ free_accepted w serial (Some k) e h = by (is_zombie k.state) refl h
     by true z h = rw (z, same) refl
     by false z h = let no = rw z at h in cc
 
-pub freed : (s t : Core) (serial : ℕ) → free_fault (unfreed s.table.codes serial) ≡ None → Recodes s t (with_state s.table.codes serial Freed) → t.records ≡ s.records → Does (event.Free serial) s answer.Done t
-freed s t serial h k records = record {
+-- a code that may not stand is counted nowhere
+pub unstood : (w : World) → IsSound w → (serial : ℕ) (k : Code) → code_of w.codes serial ≡ Some k → may_stand k.state ≡ false → walk w (id_of k) ≡ 0
+unstood w sound serial k found stands = sum_none (id_of k) w.places (λ p t x. by p t x (part (id_of k) t) refl)
+  where
+    by : (p : ℕ) (t : Thread) → slice_get w.places p ≡ Some (Some t) → (n : ℕ) → part (id_of k) t ≡ n → part (id_of k) t ≡ 0
+    by p t x zero e = e
+    by p t x (suc n) e =
+        let live = sound.frames.counted p t (id_of k) x (omega (arith, e)) in
+        let is : Some live.0 ≡ Some k = sym live.1 ∙ (ap (code_of w.codes) (code_serial w.codes serial k found) ∙ found) in
+        let same : live.0 ≡ k = cc in
+        absurd (false≢true (sym stands ∙ (ap (λ (c : Code). may_stand c.state) (sym same) ∙ live.3)))
+
+zombie_only : (o : Option Code) (k : Code) → o ≡ Some k → free_fault o ≡ None → may_stand k.state ≡ false
+zombie_only None k is h = cc
+zombie_only (Some z) k is h = (let same : z ≡ k = cc in subst (λ (c : Code). may_stand c.state ≡ false) same (by z.state h))
+  where
+    by : (state : CodeState) → cond (is_zombie state) None (Some free_faults.NotZombie) ≡ None → may_stand state ≡ false
+    by InUse h = cc
+    by NotEntrant h = cc
+    by Zombie h = refl
+    by Freed h = cc
+
+-- a code that is freed takes its slot and stands nowhere
+freed_cells : (cells : List Cell) (w : World) (serial : ℕ) → IsSound w → free_fault (unfreed w.codes serial) ≡ None → SameCells cells w → SameCells cells (coded w (with_state w.codes serial Freed) (event.Free serial) answer.Done)
+freed_cells cells w serial sound h same = by (unfreed w.codes serial) refl h
+  where
+    by : (o : Option Code) → unfreed w.codes serial ≡ o → free_fault o ≡ None → SameCells cells (coded w (with_state w.codes serial Freed) (event.Free serial) answer.Done)
+    by None e h = cc
+    by (Some z) e h = restated_cells cells w serial Freed (event.Free serial) answer.Done
+        (λ k found. subst (λ (c : Code). takes_slot c.state ≡ true) (one k found) (unfreed_takes w.codes serial z e))
+        (λ k found frees. unstood w sound serial k found (subst (λ (c : Code). may_stand c.state ≡ false) (one k found) (zombie_only (Some z) z refl h))) same
+      where
+        one : (k : Code) → code_of w.codes serial ≡ Some k → z ≡ k
+        one k found = let is : Some z ≡ Some k = sym (unfreed_code w.slots w.methods w.codes sound.table serial z e) ∙ found in cc
+
+pub freed : (s t : Core) (serial : ℕ) → free_fault (unfreed s.table.codes serial) ≡ None → Recodes s t (with_state s.table.codes serial Freed) → t.records ≡ s.records → t.index ≡ s.index → Does (event.Free serial) s answer.Done t
+freed s t serial h k records index = record {
   each = λ w sound m. (
       let codes : Recodes s t (with_state w.codes serial Freed) = subst (λ cs. Recodes s t (with_state cs serial Freed)) m.codes k in
       let said : outcome w (event.Free serial) ≡ accepted (record w { codes = with_state w.codes serial Freed }) answer.Done =
@@ -264,19 +394,37 @@ freed s t serial h k records = record {
       accepted_in t w (record w { codes = with_state w.codes serial Freed }) (event.Free serial) answer.Done said
       (coded_matches s t w (with_state w.codes serial Freed) (event.Free serial) answer.Done codes
       (record { starts_none = refl; asks_none = refl; rounds_none = refl; elsewhere = λ place. record { starts_not = refl; begins_not = refl; ends_not = refl } }) m
-      (rw records (restated_records s.records.items w serial Freed (event.Free serial) answer.Done (λ e. cc) (λ r. refl) (λ r place. refl) m.records)) (restated_walks w serial Freed)));
+      (rw records (restated_records s.records.items w serial Freed (event.Free serial) answer.Done (λ e. cc) (λ r. refl) (λ r place. refl) m.records)) (rw index (freed_cells s.index w serial sound (ap (λ cs. free_fault (unfreed cs serial)) (sym m.codes) ∙ h) m.index))));
   sizes = record { places = ap (λ v. length v.items) k.places; slots = ap (λ (x : TableView). x.slots) k.table; methods = ap (λ (x : TableView). x.methods) k.table };
 }
 
 -- A code's count is its walk.
-pub counted : (s : Core) (serial n : ℕ) (code : Code) → unfreed s.table.codes serial ≡ Some code → n ≡ count_in s.index.entries serial → Does (event.Count serial) s (answer.Count n) s
+pub counted : (s : Core) (serial n : ℕ) (code : Code) → unfreed s.table.codes serial ≡ Some code → n ≡ count_at s.index code.slot serial → Does (event.Count serial) s (answer.Count n) s
 counted s serial n code is count_is = record {
   each = λ w sound m. (
       let found : unfreed w.codes serial ≡ Some code = ap (λ cs. unfreed cs serial) (sym m.codes) ∙ is in
-      let walks : n ≡ walk w (id_of code) = count_is ∙ (m.index serial ∙ ap (walk_of w) (unfreed_code w.slots w.methods w.codes sound.table serial code found)) in
+      let walks : n ≡ walk w (id_of code) = count_is ∙ count_here s.index w m.index sound.table serial code found in
       let said : outcome w (event.Count serial) ≡ accepted w (answer.Count (walk w (id_of code))) = ap (λ o. of_code o (count w)) found in
       rw walks (accepted_in s w w (event.Count serial) (answer.Count (walk w (id_of code))) said
       (noted_matches s w (event.Count serial) (answer.Count (walk w (id_of code)))
       (record { starts_none = refl; asks_none = refl; rounds_none = refl; invalidates_none = λ r. refl; looks_none = λ r place. refl }) (λ place. record { starts_not = refl; begins_not = refl; ends_not = refl }) m)));
   sizes = record { places = refl; slots = refl; methods = refl };
 }
+
+pub may_install : (s : Core) (method : ℕ) → install_fault s.table method ≡ None → Accepts s (event.Install method)
+may_install s method h = λ w sound m. by w m (free_slot w.codes w.slots) refl
+  where
+    fault : (w : World) → Matches s w → fault_by (nat_lt method w.methods) (is_none (in_use_for w.codes method)) (free_slot w.codes w.slots) (nat_le (next_serial w.codes) last_number) ≡ None
+    fault w m = ap (λ t. install_fault t method) (sym (table_is s w m)) ∙ h
+
+    full : (named unused room : Bool) → fault_by named unused None room ≡ None → ⊥
+    full false unused room e = cc
+    full true false room e = cc
+    full true true room e = cc
+
+    by : (w : World) → Matches s w → (slot : Option ℕ) → free_slot w.codes w.slots ≡ slot → is_accepted (answer_to w (event.Install method)) ≡ true
+    by w m None e = absurd (full (nat_lt method w.methods) (is_none (in_use_for w.codes method)) (nat_le (next_serial w.codes) last_number) (rw e at (fault w m)))
+    by w m (Some at) e =
+        let said : outcome w (event.Install method) ≡ accepted (record w { codes = with_code w.codes method at }) (answer.Code (next_serial w.codes)) =
+        install_accepted w method at (nat_lt method w.methods) (is_none (in_use_for w.codes method)) (free_slot w.codes w.slots) (nat_le (next_serial w.codes) last_number) refl (fault w m) e in
+        rw said refl

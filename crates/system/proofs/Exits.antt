@@ -1,6 +1,6 @@
 -- A thread leaves its place, and a stack is shown.
 use Rattle.std.proofs.Common.{◌≡◌, ◌∙◌, sym, ap, refl, ℕ, zero, suc, Bool, true, false, not, ◌||◌, ◌==◌, List, [], ◌∷◌, Option, Some, None, Result, Ok, Err, length, arith}
-use Rattle.std.specs.Prelude.{slice_get, slice_set, sum_by, IfOk}
+use Rattle.std.specs.Prelude.{slice_get, slice_set, sum_by, IfOk, OnErr}
 use Rattle.std.specs.List.{list_any}
 use Rattle.std.proofs.lemmas.List.Sums.{sum_by-cons}
 use Rattle.std.proofs.lemmas.Option.{slice_get_within}
@@ -10,7 +10,7 @@ use Rattle.frames.specs.declared.Frame.{Frame}
 use Rattle.frames.specs.Stack.{act}
 use Rattle.operations.specs.Names.{is_empty}
 use Rattle.method_table.specs.declared.Code.{Code}
-use Rattle.method_table.specs.Codes.{code_of, id_of}
+use Rattle.method_table.specs.Codes.{id_of}
 use Rattle.thread_state.specs.declared.State.TheVariants.{Vacant}
 use Rattle.system.specs.declared.events.Act.TheVariants.{Exit, Stack}
 use Rattle.system.specs.declared.events.Event.{Event}
@@ -26,11 +26,13 @@ use Rattle.system.specs.Log.{Entry}
 use Rattle.system.specs.Threads.{Thread, part, is_settled, is_publishing}
 use Rattle.system.specs.World.{World, threads, part_at}
 use Rattle.system.specs.Places.{becomes, leaves, here}
-use Rattle.system.specs.Step.{lands, with_place}
+use Rattle.system.specs.Step.{outcome, lands, with_place}
 use Rattle.system.specs.Facts.{IsSound}
+use Rattle.system.specs.Memory.{Accepts}
 use Rattle.system.specs.Keeps.{SaysExit}
-use Rattle.system.specs.Steps.{DidExit, DidLeave, Left, frames_at}
+use Rattle.system.specs.Steps.{DidExit, DidLeave, Left, frames_at, is_taken}
 use Rattle.system.specs.Stands.{Matches, SameAt, DoesIn, Does, walk_of}
+use Rattle.system.proofs.Cells.{cells_over}
 use Rattle.system.proofs.Outcomes.{seated}
 use Rattle.system.proofs.Frames.{part_settled}
 use Rattle.system.proofs.Logs.{IsQuiet, moments_next, records_next, opened_over, quiet_names, quiet_moment, quiet_operations}
@@ -95,9 +97,8 @@ left_matches s new w p kept t a m rest places there none =
       moment_is = rest.moment ∙ (m.moment_is ∙ sym (quiet_moment entry w.log q));
       numbers = ap (λ r. r.numbers) rest.requests ∙ (m.numbers ∙ sym (quiet_operations entry w.log q));
       waiting = rw rest.requests m.waiting;
-      opened = rw rest.requests (opened_over s.requests.open w.requests.opened w v (omega (arith, quiet_names entry w.log q)) (λ name lives. live_without name w.places p lives) m.opened);
-      index_slots = ap (λ ix. ix.slots) rest.index ∙ m.index_slots;
-      index = λ serial. rw rest.index (m.index serial ∙ sym (walk_without w p t (event.At p Exit) a (code_of w.codes serial) there none));
+      opened = rw rest.requests (opened_over s.requests.opens w.requests.opened w v (omega (arith, quiet_names entry w.log q)) (λ name lives. live_without name w.places p lives) m.opened);
+      index = rw rest.index (cells_over s.index w v refl refl (λ o. walk_without w p t (event.At p Exit) a o there none) m.index);
     }
 
 by_refusal : (s new : Core) (w : World) (p : ℕ) (kept : Kept) (t : Thread) (said : Answer) (refusal : Option Refusal) → Matches s w → SameRest s new → slice_get w.places p ≡ Some (Some t) → SameAt w p kept t → SaysExit (here w Exit t) t refusal → Left p kept s.places.items new.places.items refusal said → DoesIn (event.At p Exit) said new w
@@ -112,7 +113,7 @@ exited s new p said w m sound rest did = elim (at_place s w p m) [
   | vacant e x ↦ (let d = rw e at did in refused_in s new w (event.At p Exit) (Illegal Vacant) said rest d.1 m (rw x refl) d.0)
   | seat kept t e x same ↦ (
       let d : DidLeave p (Some (Some kept)) s.places.items new.places.items said = rw e at did in
-      by_refusal s new w p kept t said d.0 m rest x same (d.1 w t same.thread (poll_here w p kept t sound same)) d.2)
+      by_refusal s new w p kept t said d.0 m rest x same (d.1 w t same.thread (poll_here w p kept t same)) d.2)
 ]
 
 left_length : (p : ℕ) (kept : Kept) (old new : List (Option Kept)) (refusal : Option Refusal) (said : Answer) → Left p kept old new refusal said → length new ≡ length old
@@ -173,3 +174,14 @@ shown s w p said m says = elim (at_place s w p m) [
 pub stack_does : (s : Core) (p : ℕ) (result : Result Answer AllocError) → IfOk result (λ said. said ≡ frames_at (slice_get s.places.items p)) → IfOk result (λ said. Does (event.At p Stack) s said s)
 stack_does s p (Ok said) says = record { each = λ w sound m. shown s w p said m says; sizes = record { places = refl; slots = refl; methods = refl } }
 stack_does s p (Err e) says = tt
+
+pub may_show : (s : Core) (p : ℕ) → is_taken (slice_get s.places.items p) ≡ true → Accepts s (event.At p Stack)
+may_show s p taken = λ w sound m. elim (at_place s w p m) [
+  | nowhere e x ↦ (let bad : false ≡ true = sym (ap is_taken e) ∙ taken in cc)
+  | vacant e x ↦ (let bad : false ≡ true = sym (ap is_taken e) ∙ taken in cc)
+  | seat kept t e x same ↦ (let goes : outcome w (event.At p Stack) ≡ accepted (with_place w p (Some t)) (answer.Frames t.stack) = rw x (ap (lands w p) (shows_here w t)) in rw goes refl)
+]
+
+pub stack_may : (s : Core) (p : ℕ) (result : Result Answer AllocError) → OnErr result (is_taken (slice_get s.places.items p) ≡ true) → OnErr result (Accepts s (event.At p Stack))
+stack_may s p (Ok said) taken = tt
+stack_may s p (Err e) taken = may_show s p taken

@@ -25,11 +25,11 @@ put_back [] i k e = cc
 put_back (x ∷ ks) zero k e = (let is : x ≡ k = cc in ap (λ y. y ∷ ks) (sym is))
 put_back (x ∷ ks) (suc i) k e = ap (λ ys. x ∷ ys) (put_back ks i k e)
 
-pub vacant_at : (a : Act) (table : TableView) (open_ : Option Open) (now place : ℕ) (ks new : List (Option Kept)) → slice_get ks place ≡ Some None → new ≡ ks → DidAt a table open_ now place ks new (Refused (Illegal Vacant))
-vacant_at a table open_ now place ks new e same = rw e (refl, same)
+pub vacant_at : (a : Act) (table : TableView) (opens : List Open) (now place : ℕ) (ks new : List (Option Kept)) → slice_get ks place ≡ Some None → new ≡ ks → DidAt a table opens now place ks new (Refused (Illegal Vacant))
+vacant_at a table opens now place ks new e same = rw e (refl, same)
 
-pub acted_at : (a : Act) (table : TableView) (open_ : Option Open) (now place : ℕ) (ks new : List (Option Kept)) (kept after : Kept) (result : Result Answer Refusal) → slice_get ks place ≡ Some (Some kept) → DidAct a table open_ now kept after result → new ≡ slice_set ks place (Some after) → DidAt a table open_ now place ks new (answer_here result)
-acted_at a table open_ now place ks new kept after result e did set = rw e (record { after = after; result = result; did = did; said = refl; places = set })
+pub acted_at : (a : Act) (table : TableView) (opens : List Open) (now place : ℕ) (ks new : List (Option Kept)) (kept after : Kept) (result : Result Answer Refusal) → slice_get ks place ≡ Some (Some kept) → DidAct a table opens now kept after result → new ≡ slice_set ks place (Some after) → DidAt a table opens now place ks new (answer_here result)
+acted_at a table opens now place ks new kept after result e did set = rw e (record { after = after; result = result; did = did; said = refl; places = set })
 
 pub vacant_count : (place : ℕ) (ks new : List (Option Kept)) → slice_get ks place ≡ Some None → new ≡ ks → DidChange place ks new (Err (Illegal Vacant))
 vacant_count place ks new e same = rw e (refl, same)

@@ -12,7 +12,7 @@ use Rattle.frames.specs.Least.{least}
 use Rattle.frames.specs.ImageView.{ImageView, uncounted, next_code, IsCounted, HasFrames, Counts}
 use Rattle.frames.proofs.Bags.{times-append, times-filter, times-codes_of, same_code-equal}
 use Rattle.frames.proofs.Ordered.{IsLeast, least-is_least, least-unique}
-use Rattle.frames.proofs.Fewer.{times-uncounted}
+use Rattle.frames.proofs.Uncounted.{times-uncounted}
 use Rattle.system.specs.Threads.{Thread, has_changed, changed_codes, is_left, next_change, is_settled, part}
 use Rattle.system.specs.Keeps.{SameImage}
 

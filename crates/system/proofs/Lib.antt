@@ -21,8 +21,10 @@ pub mod Found
 pub mod Reclaim
 pub mod ReclaimKept
 pub mod Reclaimed
+pub mod Cells
 pub mod Logs
-pub mod Polls
+pub mod Marking
+pub mod Pairs
 pub mod Hereof
 pub mod Acting
 pub mod Acted
@@ -43,4 +45,5 @@ pub mod Changing
 pub mod Operated
 pub mod Telling
 pub mod Censusing
+pub mod Noting
 pub mod Runs

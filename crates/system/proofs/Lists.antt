@@ -1,7 +1,7 @@
 -- Lists by position: what stands where after a map, a push, or a search.
 use Rattle.std.proofs.Common.{◌≡◌, ◌⊎◌, ℕ, zero, suc, ◌+◌, ◌<◌, ◌≤◌, Bool, true, false, cond, List, [], ◌∷◌, ◌++◌, length, map, Some, None, sym, refl, ap, ◌∙◌, inl, inr, ⊎_elim, subst, arith}
-use Rattle.std.specs.Prelude.{slice_get, option_map, find, ◌||◌, filter}
-use Rattle.std.specs.List.{list_any, list_all}
+use Rattle.std.specs.Prelude.{slice_get, option_map, find, ◌||◌, ◌&&◌, filter}
+use Rattle.std.specs.List.{list_any, list_all, remove}
 use Rattle.std.proofs.lemmas.Bool.{false≢true, or_parts, and_parts, cases_lt}
 use Rattle.method_table.specs.Numbers.{below}
 
@@ -155,3 +155,65 @@ filter_less test (y ∷ ys) = by (test y) (filter_less test ys)
     by : (b : Bool) → length (filter test ys) ≤ length ys → length (cond b (y ∷ filter test ys) (filter test ys)) ≤ length (y ∷ ys)
     by true h = omega arith
     by false h = omega arith
+
+-- What a filter leaves is in order, and nothing that passes is left out.
+pub filter_pair : {A : Type 0} (test : A → Bool) (xs : List A) (i j : ℕ) (a b : A) → i < j → slice_get (filter test xs) i ≡ Some a → slice_get (filter test xs) j ≡ Some b
+    → (k : ℕ) × (l : ℕ) × (k < l) × (slice_get xs k ≡ Some a) × (slice_get xs l ≡ Some b)
+filter_pair test [] i j a b low x y = cc
+filter_pair {A} test (z ∷ zs) i j a b low x y = by (test z) (λ m n c d less p q. filter_pair test zs m n c d less p q) i j low x y
+  where
+    by : (t : Bool) → ((m n : ℕ) (c d : A) → m < n → slice_get (filter test zs) m ≡ Some c → slice_get (filter test zs) n ≡ Some d → (k : ℕ) × (l : ℕ) × (k < l) × (slice_get zs k ≡ Some c) × (slice_get zs l ≡ Some d))
+        → (m n : ℕ) → m < n → slice_get (cond t (z ∷ filter test zs) (filter test zs)) m ≡ Some a → slice_get (cond t (z ∷ filter test zs) (filter test zs)) n ≡ Some b
+        → (k : ℕ) × (l : ℕ) × (k < l) × (slice_get (z ∷ zs) k ≡ Some a) × (slice_get (z ∷ zs) l ≡ Some b)
+    by false rest m n less p q = let r = rest m n a b less p q in let h = r.2 in (suc r.0, suc r.1, omega arith, r.3, r.4)
+    by true rest m zero less p q = absurd (omega arith)
+    by true rest zero (suc n) less p q = let r = filter_at test zs n b q in (0, suc r.0, omega arith, p, r.1)
+    by true rest (suc m) (suc n) less p q = let r = rest m n a b (omega arith) p q in let h = r.2 in (suc r.0, suc r.1, omega arith, r.3, r.4)
+
+pub filter_has : {A : Type 0} (test : A → Bool) (xs : List A) (i : ℕ) (a : A) → slice_get xs i ≡ Some a → test a ≡ true → (j : ℕ) × (slice_get (filter test xs) j ≡ Some a)
+filter_has test [] i a x h = cc
+filter_has {A} test (z ∷ zs) zero a x h = let same : z ≡ a = cc in let is : test z ≡ true = ap test same ∙ h in (0, rw is (ap (λ (y : A). Some y) same))
+filter_has {A} test (z ∷ zs) (suc i) a x h = by (test z) (filter_has test zs i a x h)
+  where
+    by : (t : Bool) → ((j : ℕ) × (slice_get (filter test zs) j ≡ Some a)) → (j : ℕ) × (slice_get (cond t (z ∷ filter test zs) (filter test zs)) j ≡ Some a)
+    by true r = (suc r.0, r.1)
+    by false r = r
+
+-- What stands before the first that passes doesn't pass.
+pub find_before : {A : Type 0} (test : A → Bool) (xs : List A) (x : A) → find test xs ≡ Some x → (i : ℕ) × (slice_get xs i ≡ Some x) × ((j : ℕ) (y : A) → j < i → slice_get xs j ≡ Some y → test y ≡ false)
+find_before test [] x h = cc
+find_before {A} test (z ∷ zs) x h = by (test z) refl h (λ k. find_before test zs x k)
+  where
+    before : (i : ℕ) → test z ≡ false → ((j : ℕ) (y : A) → j < i → slice_get zs j ≡ Some y → test y ≡ false) → (j : ℕ) (y : A) → j < suc i → slice_get (z ∷ zs) j ≡ Some y → test y ≡ false
+    before i e rest zero y low at = let same : z ≡ y = cc in ap test (sym same) ∙ e
+    before i e rest (suc j) y low at = rest j y (omega arith) at
+
+    by : (t : Bool) → test z ≡ t → cond t (Some z) (find test zs) ≡ Some x → (find test zs ≡ Some x → (i : ℕ) × (slice_get zs i ≡ Some x) × ((j : ℕ) (y : A) → j < i → slice_get zs j ≡ Some y → test y ≡ false))
+        → (i : ℕ) × (slice_get (z ∷ zs) i ≡ Some x) × ((j : ℕ) (y : A) → j < i → slice_get (z ∷ zs) j ≡ Some y → test y ≡ false)
+    by true e k rest = (0, k, λ j y low at. absurd (omega arith))
+    by false e k rest = let r = rest k in (suc r.0, r.1, before r.0 e r.2)
+
+-- A search in what a filter leaves.
+pub find_filter : {A : Type 0} (f g : A → Bool) (xs : List A) → find f (filter g xs) ≡ find (λ x. f x && g x) xs
+find_filter f g [] = refl
+find_filter {A} f g (x ∷ xs) = by (g x) (f x) refl (find_filter f g xs)
+  where
+    by : (b c : Bool) → f x ≡ c → find f (filter g xs) ≡ find (λ x. f x && g x) xs → find f (cond b (x ∷ filter g xs) (filter g xs)) ≡ cond (c && b) (Some x) (find (λ x. f x && g x) xs)
+    by true true e h = rw e refl
+    by true false e h = rw e h
+    by false true e h = h
+    by false false e h = h
+
+all_pass : {A : Type 0} (test : A → Bool) (xs : List A) → ((j : ℕ) (y : A) → slice_get xs j ≡ Some y → test y ≡ true) → filter test xs ≡ xs
+all_pass test [] h = refl
+all_pass {A} test (x ∷ xs) h = let e = h 0 x refl in rw e (ap (λ (ys : List A). x ∷ ys) (all_pass test xs (λ j y at. h (suc j) y at)))
+
+-- Without the one that fails, where no other fails.
+pub remove_one : {A : Type 0} (test : A → Bool) (xs : List A) (i : ℕ) (x : A) → slice_get xs i ≡ Some x → test x ≡ false → ((j : ℕ) (y : A) → slice_get xs j ≡ Some y → (j ≡ i → ⊥) → test y ≡ true) → remove xs i ≡ filter test xs
+remove_one test [] i x h out others = cc
+remove_one {A} test (z ∷ zs) zero x h out others =
+    let same : z ≡ x = cc in let is : test z ≡ false = ap test same ∙ out in
+    rw is (sym (all_pass test zs (λ j y at. others (suc j) y at (λ e. absurd (omega arith)))))
+remove_one {A} test (z ∷ zs) (suc i) x h out others =
+    let pass : test z ≡ true = others 0 z refl (λ e. absurd (omega arith)) in
+    rw pass (ap (λ (ys : List A). z ∷ ys) (remove_one test zs i x h out (λ j y at ne. others (suc j) y at (λ e. ne (omega arith)))))

@@ -12,7 +12,10 @@ use Rattle.system.specs.Threads.{Thread}
 use Rattle.system.specs.Log.{Entry, is_start, is_ask, is_round, is_begin, is_end, is_invalidate, is_look, says_clear, names_given, operations_given, moment, is_looked}
 use Rattle.system.specs.World.{World, thread_at}
 use Rattle.system.specs.Moments.{starts, left_at, begun, ended}
-use Rattle.system.specs.Stands.{Matches, SamePlace, SameAt, SameRecord, SameRecords, SameOpen, SameMoments, kept_at}
+use Rattle.system.specs.Stands.{Matches, SamePlace, SameAt, SameRecord, SameRecords, SameMoments, kept_at}
+use Rattle.system.specs.Marking.{SameOpens}
+use Rattle.system.proofs.Pairs.{opens_over}
+use Rattle.system.proofs.Cells.{cells_stay}
 use Rattle.system.proofs.Frames.{count_cons}
 use Rattle.system.proofs.Outcomes.{noted}
 
@@ -83,13 +86,9 @@ records_next records v w entry q codes slots log places same = record {
       });
 }
 
--- the open operation stays
-pub opened_over : (open_ : Option Open) (opened : List Opened) (v w : World) → names_given v.log ≤ names_given w.log → ((name : ℕ) → Rattle.system.specs.World.is_live w name ≡ true → Rattle.system.specs.World.is_live v name ≡ true) → SameOpen open_ opened v → SameOpen open_ opened w
-opened_over None [] v w names live h = tt
-opened_over None (o ∷ os) v w names live h = absurd h
-opened_over (Some open_) [] v w names live h = absurd h
-opened_over (Some open_) (o ∷ []) v w names live h = record { number = h.number; request = h.request; operated = h.operated; names = omega (arith, h.names, names); live = λ name lives. h.live name (live name lives) }
-opened_over (Some open_) (o ∷ p ∷ os) v w names live h = absurd h
+-- the open operations stay
+pub opened_over : (opens : List Open) (opened : List Opened) (v w : World) → names_given v.log ≤ names_given w.log → ((name : ℕ) → Rattle.system.specs.World.is_live w name ≡ true → Rattle.system.specs.World.is_live v name ≡ true) → SameOpens opens opened v → SameOpens opens opened w
+opened_over opens opened v w names live h = opens_over v w opens opened (λ i a o at same. record { number = same.number; request = same.request; operated = same.operated; names = omega (arith, same.names, names); live = λ name lives. same.live name (live name lives) }) h
 
 -- an entry that changes nothing leaves what the system has
 pub noted_matches : (s : Core) (w : World) (e : Event) (a : Answer) → IsQuiet (record { event = e; answer = a }) → ((place : ℕ) → IsElsewhere place (record { event = e; answer = a })) → Matches s w → Matches s (noted w e a)
@@ -109,7 +108,6 @@ noted_matches s w e a q elsewhere m =
       moment_is = m.moment_is ∙ sym (quiet_moment entry w.log q);
       numbers = m.numbers ∙ sym (quiet_operations entry w.log q);
       waiting = m.waiting;
-      opened = opened_over s.requests.open w.requests.opened w (noted w e a) (omega (arith, quiet_names entry w.log q)) (λ name lives. lives) m.opened;
-      index_slots = m.index_slots;
-      index = m.index;
+      opened = opened_over s.requests.opens w.requests.opened w (noted w e a) (omega (arith, quiet_names entry w.log q)) (λ name lives. lives) m.opened;
+      index = cells_stay s.index w (noted w e a) refl refl refl m.index;
     }

@@ -21,8 +21,8 @@ use Rattle.system.specs.Facts.{WasOpened, ThreadsAreSound, NumbersAreSound, IsTo
 use Rattle.system.proofs.Outcomes.{Stands, begun, changed_by, ended, entered, moved, held, released, with_done, with_cleared, with_told, with_request, newly_opened, with_opened, with_operated, without_opened, Tells, Opens, Operates, Closes}
 use Rattle.system.proofs.Cases.{Cases}
 use Rattle.system.proofs.Seats.{get_set_same, get_set_other, each_none, each_start}
-use Rattle.system.proofs.Lists.{map_at, push_at, push_low, push_length, any_at, any_here, all_at, filter_at, same_at, at_low}
-use Rattle.system.proofs.Numbers.{operated_number, operated_live, asked_more}
+use Rattle.system.proofs.Lists.{map_at, push_at, push_low, push_length, any_at, any_here, all_at, filter_at, filter_has, same_at, at_low}
+use Rattle.system.proofs.Numbers.{operated_number, operated_live, operated_request, only_number, asked_more}
 use Rattle.system.proofs.Threads.{started_more}
 
 -- The live threads are those at the places.
@@ -105,6 +105,7 @@ marks_seated : (w : World) (g n p : ℕ) (t u : Thread) → MarksAreSound w.plac
 marks_seated w g n p t u h s same new = record {
   live_given = h.live_given;
   told_given = h.told_given;
+  live_target = h.live_target;
   told_opened = h.told_opened;
   done_told = h.done_told;
   cleared_done = h.cleared_done;
@@ -123,6 +124,7 @@ marks_left : (w : World) (g n p : ℕ) → MarksAreSound w.places w.requests g n
 marks_left w g n p h low = record {
   live_given = h.live_given;
   told_given = h.told_given;
+  live_target = h.live_target;
   told_opened = h.told_opened;
   done_told = h.done_told;
   cleared_done = h.cleared_done;
@@ -138,6 +140,7 @@ marks_started : (w : World) (g n p : ℕ) → MarksAreSound w.places w.requests 
 marks_started w g n p h low = record {
   live_given = λ i o name x a. (let b = h.live_given i o name x a in omega arith);
   told_given = λ m name a. (let b = h.told_given m name a in omega arith);
+  live_target = h.live_target;
   told_opened = h.told_opened;
   done_told = h.done_told;
   cleared_done = h.cleared_done;
@@ -153,6 +156,7 @@ marks_done : (w : World) (g n : ℕ) (opened : Opened) (name : ℕ) → is_marke
 marks_done w g n opened name told h = record {
   live_given = h.live_given;
   told_given = h.told_given;
+  live_target = h.live_target;
   told_opened = h.told_opened;
   done_told = λ m other d. ⊎_elim (λ new. subst (λ k. is_marked w.requests.told k other ≡ true) new.0 (subst (λ k. is_marked w.requests.told opened.number k ≡ true) new.1 told)) (λ old. h.done_told m other old)
       (marked_more w.requests.done opened.number name m other d);
@@ -166,6 +170,7 @@ marks_cleared : (w : World) (g n : ℕ) (opened : Opened) (name : ℕ) → is_ma
 marks_cleared w g n opened name done h = record {
   live_given = h.live_given;
   told_given = h.told_given;
+  live_target = h.live_target;
   told_opened = h.told_opened;
   done_told = h.done_told;
   cleared_done = λ m other c. ⊎_elim (λ new. subst (λ k. is_marked w.requests.done k other ≡ true) new.0 (subst (λ k. is_marked w.requests.done opened.number k ≡ true) new.1 done)) (λ old. h.cleared_done m other old)
@@ -176,33 +181,32 @@ marks_cleared w g n opened name done h = record {
 }
 
 -- Tell.
-marks_told : (w : World) (g n name : ℕ) (opened : Opened) (others : List Opened) → Tells w name opened others → length w.requests.opened ≤ 1 → WasOpened w.requests.waiting n opened.number → MarksAreSound w.places w.requests g n
+marks_told : (w : World) (g n m name : ℕ) (opened : Opened) → Tells w name opened → NumbersAreSound w.requests.waiting w.requests.opened g n m → MarksAreSound w.places w.requests g n
     → MarksAreSound w.places (with_told w.requests opened name) g n
-marks_told w g n name opened others i few was h = record {
+marks_told w g n m name opened i numbers h = record {
   live_given = h.live_given;
-  told_given = λ m other t. ⊎_elim (λ new. subst (λ k. k ≤ g) new.1 (h.live_given 0 opened name first listed)) (λ old. h.told_given m other old) (marked_more w.requests.told opened.number name m other t);
-  told_opened = λ m other t. ⊎_elim (λ new. subst (WasOpened w.requests.waiting n) new.0 was) (λ old. h.told_opened m other old) (marked_more w.requests.told opened.number name m other t);
+  told_given = λ m other t. ⊎_elim (λ new. subst (λ k. k ≤ g) new.1 (h.live_given i.open_is.position opened name i.open_is.here listed)) (λ old. h.told_given m other old) (marked_more w.requests.told opened.number name m other t);
+  live_target = h.live_target;
+  told_opened = λ m other t. ⊎_elim (λ new. subst (WasOpened w.requests.waiting n) new.0 (numbers.opened_is i.open_is.position opened i.open_is.here)) (λ old. h.told_opened m other old) (marked_more w.requests.told opened.number name m other t);
   done_told = λ m other d. marked_old w.requests.told opened.number name m other (h.done_told m other d);
   cleared_done = h.cleared_done;
   told_live = λ j o other x t. ⊎_elim
-      (λ new. (let same : o ≡ opened = only_open w.requests.opened opened others few i.opened_is j o x in
-      subst (λ (y : Opened). among other y.live ≡ true) (sym same) (subst (λ k. among k opened.live ≡ true) new.1 listed)))
+      (λ new. (let same : opened ≡ o = only_number numbers i.open_is.position j opened o i.open_is.here x new.0 in
+      subst (λ (y : Opened). among other y.live ≡ true) same (subst (λ k. among k opened.live ≡ true) new.1 listed)))
       (λ old. h.told_live j o other x old) (marked_more w.requests.told opened.number name o.number other t);
-  uncleared_open = λ p t m x told clear. ⊎_elim (λ new. (0, opened, first, new.0)) (λ old. h.uncleared_open p t m x old clear) (marked_more w.requests.told opened.number name m t.name told);
+  uncleared_open = λ p t m x told clear. ⊎_elim (λ new. (i.open_is.position, opened, i.open_is.here, new.0)) (λ old. h.uncleared_open p t m x old clear) (marked_more w.requests.told opened.number name m t.name told);
   held_told = λ p t x e. (let r = h.held_told p t x e in (r.0, record { opened = r.1.opened; told = marked_old w.requests.told opened.number name r.0.number t.name r.1.told }));
 }
   where
     listed : among name opened.live ≡ true
     listed = (and_parts (among name opened.live) (is_live w name) i.live).0
 
-    first : slice_get w.requests.opened 0 ≡ Some opened
-    first = first_open w.requests.opened opened others i.opened_is
-
 -- Ask and Open.
 marks_asked : (w : World) (g : ℕ) (request : Request) → MarksAreSound w.places w.requests g (operations_given w.log) → MarksAreSound w.places (with_request w request) g (operations_given w.log + 1)
 marks_asked w g request h = record {
   live_given = h.live_given;
   told_given = h.told_given;
+  live_target = h.live_target;
   told_opened = λ m name t. (let a = h.told_opened m name t in let low = a.1 in let e = push_length w.requests.waiting (record { number = operations_given w.log + 1; request = request }) in (a.0, omega arith));
   done_told = h.done_told;
   cleared_done = h.cleared_done;
@@ -216,6 +220,8 @@ marks_opened : (w : World) (g n m : ℕ) (oldest : Waiting) (others : List Waiti
 marks_opened w g n m oldest others i threads numbers h = record {
   live_given = λ j o name x a. ⊎_elim (λ old. h.live_given j o name old a) (λ new. given name (subst (λ (y : Opened). among name y.live ≡ true) (sym new.1) a)) (push_at w.requests.opened (newly_opened w oldest) j o x);
   told_given = h.told_given;
+  live_target = λ j o name x a. ⊎_elim (λ old. h.live_target j o name old a)
+      (λ new. subst (λ (y : Opened). is_target y.request name ≡ true) new.1 (target name (subst (λ (y : Opened). among name y.live ≡ true) (sym new.1) a))) (push_at w.requests.opened (newly_opened w oldest) j o x);
   told_opened = λ k name t. (let a = h.told_opened k name t in let low = a.1 in let e = longer in (a.0, omega arith));
   done_told = h.done_told;
   cleared_done = h.cleared_done;
@@ -234,6 +240,12 @@ marks_opened w g n m oldest others i threads numbers h = record {
         let d = name_at w.places c.0 b.1 c.1 in
         let s = threads.each d.0 d.1 d.2 in let low = s.name_to in let same = d.3 in let is : b.1 ≡ name = eqb-true b.1 name b.3 in omega arith
 
+    target : (name : ℕ) → among name (filter (is_target oldest.request) (live_names w)) ≡ true → is_target oldest.request name ≡ true
+    target name a =
+        let b = any_at (λ other. other == name) (filter (is_target oldest.request) (live_names w)) a in
+        let c = filter_at (is_target oldest.request) (live_names w) b.0 b.1 b.2 in
+        subst (λ m. is_target oldest.request m ≡ true) (eqb-true b.1 name b.3) c.2
+
     fresh : (name : ℕ) → is_marked w.requests.told oldest.number name ≡ true → ⊥
     fresh name t =
         let a = h.told_opened oldest.number name t in let low = a.1 in
@@ -245,6 +257,10 @@ marks_operated w g n opened others i few h = record {
   live_given = λ j o name x a. (let m = map_at (operated_if opened.number) w.requests.opened j o x in
       h.live_given j m.0 name m.1 (subst (λ ns. among name ns ≡ true) (ap (λ (y : Opened). y.live) (sym m.2) ∙ operated_live opened.number m.0) a));
   told_given = h.told_given;
+  live_target = λ j o name x a. (let m = map_at (operated_if opened.number) w.requests.opened j o x in
+      let live : m.0.live ≡ o.live = sym (operated_live opened.number m.0) ∙ ap (λ (y : Opened). y.live) m.2 in
+      let asked : m.0.request ≡ o.request = sym (operated_request opened.number m.0) ∙ ap (λ (y : Opened). y.request) m.2 in
+      subst (λ r. is_target r name ≡ true) asked (h.live_target j m.0 name m.1 (subst (λ ns. among name ns ≡ true) (sym live) a)));
   told_opened = h.told_opened;
   done_told = λ k name d. ⊎_elim (λ new. told_all k name (marks_only opened.number (live_names w) k name new)) (λ old. h.done_told k name old)
       (or_cases (is_marked (marks_of opened.number (live_names w)) k name) (is_marked w.requests.done k name)
@@ -274,36 +290,51 @@ marks_operated w g n opened others i few h = record {
         let same : c.0 ≡ opened = only_open w.requests.opened opened others few i.opened_is c.1.opened.0 c.0 c.1.opened.1 in
         subst (λ m. is_marked w.requests.told k m ≡ true) b.3 (subst (λ m. is_marked w.requests.told m b.1.name ≡ true) (ap (λ (y : Opened). y.number) same ∙ a.0) c.1.told)
 
-marks_closed : (w : World) (g n : ℕ) (opened : Opened) (others : List Opened) → Closes w opened others → length w.requests.opened ≤ 1 → MarksAreSound w.places w.requests g n → MarksAreSound w.places (without_opened w opened) g n
-marks_closed w g n opened others i few h = record {
+marks_closed : (w : World) (g n m : ℕ) (opened : Opened) → Closes w opened → NumbersAreSound w.requests.waiting w.requests.opened g n m → MarksAreSound w.places w.requests g n → MarksAreSound w.places (without_opened w opened) g n
+marks_closed w g n m opened i numbers h = record {
   live_given = λ j o name x a. (let m = filter_at (λ (o : Opened). not (o.number == opened.number)) w.requests.opened j o x in h.live_given m.0 o name m.1 a);
   told_given = h.told_given;
+  live_target = λ j o name x a. (let m = filter_at (λ (o : Opened). not (o.number == opened.number)) w.requests.opened j o x in h.live_target m.0 o name m.1 a);
   told_opened = h.told_opened;
   done_told = h.done_told;
   cleared_done = h.cleared_done;
   told_live = λ j o name x t. (let m = filter_at (λ (o : Opened). not (o.number == opened.number)) w.requests.opened j o x in h.told_live m.0 o name m.1 t);
-  uncleared_open = λ p t k x told clear. absurd (false≢true (sym clear ∙ cleared_all p t k x told clear));
-  held_told = λ p t x e. (let r = threads_has w.places p t x in
-      absurd (false≢true (sym (not-true t.held (all_at (λ (u : Thread). not u.held) (threads w.places) r.0 t i.none_held r.1)) ∙ e)));
+  uncleared_open = λ p t k x told clear. (let r = h.uncleared_open p t k x told clear in
+      let s = stays r.0 r.1 r.2 (r.1.number == opened.number) refl (λ same. (let number : opened.number ≡ k = sym same ∙ r.3 in
+      false≢true (sym clear ∙ cleared_all p t k x number told))) in (s.0, r.1, s.1, r.3));
+  held_told = λ p t x e. (let r = h.held_told p t x e in
+      let s = stays r.1.opened.0 r.0 r.1.opened.1 (r.0.number == opened.number) refl (λ same. not_held p t x e (subst (λ k. is_marked w.requests.told k t.name ≡ true) same r.1.told)) in
+      (r.0, record { opened = s; told = r.1.told }));
 }
   where
     implied : (a b : Bool) → (not a || b) ≡ true → a ≡ true → b ≡ true
     implied true b e k = e
     implied false b e k = absurd (false≢true k)
 
-    cleared_all : (p : ℕ) (t : Thread) (k : ℕ) → slice_get w.places p ≡ Some (Some t) → is_marked w.requests.told k t.name ≡ true → is_marked w.requests.cleared k t.name ≡ false → is_marked w.requests.cleared k t.name ≡ true
-    cleared_all p t k x told clear =
-        let r = h.uncleared_open p t k x told clear in
-        let same : r.1 ≡ opened = only_open w.requests.opened opened others few i.opened_is r.0 r.1 r.2 in
-        let number : opened.number ≡ k = ap (λ (y : Opened). y.number) (sym same) ∙ r.3 in
-        let listed : among t.name opened.live ≡ true = h.told_live 0 opened t.name (first_open w.requests.opened opened others i.opened_is) (subst (λ m. is_marked w.requests.told m t.name ≡ true) (sym number) told) in
-        let place = any_at (λ other. other == t.name) opened.live listed in
+    stays : (j : ℕ) (o : Opened) → slice_get w.requests.opened j ≡ Some o → (b : Bool) → (o.number == opened.number) ≡ b → (o.number ≡ opened.number → ⊥) → (k : ℕ) × (slice_get (filter (λ (o : Opened). not (o.number == opened.number)) w.requests.opened) k ≡ Some o)
+    stays j o x true e differ = absurd (differ (eqb-true o.number opened.number e))
+    stays j o x false e differ = filter_has (λ (o : Opened). not (o.number == opened.number)) w.requests.opened j o x (rw e refl)
+
+    listed : (t : Thread) → is_marked w.requests.told opened.number t.name ≡ true → among t.name opened.live ≡ true
+    listed t told = h.told_live i.open_is.position opened t.name i.open_is.here told
+
+    not_held : (p : ℕ) (t : Thread) → slice_get w.places p ≡ Some (Some t) → t.held ≡ true → is_marked w.requests.told opened.number t.name ≡ true → ⊥
+    not_held p t x e told =
+        let r = threads_has w.places p t x in
+        let target = h.live_target i.open_is.position opened t.name i.open_is.here (listed t told) in
+        let out = all_at (λ (u : Thread). not (u.held && is_target opened.request u.name)) (threads w.places) r.0 t i.none_held r.1 in
+        false≢true (sym (not-true (t.held && is_target opened.request t.name) out) ∙ and_from t.held (is_target opened.request t.name) e target)
+
+    cleared_all : (p : ℕ) (t : Thread) (k : ℕ) → slice_get w.places p ≡ Some (Some t) → opened.number ≡ k → is_marked w.requests.told k t.name ≡ true → is_marked w.requests.cleared k t.name ≡ true
+    cleared_all p t k x number told =
+        let on_list : among t.name opened.live ≡ true = listed t (subst (λ m. is_marked w.requests.told m t.name ≡ true) (sym number) told) in
+        let place = any_at (λ other. other == t.name) opened.live on_list in
         let each = (and_parts (not (is_census opened.request) || opened.operated) (list_all (λ name. not (is_live_target w opened name) || is_marked w.requests.cleared opened.number name) opened.live) i.over).1 in
         let one : (not (is_live_target w opened t.name) || is_marked w.requests.cleared opened.number t.name) ≡ true =
         subst (λ m. (not (is_live_target w opened m) || is_marked w.requests.cleared opened.number m) ≡ true) (eqb-true place.1 t.name place.3)
         (all_at (λ name. not (is_live_target w opened name) || is_marked w.requests.cleared opened.number name) opened.live place.0 place.1 each place.2) in
         subst (λ m. is_marked w.requests.cleared m t.name ≡ true) number
-        (implied (is_live_target w opened t.name) (is_marked w.requests.cleared opened.number t.name) one (and_from (among t.name opened.live) (is_live w t.name) listed (live_has w p t x)))
+        (implied (is_live_target w opened t.name) (is_marked w.requests.cleared opened.number t.name) one (and_from (among t.name opened.live) (is_live w t.name) on_list (live_has w p t x)))
 
 -- Each event keeps the marks sound, in a world whose threads and numbers are sound.
 pub marks_kept : (w : World) → ThreadsAreSound w.places w.codes (names_given w.log) → NumbersAreSound w.requests.waiting w.requests.opened (names_given w.log) (operations_given w.log) (moment w.log)
@@ -320,9 +351,9 @@ marks_kept w threads numbers h = record {
   misses = λ p t method serial code i. marks_seated w (names_given w.log) (operations_given w.log) p t t h i.calls.acts.stands refl (h.held_told p t i.calls.acts.stands.there);
   leaves = λ p t state i. marks_seated w (names_given w.log) (operations_given w.log) p t (moved (popped t) state) h i.acts.stands refl (h.held_told p t i.acts.stands.there);
   exits = λ p t i. marks_left w (names_given w.log) (operations_given w.log) p h i.acts.stands.low;
-  finishes = λ p t opened others i. marks_done w (names_given w.log) (operations_given w.log) opened t.name i.told h;
-  clears = λ p t opened others i. marks_cleared w (names_given w.log) (operations_given w.log) opened t.name i.done h;
-  holds = λ p t opened others i. marks_seated w (names_given w.log) (operations_given w.log) p t (held t) h i.acts.stands refl (λ e. (opened, record { opened = (0, first_open w.requests.opened opened others i.opened_is); told = i.told }));
+  finishes = λ p t opened i. marks_done w (names_given w.log) (operations_given w.log) opened t.name i.told h;
+  clears = λ p t opened i. marks_cleared w (names_given w.log) (operations_given w.log) opened t.name i.done h;
+  holds = λ p t opened i. marks_seated w (names_given w.log) (operations_given w.log) p t (held t) h i.acts.stands refl (λ e. (opened, record { opened = (i.open_is.position, i.open_is.here); told = i.told }));
   releases = λ p t i. marks_seated w (names_given w.log) (operations_given w.log) p t (released t) h i.acts.stands refl (λ e. absurd (false≢true e));
   shows = λ p t i. marks_seated w (names_given w.log) (operations_given w.log) p t t h i refl (h.held_told p t i.there);
   starts = λ p i. subst (λ n. MarksAreSound (slice_set w.places p (Some (new_thread (names_given w.log + 1)))) w.requests n (operations_given w.log)) (started_more w p) (marks_started w (names_given w.log) (operations_given w.log) p h i.low);
@@ -337,10 +368,10 @@ marks_kept w threads numbers h = record {
   frees = λ serial code i. h;
   asks = λ request i. subst (λ n. MarksAreSound w.places (with_request w request) (names_given w.log) n) (asked_more w request) (marks_asked w (names_given w.log) request h);
   opens = λ oldest others i. marks_opened w (names_given w.log) (operations_given w.log) (moment w.log) oldest others i threads numbers h;
-  tells = λ name opened others i. marks_told w (names_given w.log) (operations_given w.log) name opened others i numbers.one_open (numbers.opened_is 0 opened (first_open w.requests.opened opened others i.opened_is)) h;
-  finds_gone = λ name opened others i. h;
-  operates = λ opened others i. marks_operated w (names_given w.log) (operations_given w.log) opened others i numbers.one_open h;
-  closes = λ opened others i. marks_closed w (names_given w.log) (operations_given w.log) opened others i numbers.one_open h;
+  tells = λ name opened i. marks_told w (names_given w.log) (operations_given w.log) (moment w.log) name opened i numbers h;
+  finds_gone = λ name i. h;
+  operates = λ opened others i. marks_operated w (names_given w.log) (operations_given w.log) opened others i (numbers.census_alone 0 opened (first_open w.requests.opened opened others i.opened_is) i.census) h;
+  closes = λ opened i. marks_closed w (names_given w.log) (operations_given w.log) (moment w.log) opened i numbers h;
   counts = λ serial code i. h;
   says_state = λ serial code i. h;
   resolves = λ method i. h;
@@ -350,6 +381,7 @@ pub marks_start : (places : ℕ) → MarksAreSound (replicate places None) no_re
 marks_start places = record {
   live_given = λ i o name x a. cc;
   told_given = λ n name a. absurd (false≢true a);
+  live_target = λ i o name x a. cc;
   told_opened = λ n name a. absurd (false≢true a);
   done_told = λ n name a. absurd (false≢true a);
   cleared_done = λ n name a. absurd (false≢true a);

@@ -1,7 +1,11 @@
 -- The numbers of names, operations and moments are sound in every world that events lead to.
-use Rattle.std.proofs.Common.{◌≡◌, ◌⊎◌, ℕ, suc, ◌+◌, ◌<◌, Bool, true, false, cond, List, [], ◌∷◌, ◌++◌, length, map, Some, sym, refl, ap, ◌∙◌, inl, inr, ⊎_elim, subst, arith}
-use Rattle.std.specs.Prelude.{not, ◌==◌, slice_get, filter}
+use Rattle.std.proofs.Common.{◌≡◌, ◌⊎◌, ℕ, suc, ◌+◌, ◌<◌, ◌≤◌, Bool, true, false, cond, List, [], ◌∷◌, ◌++◌, length, map, Some, sym, refl, ap, ◌∙◌, inl, inr, ⊎_elim, subst, arith}
+use Rattle.std.specs.Prelude.{not, ◌==◌, nat_lt, slice_get, filter}
+use Rattle.std.proofs.lemmas.Bool.{false≢true, ltb-true, ltb-false}
+use mathlib.Core.Logic.{dite}
+use native.Mathlib.Decide.{ℕ_discrete}
 use Rattle.operations.specs.declared.Request.{Request}
+use Rattle.operations.specs.Requests.{is_census}
 use Rattle.method_table.specs.Numbers.{last_number}
 use Rattle.system.specs.declared.events.Event.TheVariants as event
 use Rattle.system.specs.declared.answers.Answer.TheVariants as answer
@@ -12,7 +16,7 @@ use Rattle.system.specs.Step.{operated_if}
 use Rattle.system.specs.Facts.{WasOpened, NumbersAreSound}
 use Rattle.system.proofs.Outcomes.{newly_opened, Opens}
 use Rattle.system.proofs.Cases.{Cases}
-use Rattle.system.proofs.Lists.{map_at, map_length, push_at, push_length, filter_at, filter_less}
+use Rattle.system.proofs.Lists.{map_at, map_length, push_at, push_length, filter_at, filter_less, filter_pair, at_low, any_none_at, same_at}
 use Rattle.system.proofs.Frames.{count_cons}
 use Rattle.system.proofs.Threads.{started_more}
 
@@ -30,6 +34,26 @@ operated_live n o = by (o.number == n)
     by true = refl
     by false = refl
 
+pub operated_request : (n : ℕ) (o : Opened) → (operated_if n o).request ≡ o.request
+operated_request n o = by (o.number == n)
+  where
+    by : (b : Bool) → (cond b (record o { operated = true }) o).request ≡ o.request
+    by true = refl
+    by false = refl
+
+-- Two open operations of one number are one.
+pub only_number : {ws : List Waiting} {os : List Opened} {g n m : ℕ} → NumbersAreSound ws os g n m → (i j : ℕ) (a b : Opened) → slice_get os i ≡ Some a → slice_get os j ≡ Some b → a.number ≡ b.number → a ≡ b
+only_number {ws} {os} h i j a b x y same = dite (ℕ_discrete i j)
+    (λ e. same_at os j a b (subst (λ k. slice_get os k ≡ Some a) e x) y)
+    (λ ne. by (nat_lt i j) refl ne)
+  where
+    by : (t : Bool) → nat_lt i j ≡ t → (i ≡ j → ⊥) → a ≡ b
+    by true e ne = let less = h.opened_rise i j a b (ltb-true i j e) x y in absurd (omega arith)
+    by false e ne = let k : j ≤ i = ltb-false i j e in let less : j < i = above k ne in let r = h.opened_rise j i b a less y x in absurd (omega arith)
+      where
+        above : j ≤ i → (i ≡ j → ⊥) → j < i
+        above k ne = omega (arith, ne)
+
 pub asked_more : (w : World) (request : Request) → operations_given w.log + 1 ≡ operations_given (record { event = event.Ask request; answer = answer.Asked (operations_given w.log + 1) } ∷ w.log)
 asked_more w request = let a = count_cons (λ (x : Entry). is_ask x.event) (record { event = event.Ask request; answer = answer.Asked (operations_given w.log + 1) }) w.log in omega arith
 
@@ -44,8 +68,11 @@ asked_sound ws os g n m request room queue h = record {
   queue_few = (let e = push_length ws new in omega arith);
   waiting_asked = (let e = push_length ws new in let a = h.waiting_asked in omega arith);
   waiting_is = λ i x y. (let e = push_length ws new in ⊎_elim (λ old. (let a = h.waiting_is i x old in omega arith)) (λ last. (let a = last.0 in let b : n + 1 ≡ x.number = ap (λ (z : Waiting). z.number) last.1 in omega arith)) (push_at ws new i x y));
-  one_open = h.one_open;
+  few_open = h.few_open;
+  census_alone = h.census_alone;
+  opened_rise = h.opened_rise;
   opened_is = λ i o y. (let e = push_length ws new in let a = h.opened_is i o y in let low = a.1 in (a.0, omega arith));
+  one_open = h.one_open;
   newest_is = λ i o y. (let e = push_length ws new in let a = h.newest_is i o y in omega arith);
 }
   where
@@ -60,8 +87,11 @@ opened_sound w oldest others g n m i h = record {
   queue_few = (let a = h.queue_few in let b = longer in omega arith);
   waiting_asked = (let a = h.waiting_asked in let b = longer in omega arith);
   waiting_is = λ j x y. (let a = h.waiting_is (suc j) x (subst (λ ws. slice_get ws (suc j) ≡ Some x) (sym i.waiting_is) y) in let b = longer in omega arith);
-  one_open = (let a = push_length w.requests.opened (newly_opened w oldest) in let b : length w.requests.opened ≡ 0 = ap (λ (os : List Opened). length os) i.none_open in omega arith);
+  few_open = (let a = push_length w.requests.opened (newly_opened w oldest) in let b = i.few in omega arith);
+  census_alone = λ j o y census. alone j o census (push_at w.requests.opened (newly_opened w oldest) j o y);
+  opened_rise = λ j k a b less x y. rise j k a b less (push_at w.requests.opened (newly_opened w oldest) j a x) (push_at w.requests.opened (newly_opened w oldest) k b y);
   opened_is = λ j o y. by j o (push_at w.requests.opened (newly_opened w oldest) j o y);
+  one_open = (let a = push_length w.requests.opened (newly_opened w oldest) in let b : length w.requests.opened ≡ 0 = ap (λ (os : List Opened). length os) i.none_open in omega arith);
   newest_is = λ j o y. newest j o (push_at w.requests.opened (newly_opened w oldest) j o y);
 }
   where
@@ -80,6 +110,22 @@ opened_sound w oldest others g n m i h = record {
         let first = h.waiting_is 0 oldest (subst (λ ws. slice_get ws 0 ≡ Some oldest) (sym i.waiting_is) refl) in let d = longer in
         let same : oldest.number ≡ o.number = ap (λ (x : Opened). x.number) a.1 in omega arith
 
+    alone : (j : ℕ) (o : Opened) → is_census o.request ≡ true → (slice_get w.requests.opened j ≡ Some o) ⊎ ((j ≡ length w.requests.opened) × (newly_opened w oldest ≡ o)) → length (w.requests.opened ++ newly_opened w oldest ∷ []) ≤ 1
+    alone j o census (inl a) = absurd (false≢true (sym (any_none_at (λ (x : Opened). is_census x.request) w.requests.opened j o i.no_safepoint a) ∙ census))
+    alone j o census (inr a) =
+        let none : w.requests.opened ≡ [] = i.alone (ap (λ (x : Opened). is_census x.request) a.1 ∙ census) in
+        let e = push_length w.requests.opened (newly_opened w oldest) in let zero_ : length w.requests.opened ≡ 0 = ap (λ (os : List Opened). length os) none in omega arith
+
+    rise : (j k : ℕ) (a b : Opened) → j < k → (slice_get w.requests.opened j ≡ Some a) ⊎ ((j ≡ length w.requests.opened) × (newly_opened w oldest ≡ a))
+        → (slice_get w.requests.opened k ≡ Some b) ⊎ ((k ≡ length w.requests.opened) × (newly_opened w oldest ≡ b)) → a.number < b.number
+    rise j k a b less (inl x) (inl y) = h.opened_rise j k a b less x y
+    rise j k a b less (inl x) (inr y) =
+        let old = h.opened_is j a x in let low = old.1 in
+        let first = h.waiting_is 0 oldest (subst (λ ws. slice_get ws 0 ≡ Some oldest) (sym i.waiting_is) refl) in
+        let same : oldest.number ≡ b.number = ap (λ (o : Opened). o.number) y.1 in omega arith
+    rise j k a b less (inr x) (inl y) = let low = at_low w.requests.opened k b y in let is = x.0 in absurd (omega arith)
+    rise j k a b less (inr x) (inr y) = let p = x.0 in let q = y.0 in absurd (omega arith)
+
 -- Each event keeps the numbers sound.
 pub numbers_kept : (w : World) → NumbersAreSound w.requests.waiting w.requests.opened (names_given w.log) (operations_given w.log) (moment w.log)
     → Cases w (λ e a v. NumbersAreSound v.requests.waiting v.requests.opened (names_given v.log) (operations_given v.log) (moment v.log))
@@ -95,9 +141,9 @@ numbers_kept w h = record {
   misses = λ p t method serial code i. h;
   leaves = λ p t state i. h;
   exits = λ p t i. h;
-  finishes = λ p t opened others i. h;
-  clears = λ p t opened others i. h;
-  holds = λ p t opened others i. h;
+  finishes = λ p t opened i. h;
+  clears = λ p t opened i. h;
+  holds = λ p t opened i. h;
   releases = λ p t i. h;
   shows = λ p t i. h;
   starts = λ p i. subst (λ n. NumbersAreSound w.requests.waiting w.requests.opened n (operations_given w.log) (moment w.log)) (started_more w p) (named_sound i.room);
@@ -112,20 +158,20 @@ numbers_kept w h = record {
   frees = λ serial code i. h;
   asks = λ request i. subst (λ n. NumbersAreSound (w.requests.waiting ++ record { number = operations_given w.log + 1; request = request } ∷ []) w.requests.opened (names_given w.log) n (moment w.log)) (asked_more w request) (asked_sound w.requests.waiting w.requests.opened (names_given w.log) (operations_given w.log) (moment w.log) request i.room i.queue_room h);
   opens = λ oldest others i. opened_sound w oldest others (names_given w.log) (operations_given w.log) (moment w.log) i h;
-  tells = λ name opened others i. h;
-  finds_gone = λ name opened others i. h;
+  tells = λ name opened i. h;
+  finds_gone = λ name i. h;
   operates = λ opened others i. operated_sound opened.number;
-  closes = λ opened others i. closed_sound opened.number;
+  closes = λ opened i. closed_sound opened.number;
   counts = λ serial code i. h;
   says_state = λ serial code i. h;
   resolves = λ method i. h;
 }
   where
     named_sound : names_given w.log < last_number → NumbersAreSound w.requests.waiting w.requests.opened (names_given w.log + 1) (operations_given w.log) (moment w.log)
-    named_sound room = record { names_few = omega arith; operations_few = h.operations_few; moment_few = h.moment_few; queue_few = h.queue_few; waiting_asked = h.waiting_asked; waiting_is = h.waiting_is; one_open = h.one_open; opened_is = h.opened_is; newest_is = h.newest_is }
+    named_sound room = record { names_few = omega arith; operations_few = h.operations_few; moment_few = h.moment_few; queue_few = h.queue_few; waiting_asked = h.waiting_asked; waiting_is = h.waiting_is; few_open = h.few_open; census_alone = h.census_alone; opened_rise = h.opened_rise; opened_is = h.opened_is; one_open = h.one_open; newest_is = h.newest_is }
 
     rounded_sound : moment w.log < last_number → NumbersAreSound w.requests.waiting w.requests.opened (names_given w.log) (operations_given w.log) (moment w.log + 1)
-    rounded_sound room = record { names_few = h.names_few; operations_few = h.operations_few; moment_few = omega arith; queue_few = h.queue_few; waiting_asked = h.waiting_asked; waiting_is = h.waiting_is; one_open = h.one_open; opened_is = h.opened_is; newest_is = h.newest_is }
+    rounded_sound room = record { names_few = h.names_few; operations_few = h.operations_few; moment_few = omega arith; queue_few = h.queue_few; waiting_asked = h.waiting_asked; waiting_is = h.waiting_is; few_open = h.few_open; census_alone = h.census_alone; opened_rise = h.opened_rise; opened_is = h.opened_is; one_open = h.one_open; newest_is = h.newest_is }
 
     operated_sound : (n : ℕ) → NumbersAreSound w.requests.waiting (map (operated_if n) w.requests.opened) (names_given w.log) (operations_given w.log) (moment w.log)
     operated_sound n = record {
@@ -135,9 +181,15 @@ numbers_kept w h = record {
       queue_few = h.queue_few;
       waiting_asked = h.waiting_asked;
       waiting_is = h.waiting_is;
-      one_open = (let a = map_length (operated_if n) w.requests.opened in let b = h.one_open in omega arith);
+      few_open = (let a = map_length (operated_if n) w.requests.opened in let b = h.few_open in omega arith);
+      census_alone = λ i o x census. (let m = map_at (operated_if n) w.requests.opened i o x in let a = map_length (operated_if n) w.requests.opened in
+          let b = h.census_alone i m.0 m.1 (ap is_census (sym (operated_request n m.0) ∙ ap (λ (y : Opened). y.request) m.2) ∙ census) in omega arith);
+      opened_rise = λ i j a b less x y. (let m = map_at (operated_if n) w.requests.opened i a x in let k = map_at (operated_if n) w.requests.opened j b y in
+          let r = h.opened_rise i j m.0 k.0 less m.1 k.1 in let p : m.0.number ≡ a.number = sym (operated_number n m.0) ∙ ap (λ (y : Opened). y.number) m.2 in
+          let q : k.0.number ≡ b.number = sym (operated_number n k.0) ∙ ap (λ (y : Opened). y.number) k.2 in omega arith);
       opened_is = λ i o x. (let m = map_at (operated_if n) w.requests.opened i o x in
           subst (WasOpened w.requests.waiting (operations_given w.log)) (sym (operated_number n m.0) ∙ ap (λ (y : Opened). y.number) m.2) (h.opened_is i m.0 m.1));
+      one_open = (let a = map_length (operated_if n) w.requests.opened in let b = h.one_open in omega arith);
       newest_is = λ i o x. (let m = map_at (operated_if n) w.requests.opened i o x in
           subst (λ k. k + length w.requests.waiting ≡ operations_given w.log) (sym (operated_number n m.0) ∙ ap (λ (y : Opened). y.number) m.2) (h.newest_is i m.0 m.1));
     }
@@ -150,10 +202,14 @@ numbers_kept w h = record {
       queue_few = h.queue_few;
       waiting_asked = h.waiting_asked;
       waiting_is = h.waiting_is;
-      one_open = (let a = filter_less (λ (o : Opened). not (o.number == n)) w.requests.opened in let b = h.one_open in omega arith);
+      few_open = (let a = filter_less (λ (o : Opened). not (o.number == n)) w.requests.opened in let b = h.few_open in omega arith);
+      census_alone = λ i o x census. (let m = filter_at (λ (o : Opened). not (o.number == n)) w.requests.opened i o x in
+          let a = filter_less (λ (o : Opened). not (o.number == n)) w.requests.opened in let b = h.census_alone m.0 o m.1 census in omega arith);
+      opened_rise = λ i j a b less x y. (let m = filter_pair (λ (o : Opened). not (o.number == n)) w.requests.opened i j a b less x y in h.opened_rise m.0 m.1 a b m.2 m.3 m.4);
       opened_is = λ i o x. (let m = filter_at (λ (o : Opened). not (o.number == n)) w.requests.opened i o x in h.opened_is m.0 o m.1);
+      one_open = (let a = filter_less (λ (o : Opened). not (o.number == n)) w.requests.opened in let b = h.one_open in omega arith);
       newest_is = λ i o x. (let m = filter_at (λ (o : Opened). not (o.number == n)) w.requests.opened i o x in h.newest_is m.0 o m.1);
     }
 
 pub numbers_start : NumbersAreSound [] [] 0 0 1
-numbers_start = record { names_few = omega arith; operations_few = omega arith; moment_few = omega arith; queue_few = omega arith; waiting_asked = omega arith; waiting_is = λ i x y. cc; one_open = omega arith; opened_is = λ i o y. cc; newest_is = λ i o y. cc }
+numbers_start = record { names_few = omega arith; operations_few = omega arith; moment_few = omega arith; queue_few = omega arith; waiting_asked = omega arith; waiting_is = λ i x y. cc; few_open = omega arith; census_alone = λ i o y census. cc; opened_rise = λ i j a b less x y. cc; opened_is = λ i o y. cc; one_open = omega arith; newest_is = λ i o y. cc }

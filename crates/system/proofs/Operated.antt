@@ -15,9 +15,8 @@ use Rattle.system.proofs.Outcomes.{Stands, Starts, Operates, begun, changed_by, 
 use Rattle.system.proofs.Cases.{Cases}
 use Rattle.system.proofs.Seats.{each_some, each_none}
 use Rattle.system.proofs.Lists.{map_at, push_at, filter_at, any_none_at, all_at}
-use Rattle.system.proofs.Numbers.{operated_number}
-use Rattle.system.proofs.Marks.{threads_has, only_open}
-use Rattle.system.proofs.Marked.{marked_still}
+use Rattle.system.proofs.Numbers.{operated_number, operated_request}
+use Rattle.system.proofs.Marks.{threads_has, only_open, first_open, marked_old}
 
 -- A thread that keeps its name at a place.
 seated_told : (w : World) (p : ℕ) (t u : Thread) → OperatedIsTold w.places w.requests → Stands w p t → u.name ≡ t.name → OperatedIsTold (slice_set w.places p (Some u)) w.requests
@@ -43,7 +42,7 @@ started_told w p t h s = record {
 told_told : (w : World) (n name : ℕ) → OperatedIsTold w.places w.requests → OperatedIsTold w.places (record w.requests { told = with_mark w.requests.told n name })
 told_told w n name h = record {
   census = h.census;
-  told = λ i o q v e operated x. marked_still w.requests.told n o.number name v.name (h.told i o q v e operated x);
+  told = λ i o q v e operated x. marked_old w.requests.told n name o.number v.name (h.told i o q v e operated x);
 }
 
 opened_told : (w : World) (oldest : Waiting) (others : List Waiting) → OperatedIsTold w.places w.requests → OperatedIsTold w.places (Rattle.system.proofs.Outcomes.with_opened w oldest others)
@@ -54,13 +53,6 @@ opened_told w oldest others h = record {
   where
     not_new : (o : Opened) → newly_opened w oldest ≡ o → o.operated ≡ true → ⊥
     not_new o is operated = false≢true (ap (λ (y : Opened). y.operated) is ∙ operated)
-
-operated_request : (n : ℕ) (o : Opened) → (operated_if n o).request ≡ o.request
-operated_request n o = by (o.number == n)
-  where
-    by : (b : Bool) → (cond b (record o { operated = true }) o).request ≡ o.request
-    by true = refl
-    by false = refl
 
 -- A census is operated while all threads are held, and a held thread was told.
 operated_told : (w : World) (g n : ℕ) (opened : Opened) (others : List Opened) → Operates w opened others → length w.requests.opened ≤ 1 → MarksAreSound w.places w.requests g n → OperatedIsTold w.places (Rattle.system.proofs.Outcomes.with_operated w opened)
@@ -103,9 +95,9 @@ operated_kept w numbers marks h = record {
   misses = λ p t method serial code i. seated_told w p t t h i.calls.acts.stands refl;
   leaves = λ p t state i. seated_told w p t (moved (popped t) state) h i.acts.stands refl;
   exits = λ p t i. left_told w p h i.acts.stands.low;
-  finishes = λ p t opened others i. over w (Rattle.system.proofs.Outcomes.with_done w.requests opened t.name) refl refl h;
-  clears = λ p t opened others i. over w (Rattle.system.proofs.Outcomes.with_cleared w.requests opened t.name) refl refl h;
-  holds = λ p t opened others i. seated_told w p t (held t) h i.acts.stands refl;
+  finishes = λ p t opened i. over w (Rattle.system.proofs.Outcomes.with_done w.requests opened t.name) refl refl h;
+  clears = λ p t opened i. over w (Rattle.system.proofs.Outcomes.with_cleared w.requests opened t.name) refl refl h;
+  holds = λ p t opened i. seated_told w p t (held t) h i.acts.stands refl;
   releases = λ p t i. seated_told w p t (released t) h i.acts.stands refl;
   shows = λ p t i. seated_told w p t t h i refl;
   starts = λ p i. started_told w p (new_thread (names_given w.log + 1)) h i;
@@ -120,10 +112,10 @@ operated_kept w numbers marks h = record {
   frees = λ serial code i. h;
   asks = λ request i. over w (Rattle.system.proofs.Outcomes.with_request w request) refl refl h;
   opens = λ oldest others i. opened_told w oldest others h;
-  tells = λ name opened others i. told_told w opened.number name h;
-  finds_gone = λ name opened others i. h;
-  operates = λ opened others i. operated_told w (names_given w.log) (operations_given w.log) opened others i numbers.one_open marks;
-  closes = λ opened others i. closed_told w opened h;
+  tells = λ name opened i. told_told w opened.number name h;
+  finds_gone = λ name i. h;
+  operates = λ opened others i. operated_told w (names_given w.log) (operations_given w.log) opened others i (numbers.census_alone 0 opened (first_open w.requests.opened opened others i.opened_is) i.census) marks;
+  closes = λ opened i. closed_told w opened h;
   counts = λ serial code i. h;
   says_state = λ serial code i. h;
   resolves = λ method i. h;

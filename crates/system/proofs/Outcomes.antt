@@ -1,5 +1,6 @@
 -- What an accepted event finds, and what the world is after it: one record for each kind of outcome.
-use Rattle.std.specs.Prelude.{◌≡◌, ◌≢◌, ◌⊎◌, ℕ, pos, ◌-ℤ◌, ◌+◌, ◌<◌, ◌≤◌, Bool, true, false, not, ◌==◌, length, List, [], ◌∷◌, ◌++◌, map, filter, Option, Some, None, is_none, slice_get, slice_set}
+use Rattle.std.specs.Prelude.{◌≡◌, ◌≢◌, ◌⊎◌, ℕ, pos, ◌-ℤ◌, ◌+◌, ◌<◌, ◌≤◌, Bool, true, false, not, ◌&&◌, ◌==◌, length, List, [], ◌∷◌, ◌++◌, map, filter, Option, Some, None, is_none, find, slice_get, slice_set}
+use Rattle.std.specs.List.{list_any}
 use Rattle.frames.specs.declared.CodeId.{CodeId}
 use Rattle.thread_state.specs.declared.State.{State}
 use Rattle.thread_state.specs.declared.Move.{Move}
@@ -23,7 +24,7 @@ use Rattle.system.specs.Threads.{Thread, is_publishing, changed_codes, next_chan
 use Rattle.system.specs.Operations.{Requests, Waiting, Opened, is_marked, with_mark, marks_of, poll_of, is_safepoint}
 use Rattle.system.specs.Log.{names_given, operations_given}
 use Rattle.system.specs.World.{World, live_names, is_live_target, vacant_place, walk, covered}
-use Rattle.system.specs.Places.{is_lawful, go_or_stop}
+use Rattle.system.specs.Places.{is_lawful, go_or_stop, is_undone, is_uncleared}
 use Rattle.system.specs.Step.{unlooked, may_tell, all_threads, operated_if, is_over}
 
 -- The world after an accepted event: nothing but the log changes; a place gets a thread or gets vacant; the codes change; the
@@ -170,26 +171,33 @@ pub record Exits (w : World) (p : ℕ) (t : Thread) : Type 0 where
   pub settled : is_settled t ≡ true
   pub nothing_told : poll_of w.requests t.name ≡ None
 
-pub record Finishes (w : World) (p : ℕ) (t : Thread) (opened : Opened) (others : List Opened) : Type 0 where
+-- Its open operation, at some position.
+pub record IsOpen (w : World) (opened : Opened) : Type 0 where
+  pub position : ℕ
+  pub here : slice_get w.requests.opened position ≡ Some opened
+
+-- The least told one that isn't done, or isn't cleared, for the thread.
+pub record Finishes (w : World) (p : ℕ) (t : Thread) (opened : Opened) : Type 0 where
   pub acts : Acts w p t act.Finish
-  pub opened_is : w.requests.opened ≡ opened ∷ others
-  pub listed : lists opened.request t.name ≡ true
+  pub listed : list_any (λ o. lists o.request t.name) w.requests.opened ≡ true
+  pub least : find (is_undone w.requests t.name) w.requests.opened ≡ Some opened
+  pub open_is : IsOpen w opened
   pub told : is_marked w.requests.told opened.number t.name ≡ true
   pub not_done : is_marked w.requests.done opened.number t.name ≡ false
   pub settled : is_settled t ≡ true
 
-pub record Clears (w : World) (p : ℕ) (t : Thread) (opened : Opened) (others : List Opened) : Type 0 where
+pub record Clears (w : World) (p : ℕ) (t : Thread) (opened : Opened) : Type 0 where
   pub acts : Acts w p t act.Clear
-  pub opened_is : w.requests.opened ≡ opened ∷ others
-  pub target : is_target opened.request t.name ≡ true
+  pub least : find (is_uncleared w.requests t.name) w.requests.opened ≡ Some opened
+  pub open_is : IsOpen w opened
   pub told : is_marked w.requests.told opened.number t.name ≡ true
   pub done : is_marked w.requests.done opened.number t.name ≡ true
   pub not_cleared : is_marked w.requests.cleared opened.number t.name ≡ false
 
-pub record Holds (w : World) (p : ℕ) (t : Thread) (opened : Opened) (others : List Opened) : Type 0 where
+-- Some one is told and not cleared.
+pub record Holds (w : World) (p : ℕ) (t : Thread) (opened : Opened) : Type 0 where
   pub acts : Acts w p t act.Hold
-  pub opened_is : w.requests.opened ≡ opened ∷ others
-  pub target : is_target opened.request t.name ≡ true
+  pub open_is : IsOpen w opened
   pub told : is_marked w.requests.told opened.number t.name ≡ true
   pub not_cleared : is_marked w.requests.cleared opened.number t.name ≡ false
   pub not_held : t.held ≡ false
@@ -244,19 +252,22 @@ pub record Asks (w : World) (request : Request) : Type 0 where
   pub lawful_targets : are_targets request ≡ true
 
 pub record Opens (w : World) (oldest : Waiting) (others : List Waiting) : Type 0 where
+  pub few : length w.requests.opened < 4
+  pub no_safepoint : is_safepoint w.requests ≡ false
+  pub alone : is_census oldest.request ≡ true → w.requests.opened ≡ []
   pub none_open : w.requests.opened ≡ []
   pub waiting_is : w.requests.waiting ≡ oldest ∷ others
 
-pub record Tells (w : World) (name : ℕ) (opened : Opened) (others : List Opened) : Type 0 where
-  pub opened_is : w.requests.opened ≡ opened ∷ others
-  pub may : may_tell w opened.request name ≡ true
+-- The least one that has the name as a live target and wasn't told to it.
+pub record Tells (w : World) (name : ℕ) (opened : Opened) : Type 0 where
+  pub least : find (λ o. not (is_marked w.requests.told o.number name)) (filter (λ o. is_live_target w o name) w.requests.opened) ≡ Some opened
+  pub open_is : IsOpen w opened
   pub live : is_live_target w opened name ≡ true
   pub not_told : is_marked w.requests.told opened.number name ≡ false
 
-pub record FindsGone (w : World) (name : ℕ) (opened : Opened) (others : List Opened) : Type 0 where
-  pub opened_is : w.requests.opened ≡ opened ∷ others
-  pub may : may_tell w opened.request name ≡ true
-  pub gone : is_live_target w opened name ≡ false
+pub record FindsGone (w : World) (name : ℕ) : Type 0 where
+  pub may : list_any (λ o. may_tell w o.request name) w.requests.opened ≡ true
+  pub gone : filter (λ o. is_live_target w o name) w.requests.opened ≡ []
 
 pub record Operates (w : World) (opened : Opened) (others : List Opened) : Type 0 where
   pub opened_is : w.requests.opened ≡ opened ∷ others
@@ -266,9 +277,9 @@ pub record Operates (w : World) (opened : Opened) (others : List Opened) : Type 
   pub quiet : all_threads (λ t. not (is_publishing t)) w ≡ true
   pub settled : all_threads is_settled w ≡ true
 
-pub record Closes (w : World) (opened : Opened) (others : List Opened) : Type 0 where
-  pub opened_is : w.requests.opened ≡ opened ∷ others
-  pub none_held : all_threads (λ t. not t.held) w ≡ true
+pub record Closes (w : World) (opened : Opened) : Type 0 where
+  pub open_is : IsOpen w opened
+  pub none_held : all_threads (λ t. not (t.held && is_target opened.request t.name)) w ≡ true
   pub over : is_over w opened ≡ true
 
 -- The requests after Ask, Open, Operate and Close.

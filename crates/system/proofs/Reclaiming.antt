@@ -6,14 +6,17 @@ use Rattle.std.proofs.lemmas.List.{length-set, get_or-set_other, get_or-replicat
 use Rattle.std.proofs.lemmas.Option.{slice_get-get_or, slice_get_within}
 use mathlib.Core.Logic.{dite}
 use native.Mathlib.Decide.{ℕ_discrete}
-use Rattle.activation_index.specs.Counts.{count_in}
+use Rattle.activation_index.specs.declared.Entry.{Entry as Cell}
+use Rattle.activation_index.specs.Cells.{count_at}
 use Rattle.method_table.specs.declared.Code.{Code}
 use Rattle.method_table.specs.declared.CodeState.{CodeState}
 use Rattle.method_table.specs.declared.CodeState.TheVariants.{InUse, NotEntrant, Zombie, Freed}
 use Rattle.method_table.specs.TableView.{TableView, invalidate_fault}
 use Rattle.method_table.specs.Numbers.{below}
 use Rattle.method_table.specs.Codes.{id_of, is_in_use, is_not_entrant, takes_slot, code_of, unfreed, with_state}
+use Rattle.system.specs.declared.events.Event.{Event}
 use Rattle.system.specs.declared.events.Event.TheVariants as event
+use Rattle.system.specs.declared.answers.Answer.{Answer}
 use Rattle.system.specs.declared.answers.Answer.TheVariants as answer
 use Rattle.system.specs.declared.answers.Refusal.{Refusal}
 use Rattle.system.specs.declared.answers.Refusal.TheVariants as refusal
@@ -27,14 +30,15 @@ use Rattle.system.specs.Moments.{invalidated, left_at, ended, published_at}
 use Rattle.system.specs.World.{World, thread_at, walk, covered}
 use Rattle.system.specs.Step.{outcome, of_code, invalidate, look, clear_or_late, unlooked, weigh, weigh_all}
 use Rattle.system.specs.Facts.{IsSound}
-use Rattle.system.specs.Stands.{Matches, SamePlace, SameRecord, SameRecords, Does, walk_of, held_at}
+use Rattle.system.specs.Stands.{Matches, SamePlace, SameRecord, SameRecords, SameCells, Does, held_at}
 use Rattle.system.specs.Records.{new_record, with_look, not_entrant, is_clear}
 use Rattle.system.proofs.Lists.{found_passes, find_place, find_push, find_push_none}
 use Rattle.system.proofs.Outcomes.{coded, IsCode}
 use Rattle.system.proofs.Seats.{get_set_same, get_set_other, there_of}
-use Rattle.system.proofs.Table.{code_serial, unfreed_code}
+use Rattle.system.proofs.Table.{code_serial, unfreed_code, unfreed_takes}
 use Rattle.system.proofs.Logs.{noted_matches}
-use Rattle.system.proofs.Codings.{Recodes, accepted_in, refused_does, coded_matches, record_next, restated_at, restated_records, restated_walks}
+use Rattle.system.proofs.Codings.{Recodes, accepted_in, refused_does, coded_matches, record_next, restated_at, restated_records, restated_cells}
+use Rattle.system.proofs.Cells.{cells_stay, count_here}
 
 -- What is read at an index stands there.
 pub at_index : {A : Type 0} (xs : List A) (i : ℕ) (x : A) → i < length xs → x ≡ get_or xs i x → slice_get xs i ≡ Some x
@@ -199,15 +203,24 @@ looked_records records w serial place code r sound i h at_slot = record {
     after = coded w w.codes (event.Look serial place) answer.Clear
 
 pub clear : (s t : Core) (serial place : ℕ) (code : Code) (r : Record) (k : Option Kept) → not_entrant (unfreed s.table.codes serial) ≡ Ok code → slice_get s.records.items code.slot ≡ Some r
-    → slice_get s.places.items place ≡ Some k → is_clear r.left k ≡ true → Recodes s t s.table.codes → t.records.items ≡ slice_set s.records.items code.slot (with_look r place) → Does (event.Look serial place) s answer.Clear t
-clear s t serial place code r k h at_slot at_place is same records = record {
+    → slice_get s.places.items place ≡ Some k → is_clear r.left k ≡ true → Recodes s t s.table.codes → t.records.items ≡ slice_set s.records.items code.slot (with_look r place) → t.index ≡ s.index → Does (event.Look serial place) s answer.Clear t
+clear s t serial place code r k h at_slot at_place is same records index = record {
   each = λ w sound m. (let i = left_code s w serial code m h in
       accepted_in t w w (event.Look serial place) answer.Clear (looks s w serial place code r k true sound m i at_slot at_place is)
       (coded_matches s t w w.codes (event.Look serial place) answer.Clear (subst (Recodes s t) m.codes same)
       (record { starts_none = refl; asks_none = refl; rounds_none = refl; elsewhere = λ p. record { starts_not = refl; begins_not = refl; ends_not = refl } }) m
-      (rw records (looked_records s.records.items w serial place code r sound i m.records at_slot)) (λ n. refl)));
+      (rw records (looked_records s.records.items w serial place code r sound i m.records at_slot))
+      (rw index (cells_stay s.index w (coded w w.codes (event.Look serial place) answer.Clear) refl refl refl m.index))));
   sizes = record { places = ap (λ v. length v.items) same.places; slots = ap (λ (x : TableView). x.slots) same.table; methods = ap (λ (x : TableView). x.methods) same.table };
 }
+
+-- A code stays in its slot where its state takes one.
+taken_cells : (cells : List Cell) (w : World) (serial : ℕ) (state : CodeState) (code : Code) (e : Event) (a : Answer) → IsSound w → unfreed w.codes serial ≡ Some code → takes_slot state ≡ true → SameCells cells w
+    → SameCells cells (coded w (with_state w.codes serial state) e a)
+taken_cells cells w serial state code e a sound found takes same = restated_cells cells w serial state e a
+    (λ k is. (let one : Some code ≡ Some k = sym (unfreed_code w.slots w.methods w.codes sound.table serial code found) ∙ is in
+    let are : code ≡ k = cc in subst (λ (c : Code). takes_slot c.state ≡ true) are (unfreed_takes w.codes serial code found)))
+    (λ k is frees. absurd (false≢true (sym frees ∙ takes))) same
 
 -- Invalidating.
 invalidate_accepted : (w : World) (serial : ℕ) (code : Code) → IsCode w serial code InUse → outcome w (event.Invalidate serial) ≡ accepted (record w { codes = with_state w.codes serial NotEntrant }) answer.Done
@@ -257,8 +270,8 @@ invalidated_records records w serial now code sound i is few h low = record {
     after = coded w (with_state w.codes serial NotEntrant) (event.Invalidate serial) answer.Done
 
 pub left : (s t : Core) (serial : ℕ) (code : Code) → unfreed s.table.codes serial ≡ Some code → invalidate_fault (unfreed s.table.codes serial) ≡ None → length s.places.items ≤ 64 → code.slot < length s.records.items
-    → Recodes s t (with_state s.table.codes serial NotEntrant) → t.records.items ≡ slice_set s.records.items code.slot (new_record s.moment) → Does (event.Invalidate serial) s answer.Done t
-left s t serial code found used few low same records = record {
+    → Recodes s t (with_state s.table.codes serial NotEntrant) → t.records.items ≡ slice_set s.records.items code.slot (new_record s.moment) → t.index ≡ s.index → Does (event.Invalidate serial) s answer.Done t
+left s t serial code found used few low same records index = record {
   each = λ w sound m. (
       let in_world : unfreed w.codes serial ≡ Some code = ap (λ cs. unfreed cs serial) (sym m.codes) ∙ found in
       let i : IsCode w serial code InUse = record { found = in_world; state_is = in_use_is (unfreed s.table.codes serial) code found used; serial_is = unfreed_serial w.codes serial code in_world } in
@@ -267,7 +280,8 @@ left s t serial code found used few low same records = record {
       accepted_in t w (record w { codes = with_state w.codes serial NotEntrant }) (event.Invalidate serial) answer.Done (invalidate_accepted w serial code i)
       (coded_matches s t w (with_state w.codes serial NotEntrant) (event.Invalidate serial) answer.Done (subst (λ cs. Recodes s t (with_state cs serial NotEntrant)) m.codes same)
       (record { starts_none = refl; asks_none = refl; rounds_none = refl; elsewhere = λ p. record { starts_not = refl; begins_not = refl; ends_not = refl } }) m
-      (rw records (invalidated_records s.records.items w serial s.moment code sound i m.moment_is few_places m.records low)) (restated_walks w serial NotEntrant)));
+      (rw records (invalidated_records s.records.items w serial s.moment code sound i m.moment_is few_places m.records low))
+      (rw index (taken_cells s.index w serial NotEntrant code (event.Invalidate serial) answer.Done sound in_world refl m.index))));
   sizes = record { places = ap (λ v. length v.items) same.places; slots = ap (λ (x : TableView). x.slots) same.table; methods = ap (λ (x : TableView). x.methods) same.table };
 }
 
@@ -318,11 +332,11 @@ all_looked s w serial code r sound m i at_slot all =
     let lengths = m.places.lengths in
     none_below (λ p. not (is_looked w.log code.serial p)) (length w.places) (λ q lt. ap not (sym (was.looked_is q lt) ∙ all q (omega arith)))
 
-counts_walk : (s : Core) (w : World) (serial n : ℕ) (code : Code) → IsSound w → Matches s w → IsCode w serial code NotEntrant → n ≡ count_in s.index.entries serial → n ≡ walk w (id_of code)
-counts_walk s w serial n code sound m i is = is ∙ (m.index serial ∙ ap (walk_of w) (unfreed_code w.slots w.methods w.codes sound.table serial code i.found))
+counts_walk : (s : Core) (w : World) (serial n : ℕ) (code : Code) → IsSound w → Matches s w → IsCode w serial code NotEntrant → n ≡ count_at s.index code.slot serial → n ≡ walk w (id_of code)
+counts_walk s w serial n code sound m i is = is ∙ count_here s.index w m.index sound.table serial code i.found
 
 pub used : (s : Core) (serial n : ℕ) (code : Code) (r : Record) → not_entrant (unfreed s.table.codes serial) ≡ Ok code → slice_get s.records.items code.slot ≡ Some r
-    → ((place : ℕ) → place < length s.places.items → slice_index_or r.looked place true ≡ true) → n ≡ count_in s.index.entries serial → n ≢ 0 → Does (event.Weigh serial) s (answer.Used n) s
+    → ((place : ℕ) → place < length s.places.items → slice_index_or r.looked place true ≡ true) → n ≡ count_at s.index code.slot serial → n ≢ 0 → Does (event.Weigh serial) s (answer.Used n) s
 used s serial n code r h at_slot all is some = record {
   each = λ w sound m. (
       let i = left_code s w serial code m h in
@@ -339,9 +353,9 @@ used s serial n code r h at_slot all is some = record {
     by w code e = rw e refl
 
 pub retired : (s t : Core) (serial n : ℕ) (code : Code) (r : Record) → not_entrant (unfreed s.table.codes serial) ≡ Ok code → slice_get s.records.items code.slot ≡ Some r
-    → ((place : ℕ) → place < length s.places.items → slice_index_or r.looked place true ≡ true) → n ≡ count_in s.index.entries serial → n ≡ 0
-    → Recodes s t (with_state s.table.codes serial Zombie) → t.records ≡ s.records → Does (event.Weigh serial) s answer.Retired t
-retired s t serial n code r h at_slot all is none same records = record {
+    → ((place : ℕ) → place < length s.places.items → slice_index_or r.looked place true ≡ true) → n ≡ count_at s.index code.slot serial → n ≡ 0
+    → Recodes s t (with_state s.table.codes serial Zombie) → t.records ≡ s.records → t.index ≡ s.index → Does (event.Weigh serial) s answer.Retired t
+retired s t serial n code r h at_slot all is none same records index = record {
   each = λ w sound m. (
       let i = left_code s w serial code m h in
       let walks = counts_walk s w serial n code sound m i is in
@@ -350,7 +364,8 @@ retired s t serial n code r h at_slot all is none same records = record {
       accepted_in t w (record w { codes = with_state w.codes serial Zombie }) (event.Weigh serial) answer.Retired said
       (coded_matches s t w (with_state w.codes serial Zombie) (event.Weigh serial) answer.Retired (subst (λ cs. Recodes s t (with_state cs serial Zombie)) m.codes same)
       (record { starts_none = refl; asks_none = refl; rounds_none = refl; elsewhere = λ p. record { starts_not = refl; begins_not = refl; ends_not = refl } }) m
-      (rw records (restated_records s.records.items w serial Zombie (event.Weigh serial) answer.Retired (λ e. cc) (λ n. refl) (λ n p. refl) m.records)) (restated_walks w serial Zombie)));
+      (rw records (restated_records s.records.items w serial Zombie (event.Weigh serial) answer.Retired (λ e. cc) (λ n. refl) (λ n p. refl) m.records))
+      (rw index (taken_cells s.index w serial Zombie code (event.Weigh serial) answer.Retired sound i.found refl m.index))));
   sizes = record { places = ap (λ v. length v.items) same.places; slots = ap (λ (x : TableView). x.slots) same.table; methods = ap (λ (x : TableView). x.methods) same.table };
 }
   where

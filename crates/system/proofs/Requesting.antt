@@ -1,19 +1,21 @@
 -- Ask and Open: what they answer, and what the system has after them.
-use Rattle.std.proofs.Common.{◌≡◌, ◌∙◌, ◌+◌, ◌≤◌, sym, ap, refl, subst, ℕ, Bool, true, false, ◌&&◌, ◌||◌, ◌==◌, eqb, cond, List, [], ◌∷◌, ◌++◌, Option, Some, None, length, map, arith}
+use Rattle.std.proofs.Common.{◌≡◌, ◌∙◌, ◌+◌, ◌<◌, ◌≤◌, sym, ap, refl, subst, ℕ, Bool, true, false, ◌&&◌, ◌||◌, ◌==◌, eqb, cond, List, [], ◌∷◌, ◌++◌, Option, Some, None, length, map, arith}
 use Rattle.std.specs.Prelude.{slice_get, filter, nat_lt, nat_le}
 use Rattle.std.specs.List.{list_any}
 use Rattle.std.proofs.lemmas.Bool.Decides.{nat_tests}
 use Rattle.method_table.specs.Numbers.{last_number}
 use Rattle.operations.specs.declared.Request.{Request}
 use Rattle.operations.specs.declared.queue.Waiting.{Waiting as Queued}
+use Rattle.operations.specs.declared.queue.QueueFault.{QueueFault}
 use Rattle.operations.specs.declared.queue.QueueFault.TheVariants as fault
 use Rattle.operations.specs.Queues.{MayWait, IsCause}
-use Rattle.operations.specs.Names.{among}
-use Rattle.operations.specs.Requests.{is_target, kind_of}
+use Rattle.operations.specs.Names.{among, is_empty}
+use Rattle.operations.specs.Requests.{is_census, is_target, kind_of}
 use Rattle.system.specs.declared.events.Event.{Event}
 use Rattle.system.specs.declared.events.Event.TheVariants as event
 use Rattle.system.specs.declared.answers.Answer.{Answer}
 use Rattle.system.specs.declared.answers.Answer.TheVariants as answer
+use Rattle.system.specs.declared.answers.Refusal.{Refusal}
 use Rattle.system.specs.declared.answers.Refusal.TheVariants as refusal
 use Rattle.system.specs.declared.records.Record.{Record}
 use Rattle.system.specs.declared.requests.Open.{Open}
@@ -25,12 +27,19 @@ use Rattle.system.specs.Log.{Entry, is_start, is_round, is_invalidate, is_look, 
 use Rattle.system.specs.Threads.{Thread}
 use Rattle.system.specs.World.{World, thread_at, threads, live_names, is_live}
 use Rattle.system.specs.Step.{outcome}
+use Rattle.system.specs.Asking.{refusal_of}
 use Rattle.system.specs.Facts.{IsSound}
-use Rattle.system.specs.Stands.{Matches, SamePlaces, SameMarks, SameRecord, SameRecords, SameOpen, SameOpened, SameSizes, Does, waiting_of, done_by, kept_at}
+use Rattle.system.specs.Memory.{Accepts}
+use Rattle.system.specs.Marking.{SameMarks, SameOpens}
+use Rattle.system.specs.Stands.{Matches, SamePlaces, SameRecord, SameRecords, SameSizes, Does, waiting_of, kept_at}
+use Rattle.system.proofs.Cells.{cells_stay}
 use Rattle.system.proofs.Lists.{map_length}
-use Rattle.system.proofs.Outcomes.{asked, with_request, newly_opened}
+use Rattle.system.proofs.Outcomes.{asked, with_request, newly_opened, with_opened, Opens}
+use Rattle.system.proofs.ByCases.{empty_of}
+use Rattle.system.proofs.Marking.{fewer_own, opened_own}
+use Rattle.system.proofs.Pairs.{empty_same, opens_push}
 use Rattle.system.proofs.Logs.{IsElsewhere, names_next, operations_next, moment_next, left_next, looked_next, moments_next, place_over, opened_over}
-use Rattle.system.proofs.Codings.{accepted_in, refused_does}
+use Rattle.system.proofs.Codings.{accepted_in, answered_as, none_some, refused_does, same_some}
 use Rattle.system.proofs.Marks.{among_live}
 
 -- A system that differs in its requests alone.
@@ -56,7 +65,7 @@ pub record Asked (s t : Core) (w : World) (requests : Requests) (e : Event) (a :
   pub entry : IsOfRequests e a
   pub numbers : t.requests.numbers ≡ operations_given (record { event = e; answer = a } ∷ w.log)
   pub waiting : map waiting_of t.requests.waiting ≡ requests.waiting
-  pub opened : SameOpen t.requests.open requests.opened (asked w requests e a)
+  pub opened : SameOpens t.requests.opens requests.opened (asked w requests e a)
   pub marks : (m : Marks) (name : ℕ) → SameMarks m w.requests name → SameMarks m requests name
 
 records_over : (records : List Record) (w : World) (requests : Requests) (e : Event) (a : Answer) → IsOfRequests e a → SameRecords records w → SameRecords records (asked w requests e a)
@@ -79,7 +88,7 @@ pub record AskedLive (s t : Core) (w : World) (requests : Requests) (e : Event) 
   pub entry : IsOfRequests e a
   pub numbers : t.requests.numbers ≡ operations_given (record { event = e; answer = a } ∷ w.log)
   pub waiting : map waiting_of t.requests.waiting ≡ requests.waiting
-  pub opened : SameOpen t.requests.open requests.opened (asked w requests e a)
+  pub opened : SameOpens t.requests.opens requests.opened (asked w requests e a)
   pub marks : (m : Marks) (place : ℕ) (u : Thread) → thread_at w place ≡ Some u → SameMarks m w.requests u.name → SameMarks m requests u.name
 
 pub asked_live : (s t : Core) (w : World) (requests : Requests) (e : Event) (a : Answer) → Matches s w → AskedLive s t w requests e a → Matches t (asked w requests e a)
@@ -103,8 +112,7 @@ asked_live s t w requests e a m k =
       numbers = k.numbers;
       waiting = k.waiting;
       opened = k.opened;
-      index_slots = ap (λ ix. ix.slots) k.rest.index ∙ m.index_slots;
-      index = λ serial. rw k.rest.index (m.index serial);
+      index = rw k.rest.index (cells_stay s.index w v refl refl refl m.index);
     }
 
 pub asked_matches : (s t : Core) (w : World) (requests : Requests) (e : Event) (a : Answer) → Matches s w → Asked s t w requests e a → Matches t (asked w requests e a)
@@ -119,19 +127,6 @@ asked_matches s t w requests e a m k = asked_live s t w requests e a m (record {
 
 pub sizes_stay : (s t : Core) → Rerequests s t → SameSizes s t
 sizes_stay s t k = record { places = ap (λ v. length v.items) k.places; slots = ap (λ tb. tb.slots) k.table; methods = ap (λ tb. tb.methods) k.table }
-
--- Marks where other requests wait or are open.
-pub marks_over : (m : Marks) (name : ℕ) (old : Requests) (ws : List Waiting) (os : List Opened) → ((o : Opened) → os ≡ o ∷ [] → is_marked old.told o.number name ≡ true → is_marked old.done o.number name ≡ done_by o m)
-    → SameMarks m old name → SameMarks m (record old { waiting = ws; opened = os }) name
-marks_over m name old ws os done h = record {
-  told_last = h.told_last;
-  told_is = h.told_is;
-  cleared_is = h.cleared_is;
-  older = h.older;
-  cleared_old = h.cleared_old;
-  done_old = h.done_old;
-  done_is = done;
-}
 
 -- Ask.
 waiting_length : (s : Core) (w : World) → Matches s w → length w.requests.waiting ≡ length s.requests.waiting
@@ -167,7 +162,7 @@ ask_in : (s : Core) (w : World) (request : Request) → Matches s w → nat_lt s
 ask_in s w request m room may = rw (room_in s w true m room, few_in s w true m may.0, may.1, may.2) refl
 
 pub asked_does : (s t : Core) (request : Request) → nat_lt s.requests.numbers last_number ≡ true → MayWait (length s.requests.waiting) request → Rerequests s t
-    → t.requests.numbers ≡ s.requests.numbers + 1 → t.requests.waiting ≡ s.requests.waiting ++ record { number = s.requests.numbers + 1; request = request; load = tt } ∷ [] → t.requests.open ≡ s.requests.open
+    → t.requests.numbers ≡ s.requests.numbers + 1 → t.requests.waiting ≡ s.requests.waiting ++ record { number = s.requests.numbers + 1; request = request; load = tt } ∷ [] → t.requests.opens ≡ s.requests.opens
     → Does (event.Ask request) s (answer.Asked (s.requests.numbers + 1)) t
 asked_does s t request room may rest numbers waiting open_is = record {
   each = λ w sound m. (
@@ -179,35 +174,19 @@ asked_does s t request room may rest numbers waiting open_is = record {
         entry = of_ask request (operations_given w.log + 1);
         numbers = numbers ∙ (let n = operations_next entry w.log in let same = m.numbers in omega (arith, n, same));
         waiting = ap (map waiting_of) waiting ∙ (map_push waiting_of s.requests.waiting (record { number = s.requests.numbers + 1; request = request; load = tt }) ∙ rw (m.waiting, m.numbers) refl);
-        opened = rw open_is (opened_over s.requests.open w.requests.opened w (asked w (with_request w request) (event.Ask request) a) (let n = names_stay w (event.Ask request) a (of_ask request (operations_given w.log + 1)) in omega (arith, n)) (λ name lives. lives) m.opened);
-        marks = λ k name h. marks_over k name w.requests (with_request w request).waiting w.requests.opened h.done_is h;
+        opened = rw open_is (opened_over s.requests.opens w.requests.opened w (asked w (with_request w request) (event.Ask request) a) (let n = names_stay w (event.Ask request) a (of_ask request (operations_given w.log + 1)) in omega (arith, n)) (λ name lives. lives) m.opened);
+        marks = λ k name h. fewer_own w.requests (with_request w request).waiting w.requests.opened name k (λ i o at. (i, at)) h;
       }))));
   sizes = sizes_stay s t rest;
 }
 
 -- Open.
-pub none_open : (open_ : Option Open) (os : List Opened) (w : World) → SameOpen open_ os w → open_ ≡ None → os ≡ []
-none_open None [] w h e = refl
-none_open None (o ∷ os) w h e = absurd h
-none_open (Some open_) os w h e = cc
+pub already_open : (s : Core) → is_empty s.requests.opens ≡ false → Does event.Open s (answer.Refused refusal.AlreadyOpen) s
+already_open s some = refused_does s event.Open refusal.AlreadyOpen (λ w m. (let is : is_empty w.requests.opened ≡ false = empty_same w s.requests.opens w.requests.opened m.opened ∙ some in rw is refl))
 
-pub record OneOpen (open_ : Open) (os : List Opened) (w : World) : Type 0 where
-  pub o : Opened
-  pub is : os ≡ o ∷ []
-  pub same : SameOpened open_ o w
-
-pub one_open : (kept : Option Open) (os : List Opened) (w : World) (open_ : Open) → SameOpen kept os w → kept ≡ Some open_ → OneOpen open_ os w
-one_open None os w open_ h e = cc
-one_open (Some k) [] w open_ h e = absurd h
-one_open (Some k) (o ∷ p ∷ os) w open_ h e = absurd h
-one_open (Some k) (o ∷ []) w open_ h e = let same : k ≡ open_ = cc in record { o = o; is = refl; same = subst (λ x. SameOpened x o w) same h }
-
-pub already_open : (s : Core) (open_ : Open) → s.requests.open ≡ Some open_ → Does event.Open s (answer.Refused refusal.AlreadyOpen) s
-already_open s open_ is = refused_does s event.Open refusal.AlreadyOpen (λ w m. (let k = one_open s.requests.open w.requests.opened w open_ m.opened is in rw k.is refl))
-
-pub queue_empty : (s : Core) → s.requests.open ≡ None → s.requests.waiting ≡ [] → Does event.Open s (answer.Refused refusal.QueueEmpty) s
+pub queue_empty : (s : Core) → is_empty s.requests.opens ≡ true → s.requests.waiting ≡ [] → Does event.Open s (answer.Refused refusal.QueueEmpty) s
 queue_empty s none empty = refused_does s event.Open refusal.QueueEmpty (λ w m. (
-    let none_is : w.requests.opened ≡ [] = none_open s.requests.open w.requests.opened w m.opened none in
+    let none_is : is_empty w.requests.opened ≡ true = empty_same w s.requests.opens w.requests.opened m.opened ∙ none in
     let empty_is : w.requests.waiting ≡ [] = sym m.waiting ∙ ap (map waiting_of) empty in
     rw (none_is, empty_is) refl))
 
@@ -240,50 +219,71 @@ live_name_low w name sound lives =
 of_open : (a : Answer) → IsOfRequests event.Open a
 of_open a = record { starts_none = refl; rounds_none = refl; invalidates_none = λ r. refl; looks_none = λ r place. refl; elsewhere = λ place. record { starts_not = refl; begins_not = refl; ends_not = refl } }
 
-and_both : (a b c : Bool) → b ≡ true → c ≡ true → a && b ≡ a && c
-and_both a b c e f = rw (e, f) refl
+and_both : (a b c : Bool) → b ≡ true → c ≡ true → a && b ≡ c && a
+and_both a b c e f = rw (e, f) (and_true a)
+  where
+    and_true : (x : Bool) → x && true ≡ x
+    and_true true = refl
+    and_true false = refl
 
-opened_live : (w : World) (request : Request) (names name : ℕ) → IsSound w → names ≡ names_given w.log → is_live w name ≡ true → among name (filter (is_target request) (live_names w)) ≡ is_target request name && nat_le name names
+opened_live : (w : World) (request : Request) (names name : ℕ) → IsSound w → names ≡ names_given w.log → is_live w name ≡ true → among name (filter (is_target request) (live_names w)) ≡ (nat_le name names && is_target request name)
 opened_live w request names name sound is lives =
     let low : name ≤ names_given w.log = live_name_low w name sound lives in
     let within : nat_le name names ≡ true = grind (arith, nat_tests) in
     among_filter (is_target request) name (live_names w) ∙ and_both (is_target request name) (among name (live_names w)) (nat_le name names) (among_names name (threads w.places) ∙ lives) within
 
--- Nothing of a number that waits was told.
-waits_untold : (w : World) (oldest : Waiting) (others : List Waiting) (name : ℕ) → IsSound w → w.requests.waiting ≡ oldest ∷ others → is_marked w.requests.told oldest.number name ≡ true → ⊥
-waits_untold w oldest others name sound is told =
-    let low = (sound.marks.told_opened oldest.number name told).1 in
-    let first = sound.numbers.waiting_is 0 oldest (subst (λ ws. slice_get ws 0 ≡ Some oldest) (sym is) refl) in
-    omega (arith, low, first)
-
-pub opened_does : (s t : Core) (oldest : Queued (Unit {0})) (others : List (Queued (Unit {0}))) → s.requests.open ≡ None → s.requests.waiting ≡ oldest ∷ others → Rerequests s t
-    → t.requests.numbers ≡ s.requests.numbers → t.requests.waiting ≡ others → t.requests.open ≡ Some (record { number = oldest.number; request = oldest.request; names = s.names; operated = false })
+pub opened_does : (s t : Core) (oldest : Queued (Unit {0})) (others : List (Queued (Unit {0}))) → is_empty s.requests.opens ≡ true → s.requests.waiting ≡ oldest ∷ others → Rerequests s t
+    → t.requests.numbers ≡ s.requests.numbers → t.requests.waiting ≡ others → t.requests.opens ≡ s.requests.opens ++ record { number = oldest.number; request = oldest.request; names = s.names; operated = false } ∷ []
     → Does event.Open s (answer.Opened oldest.number (kind_of oldest.request)) t
-opened_does s t oldest others none is rest numbers waiting open_is = record {
+opened_does s t oldest others none is rest numbers waiting opens_are = record {
   each = λ w sound m. (
       let a : Answer = answer.Opened oldest.number (kind_of oldest.request) in
       let entry : Entry = record { event = event.Open; answer = a } in
       let o : Opened = newly_opened w (waiting_of oldest) in
-      let requests : Requests = record w.requests { waiting = map waiting_of others; opened = o ∷ [] } in
-      let none_is : w.requests.opened ≡ [] = none_open s.requests.open w.requests.opened w m.opened none in
+      let requests : Requests = with_opened w (waiting_of oldest) (map waiting_of others) in
+      let v : World = asked w requests event.Open a in
+      let none_is : is_empty w.requests.opened ≡ true = empty_same w s.requests.opens w.requests.opened m.opened ∙ none in
       let waits : w.requests.waiting ≡ waiting_of oldest ∷ map waiting_of others = sym m.waiting ∙ ap (map waiting_of) is in
       let said : outcome w event.Open ≡ accepted (record w { requests = requests }) a = rw (none_is, waits) refl in
+      let nobody : w.requests.opened ≡ [] = empty_of w.requests.opened none_is in
+      let opens : Opens w (waiting_of oldest) (map waiting_of others) = record {
+        few = subst (λ (os : List Opened). length os < 4) (sym nobody) (omega arith);
+        no_safepoint = ap (λ (os : List Opened). list_any (λ (x : Opened). is_census x.request) os) nobody;
+        alone = λ census. nobody;
+        none_open = nobody;
+        waiting_is = waits;
+      } in
+      let low : names_given w.log ≤ names_given v.log = (let n = names_stay w event.Open a (of_open a) in omega (arith, n)) in
       accepted_in t w (record w { requests = requests }) event.Open a said
       (asked_matches s t w requests event.Open a m (record {
         rest = rest;
         entry = of_open a;
         numbers = numbers ∙ (let n = operations_next entry w.log in let same = m.numbers in omega (arith, n, same));
         waiting = ap (map waiting_of) waiting;
-        opened = rw open_is (record {
+        opened = rw opens_are (opens_push v s.requests.opens w.requests.opened _ o (opened_over s.requests.opens w.requests.opened w v low (λ name lives. lives) m.opened) (record {
           number = refl;
           request = refl;
           operated = refl;
-          names = (let n = names_stay w event.Open a (of_open a) in let same = m.names in omega (arith, n, same));
+          names = (let same = m.names in omega (arith, low, same));
           live = λ name lives. opened_live w oldest.request s.names name sound m.names lives;
-        });
-        marks = λ k name h. marks_over k name w.requests (map waiting_of others) (o ∷ []) (λ p only told. (
-            let same : o ≡ p = cc in
-            absurd (waits_untold w (waiting_of oldest) (map waiting_of others) name sound waits (subst (λ (x : Opened). is_marked w.requests.told x.number name ≡ true) (sym same) told)))) h;
+        }));
+        marks = λ k name h. opened_own w (waiting_of oldest) (map waiting_of others) name k sound opens h;
       })));
   sizes = sizes_stay s t rest;
 }
+
+-- A request that doesn't wait, and one that would.
+pub not_queued : (s : Core) (request : Request) (f : QueueFault) (r : Refusal) → nat_lt s.requests.numbers last_number ≡ true → IsCause (length s.requests.waiting) request f → refusal_of f ≡ Some r → Does (event.Ask request) s (answer.Refused r) s
+not_queued s request fault.QueueFull r room cause is = answered_as s s (event.Ask request) (answer.Refused refusal.QueueFull) (answer.Refused r) (ap answer.Refused (same_some is)) (queue_full s request room cause)
+not_queued s request fault.NoTargets r room cause is = answered_as s s (event.Ask request) (answer.Refused refusal.NoTargets) (answer.Refused r) (ap answer.Refused (same_some is)) (no_targets s request room cause)
+not_queued s request fault.BadTargets r room cause is = answered_as s s (event.Ask request) (answer.Refused refusal.BadTargets) (answer.Refused r) (ap answer.Refused (same_some is)) (bad_targets s request room cause)
+not_queued s request fault.NoMemory r room cause is = absurd (none_some is)
+
+pub may_ask : (s : Core) (request : Request) → nat_lt s.requests.numbers last_number ≡ true → MayWait (length s.requests.waiting) request → Accepts s (event.Ask request)
+may_ask s request room may = λ w sound m. rw (ask_in s w request m room may) refl
+
+pub would_queue : (s : Core) (request : Request) (f : QueueFault) → nat_lt s.requests.numbers last_number ≡ true → IsCause (length s.requests.waiting) request f → refusal_of f ≡ None → Accepts s (event.Ask request)
+would_queue s request fault.QueueFull room cause is = cc
+would_queue s request fault.NoTargets room cause is = cc
+would_queue s request fault.BadTargets room cause is = cc
+would_queue s request fault.NoMemory room cause is = may_ask s request room cause

@@ -1,9 +1,12 @@
 -- One more event, and a whole run.
-use Rattle.std.proofs.Common.{◌≡◌, ℕ, zero, suc, ◌+◌, ◌<◌, ◌∙◌, sym, List, [], ◌∷◌, ◌++◌, length, get_or, Option, Some, None, Result, Ok, Err, refl, ap, subst, arith, take, append_assoc, replicate}
-use Rattle.std.specs.Prelude.{IfOk, slice_get}
+use Rattle.std.proofs.Common.{◌≡◌, ℕ, zero, suc, ◌+◌, ◌<◌, ◌∙◌, sym, List, [], ◌∷◌, ◌++◌, length, get_or, Option, Some, None, Result, Ok, Err, refl, ap, subst, arith, ◌⊎◌, ⊎_elim, take, append_assoc, replicate}
+use Rattle.std.specs.Prelude.{Bool, true, false, IfOk, IsOk, OnErr, slice_get}
 use Rattle.std.specs.declared.alloc.AllocError.{AllocError}
 use Rattle.std.proofs.lemmas.List.{take_more, length-replicate}
+use Rattle.std.proofs.lemmas.Option.{slice_get_read}
+use Rattle.activation_index.specs.Cells.{cell_of}
 use Rattle.system.specs.declared.events.Event.{Event}
+use Rattle.system.specs.declared.events.Event.TheVariants as event
 use Rattle.system.specs.declared.answers.Answer.{Answer}
 use Rattle.system.specs.declared.thread.Thread.{Thread as Kept}
 use Rattle.system.specs.declared.keeping.Core.{Core}
@@ -11,7 +14,9 @@ use Rattle.system.specs.Threads.{Thread}
 use Rattle.system.specs.World.{World, start_world, found}
 use Rattle.system.specs.Runs.{after, answer_to, world_after, answers}
 use Rattle.system.specs.Facts.{IsSound}
-use Rattle.system.specs.Stands.{Matches, StandsFor, world_by, SameSizes, Next, Does, DoesIn, OfWorld, IsSized, places_of, slots_of, methods_of, kept_at, held_at}
+use Rattle.system.specs.Memory.{NeedsMemory, Accepts, StopsAt, copies_freely}
+use Rattle.system.specs.Stands.{Matches, StandsFor, world_by, SameSizes, Next, Does, DoesIn, OfWorld, IsSized, places_of, slots_of, methods_of, kept_at, held_at, takes_no_memory}
+use Rattle.system.proofs.Cells.{no_cells}
 use Rattle.system.proofs.Worlds.{worlds_are_sound}
 
 pub world_after-push : (w : World) (events : List Event) (event : Event) → world_after w (events ++ event ∷ []) ≡ after (world_after w events) event
@@ -75,6 +80,41 @@ ran_on first s new before all place event said more a sizes lt read so_far stand
       subst (λ xs. StandsFor new xs) (append_assoc before done (event ∷ []) ∙ ap (λ xs. before ++ xs) (sym longer)) next.1,
     )
 
+-- where memory is refused
+pub on_err : {P : Type 0} (result : Result Answer AllocError) → P → OnErr result P
+on_err (Ok said) p = tt
+on_err (Err e) p = p
+
+pub needs_of : (s : Core) (event : Event) (result : Result Answer AllocError) → (takes_no_memory event ≡ true → IsOk result) → OnErr result (Accepts s event) → (before : List Event) → StandsFor s before → OnErr result (NeedsMemory (world_by s before) event)
+needs_of s event (Ok said) ok may before stands = tt
+needs_of s event (Err e) ok may before stands = record { takes = takes (takes_no_memory event) refl; accepted = may (world_by s before) (sound_by s before) stands }
+  where
+    takes : (b : Bool) → takes_no_memory event ≡ b → takes_no_memory event ≡ false
+    takes true is = let bad = ok is in cc
+    takes false is = is
+
+-- an event that couldn't be copied
+pub copy_needs : (s : Core) (given : Event) → (copies_freely given ≡ true → ⊥) → (copies_freely given ≡ true) ⊎ Accepts s given → (before : List Event) → StandsFor s before → NeedsMemory (world_by s before) given
+copy_needs s given costs may before stands = record {
+  takes = takes given costs;
+  accepted = ⊎_elim (λ free. absurd (costs free)) (λ accepts. accepts (world_by s before) (sound_by s before) stands) may;
+}
+  where
+    takes : (e : Event) → (copies_freely e ≡ true → ⊥) → takes_no_memory e ≡ false
+    takes (event.Ask request) h = refl
+    takes other h = absurd (h refl)
+
+pub next_same : (s : Core) (event : Event) (said : Answer) → Does event s said s → Next s event said s
+next_same s event said does = stands_next s s event said does
+
+-- a run that stops at an event
+pub stops_at : (first s : Core) (before all : List Event) (place : ℕ) (event : Event) → SameSizes first s → place < length all → get_or all place event ≡ event → NeedsMemory (world_by s (before ++ take place all)) event → StopsAt (world_by first before) all place
+stops_at first s before all place event sizes lt read needs = record {
+  event = event;
+  is_there = slice_get_read all (length all) place event refl lt (sym read);
+  needs = subst (λ w. NeedsMemory w event) (same_worlds first s (before ++ take place all) sizes ∙ world_after-append (start_world (places_of first) (slots_of first) (methods_of first)) before (take place all)) needs;
+}
+
 -- at the start
 none_kept : (n p : ℕ) → kept_at (replicate n None) p ≡ None
 none_kept n p = by (slice_get (replicate {A = Option Kept} n None) p) refl
@@ -105,12 +145,12 @@ pub record IsBlank (s : Core) (places slots methods : ℕ) : Type 0 where
   pub places_are : s.places.items ≡ replicate places None
   pub table_is : s.table ≡ record { codes = []; slots = slots; methods = methods }
   pub records_are : length s.records.items ≡ slots
-  pub index_is : s.index ≡ record { slots = slots; entries = [] }
+  pub index_is : s.index ≡ replicate slots (cell_of 0 0)
   pub names_are : s.names ≡ 0
   pub moment_is : s.moment ≡ 1
   pub numbers_are : s.requests.numbers ≡ 0
   pub waiting_are : s.requests.waiting ≡ []
-  pub open_is : s.requests.open ≡ None
+  pub opens_are : s.requests.opens ≡ []
 
 blank_matches : (s : Core) (places slots methods : ℕ) → IsBlank s places slots methods → Matches s (start_world places slots methods)
 blank_matches s places slots methods b = record {
@@ -126,9 +166,8 @@ blank_matches s places slots methods b = record {
   moment_is = b.moment_is;
   numbers = b.numbers_are;
   waiting = rw b.waiting_are refl;
-  opened = rw b.open_is tt;
-  index_slots = ap (λ i. i.slots) b.index_is;
-  index = λ serial. rw b.index_is refl;
+  opened = rw b.opens_are tt;
+  index = rw b.index_is (no_cells places slots methods);
 }
 
 pub blank_stands : (s : Core) (places slots methods : ℕ) → IsBlank s places slots methods → StandsFor s [] × (places_of s ≡ places) × (slots_of s ≡ slots) × (methods_of s ≡ methods)

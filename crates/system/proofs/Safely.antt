@@ -1,7 +1,11 @@
 -- Operations run on published stacks, of threads at safe points.
-use Rattle.std.proofs.Common.{◌≡◌, ℕ, zero, suc, ◌+◌, ◌<◌, ◌≤◌, true, List, [], ◌∷◌, length, Option, Some, None, refl, ap, arith}
-use Rattle.std.specs.Prelude.{slice_get, sum_by}
-use Rattle.std.proofs.lemmas.Bool.{false≢true, or_cases}
+use Rattle.std.proofs.Common.{◌≡◌, ℕ, zero, suc, ◌+◌, ◌<◌, ◌≤◌, Bool, true, false, List, [], ◌∷◌, length, Option, Some, None, sym, refl, ap, subst, arith}
+use Rattle.std.specs.Prelude.{not, ◌&&◌, nat_lt, slice_get, sum_by}
+use Rattle.std.proofs.lemmas.Bool.{false≢true, or_cases, ltb-true, ltb-false}
+use mathlib.Core.Logic.{dite}
+use native.Mathlib.Decide.{ℕ_discrete}
+use Rattle.operations.specs.Names.{among}
+use Rattle.system.specs.Places.{is_undone}
 use Rattle.std.proofs.lemmas.List.Sums.{sum_by-cons}
 use Rattle.frames.specs.declared.CodeId.{CodeId}
 use Rattle.operations.specs.declared.Ask.{Ask}
@@ -15,18 +19,18 @@ use Rattle.system.specs.declared.answers.Answer.{Answer}
 use Rattle.system.specs.declared.answers.Answer.TheVariants as answer
 use Rattle.thread_state.specs.States.{is_serving}
 use Rattle.frames.specs.Stack as stack
-use Rattle.operations.specs.Requests.{lists, reply_to}
+use Rattle.operations.specs.Requests.{is_census, is_target, lists, reply_to}
 use Rattle.system.specs.Threads.{Thread, is_settled}
-use Rattle.system.specs.Operations.{Opened}
+use Rattle.system.specs.Operations.{Opened, is_marked}
 use Rattle.system.specs.World.{World, start_world, found, threads, part_at, census}
 use Rattle.system.specs.Runs.{world_after}
-use Rattle.system.specs.Safepoints.{is_accepted, IsSettled, FinishesSafely, OperatesSafely, HandshakesRunAtSafePoints, CensusesRunAtSafepoints}
-use Rattle.system.proofs.Outcomes.{Finishes, Operates, is_move}
+use Rattle.system.specs.Safepoints.{is_accepted, IsSettled, IsNext, FinishesSafely, OperatesSafely, HandshakesRunAtSafePoints, CensusesRunAtSafepoints}
+use Rattle.system.proofs.Outcomes.{asked, seated, moved, with_done, Finishes, Operates, is_move}
 use Rattle.system.proofs.Cases.{Cases}
 use Rattle.system.proofs.ByCases.{by_cases}
-use Rattle.system.proofs.Lists.{all_at}
+use Rattle.system.proofs.Lists.{all_at, any_at, find_before, same_at, at_low}
 use Rattle.system.proofs.Frames.{settled_quiet, settled_is, part_settled}
-use Rattle.system.proofs.Marks.{threads_has}
+use Rattle.system.proofs.Marks.{threads_has, first_open}
 use Rattle.system.proofs.Seats.{there_of}
 use Rattle.system.proofs.Sound.{IsKept, kept_start, kept_after}
 
@@ -34,67 +38,113 @@ pub settled : (t : Thread) → is_settled t ≡ true → IsSettled t
 settled t h = record { quiet = settled_quiet t h; counts = λ code. settled_is t code h }
 
 -- What a Finish and an Operate must be.
-abbrev IsSafeFinish : World → Event → Answer → Type 0
-IsSafeFinish w (event.At p act.Finish) said = FinishesSafely w p said
-IsSafeFinish w e said = Unit {0}
+abbrev IsSafeFinish : World → Event → Answer → World → Type 0
+IsSafeFinish w (event.At p act.Finish) said later = FinishesSafely w p said later
+IsSafeFinish w e said later = Unit {0}
 
 abbrev IsSafeOperate : World → Event → Answer → Type 0
 IsSafeOperate w event.Operate said = OperatesSafely w said
 IsSafeOperate w e said = Unit {0}
 
--- A handshake lists the name.
-asked_of : (r : Request) (name : ℕ) → lists r name ≡ true → (targets : List ℕ) × (ask : Ask) × (r ≡ Handshake targets ask)
-asked_of Census name h = absurd (false≢true h)
-asked_of (Handshake targets ask) name h = (targets, ask, refl)
+-- A request that isn't a census is a handshake.
+asked_of : (r : Request) (name : ℕ) → (is_census r ≡ true → ⊥) → is_target r name ≡ true → (targets : List ℕ) × (ask : Ask) × (r ≡ Handshake targets ask) × (among name targets ≡ true)
+asked_of Census name h k = absurd (h refl)
+asked_of (Handshake targets ask) name h k = (targets, ask, refl, k)
+
+census_lists : (r : Request) (name : ℕ) → is_census r ≡ true → lists r name ≡ true → ⊥
+census_lists Census name h k = false≢true k
+census_lists (Handshake targets ask) name h k = false≢true h
 
 -- The open operation alone is open.
 alone : (os : List Opened) (o : Opened) (others : List Opened) → length os ≤ 1 → os ≡ o ∷ others → os ≡ o ∷ []
 alone os o [] few is = is
 alone os o (x ∷ xs) few is = let n : length os ≡ suc (suc (length xs)) = ap (λ (ys : List Opened). length ys) is in absurd (omega arith)
 
-finish_safe : (w : World) (p : ℕ) (t : Thread) (opened : Opened) (others : List Opened) → IsKept w → Finishes w p t opened others → FinishesSafely w p (answer.Reply (reply_to opened.request t.stack))
-finish_safe w p t opened others k i =
-    let request = asked_of opened.request t.name i.listed in record {
+-- The least that is told and not done.
+next_is : (w : World) (p : ℕ) (t : Thread) (opened : Opened) → IsKept w → Finishes w p t opened → IsNext w.requests t.name opened
+next_is w p t opened k i = record {
+  position = found.0;
+  is_open = found.1;
+  told = i.told;
+  not_done = i.not_done;
+  least = λ j o x told less. by j o x told less (nat_lt j found.0) refl;
+}
+  where
+    found : (i : ℕ) × (slice_get w.requests.opened i ≡ Some opened) × ((j : ℕ) (y : Opened) → j < i → slice_get w.requests.opened j ≡ Some y → is_undone w.requests t.name y ≡ false)
+    found = find_before (is_undone w.requests t.name) w.requests.opened opened i.least
+
+    done_of : (a b : Bool) → (a && not b) ≡ false → a ≡ true → b ≡ true
+    done_of a true e h = refl
+    done_of true false e h = absurd (false≢true (sym e))
+    done_of false false e h = absurd (false≢true h)
+
+    by : (j : ℕ) (o : Opened) → slice_get w.requests.opened j ≡ Some o → is_marked w.requests.told o.number t.name ≡ true → o.number < opened.number → (b : Bool) → nat_lt j found.0 ≡ b
+        → is_marked w.requests.done o.number t.name ≡ true
+    by j o x told less true e = done_of (is_marked w.requests.told o.number t.name) (is_marked w.requests.done o.number t.name) (found.2 j o (ltb-true j found.0 e) x) told
+    by j o x told less false e = dite (ℕ_discrete j found.0)
+        (λ same. (let is : o ≡ opened = same_at w.requests.opened found.0 o opened (subst (λ n. slice_get w.requests.opened n ≡ Some o) same x) found.1 in
+        let number = ap (λ (y : Opened). y.number) is in absurd (omega arith)))
+        (λ ne. (let above = after_of j found.0 (ltb-false j found.0 e) ne in let r = k.numbers.opened_rise found.0 j opened o above found.1 x in absurd (omega arith)))
+      where
+        after_of : (a b : ℕ) → b ≤ a → (a ≡ b → ⊥) → b < a
+        after_of a b le ne = omega (arith, ne)
+
+finish_safe : (w : World) (p : ℕ) (t : Thread) (opened : Opened) → IsKept w → Finishes w p t opened
+    → FinishesSafely w p (answer.Reply (reply_to opened.request t.stack)) (asked w (with_done w.requests opened t.name) (event.At p act.Finish) (answer.Reply (reply_to opened.request t.stack)))
+finish_safe w p t opened k i =
+    let live = k.marks.told_live i.open_is.position opened t.name i.open_is.here i.told in
+    let request = asked_of opened.request t.name not_census (k.marks.live_target i.open_is.position opened t.name i.open_is.here live) in record {
       thread = t;
       there = ap found i.acts.stands.there;
       settled = settled t i.settled;
       safe_point = or_cases t.held (is_serving t.state) i.acts.lawful;
       held_safe = k.safe p t i.acts.stands.there;
       opened = opened;
-      opened_is = alone w.requests.opened opened others k.numbers.one_open i.opened_is;
+      next = next_is w p t opened k i;
       targets = request.0;
       ask = request.1;
       handshake = request.2;
+      listed = request.3;
       reply = ap (λ r. answer.Reply (reply_to r t.stack)) request.2;
+      done = refl;
     }
+  where
+    not_census : is_census opened.request ≡ true → ⊥
+    not_census census =
+        let a = any_at (λ (o : Opened). lists o.request t.name) w.requests.opened i.listed in
+        let few = k.numbers.census_alone i.open_is.position opened i.open_is.here census in
+        let low = at_low w.requests.opened a.0 a.1 a.2 in let here = at_low w.requests.opened i.open_is.position opened i.open_is.here in
+        let place : a.0 ≡ i.open_is.position = omega arith in
+        let is : a.1 ≡ opened = same_at w.requests.opened i.open_is.position a.1 opened (subst (λ n. slice_get w.requests.opened n ≡ Some a.1) place a.2) i.open_is.here in
+        census_lists opened.request t.name census (subst (λ (o : Opened). lists o.request t.name ≡ true) is a.3)
 
-move_free : (w : World) (p : ℕ) (a : Act) (said : Answer) → is_move a ≡ true → IsSafeFinish w (event.At p a) said
-move_free w p act.Wake said h = tt
-move_free w p act.Cross said h = tt
-move_free w p act.Edge said h = tt
-move_free w p act.ToVm said h = tt
-move_free w p act.FromVm said h = tt
-move_free w p act.ToNative said h = tt
-move_free w p act.Block said h = tt
-move_free w p act.Take said h = tt
-move_free w p a said h = absurd (false≢true h)
+move_free : (w : World) (p : ℕ) (a : Act) (said : Answer) (v : World) → is_move a ≡ true → IsSafeFinish w (event.At p a) said v
+move_free w p act.Wake said v h = tt
+move_free w p act.Cross said v h = tt
+move_free w p act.Edge said v h = tt
+move_free w p act.ToVm said v h = tt
+move_free w p act.FromVm said v h = tt
+move_free w p act.ToNative said v h = tt
+move_free w p act.Block said v h = tt
+move_free w p act.Take said v h = tt
+move_free w p a said v h = absurd (false≢true h)
 
-finish_cases : (w : World) → IsKept w → Cases w (λ e a v. is_accepted a ≡ true → IsSafeFinish w e a)
+finish_cases : (w : World) → IsKept w → Cases w (λ e a v. is_accepted a ≡ true → IsSafeFinish w e a v)
 finish_cases w k = record {
   refuses = λ e r z. absurd (false≢true z);
   begins = λ p t i. λ z. tt;
   changes = λ p t code i. λ z. tt;
   rests = λ p t i. λ z. tt;
   ends = λ p t i. λ z. tt;
-  moves = λ p t a state given i. λ z. move_free w p a given i.is;
+  moves = λ p t a state given i. λ z. move_free w p a given (seated w p (Some (moved t state)) (event.At p a) given) i.is;
   interprets = λ p t method i. λ z. tt;
   enters = λ p t method serial code i. λ z. tt;
   misses = λ p t method serial code i. λ z. tt;
   leaves = λ p t state i. λ z. tt;
   exits = λ p t i. λ z. tt;
-  finishes = λ p t opened others i. λ z. finish_safe w p t opened others k i;
-  clears = λ p t opened others i. λ z. tt;
-  holds = λ p t opened others i. λ z. tt;
+  finishes = λ p t opened i. λ z. finish_safe w p t opened k i;
+  clears = λ p t opened i. λ z. tt;
+  holds = λ p t opened i. λ z. tt;
   releases = λ p t i. λ z. tt;
   shows = λ p t i. λ z. tt;
   starts = λ p i. λ z. tt;
@@ -109,10 +159,10 @@ finish_cases w k = record {
   frees = λ serial code i. λ z. tt;
   asks = λ request i. λ z. tt;
   opens = λ oldest others i. λ z. tt;
-  tells = λ name opened others i. λ z. tt;
-  finds_gone = λ name opened others i. λ z. tt;
+  tells = λ name opened i. λ z. tt;
+  finds_gone = λ name i. λ z. tt;
   operates = λ opened others i. λ z. tt;
-  closes = λ opened others i. λ z. tt;
+  closes = λ opened i. λ z. tt;
   counts = λ serial code i. λ z. tt;
   says_state = λ serial code i. λ z. tt;
   resolves = λ method i. λ z. tt;
@@ -121,7 +171,7 @@ finish_cases w k = record {
 pub handshakes_run : HandshakesRunAtSafePoints
 handshakes_run places slots methods events before rest p is accepted =
     let w = world_after (start_world places slots methods) before in
-    by_cases w (λ e a v. is_accepted a ≡ true → IsSafeFinish w e a) (finish_cases w (kept_after (start_world places slots methods) before (kept_start places slots methods))) (event.At p act.Finish) accepted
+    by_cases w (λ e a v. is_accepted a ≡ true → IsSafeFinish w e a v) (finish_cases w (kept_after (start_world places slots methods) before (kept_start places slots methods))) (event.At p act.Finish) accepted
 
 -- Where all are settled, the index counts the stacks.
 pub index_is : (c : CodeId) (places : List (Option Thread)) → ((p : ℕ) (t : Thread) → slice_get places p ≡ Some (Some t) → is_settled t ≡ true) → sum_by (part_at c) places ≡ sum_by (λ (t : Thread). stack.act c t.stack) (threads places)
@@ -146,7 +196,7 @@ frame_at c (Some t ∷ places) h = by (stack.act c t.stack) refl (sum_by-cons (�
 operate_safe : (w : World) (opened : Opened) (others : List Opened) → IsKept w → Operates w opened others → OperatesSafely w (answer.Census (census w))
 operate_safe w opened others k i = record {
   opened = opened;
-  opened_is = alone w.requests.opened opened others k.numbers.one_open i.opened_is;
+  opened_is = alone w.requests.opened opened others (k.numbers.census_alone 0 opened (first_open w.requests.opened opened others i.opened_is) i.census) i.opened_is;
   is_a_census = i.census;
   each = λ p t x. (let there = there_of w p t x in record { settled = settled t (settled_at p t there); held = held_at p t there; safe = k.safe p t there (held_at p t there) });
   index = λ c. index_is c w.places settled_at;
@@ -173,9 +223,9 @@ operate_cases w k = record {
   misses = λ p t method serial code i. λ z. tt;
   leaves = λ p t state i. λ z. tt;
   exits = λ p t i. λ z. tt;
-  finishes = λ p t opened others i. λ z. tt;
-  clears = λ p t opened others i. λ z. tt;
-  holds = λ p t opened others i. λ z. tt;
+  finishes = λ p t opened i. λ z. tt;
+  clears = λ p t opened i. λ z. tt;
+  holds = λ p t opened i. λ z. tt;
   releases = λ p t i. λ z. tt;
   shows = λ p t i. λ z. tt;
   starts = λ p i. λ z. tt;
@@ -190,10 +240,10 @@ operate_cases w k = record {
   frees = λ serial code i. λ z. tt;
   asks = λ request i. λ z. tt;
   opens = λ oldest others i. λ z. tt;
-  tells = λ name opened others i. λ z. tt;
-  finds_gone = λ name opened others i. λ z. tt;
+  tells = λ name opened i. λ z. tt;
+  finds_gone = λ name i. λ z. tt;
   operates = λ opened others i. λ z. operate_safe w opened others k i;
-  closes = λ opened others i. λ z. tt;
+  closes = λ opened i. λ z. tt;
   counts = λ serial code i. λ z. tt;
   says_state = λ serial code i. λ z. tt;
   resolves = λ method i. λ z. tt;

@@ -10,7 +10,7 @@ use native.Mathlib.Decide.{ℕ_discrete}
 use Rattle.frames.specs.declared.CodeId.{CodeId}
 use Rattle.method_table.specs.declared.Code.{Code}
 use Rattle.method_table.specs.Numbers.{last_number}
-use Rattle.method_table.specs.Codes.{code_of, id_of}
+use Rattle.method_table.specs.Codes.{id_of}
 use Rattle.operations.specs.Requests.{is_census, is_target}
 use Rattle.operations.specs.Names.{among}
 use Rattle.system.specs.declared.events.Event.{Event}
@@ -27,12 +27,17 @@ use Rattle.system.specs.Threads.{Thread}
 use Rattle.system.specs.World.{World, threads, part_at, thread_at, found, vacant_place, is_live}
 use Rattle.system.specs.Step.{new_thread, with_place}
 use Rattle.system.specs.Facts.{IsSound}
-use Rattle.system.specs.Keeps.{IsNew, safepoint_by}
+use Rattle.system.specs.Memory.{Accepts}
+use Rattle.system.specs.Keeps.{IsNew}
+use Rattle.system.specs.Marking.{SameMarks, SameOpened, SameOpens}
+use Rattle.system.specs.Censuses.{has_census}
 use Rattle.system.specs.Steps.{vacant_kept}
-use Rattle.system.specs.Stands.{Matches, SamePlace, SameAt, SameMarks, SameOpen, Does, walk_of, kept_at, held_at}
+use Rattle.system.specs.Stands.{Matches, SamePlace, SameAt, Does, walk_of, kept_at, held_at}
+use Rattle.system.proofs.Cells.{cells_over}
 use Rattle.system.proofs.Outcomes.{seated}
 use Rattle.system.proofs.Logs.{IsElsewhere, names_next, operations_next, moment_next, moments_next}
 use Rattle.system.proofs.Acting.{places_set, length_set}
+use Rattle.system.proofs.Pairs.{any_same, opens_over}
 use Rattle.system.proofs.Plain.{nowhere, vacant, seat, at_place, accepted_in}
 
 -- the least vacant place, in range and vacant
@@ -73,16 +78,8 @@ pub vacant_is : (s : Core) (w : World) → Matches s w → vacant_kept s.places.
 vacant_is s w m = same_vacant s.places.items w.places m.places.lengths (λ p. both_some w p (kept_at s.places.items p) (thread_at w p) (m.places.each p))
 
 -- a safepoint is open
-or_false : (a : Bool) → a || false ≡ a
-or_false true = refl
-or_false false = refl
-
-pub safepoint_is : (open_ : Option Open) (opened : List Opened) (w : World) → SameOpen open_ opened w → list_any (λ (o : Opened). is_census o.request) opened ≡ safepoint_by open_
-safepoint_is None [] w h = refl
-safepoint_is (Some open_) (o ∷ []) w h = or_false (is_census o.request) ∙ ap is_census (sym h.request)
-safepoint_is None (o ∷ os) w h = absurd h
-safepoint_is (Some open_) [] w h = absurd h
-safepoint_is (Some open_) (o ∷ p ∷ os) w h = absurd h
+pub safepoint_is : (opens : List Open) (opened : List Opened) (w : World) → SameOpens opens opened w → list_any (λ (o : Opened). is_census o.request) opened ≡ has_census opens
+safepoint_is opens opened w h = any_same w (λ a. is_census a.request) (λ o. is_census o.request) (λ a o same. ap is_census (sym same.request)) opens opened h
 
 -- the system after a start
 pub record Started (s new : Core) (p name : ℕ) (kept : Kept) : Type 0 where
@@ -106,11 +103,11 @@ new_marks : (w : World) (name : ℕ) (kept : Kept) → IsSound w → name ≡ na
 new_marks w name kept sound is new = rw new.marks_are (record {
   told_last = λ n told. absurd (never n told);
   told_is = λ some. absurd (omega arith);
-  cleared_is = λ some. absurd (omega arith);
-  older = λ n told less. absurd (never n told);
-  cleared_old = omega arith;
+  told_all = λ i o at live. absurd (omega (arith, sound.marks.live_given i o name at live, is));
+  done_is = λ i o at told. absurd (never o.number told);
   done_old = omega arith;
-  done_is = λ o e told. absurd (never o.number told);
+  cleared_is = λ n told. absurd (never n told);
+  cleared_old = omega arith;
 })
   where
     never : (n : ℕ) → is_marked w.requests.told n name ≡ true → ⊥
@@ -164,31 +161,24 @@ live_with name new (Some x ∷ os) (suc p) e differ = ap (λ b. (x.name == name)
 live_over : (w v : World) (p name : ℕ) → slice_get w.places p ≡ Some None → v.places ≡ slice_set w.places p (Some (new_thread name)) → (other : ℕ) → (name ≡ other → ⊥) → is_live v other ≡ is_live w other
 live_over w v p name there places other differ = ap (λ ps. list_any (λ (x : Thread). x.name == other) (threads ps)) places ∙ live_with other name w.places p there differ
 
-and_false : (a : Bool) → a && false ≡ false
-and_false true = refl
-and_false false = refl
-
 names_tests : (n k : ℕ) → n < k → Rattle.std.specs.Prelude.nat_le k n ≡ false
 names_tests n k h = grind (arith, nat_tests)
 
--- the open operation, whose live targets the new thread isn't among
-opened_over_start : (open_ : Option Open) (opened : List Opened) (w v : World) (p name : ℕ) → IsSound w → w.requests.opened ≡ opened → name ≡ names_given w.log + 1 → names_given v.log ≡ name → slice_get w.places p ≡ Some None → v.places ≡ slice_set w.places p (Some (new_thread name)) → SameOpen open_ opened w → SameOpen open_ opened v
-opened_over_start None [] w v p name sound os is given there places h = tt
-opened_over_start None (o ∷ rest) w v p name sound os is given there places h = absurd h
-opened_over_start (Some open_) [] w v p name sound os is given there places h = absurd h
-opened_over_start (Some open_) (o ∷ q ∷ rest) w v p name sound os is given there places h = absurd h
-opened_over_start (Some open_) (o ∷ []) w v p name sound os is given there places h = record {
+-- the open operations, whose live targets the new thread isn't among
+opened_over_start : (w v : World) (p name : ℕ) → IsSound w → name ≡ names_given w.log + 1 → names_given v.log ≡ name → slice_get w.places p ≡ Some None → v.places ≡ slice_set w.places p (Some (new_thread name))
+    → (i : ℕ) (open_ : Open) (o : Opened) → slice_get w.requests.opened i ≡ Some o → SameOpened open_ o w → SameOpened open_ o v
+opened_over_start w v p name sound is given there places i open_ o at h = record {
   number = h.number;
   request = h.request;
   operated = h.operated;
   names = omega (arith, h.names, is, given);
-  live = λ other lives. dite (ℕ_discrete name other) (λ same. subst (λ k. among k o.live ≡ is_target o.request k && Rattle.std.specs.Prelude.nat_le k open_.names) same (none_new (among name o.live) refl))
+  live = λ other lives. dite (ℕ_discrete name other) (λ same. subst (λ k. among k o.live ≡ Rattle.std.specs.Prelude.nat_le k open_.names && is_target o.request k) same (none_new (among name o.live) refl))
       (λ differ. h.live other (sym (live_over w v p name there places other differ) ∙ lives));
 }
   where
-    none_new : (b : Bool) → among name o.live ≡ b → among name o.live ≡ is_target o.request name && Rattle.std.specs.Prelude.nat_le name open_.names
-    none_new true e = absurd (omega (arith, is, sound.marks.live_given 0 o name (ap (λ xs. slice_get xs 0) os) e))
-    none_new false e = e ∙ sym (rw (names_tests open_.names name (omega (arith, h.names, is))) (and_false (is_target o.request name)))
+    none_new : (b : Bool) → among name o.live ≡ b → among name o.live ≡ Rattle.std.specs.Prelude.nat_le name open_.names && is_target o.request name
+    none_new true e = absurd (omega (arith, is, sound.marks.live_given i o name at e))
+    none_new false e = e ∙ sym (rw (names_tests open_.names name (omega (arith, h.names, is))) refl)
 
 started_matches : (s new : Core) (w : World) (p name : ℕ) (kept : Kept) → Matches s w → IsSound w → Started s new p name kept → name ≡ names_given w.log + 1 → slice_get w.places p ≡ Some None → Matches new (seated w p (Some (new_thread name)) event.Start (answer.Thread name p))
 started_matches s new w p name kept m sound k is there =
@@ -212,9 +202,8 @@ started_matches s new w p name kept m sound k is there =
       moment_is = k.moment ∙ (m.moment_is ∙ sym same_moment);
       numbers = ap (λ r. r.numbers) k.requests ∙ (m.numbers ∙ sym same_numbers);
       waiting = rw k.requests m.waiting;
-      opened = rw k.requests (opened_over_start s.requests.open w.requests.opened w v p name sound refl is given there refl m.opened);
-      index_slots = ap (λ ix. ix.slots) k.index ∙ m.index_slots;
-      index = λ serial. rw k.index (m.index serial ∙ sym (walk_with w p name event.Start (answer.Thread name p) (code_of w.codes serial) there));
+      opened = rw k.requests (opens_over w v s.requests.opens w.requests.opened (opened_over_start w v p name sound is given there refl) m.opened);
+      index = rw k.index (cells_over s.index w v refl refl (λ o. walk_with w p name event.Start (answer.Thread name p) o there) m.index);
     }
 
 -- the place of the system is vacant in the world
@@ -225,19 +214,19 @@ world_vacant s w p m e = elim (at_place s w p m) [
   | seat kept t f x same ↦ (let bad : Some (Some kept) ≡ Some None = sym f ∙ vacant_there s.places.items p e in cc)
 ]
 
-pub refused_full : (s : Core) → safepoint_by s.requests.open ≡ false → vacant_kept s.places.items ≡ None → Does event.Start s (answer.Refused PlacesFull) s
+pub refused_full : (s : Core) → has_census s.requests.opens ≡ false → vacant_kept s.places.items ≡ None → Does event.Start s (answer.Refused PlacesFull) s
 refused_full s safe none = record {
   each = λ w sound m. (
-      let quiet : is_safepoint w.requests ≡ false = safepoint_is s.requests.open w.requests.opened w m.opened ∙ safe in
+      let quiet : is_safepoint w.requests ≡ false = safepoint_is s.requests.opens w.requests.opened w m.opened ∙ safe in
       let full : vacant_place w.places ≡ None = sym (vacant_is s w m) ∙ none in
       record { answer = rw (quiet, full) refl; matches = rw (quiet, full) m });
   sizes = record { places = refl; slots = refl; methods = refl };
 }
 
-pub refused_open : (s : Core) → safepoint_by s.requests.open ≡ true → Does event.Start s (answer.Refused SafepointOpen) s
+pub refused_open : (s : Core) → has_census s.requests.opens ≡ true → Does event.Start s (answer.Refused SafepointOpen) s
 refused_open s open_ = record {
   each = λ w sound m. (
-      let is_open : is_safepoint w.requests ≡ true = safepoint_is s.requests.open w.requests.opened w m.opened ∙ open_ in
+      let is_open : is_safepoint w.requests ≡ true = safepoint_is s.requests.opens w.requests.opened w m.opened ∙ open_ in
       record { answer = rw is_open refl; matches = rw is_open m });
   sizes = record { places = refl; slots = refl; methods = refl };
 }
@@ -248,20 +237,20 @@ spent_test n h = grind (arith, nat_tests)
 room_test : (n : ℕ) → n < last_number → nat_lt n last_number ≡ true
 room_test n h = grind (arith, nat_tests)
 
-pub refused_spent : (s : Core) (p : ℕ) → safepoint_by s.requests.open ≡ false → vacant_kept s.places.items ≡ Some p → last_number ≤ s.names → Does event.Start s (answer.Refused Spent) s
+pub refused_spent : (s : Core) (p : ℕ) → has_census s.requests.opens ≡ false → vacant_kept s.places.items ≡ Some p → last_number ≤ s.names → Does event.Start s (answer.Refused Spent) s
 refused_spent s p safe some spent = record {
   each = λ w sound m. (
-      let quiet : is_safepoint w.requests ≡ false = safepoint_is s.requests.open w.requests.opened w m.opened ∙ safe in
+      let quiet : is_safepoint w.requests ≡ false = safepoint_is s.requests.opens w.requests.opened w m.opened ∙ safe in
       let place : vacant_place w.places ≡ Some p = sym (vacant_is s w m) ∙ some in
       let test : nat_lt (names_given w.log) last_number ≡ false = spent_test (names_given w.log) (subst (λ n. last_number ≤ n) m.names spent) in
       record { answer = rw (quiet, place, test) refl; matches = rw (quiet, place, test) m });
   sizes = record { places = refl; slots = refl; methods = refl };
 }
 
-pub start_does : (s new : Core) (p name : ℕ) (kept : Kept) → safepoint_by s.requests.open ≡ false → vacant_kept s.places.items ≡ Some p → s.names < last_number → name ≡ s.names + 1 → Started s new p name kept → Does event.Start s (answer.Thread name p) new
+pub start_does : (s new : Core) (p name : ℕ) (kept : Kept) → has_census s.requests.opens ≡ false → vacant_kept s.places.items ≡ Some p → s.names < last_number → name ≡ s.names + 1 → Started s new p name kept → Does event.Start s (answer.Thread name p) new
 start_does s new p name kept safe some room next k = record {
   each = λ w sound m. (
-      let quiet : is_safepoint w.requests ≡ false = safepoint_is s.requests.open w.requests.opened w m.opened ∙ safe in
+      let quiet : is_safepoint w.requests ≡ false = safepoint_is s.requests.opens w.requests.opened w m.opened ∙ safe in
       let place : vacant_place w.places ≡ Some p = sym (vacant_is s w m) ∙ some in
       let test : nat_lt (names_given w.log) last_number ≡ true = room_test (names_given w.log) (subst (λ n. n < last_number) m.names room) in
       let is : name ≡ names_given w.log + 1 = next ∙ ap (λ n. n + 1) m.names in
@@ -273,3 +262,10 @@ start_does s new p name kept safe some room next k = record {
     methods = ap (λ tb. tb.methods) k.table;
   };
 }
+
+pub may_start : (s : Core) (p : ℕ) → has_census s.requests.opens ≡ false → vacant_kept s.places.items ≡ Some p → s.names < last_number → Accepts s event.Start
+may_start s p safe some room = λ w sound m. (
+    let quiet : is_safepoint w.requests ≡ false = safepoint_is s.requests.opens w.requests.opened w m.opened ∙ safe in
+    let place : vacant_place w.places ≡ Some p = sym (vacant_is s w m) ∙ some in
+    let test : nat_lt (names_given w.log) last_number ≡ true = room_test (names_given w.log) (subst (λ n. n < last_number) m.names room) in
+    rw (quiet, place, test) refl)

@@ -1,9 +1,12 @@
 -- When a census is taken of the threads that the system keeps, and what the index answers it.
-use Rattle.std.specs.Prelude.{Bool, true, not, ◌&&◌, is_none, List, map, Option, Some, None, if◌then◌else◌}
-use Rattle.std.specs.List.{list_all}
+use Rattle.std.specs.Prelude.{Bool, true, not, ◌&&◌, is_none, List, [], ◌∷◌, map, Option, Some, None, if◌then◌else◌, ◌≡◌, ◌≤◌, ℕ}
+use Rattle.std.specs.List.{list_all, list_any}
+use Rattle.std.specs.List.Sorted.{IsPermutation}
 use Rattle.frames.specs.ImageView.{next_code}
 use Rattle.operations.specs.Requests.{is_census}
 use Rattle.activation_index.specs.declared.Entry.{Entry}
+use Rattle.activation_index.specs.Cells.{counted}
+use Rattle.activation_index.specs.Pairs.{of_serial, IsRisingPairs}
 use Rattle.system.specs.declared.answers.CodeCount.{CodeCount}
 use Rattle.system.specs.declared.answers.Refusal.{Refusal}
 use Rattle.system.specs.declared.answers.Refusal.TheVariants.{NothingOpen, NotOf, AlreadyDone, NotAllHeld, Publishing, Unpublished}
@@ -33,19 +36,30 @@ census_refusal kepts =
     else if not (list_all (holds_at is_settled_kept) kepts) then Some Unpublished
     else None
 
--- The first of all tests that fails.
-abbrev pub operate_refusal : Option Open → List (Option Kept) → Option Refusal
-operate_refusal None kepts = Some NothingOpen
-operate_refusal (Some open_) kepts =
+-- The first of all tests that fails, of the oldest open operation.
+abbrev pub operate_refusal : List Open → List (Option Kept) → Option Refusal
+operate_refusal [] kepts = Some NothingOpen
+operate_refusal (open_ ∷ opens) kepts =
     if not (is_census open_.request) then Some NotOf
     else if open_.operated then Some AlreadyDone
     else census_refusal kepts
 
--- The open operation, operated.
-abbrev pub operated : Option Open → Option Open
-operated None = None
-operated (Some open_) = Some (record open_ { operated = true })
+-- One of the open operations is a census.
+abbrev pub has_census : List Open → Bool
+has_census opens = list_any (λ open_. is_census open_.request) opens
 
--- The entries of the index as a census answers them.
-abbrev pub census_of : List Entry → List CodeCount
-census_of entries = map (λ entry. record { serial = entry.serial; count = entry.count }) entries
+-- The oldest open operation, operated.
+abbrev pub operated : List Open → List Open
+operated [] = []
+operated (open_ ∷ opens) = record open_ { operated = true } ∷ opens
+
+-- A serial and its count, as a census answers them.
+abbrev pub named : ℕ × ℕ → CodeCount
+named pair = record { serial = pair.0; count = pair.1 }
+
+-- What a census of the cells answers: those that count anything, and in rising serial where no serial has two such cells.
+pub record IsCensus (cells : List Entry) (counts : List CodeCount) : Type 0 where
+  pub pairs : List (ℕ × ℕ)
+  pub counts_are : counts ≡ map named pairs
+  pub same : IsPermutation (counted cells) pairs
+  pub rising : ((serial : ℕ) → of_serial serial (counted cells) ≤ 1) → IsRisingPairs 0 pairs

@@ -8,7 +8,7 @@ use Rattle.frames.specs.Stack.{act}
 use Rattle.method_table.specs.Numbers.{last_number}
 use Rattle.method_table.specs.Codes.{code_of, id_of, takes_slot, is_in_use}
 use Rattle.operations.specs.Names.{among}
-use Rattle.operations.specs.Requests.{is_census}
+use Rattle.operations.specs.Requests.{is_census, is_target}
 use Rattle.system.specs.Threads.{Thread, has_changed, part}
 use Rattle.system.specs.Operations.{Requests, Waiting, Opened, is_marked}
 use Rattle.system.specs.Log.{names_given, operations_given, moment, is_looked}
@@ -70,10 +70,14 @@ pub record NumbersAreSound (waiting : List Waiting) (opened : List Opened) (give
   pub queue_few : length waiting ≤ 64
   pub waiting_asked : length waiting ≤ numbered
   pub waiting_is : (i : ℕ) (x : Waiting) → slice_get waiting i ≡ Some x → x.number + length waiting ≡ numbered + i + 1
-  -- At most one operation is open, and its number is before those that wait.
-  pub one_open : length opened ≤ 1
+  -- At most four operations are open, and a census is open alone.
+  pub few_open : length opened ≤ 4
+  pub census_alone : (i : ℕ) (o : Opened) → slice_get opened i ≡ Some o → is_census o.request ≡ true → length opened ≤ 1
+  -- Their numbers rise, and are before those that wait.
+  pub opened_rise : (i j : ℕ) (a b : Opened) → i < j → slice_get opened i ≡ Some a → slice_get opened j ≡ Some b → a.number < b.number
   pub opened_is : (i : ℕ) (o : Opened) → slice_get opened i ≡ Some o → WasOpened waiting numbered o.number
-  -- What is open was opened last.
+  -- One is open at a time, and it was opened last.
+  pub one_open : length opened ≤ 1
   pub newest_is : (i : ℕ) (o : Opened) → slice_get opened i ≡ Some o → o.number + length waiting ≡ numbered
 
 -- An open operation was told to the thread.
@@ -86,6 +90,8 @@ pub record MarksAreSound (places : List (Option Thread)) (requests : Requests) (
   -- The names that an open operation has as live, and those that were told, were given out.
   pub live_given : (i : ℕ) (o : Opened) (name : ℕ) → slice_get requests.opened i ≡ Some o → among name o.live ≡ true → name ≤ given
   pub told_given : (n name : ℕ) → is_marked requests.told n name ≡ true → name ≤ given
+  -- A live name of an open operation is a target of it.
+  pub live_target : (i : ℕ) (o : Opened) (name : ℕ) → slice_get requests.opened i ≡ Some o → among name o.live ≡ true → is_target o.request name ≡ true
   -- What was told was opened; what is done was told; what is cleared is done.
   pub told_opened : (n name : ℕ) → is_marked requests.told n name ≡ true → WasOpened requests.waiting numbered n
   pub done_told : (n name : ℕ) → is_marked requests.done n name ≡ true → is_marked requests.told n name ≡ true
@@ -95,7 +101,7 @@ pub record MarksAreSound (places : List (Option Thread)) (requests : Requests) (
   -- What was told to a live thread and is not cleared for it is open.
   pub uncleared_open : (p : ℕ) (t : Thread) (n : ℕ) → slice_get places p ≡ Some (Some t) → is_marked requests.told n t.name ≡ true → is_marked requests.cleared n t.name ≡ false
       → (i : ℕ) × (o : Opened) × (slice_get requests.opened i ≡ Some o) × (o.number ≡ n)
-  -- A held thread was told the open operation.
+  -- A held thread was told an open operation.
   pub held_told : (p : ℕ) (t : Thread) → slice_get places p ≡ Some (Some t) → t.held ≡ true → (o : Opened) × IsToldOpen requests o t.name
 
 -- An open operation that is operated is a census, and each live thread was told it.

@@ -1,5 +1,6 @@
 -- What the system keeps of a thread, against the thread of the definitions.
-use Rattle.std.specs.Prelude.{◌≡◌, ℕ, Bool, true, false, not, ◌&&◌, ◌||◌, ◌==◌, List, [], ◌∷◌, Option, Some, None, Result, Ok, Err, is_some, length, nat_lt, nat_le, if◌then◌else◌}
+use Rattle.std.specs.Prelude.{◌≡◌, ℕ, Bool, true, false, not, ◌&&◌, ◌||◌, ◌==◌, List, [], ◌∷◌, Option, Some, None, Result, Ok, Err, is_some, find, length, nat_lt, nat_le, if◌then◌else◌}
+use Rattle.std.specs.List.{list_any}
 use Rattle.thread_state.specs.declared.State.{State}
 use Rattle.thread_state.specs.declared.State.TheVariants.{New}
 use Rattle.thread_state.specs.declared.Move.TheVariants as move
@@ -8,7 +9,7 @@ use Rattle.frames.specs.declared.CodeId.{CodeId}
 use Rattle.frames.specs.Stack.{times}
 use Rattle.frames.specs.declared.Change.{Change as CodeChange}
 use Rattle.frames.specs.ImageView.{ImageView, SameBag, Counts}
-use Rattle.operations.specs.Requests.{is_census}
+use Rattle.operations.specs.Requests.{is_census, is_target, lists}
 use Rattle.system.specs.declared.thread.Marks.{Marks}
 use Rattle.system.specs.declared.thread.Moments.{Moments}
 use Rattle.system.specs.declared.thread.Thread.{Thread as Kept}
@@ -16,9 +17,9 @@ use Rattle.system.specs.declared.requests.Open.{Open}
 use Rattle.system.specs.declared.events.Act.{Act}
 use Rattle.system.specs.declared.events.Act.TheVariants.{Begin, Change, End, Wake, Cross, Enter, Leave, Edge, ToVm, FromVm, ToNative, Block, Exit, Take, Finish, Clear, Stack}
 use Rattle.system.specs.declared.answers.Answer.{Answer}
-use Rattle.system.specs.declared.answers.Answer.TheVariants.{Changed, NoChange, Exited}
+use Rattle.system.specs.declared.answers.Answer.TheVariants.{Changed, NoChange, Exited, Told, Gone, Refused}
 use Rattle.system.specs.declared.answers.Refusal.{Refusal}
-use Rattle.system.specs.declared.answers.Refusal.TheVariants.{Illegal, Publishing, Unpublished, DepthFull}
+use Rattle.system.specs.declared.answers.Refusal.TheVariants.{Illegal, Publishing, Unpublished, DepthFull, NothingOpen, NotOf, NotTold, AlreadyDone, AlreadyTold}
 use Rattle.system.specs.Verdict.{Verdict, refused, accepted, unless◌refuse◌then◌}
 use Rattle.system.specs.Operations.{Requests, Opened, is_marked, with_mark, poll_of}
 use Rattle.system.specs.Threads.{Thread, part}
@@ -45,35 +46,81 @@ poll_by m = if m.told == m.cleared then None else Some m.told
 abbrev pub PollIs : Requests → Thread → Kept → Type 0
 PollIs requests t kept = poll_of requests t.name ≡ poll_by kept.marks
 
--- The operation was told to the thread, is done for it, or is cleared for it. A census is done for all where it was operated.
+-- The thread is a live target where the request is of it and it started before the operation was opened.
+abbrev pub is_live_for : Open → Kept → Bool
+is_live_for open_ kept = nat_le kept.name open_.names && is_target open_.request kept.name
+
+-- The operation was told to the thread, is done for it, or is cleared for it. Numbers are told to a thread in rising order, none
+-- of which it is a live target is left out, and they are done and cleared in that order. So of the number told last no target is looked up.
+-- A census is done for all where it was operated.
 abbrev pub was_told : Open → Kept → Bool
-was_told open_ kept = kept.marks.told == open_.number
+was_told open_ kept = nat_le open_.number kept.marks.told && ((open_.number == kept.marks.told) || is_live_for open_ kept)
 
 abbrev pub is_done : Open → Kept → Bool
-is_done open_ kept = if is_census open_.request then open_.operated else kept.marks.done == open_.number
+is_done open_ kept = if is_census open_.request then open_.operated else nat_le open_.number kept.marks.done
 
-abbrev pub is_cleared : Open → Kept → Bool
-is_cleared open_ kept = kept.marks.cleared == open_.number
+abbrev pub told_by : Kept → Open → Bool
+told_by kept open_ = was_told open_ kept
 
--- The open operation, and what the thread's marks say of it; done counts for a thread that was told.
+abbrev pub undone_by : Kept → Open → Bool
+undone_by kept open_ = was_told open_ kept && not (is_done open_ kept)
+
+-- The request of an operation that is found undone lists the thread: a handshake's does, where it was told.
+abbrev pub is_asked : Kept → Open → List Open → Bool
+is_asked kept open_ opens = not (is_census open_.request) || list_any (λ o. lists o.request kept.name) opens
+
+abbrev pub uncleared_by : Kept → Open → Bool
+uncleared_by kept open_ = was_told open_ kept && nat_lt kept.marks.cleared open_.number
+
+abbrev pub awaited_by : Kept → Open → Bool
+awaited_by kept open_ = is_census open_.request && not open_.operated && was_told open_ kept
+
+-- The operation is new to its live target; a Tell tells the least one that is.
+abbrev pub untold_by : Kept → Open → Bool
+untold_by kept open_ = nat_lt kept.marks.told open_.number && is_live_for open_ kept
+
+abbrev pub live_by : Kept → Open → Bool
+live_by kept open_ = is_live_for open_ kept
+
+abbrev pub answer_of_told : Option Open → Answer
+answer_of_told None = Refused AlreadyTold
+answer_of_told (Some open_) = Told
+
+abbrev pub answer_told : List Open → Kept → Answer
+answer_told opens kept = if list_any (live_by kept) opens then answer_of_told (find (untold_by kept) opens) else Gone
+
+abbrev pub marks_told : Kept → Option Open → Kept
+marks_told kept None = kept
+marks_told kept (Some open_) = record kept { marks = record kept.marks { told = open_.number } }
+
+abbrev pub kept_told : List Open → Kept → Kept
+kept_told opens kept = if list_any (live_by kept) opens then marks_told kept (find (untold_by kept) opens) else kept
+
+-- Why no operation waits for the thread: none is open, none is of it, none was told to it, or each that was told is served.
+abbrev pub idle_refusal : Bool → Bool → Bool → Refusal
+idle_refusal empty of told = if empty then NothingOpen else if not of then NotOf else if not told then NotTold else AlreadyDone
+
+-- An open operation, and what the thread's marks say of it; done and cleared count for a thread that was told.
 pub record SameOpen (open_ : Open) (kept : Kept) (requests : Requests) (o : Opened) : Type 0 where
   pub number : open_.number ≡ o.number
   pub request : open_.request ≡ o.request
   pub operated : open_.operated ≡ o.operated
   pub told : is_marked requests.told o.number kept.name ≡ was_told open_ kept
+  pub target : is_marked requests.told o.number kept.name ≡ true → is_target open_.request kept.name ≡ true
   pub done : is_marked requests.told o.number kept.name ≡ true → is_marked requests.done o.number kept.name ≡ is_done open_ kept
-  pub cleared : is_marked requests.cleared o.number kept.name ≡ is_cleared open_ kept
+  pub cleared : is_marked requests.told o.number kept.name ≡ true → is_marked requests.cleared o.number kept.name ≡ nat_le open_.number kept.marks.cleared
 
-abbrev pub OpenBy : Option Open → Kept → Requests → List Opened → Type 0
-OpenBy None kept requests [] = Unit {0}
-OpenBy (Some open_) kept requests (o ∷ []) = SameOpen open_ kept requests o
-OpenBy open_ kept requests opened = ⊥
+-- One for one, the oldest first.
+abbrev pub OpenBy : List Open → Kept → Requests → List Opened → Type 0
+OpenBy [] kept requests [] = Unit {0}
+OpenBy (open_ ∷ opens) kept requests (o ∷ os) = SameOpen open_ kept requests o × OpenBy opens kept requests os
+OpenBy opens kept requests opened = ⊥
 
--- All that an act of the thread asks: the thread, its poll, and the open operation.
-pub record IsHere (open_ : Option Open) (kept : Kept) (requests : Requests) (t : Thread) : Type 0 where
+-- All that an act of the thread asks: the thread, its poll, and the open operations.
+pub record IsHere (opens : List Open) (kept : Kept) (requests : Requests) (t : Thread) : Type 0 where
   pub thread : SameThread kept t
   pub poll : poll_of requests t.name ≡ poll_by kept.marks
-  pub opened : OpenBy open_ kept requests requests.opened
+  pub opened : OpenBy opens kept requests requests.opened
 
 -- The states in which an act is lawful.
 abbrev pub lawful_in : Act → Bool → State → Bool
@@ -108,10 +155,16 @@ is_plain Exit = false
 is_plain Stack = false
 is_plain other = true
 
--- The number of the open operation, 0 for none.
+-- The number of an operation that was found, 0 for none.
 abbrev pub number_of : Option Open → ℕ
 number_of None = 0
 number_of (Some open_) = open_.number
+
+-- The operation that an act is of: the least told one that isn't done, or isn't cleared.
+abbrev pub serves : Act → List Open → Kept → ℕ
+serves Finish opens kept = number_of (find (undone_by kept) opens)
+serves Clear opens kept = number_of (find (uncleared_by kept) opens)
+serves other opens kept = 0
 
 -- The marks and moments after an accepted act.
 abbrev pub marked_by : Act → ℕ → Marks → Marks
@@ -130,10 +183,10 @@ pub data Reach : Type 0 where
   finishes : ℕ → Requests → Reach
   clears : ℕ → Requests → Reach
 
-abbrev pub reach_of : Act → Option Open → Requests → Reach
-reach_of Finish open_ requests = finishes (number_of open_) requests
-reach_of Clear open_ requests = clears (number_of open_) requests
-reach_of other open_ requests = seats
+abbrev pub reach_of : Act → ℕ → Requests → Reach
+reach_of Finish number requests = finishes number requests
+reach_of Clear number requests = clears number requests
+reach_of other number requests = seats
 
 -- What a thread is after an effect, and which marks are new.
 abbrev pub Lands : Reach → Effect → Kept → Thread → Type 0
@@ -158,8 +211,8 @@ DidWith reach m times_ (accepted effect answer) old new t result = (result ≡ O
 abbrev pub DidStay : Verdict Effect → Kept → Kept → Thread → Result Answer Refusal → Type 0
 DidStay verdict old new t result = DidWith seats old.marks old.moments verdict old new t result
 
-abbrev pub Did : Act → Option Open → Requests → ℕ → Verdict Effect → Kept → Kept → Thread → Result Answer Refusal → Type 0
-Did act open_ requests now verdict old new t result = DidWith (reach_of act open_ requests) (marked_by act (number_of open_) old.marks) (timed_by act now old.moments) verdict old new t result
+abbrev pub Did : Act → List Open → Requests → ℕ → Verdict Effect → Kept → Kept → Thread → Result Answer Refusal → Type 0
+Did act opens requests now verdict old new t result = DidWith (reach_of act (serves act opens old) requests) (marked_by act (serves act opens old) old.marks) (timed_by act now old.moments) verdict old new t result
 
 -- A frame goes on top of the stack, where the thread has published and there is room.
 abbrev pub enters_frame : Thread → ℕ → Option CodeId → Verdict Effect
@@ -192,11 +245,6 @@ Counted (Some change) old new = Counts old.image new.image change × (new ≡ re
 abbrev pub DidNext : Verdict Effect → Kept → Kept → Thread → Result (Option CodeChange) Refusal → Type 0
 DidNext (refused refusal) old new t result = (result ≡ Err refusal) × (new ≡ old)
 DidNext (accepted effect answer) old new t result = (change : Option CodeChange) × (result ≡ Ok change) × (answer ≡ said_change change) × Lands seats effect new t × Counted change old new
-
--- A census is open.
-abbrev pub safepoint_by : Option Open → Bool
-safepoint_by None = false
-safepoint_by (Some open_) = is_census open_.request
 
 -- A new thread: its stack is empty, and it has published nothing.
 pub record IsNew (kept : Kept) (name : ℕ) : Type 0 where

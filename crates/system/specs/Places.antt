@@ -1,5 +1,6 @@
 -- The acts of a thread at its place.
-use Rattle.std.specs.Prelude.{ℕ, pos, ◌-ℤ◌, Bool, true, false, not, ◌||◌, ◌==◌, nat_lt, length, List, [], ◌∷◌, ◌++◌, Option, Some, None, is_some, is_none, take, ◌-◌, if◌then◌else◌}
+use Rattle.std.specs.Prelude.{ℕ, pos, ◌-ℤ◌, Bool, true, false, not, ◌&&◌, ◌||◌, ◌==◌, nat_lt, length, List, [], ◌∷◌, ◌++◌, Option, Some, None, find, is_some, is_none, take, ◌-◌, if◌then◌else◌}
+use Rattle.std.specs.List.{list_any}
 use Rattle.thread_state.specs.declared.State.{State}
 use Rattle.thread_state.specs.declared.Move.{Move}
 use Rattle.thread_state.specs.declared.Move.TheVariants as move
@@ -9,6 +10,7 @@ use Rattle.system.specs.declared.events.Act.{Act}
 use Rattle.system.specs.declared.events.Act.TheVariants.{Begin, Change, End, Wake, Cross, Enter, Leave, Edge, ToVm, FromVm, ToNative, Block, Exit, Take, Finish, Clear, Hold, Release, Stack}
 use Rattle.system.specs.declared.answers.Answer.{Answer}
 use Rattle.system.specs.declared.answers.Answer.TheVariants as answer
+use Rattle.system.specs.declared.answers.Refusal.{Refusal}
 use Rattle.system.specs.declared.answers.Refusal.TheVariants.{Illegal, Publishing, NotBegun, ChangesLeft, Held, NoSuchMethod, Unknown, Unpublished, DepthFull, NotOf, EmptyStack, StackNotEmpty, OperationPending, NotDone, NothingOpen, NotTold, AlreadyDone, NotSafe, NotHeld}
 use Rattle.operations.specs.Names.{is_empty}
 use Rattle.system.specs.Verdict.{Verdict, refused, accepted, unless◌refuse◌then◌}
@@ -116,31 +118,55 @@ enter w method code t =
 abbrev pub popped : Thread → Thread
 popped t = record t { stack = take (length t.stack - 1) t.stack }
 
+-- The operation was told to the thread of the name; it is done for it; it is cleared for it.
+abbrev pub was_told : Requests → ℕ → Opened → Bool
+was_told requests name opened = is_marked requests.told opened.number name
+
+abbrev pub is_undone : Requests → ℕ → Opened → Bool
+is_undone requests name opened = was_told requests name opened && not (is_marked requests.done opened.number name)
+
+abbrev pub is_uncleared : Requests → ℕ → Opened → Bool
+is_uncleared requests name opened = was_told requests name opened && not (is_marked requests.cleared opened.number name)
+
+-- With one of the open operations, the oldest that passes; otherwise the event is refused so.
+abbrev pub in_found : {A : Type 0} → Refusal → Option Opened → (Opened → Verdict A) → Verdict A
+in_found refusal None work = refused refusal
+in_found refusal (Some opened) work = work opened
+
 -- The callback of a handshake, once for each target, on a published stack. (JEP 312: by the thread itself or by the
 -- coordinator while it keeps the thread blocked)
-abbrev pub finish : Requests → Thread → Opened → Verdict Effect
-finish requests t opened =
-    unless lists opened.request t.name refuse NotOf then
-    unless is_marked requests.told opened.number t.name refuse NotTold then
-    unless not (is_marked requests.done opened.number t.name) refuse AlreadyDone then
+abbrev pub finish_in : Requests → Thread → Opened → Verdict Effect
+finish_in requests t opened =
     unless is_settled t refuse Unpublished then
     accepted (marks (record requests { done = with_mark requests.done opened.number t.name })) (answer.Reply (reply_to opened.request t.stack))
 
+abbrev pub finish : Requests → Thread → Verdict Effect
+finish requests t =
+    unless not (is_empty requests.opened) refuse NothingOpen then
+    unless list_any (λ o. lists o.request t.name) requests.opened refuse NotOf then
+    unless list_any (was_told requests t.name) requests.opened refuse NotTold then
+    in_found AlreadyDone (find (is_undone requests t.name) requests.opened) (finish_in requests t)
+
 -- The thread may go on once its own work is done. (JEP 312: it doesn't wait for the other threads)
-abbrev pub clear : Requests → Thread → Opened → Verdict Effect
-clear requests t opened =
-    unless is_target opened.request t.name refuse NotOf then
-    unless is_marked requests.told opened.number t.name refuse NotTold then
+abbrev pub clear_in : Requests → Thread → Opened → Verdict Effect
+clear_in requests t opened =
     unless is_marked requests.done opened.number t.name refuse NotDone then
-    unless not (is_marked requests.cleared opened.number t.name) refuse AlreadyDone then
     accepted (marks (record requests { cleared = with_mark requests.cleared opened.number t.name })) answer.Done
 
+abbrev pub clear : Requests → Thread → Verdict Effect
+clear requests t =
+    unless not (is_empty requests.opened) refuse NothingOpen then
+    unless list_any (λ o. is_target o.request t.name) requests.opened refuse NotOf then
+    unless list_any (was_told requests t.name) requests.opened refuse NotTold then
+    in_found AlreadyDone (find (is_uncleared requests t.name) requests.opened) (clear_in requests t)
+
 -- The coordinator keeps a thread blocked in a safe state. (JEP 312)
-abbrev pub hold : Requests → Thread → Opened → Verdict Effect
-hold requests t opened =
-    unless is_target opened.request t.name refuse NotOf then
-    unless is_marked requests.told opened.number t.name refuse NotTold then
-    unless not (is_marked requests.cleared opened.number t.name) refuse AlreadyDone then
+abbrev pub hold : Requests → Thread → Verdict Effect
+hold requests t =
+    unless not (is_empty requests.opened) refuse NothingOpen then
+    unless list_any (λ o. is_target o.request t.name) requests.opened refuse NotOf then
+    unless list_any (was_told requests t.name) requests.opened refuse NotTold then
+    unless list_any (is_uncleared requests t.name) requests.opened refuse AlreadyDone then
     unless not t.held refuse Held then
     unless is_safe t.state refuse NotSafe then
     accepted (becomes (record t { held = true })) answer.Done
@@ -176,9 +202,9 @@ does w Take t =
     unless not t.held refuse Held then
     unless not (awaits_census w.requests t.name) refuse NotDone then
     move_by t move.Take
-does w Finish t = in_open w.requests.opened (finish w.requests t)
-does w Clear t = in_open w.requests.opened (clear w.requests t)
-does w Hold t = in_open w.requests.opened (hold w.requests t)
+does w Finish t = finish w.requests t
+does w Clear t = clear w.requests t
+does w Hold t = hold w.requests t
 does w Release t = unless t.held refuse NotHeld then accepted (becomes (record t { held = false })) answer.Done
 does w Stack t = accepted (becomes t) (answer.Frames t.stack)
 

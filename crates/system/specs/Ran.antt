@@ -1,5 +1,5 @@
--- How often an operation ran, as the log tells it.
-use Rattle.std.specs.Prelude.{◌≡◌, ℕ, ◌+◌, ◌≤◌, Bool, false, ◌&&◌, ◌==◌, List, [], ◌∷◌, Some, slice_get, if◌then◌else◌}
+-- How often an operation runs.
+use Rattle.std.specs.Prelude.{◌≡◌, ℕ, true, ◌==◌, List, [], ◌∷◌, ◌++◌, Some, slice_get, if◌then◌else◌}
 use Rattle.system.specs.declared.events.Act.TheVariants as act
 use Rattle.system.specs.declared.events.Event.{Event}
 use Rattle.system.specs.declared.events.Event.TheVariants as event
@@ -9,55 +9,60 @@ use Rattle.system.specs.Threads.{Thread}
 use Rattle.system.specs.Operations.{Opened}
 use Rattle.system.specs.Log.{Entry}
 use Rattle.system.specs.World.{World, start_world, thread_at}
-use Rattle.system.specs.Runs.{world_after}
+use Rattle.system.specs.Runs.{world_after, answer_to}
+use Rattle.system.specs.Safepoints.{is_accepted, IsNext}
 
 -- The number that an Open answered, else the number before.
 abbrev pub opened_or : ℕ → Event → Answer → ℕ
 opened_or n event.Open (answer.Opened m kind) = m
 opened_or n event answer = n
 
--- The name that a Start gave at the place, else the name before.
-abbrev pub started_or : ℕ → ℕ → Event → Answer → ℕ
-started_or place name event.Start (answer.Thread new p) = if p == place then new else name
-started_or place name event answer = name
-
 -- The operation that was opened last, 0 where none was. One is open at a time, so it is the open one, where one is open.
 abbrev pub open_in : List Entry → ℕ
 open_in [] = 0
 open_in (entry ∷ before) = opened_or (open_in before) entry.event entry.answer
+
+-- The name that a Start gave at the place, else the name before.
+abbrev pub started_or : ℕ → ℕ → Event → Answer → ℕ
+started_or place name event.Start (answer.Thread new p) = if p == place then new else name
+started_or place name event answer = name
 
 -- The name of the thread that started last at the place, 0 where none did. It is the thread at the place, where one is there.
 abbrev pub name_in : ℕ → List Entry → ℕ
 name_in place [] = 0
 name_in place (entry ∷ before) = started_or place (name_in place before) entry.event entry.answer
 
--- The event, after these entries, is a Finish of the operation by the thread of the name; or an Operate of the operation.
-abbrev pub is_finish_of : ℕ → ℕ → Event → List Entry → Bool
-is_finish_of operation name (event.At place act.Finish) before = (open_in before == operation) && (name_in place before == name)
-is_finish_of operation name event before = false
+-- In this world a Finish at the place is accepted, of the thread of the name, and it is of the operation of the number.
+pub record FinishesFor (w : World) (place operation name : ℕ) : Type 0 where
+  pub thread : Thread
+  pub there : thread_at w place ≡ Some thread
+  pub named : thread.name ≡ name
+  pub opened : Opened
+  pub next : IsNext w.requests name opened
+  pub number : opened.number ≡ operation
+  pub accepted : is_accepted (answer_to w (event.At place act.Finish)) ≡ true
 
-abbrev pub is_operate_of : ℕ → Event → List Entry → Bool
-is_operate_of operation event.Operate before = open_in before == operation
-is_operate_of operation event before = false
+-- In this world an Operate is accepted, of the operation of the number. A census is open alone.
+pub record OperatesFor (w : World) (operation : ℕ) : Type 0 where
+  pub opened : Opened
+  pub opened_is : w.requests.opened ≡ opened ∷ []
+  pub number : opened.number ≡ operation
+  pub accepted : is_accepted (answer_to w event.Operate) ≡ true
 
--- How often the operation was finished by the thread of the name; how often it was operated.
-abbrev pub finishes : ℕ → ℕ → List Entry → ℕ
-finishes operation name [] = 0
-finishes operation name (entry ∷ before) =
-    if is_finish_of operation name entry.event before then 1 + finishes operation name before else finishes operation name before
-
-abbrev pub operates : ℕ → List Entry → ℕ
-operates operation [] = 0
-operates operation (entry ∷ before) = if is_operate_of operation entry.event before then 1 + operates operation before else operates operation before
-
--- Each operation ran at most once for each thread, and a census at most once.
-pub record RanAtMostOnce (w : World) : Type 0 where
+-- Among the events no operation is finished twice by one thread, and none is operated twice.
+pub record RunAtMostOnce (places slots methods : ℕ) (events : List Event) : Type 0 where
+  pub finished : (before between rest : List Event) (p q operation name : ℕ) → events ≡ before ++ event.At p act.Finish ∷ between ++ event.At q act.Finish ∷ rest
+      → FinishesFor (world_after (start_world places slots methods) before) p operation name
+      → FinishesFor (world_after (start_world places slots methods) (before ++ event.At p act.Finish ∷ between)) q operation name → ⊥
+  pub operated : (before between rest : List Event) (operation : ℕ) → events ≡ before ++ event.Operate ∷ between ++ event.Operate ∷ rest
+      → OperatesFor (world_after (start_world places slots methods) before) operation
+      → OperatesFor (world_after (start_world places slots methods) (before ++ event.Operate ∷ between)) operation → ⊥
   -- The log tells which operation is open, and who stands at a place.
-  pub open_is : (position : ℕ) (opened : Opened) → slice_get w.requests.opened position ≡ Some opened → open_in w.log ≡ opened.number
-  pub name_is : (place : ℕ) (t : Thread) → thread_at w place ≡ Some t → name_in place w.log ≡ t.name
-  pub finished : (operation name : ℕ) → finishes operation name w.log ≤ 1
-  pub operated : (operation : ℕ) → operates operation w.log ≤ 1
+  pub open_is : (position : ℕ) (opened : Opened) → slice_get (world_after (start_world places slots methods) events).requests.opened position ≡ Some opened
+      → open_in (world_after (start_world places slots methods) events).log ≡ opened.number
+  pub name_is : (place : ℕ) (t : Thread) → thread_at (world_after (start_world places slots methods) events) place ≡ Some t
+      → name_in place (world_after (start_world places slots methods) events).log ≡ t.name
 
--- So it is after any events.
+-- So it is with any events.
 abbrev pub OperationsRunAtMostOnce : Type 0
-OperationsRunAtMostOnce = (places slots methods : ℕ) (events : List Event) → RanAtMostOnce (world_after (start_world places slots methods) events)
+OperationsRunAtMostOnce = (places slots methods : ℕ) (events : List Event) → RunAtMostOnce places slots methods events

@@ -1,5 +1,5 @@
 -- Where an operation runs: on a published stack, of a thread at a safe point.
-use Rattle.std.specs.Prelude.{◌≡◌, ◌⊎◌, ℕ, ◌<◌, Bool, true, false, List, [], ◌∷◌, ◌++◌, Some}
+use Rattle.std.specs.Prelude.{◌≡◌, ◌⊎◌, ℕ, ◌<◌, Bool, true, false, List, [], ◌∷◌, ◌++◌, Some, slice_get}
 use Rattle.frames.specs.declared.CodeId.{CodeId}
 use Rattle.operations.specs.declared.Ask.{Ask}
 use Rattle.operations.specs.declared.Request.TheVariants.{Handshake}
@@ -11,11 +11,12 @@ use Rattle.system.specs.declared.answers.Answer.TheVariants as answer
 use Rattle.thread_state.specs.States.{is_safe, is_serving}
 use Rattle.frames.specs.Stack as stack
 use Rattle.operations.specs.Asks as asks
+use Rattle.operations.specs.Names.{among}
 use Rattle.operations.specs.Requests.{is_census}
 use Rattle.system.specs.Threads.{Thread, is_publishing}
-use Rattle.system.specs.Operations.{Opened}
+use Rattle.system.specs.Operations.{Requests, Opened, is_marked, with_mark}
 use Rattle.system.specs.World.{World, start_world, thread_at, walk, frames_of, census}
-use Rattle.system.specs.Runs.{world_after, answer_to}
+use Rattle.system.specs.Runs.{after, world_after, answer_to}
 use Rattle.system.specs.Laws.{HeldIsSafe}
 use Rattle.system.specs.Facts.{IsGiven}
 
@@ -33,20 +34,32 @@ pub record IsSettled (t : Thread) : Type 0 where
 abbrev pub IsAtSafePoint : Thread → Type 0
 IsAtSafePoint t = (t.held ≡ true) ⊎ (is_serving t.state ≡ true)
 
--- A Finish at the place, answered so: the thread there is settled and at a safe point, in a safe state where it is held, and the
--- reply is that of the open handshake's ask on its stack.
-pub record FinishesSafely (w : World) (place : ℕ) (said : Answer) : Type 0 where
+-- The operation that a Finish of the thread of the name does: it is open, told to it and not done for it, and each lesser one that
+-- is open and told to it is done. Where one operation is open at a time, it is the open one.
+pub record IsNext (requests : Requests) (name : ℕ) (opened : Opened) : Type 0 where
+  pub position : ℕ
+  pub is_open : slice_get requests.opened position ≡ Some opened
+  pub told : is_marked requests.told opened.number name ≡ true
+  pub not_done : is_marked requests.done opened.number name ≡ false
+  pub least : (i : ℕ) (o : Opened) → slice_get requests.opened i ≡ Some o → is_marked requests.told o.number name ≡ true → o.number < opened.number
+      → is_marked requests.done o.number name ≡ true
+
+-- A Finish at the place, answered so: the thread there is settled and at a safe point, in a safe state where it is held; the reply
+-- is that of the ask, on its stack, of the handshake that is next for it, which lists it; and that one alone becomes done for it.
+pub record FinishesSafely (w : World) (place : ℕ) (said : Answer) (later : World) : Type 0 where
   pub thread : Thread
   pub there : thread_at w place ≡ Some thread
   pub settled : IsSettled thread
   pub safe_point : IsAtSafePoint thread
   pub held_safe : HeldIsSafe thread
   pub opened : Opened
-  pub opened_is : w.requests.opened ≡ opened ∷ []
+  pub next : IsNext w.requests thread.name opened
   pub targets : List ℕ
   pub ask : Ask
   pub handshake : opened.request ≡ Handshake targets ask
+  pub listed : among thread.name targets ≡ true
   pub reply : said ≡ answer.Reply (asks.reply ask thread.stack)
+  pub done : later.requests ≡ record w.requests { done = with_mark w.requests.done opened.number thread.name }
 
 -- A thread at a safepoint.
 pub record StandsStill (t : Thread) : Type 0 where
@@ -70,6 +83,7 @@ abbrev pub FinishesAtSafePoints : ℕ → ℕ → ℕ → List Event → Type 0
 FinishesAtSafePoints places slots methods events = (before rest : List Event) (place : ℕ) → events ≡ before ++ event.At place act.Finish ∷ rest
     → is_accepted (answer_to (world_after (start_world places slots methods) before) (event.At place act.Finish)) ≡ true
     → FinishesSafely (world_after (start_world places slots methods) before) place (answer_to (world_after (start_world places slots methods) before) (event.At place act.Finish))
+    (after (world_after (start_world places slots methods) before) (event.At place act.Finish))
 
 -- Each accepted Operate among the events, in the world before it.
 abbrev pub OperatesAtSafepoints : ℕ → ℕ → ℕ → List Event → Type 0

@@ -2,48 +2,32 @@
 use Rattle.std.specs.Prelude.{Bool, true, false, nat_le, ◌&&◌, ◌==◌, ◌≡◌, ℕ, ◌≤◌, ◌<◌, List, [], ◌∷◌, ◌++◌, length, map, Option, Some, None, slice_get, slice_index_or, if◌then◌else◌}
 use Rattle.method_table.specs.declared.Code.{Code}
 use Rattle.method_table.specs.declared.CodeState.TheVariants.{NotEntrant}
-use Rattle.method_table.specs.Codes.{code_of, id_of}
-use Rattle.activation_index.specs.Counts.{count_in}
+use Rattle.method_table.specs.Codes.{code_of, id_of, takes_slot, next_serial}
+use Rattle.activation_index.specs.declared.Entry.{Entry as Cell}
+use Rattle.activation_index.specs.Cells.{cell_of}
 use Rattle.operations.specs.declared.queue.Waiting.{Waiting as Queued}
-use Rattle.operations.specs.Names.{among}
-use Rattle.operations.specs.Requests.{is_census, is_target}
 use Rattle.system.specs.declared.events.Event.{Event}
 use Rattle.system.specs.declared.events.Event.TheVariants as event
 use Rattle.system.specs.declared.events.Act.TheVariants as act
 use Rattle.system.specs.declared.answers.Answer.{Answer}
-use Rattle.system.specs.declared.thread.Marks.{Marks}
 use Rattle.system.specs.declared.thread.Moments.{Moments}
 use Rattle.system.specs.declared.thread.Thread.{Thread as Kept}
 use Rattle.system.specs.declared.records.Record.{Record}
-use Rattle.system.specs.declared.requests.Open.{Open}
 use Rattle.system.specs.declared.keeping.Core.{Core}
-use Rattle.system.specs.Operations.{Requests, Waiting, Opened, is_marked}
+use Rattle.system.specs.Operations.{Waiting}
 use Rattle.system.specs.Log.{Entry, names_given, operations_given, moment, is_looked}
 use Rattle.system.specs.Threads.{Thread}
-use Rattle.system.specs.World.{World, start_world, thread_at, is_live, walk}
+use Rattle.system.specs.World.{World, start_world, thread_at, walk}
 use Rattle.system.specs.Runs.{world_after, answer_to, after}
 use Rattle.system.specs.Moments.{left_at, begun, ended}
 use Rattle.system.specs.Facts.{IsSound}
 use Rattle.system.specs.Keeps.{SameThread}
+use Rattle.system.specs.Marking.{SameMarks, SameOpens}
 
 -- The sizes that a system may have: places, slots, methods. (own limits)
 abbrev pub are_sizes : ℕ → ℕ → ℕ → Bool
 are_sizes places slots methods =
     nat_le 1 places && nat_le places 64 && nat_le 1 slots && nat_le slots 1024 && nat_le 1 methods && nat_le methods 256
-
--- Done for a thread: a census is done for all where it was operated, a handshake where it is the last that is done.
-abbrev pub done_by : Opened → Marks → Bool
-done_by o m = if is_census o.request then o.operated else (m.done == o.number)
-
--- The last marks of a thread, against all marks of the requests. Those told before the last are cleared.
-pub record SameMarks (m : Marks) (requests : Requests) (name : ℕ) : Type 0 where
-  pub told_last : (n : ℕ) → is_marked requests.told n name ≡ true → n ≤ m.told
-  pub told_is : 0 < m.told → is_marked requests.told m.told name ≡ true
-  pub cleared_is : 0 < m.told → is_marked requests.cleared m.told name ≡ (m.cleared == m.told)
-  pub older : (n : ℕ) → is_marked requests.told n name ≡ true → n < m.told → is_marked requests.cleared n name ≡ true
-  pub cleared_old : m.cleared ≤ m.told
-  pub done_old : m.done ≤ m.told
-  pub done_is : (o : Opened) → requests.opened ≡ o ∷ [] → is_marked requests.told o.number name ≡ true → is_marked requests.done o.number name ≡ done_by o m
 
 -- The moments of a thread, against the log.
 pub record SameMoments (m : Moments) (log : List Entry) (place : ℕ) : Type 0 where
@@ -88,23 +72,18 @@ pub record SameRecords (records : List Record) (w : World) : Type 0 where
 abbrev pub waiting_of : Queued (Unit {0}) → Waiting
 waiting_of queued = record { number = queued.number; request = queued.request }
 
--- The open operation: its live targets are the live threads that it asks among the first names.
-pub record SameOpened (open_ : Open) (o : Opened) (w : World) : Type 0 where
-  pub number : open_.number ≡ o.number
-  pub request : open_.request ≡ o.request
-  pub operated : open_.operated ≡ o.operated
-  pub names : open_.names ≤ names_given w.log
-  pub live : (name : ℕ) → is_live w name ≡ true → among name o.live ≡ is_target o.request name && nat_le name open_.names
-
-abbrev pub SameOpen : Option Open → List Opened → World → Type 0
-SameOpen None [] w = Unit {0}
-SameOpen (Some open_) (o ∷ []) w = SameOpened open_ o w
-SameOpen open_ opened w = ⊥
-
 -- The count of a serial's code over all places.
 abbrev pub walk_of : World → Option Code → ℕ
 walk_of w None = 0
 walk_of w (Some code) = walk w (id_of code)
+
+-- The index by slot: an unfreed code has the slot's cell with its count over all places, what counts anything is such a code's
+-- cell, and no cell has a serial that is yet to be given out.
+pub record SameCells (cells : List Cell) (w : World) : Type 0 where
+  pub lengths : length cells ≡ w.slots
+  pub here : (serial : ℕ) (code : Code) → code_of w.codes serial ≡ Some code → takes_slot code.state ≡ true → slice_get cells code.slot ≡ Some (cell_of serial (walk w (id_of code)))
+  pub own : (slot : ℕ) (cell : Cell) → slice_get cells slot ≡ Some cell → 0 < cell.count → (code : Code) × (code_of w.codes cell.serial ≡ Some code) × (takes_slot code.state ≡ true) × (code.slot ≡ slot)
+  pub low : (slot : ℕ) (cell : Cell) → slice_get cells slot ≡ Some cell → cell.serial < next_serial w.codes
 
 -- The system has what the world has, and the index counts what the threads published.
 pub record Matches (s : Core) (w : World) : Type 0 where
@@ -117,9 +96,8 @@ pub record Matches (s : Core) (w : World) : Type 0 where
   pub moment_is : s.moment ≡ moment w.log
   pub numbers : s.requests.numbers ≡ operations_given w.log
   pub waiting : map waiting_of s.requests.waiting ≡ w.requests.waiting
-  pub opened : SameOpen s.requests.«open» w.requests.opened w
-  pub index_slots : s.index.slots ≡ w.slots
-  pub index : (serial : ℕ) → count_in s.index.entries serial ≡ walk_of w (code_of w.codes serial)
+  pub opened : SameOpens s.requests.opens w.requests.opened w
+  pub index : SameCells s.index w
 
 -- The sizes of a system.
 abbrev pub places_of : Core → ℕ

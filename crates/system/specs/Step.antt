@@ -1,6 +1,6 @@
 -- What each event does to the world, and its answer.
 use Rattle.std.specs.Prelude.{ℕ, ◌+◌, Bool, true, false, not, ◌&&◌, ◌||◌, nat_lt, nat_le, ◌==◌, length, List, [], ◌∷◌, ◌++◌, map, filter, find, Option, Some, None, is_none, slice_get, slice_set, if◌then◌else◌}
-use Rattle.std.specs.List.{list_all}
+use Rattle.std.specs.List.{list_all, list_any}
 use Rattle.thread_state.specs.declared.State.TheVariants.{Vacant, New}
 use Rattle.method_table.specs.declared.Code.{Code}
 use Rattle.method_table.specs.declared.CodeState.TheVariants.{NotEntrant, Zombie, Freed}
@@ -11,7 +11,7 @@ use Rattle.system.specs.declared.events.Event.{Event}
 use Rattle.system.specs.declared.events.Event.TheVariants as event
 use Rattle.system.specs.declared.answers.Answer.{Answer}
 use Rattle.system.specs.declared.answers.Answer.TheVariants as answer
-use Rattle.system.specs.declared.answers.Refusal.TheVariants.{NoSuchPlace, Illegal, Publishing, Held, NoSuchMethod, Unknown, Unpublished, NotOf, NotDone, AlreadyDone, SafepointOpen, PlacesFull, Spent, HasCode, TableFull, SerialsSpent, NotInUse, NotNotEntrant, NotZombie, QueueFull, NoTargets, BadTargets, AlreadyOpen, QueueEmpty, AlreadyTold, NotAllHeld}
+use Rattle.system.specs.declared.answers.Refusal.TheVariants.{NoSuchPlace, Illegal, Publishing, Held, NoSuchMethod, Unknown, Unpublished, NotOf, NotDone, NothingOpen, AlreadyDone, SafepointOpen, PlacesFull, Spent, HasCode, TableFull, SerialsSpent, NotInUse, NotNotEntrant, NotZombie, QueueFull, NoTargets, BadTargets, AlreadyOpen, QueueEmpty, AlreadyTold, NotAllHeld}
 use Rattle.method_table.specs.Numbers.{last_number, below}
 use Rattle.operations.specs.Names.{is_empty}
 use Rattle.system.specs.Verdict.{Verdict, refused, accepted, unless◌refuse◌then◌}
@@ -21,7 +21,7 @@ use Rattle.system.specs.Operations.{Requests, Waiting, Opened, is_marked, with_m
 use Rattle.operations.specs.Requests.{is_census, kind_of, is_target, has_targets, are_targets}
 use Rattle.system.specs.Log.{names_given, operations_given, moment, is_looked}
 use Rattle.system.specs.World.{World, threads, live_names, is_live_target, vacant_place, walk, census, covered}
-use Rattle.system.specs.Places.{Effect, becomes, leaves, marks, here, in_open}
+use Rattle.system.specs.Places.{Effect, becomes, leaves, marks, here, in_open, in_found}
 
 -- The place gets a thread, or gets vacant.
 abbrev pub with_place : World → ℕ → Option Thread → World
@@ -159,13 +159,20 @@ may_tell w (Handshake targets ask) name = is_target (Handshake targets ask) name
 may_tell w Census name = nat_lt 0 name && nat_le name (names_given w.log)
 
 -- The poll of a live target is armed; one that is gone has none.
-abbrev pub tell : World → ℕ → Opened → Verdict World
-tell w name opened =
-    unless may_tell w opened.request name refuse NotOf then
-    (if is_live_target w opened name
-    then (unless not (is_marked w.requests.told opened.number name) refuse AlreadyTold then
-    accepted (record w { requests = record w.requests { told = with_mark w.requests.told opened.number name } }) answer.Told)
-    else accepted w answer.Gone)
+abbrev pub tell_in : World → ℕ → Opened → Verdict World
+tell_in w name opened = accepted (record w { requests = record w.requests { told = with_mark w.requests.told opened.number name } }) answer.Told
+
+-- The oldest of the operations whose live target it is, and that wasn't told to it.
+abbrev pub tell_oldest : World → ℕ → List Opened → Verdict World
+tell_oldest w name [] = accepted w answer.Gone
+tell_oldest w name (opened ∷ others) =
+    in_found AlreadyTold (find (λ o. not (is_marked w.requests.told o.number name)) (opened ∷ others)) (tell_in w name)
+
+abbrev pub tell : World → ℕ → Verdict World
+tell w name =
+    unless not (is_empty w.requests.opened) refuse NothingOpen then
+    unless list_any (λ o. may_tell w o.request name) w.requests.opened refuse NotOf then
+    tell_oldest w name (filter (λ o. is_live_target w o name) w.requests.opened)
 
 -- Each live thread passes.
 abbrev pub all_threads : (Thread → Bool) → World → Bool
@@ -197,10 +204,10 @@ is_over w opened =
     (not (is_census opened.request) || opened.operated)
     && list_all (λ name. not (is_live_target w opened name) || is_marked w.requests.cleared opened.number name) opened.live
 
--- The operation is over, and nobody is held. (its marks stay)
+-- The operation is over, and no target of it is held. (its marks stay)
 abbrev pub close : World → Opened → Verdict World
 close w opened =
-    unless all_threads (λ t. not t.held) w refuse Held then
+    unless all_threads (λ t. not (t.held && is_target opened.request t.name)) w refuse Held then
     unless is_over w opened refuse NotDone then
     accepted (record w { requests = record w.requests { opened = filter (λ o. not (o.number == opened.number)) w.requests.opened } })
     (answer.Closed opened.number)
@@ -230,7 +237,7 @@ outcome w (event.Weigh serial) = of_code (unfreed w.codes serial) (weigh w)
 outcome w (event.Free serial) = of_code (unfreed w.codes serial) (free w)
 outcome w (event.Ask request) = ask w request
 outcome w event.Open = open_next w
-outcome w (event.Tell name) = in_open w.requests.opened (tell w name)
+outcome w (event.Tell name) = tell w name
 outcome w event.Operate = in_open w.requests.opened (operate w)
 outcome w event.Close = in_open w.requests.opened (close w)
 outcome w (event.Count serial) = of_code (unfreed w.codes serial) (count w)

@@ -1,5 +1,5 @@
 -- What the acts of the threads do to the places that the system keeps.
-use Rattle.std.specs.Prelude.{◌≡◌, ℕ, ◌+◌, List, [], ◌∷◌, option_map, Option, Some, None, Result, Ok, Err, slice_get, slice_set}
+use Rattle.std.specs.Prelude.{◌≡◌, ℕ, ◌+◌, Bool, true, false, List, [], ◌∷◌, option_map, Option, Some, None, Result, Ok, Err, slice_get, slice_set}
 use Rattle.method_table.specs.TableView.{TableView}
 use Rattle.frames.specs.declared.Change.{Change as CodeChange}
 use Rattle.thread_state.specs.declared.State.TheVariants.{Vacant}
@@ -22,26 +22,26 @@ answer_here (Ok answer) = answer
 answer_here (Err refusal) = Refused refusal
 
 -- A thread did a plain act as the definitions have it, in every world in which it is this thread.
-abbrev pub DidAct : Act → TableView → Option Open → ℕ → Kept → Kept → Result Answer Refusal → Type 0
-DidAct a table open_ now old new result =
-    (w : World) (t : Thread) → table.codes ≡ w.codes → table.methods ≡ w.methods → IsHere open_ old w.requests t → Did a open_ w.requests now (here w a t) old new t result
+abbrev pub DidAct : Act → TableView → List Open → ℕ → Kept → Kept → Result Answer Refusal → Type 0
+DidAct a table opens now old new result =
+    (w : World) (t : Thread) → table.codes ≡ w.codes → table.methods ≡ w.methods → IsHere opens old w.requests t → Did a opens w.requests now (here w a t) old new t result
 
 -- A thread did so at its place.
-pub record ActedAt (a : Act) (table : TableView) (open_ : Option Open) (now : ℕ) (place : ℕ) (kept : Kept) (old new : List (Option Kept)) (answer : Answer) : Type 0 where
+pub record ActedAt (a : Act) (table : TableView) (opens : List Open) (now : ℕ) (place : ℕ) (kept : Kept) (old new : List (Option Kept)) (answer : Answer) : Type 0 where
   pub after : Kept
   pub result : Result Answer Refusal
-  pub did : DidAct a table open_ now kept after result
+  pub did : DidAct a table opens now kept after result
   pub said : answer ≡ answer_here result
   pub places : new ≡ slice_set old place (Some after)
 
 -- A place that there isn't, and one that is vacant, refuse.
-abbrev pub DidFound : Act → TableView → Option Open → ℕ → ℕ → Option (Option Kept) → List (Option Kept) → List (Option Kept) → Answer → Type 0
-DidFound a table open_ now place None old new answer = (answer ≡ Refused NoSuchPlace) × (new ≡ old)
-DidFound a table open_ now place (Some None) old new answer = (answer ≡ Refused (Illegal Vacant)) × (new ≡ old)
-DidFound a table open_ now place (Some (Some kept)) old new answer = ActedAt a table open_ now place kept old new answer
+abbrev pub DidFound : Act → TableView → List Open → ℕ → ℕ → Option (Option Kept) → List (Option Kept) → List (Option Kept) → Answer → Type 0
+DidFound a table opens now place None old new answer = (answer ≡ Refused NoSuchPlace) × (new ≡ old)
+DidFound a table opens now place (Some None) old new answer = (answer ≡ Refused (Illegal Vacant)) × (new ≡ old)
+DidFound a table opens now place (Some (Some kept)) old new answer = ActedAt a table opens now place kept old new answer
 
-abbrev pub DidAt : Act → TableView → Option Open → ℕ → ℕ → List (Option Kept) → List (Option Kept) → Answer → Type 0
-DidAt a table open_ now place old new answer = DidFound a table open_ now place (slice_get old place) old new answer
+abbrev pub DidAt : Act → TableView → List Open → ℕ → ℕ → List (Option Kept) → List (Option Kept) → Answer → Type 0
+DidAt a table opens now place old new answer = DidFound a table opens now place (slice_get old place) old new answer
 
 -- The thread at a place leaves it, or a refusal leaves the place.
 abbrev pub Left : ℕ → Kept → List (Option Kept) → List (Option Kept) → Option Refusal → Answer → Type 0
@@ -82,6 +82,11 @@ abbrev pub frames_at : Option (Option Kept) → Answer
 frames_at None = Refused NoSuchPlace
 frames_at (Some None) = Refused (Illegal Vacant)
 frames_at (Some (Some kept)) = Frames kept.image.frames
+
+-- A thread is at the place.
+abbrev pub is_taken : Option (Option Kept) → Bool
+is_taken (Some (Some kept)) = true
+is_taken other = false
 
 -- The least vacant place.
 abbrev pub vacant_kept : List (Option Kept) → Option ℕ

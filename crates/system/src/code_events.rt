@@ -2,8 +2,9 @@
 ghost use Rattle.std.specs.Prelude.{◌≡◌, ◌<◌, ◌≤◌, length, IfOk, OnErr};
 ghost use Rattle.method_table.specs.Codes.{unfreed};
 ghost use Rattle.system.specs.declared.events.Event.TheVariants as events;
+ghost use Rattle.system.specs.Memory.{Accepts};
 ghost use Rattle.system.specs.Records.{not_entrant, is_clear};
-ghost use Rattle.system.specs.Stands.{Does};
+ghost use Rattle.system.specs.Stands.{Does, OfWorld};
 
 use crate::answers::{Answer, Refusal};
 use crate::keeping::{Core, LAST};
@@ -16,11 +17,16 @@ use std::alloc::AllocError;
 impl Core {
     /// A new code in use for the method, in the least free slot.
     pub fn install(&mut self, method: u64) -> Result<Answer, AllocError>
+        requires { OfWorld self.old }
         ensures does { IfOk result (λ answer. Does (events.Install method) self.old answer self.new) }
         ensures refused { OnErr result (self.new ≡ self.old) }
+        ensures no_memory { OnErr result (Accepts self.old (events.Install method)) }
     {
         match self.table.install(method) {
-            Ok(code) => Ok(Answer::Code(code.serial)),
+            Ok(code) => {
+                self.index.place(code.slot as usize, code.serial);
+                Ok(Answer::Code(code.serial))
+            }
             Err(InstallFault::NoSuchMethod) => Ok(Answer::Refused(Refusal::NoSuchMethod)),
             Err(InstallFault::HasCode) => Ok(Answer::Refused(Refusal::HasCode)),
             Err(InstallFault::TableFull) => Ok(Answer::Refused(Refusal::TableFull)),
@@ -95,7 +101,7 @@ impl Core {
         if let Some(place) = self.records[code.slot as usize].unlooked(self.places.len()) {
             return Answer::NotLooked(place);
         }
-        let count = self.index.count(serial);
+        let count = self.index.count(code.slot as usize, serial);
         if count != 0 {
             return Answer::Used(count);
         }
@@ -121,7 +127,7 @@ impl Core {
         ensures { Does (events.Count serial) self.now result self.now }
     {
         match self.table.find(serial) {
-            Some(_) => Answer::Count(self.index.count(serial)),
+            Some(code) => Answer::Count(self.index.count(code.slot as usize, serial)),
             None => Answer::Refused(Refusal::Unknown),
         }
     }

@@ -1,7 +1,9 @@
 // The events of the core.
-ghost use Rattle.std.specs.Prelude.{◌≡◌, IfOk};
+ghost use Rattle.std.specs.Prelude.{◌≡◌, true, IfOk, IsOk};
+ghost use Rattle.operations.specs.Requests.{is_census};
+ghost use Rattle.system.specs.Memory.{copies_freely};
 
-use operations::{Request, Targets};
+use operations::Request;
 use std::alloc::{AllocError, Global};
 
 /// What happens at one place.
@@ -50,9 +52,10 @@ pub enum Event {
 }
 
 impl Event {
-    /// The same event. Only a request with targets takes memory.
+    /// The same event. Only the names of a handshake take memory.
     pub fn copied(&self, alloc: Global) -> Result<Event, AllocError>
-        ensures { IfOk result (λ event. event ≡ self.now) }
+        ensures same { IfOk result (λ event. event ≡ self.now) }
+        ensures succeeds { copies_freely self.now ≡ true → IsOk result }
     {
         Ok(match self {
             Event::At(place, act) => Event::At(*place, *act),
@@ -63,7 +66,7 @@ impl Event {
             Event::Look(serial, place) => Event::Look(*serial, *place),
             Event::Weigh(serial) => Event::Weigh(*serial),
             Event::Free(serial) => Event::Free(*serial),
-            Event::Ask(request) => Event::Ask(copied_request(request, alloc)?),
+            Event::Ask(request) => Event::Ask(request.copied(alloc)?),
             Event::Open => Event::Open,
             Event::Tell(name) => Event::Tell(*name),
             Event::Operate => Event::Operate,
@@ -72,17 +75,5 @@ impl Event {
             Event::CodeState(serial) => Event::CodeState(*serial),
             Event::Resolve(method) => Event::Resolve(*method),
         })
-    }
-}
-
-fn copied_request(request: &Request, alloc: Global) -> Result<Request, AllocError>
-    ensures { IfOk result (λ copy. copy ≡ request.now) }
-{
-    match request {
-        Request::Census => Ok(Request::Census),
-        Request::Handshake { targets, ask } => Ok(Request::Handshake {
-            targets: Targets::from_vec(Vec::from_slice(alloc, targets.as_slice())?),
-            ask: *ask,
-        }),
     }
 }

@@ -1,9 +1,9 @@
 // The events that count frames: a change of the open publication, and a census.
 ghost use Rattle.std.specs.Prelude.{◌≡◌, ◌≤◌, length, map, IfOk, OnErr};
-ghost use Rattle.activation_index.specs.Counts.{IsRisingFrom};
 ghost use Rattle.system.specs.declared.events.Act.TheVariants as acts;
 ghost use Rattle.system.specs.declared.events.Event.TheVariants as events;
-ghost use Rattle.system.specs.Censuses.{census_of, operate_refusal};
+ghost use Rattle.system.specs.Censuses.{operate_refusal, IsCensus, named};
+ghost use Rattle.system.specs.Memory.{Accepts};
 ghost use Rattle.system.specs.Stands.{Does, OfWorld};
 
 use crate::answers::{Answer, CodeCount, CountList, Refusal};
@@ -14,7 +14,7 @@ use std::alloc::{AllocError, Global};
 
 // The counts under their names.
 fn code_counts(alloc: Global, counts: &[(u64, u32)]) -> Result<Vec<CodeCount>, AllocError>
-    ensures { IfOk result (λ list. list.items ≡ map (λ counted. record { serial = counted.0; count = counted.1 }) counts.now) }
+    ensures { IfOk result (λ list. list.items ≡ map named counts.now) }
 {
     counts
         .iter()
@@ -34,7 +34,8 @@ impl Core {
     {
         match change_at(&mut self.places, place) {
             Ok(Some(change)) => {
-                self.index.add(change.code.serial, change.by);
+                self.index
+                    .add(change.code.slot as usize, change.code.serial, change.by);
                 Answer::Changed(change.code.serial, change.by)
             }
             Ok(None) => Answer::NoChange,
@@ -44,9 +45,9 @@ impl Core {
 
     // Why a census isn't taken now: the first test that fails.
     fn operate_refusal(&self) -> Option<Refusal>
-        ensures { result ≡ operate_refusal self.now.requests.«open» self.now.places.items }
+        ensures { result ≡ operate_refusal self.now.requests.opens self.now.places.items }
     {
-        let Some(open) = &self.requests.open else {
+        let Some(open) = self.requests.opens.oldest() else {
             return Some(Refusal::NothingOpen);
         };
         if !open.is_census() {
@@ -60,8 +61,7 @@ impl Core {
 
     // The counts of the index, in rising serial.
     fn census(&self, alloc: Global) -> Result<CountList, AllocError>
-        ensures census { IfOk result (λ counts. counts ≡ census_of self.now.index.entries) }
-        ensures rising { IfOk result (λ counts. IsRisingFrom 0 self.now.index.entries) }
+        ensures { IfOk result (λ counts. IsCensus self.now.index counts) }
     {
         let counts = self.index.census(alloc)?;
         Ok(CountList::from_vec(code_counts(alloc, &counts)?))
@@ -71,12 +71,13 @@ impl Core {
     pub fn operate(&mut self, alloc: Global) -> Result<Answer, AllocError>
         ensures does { IfOk result (λ answer. Does events.Operate self.old answer self.new) }
         ensures refused { OnErr result (self.new ≡ self.old) }
+        ensures no_memory { OnErr result (Accepts self.old events.Operate) }
     {
         if let Some(refusal) = self.operate_refusal() {
             return Ok(Answer::Refused(refusal));
         }
         let counts = self.census(alloc)?;
-        self.requests.set_operated();
+        self.requests.opens.set_operated();
         Ok(Answer::Census(counts))
     }
 }

@@ -2,7 +2,7 @@
 use crate::records::Record;
 use crate::requests::Requests;
 use crate::thread::Thread;
-use activation_index::Index;
+use activation_index::dense::DenseIndex;
 use method_table::table::MethodTable;
 
 /// The last name, serial, operation and moment.
@@ -15,7 +15,7 @@ pub struct Core {
     pub places: Vec<Option<Thread>>,
     pub table: MethodTable,
     pub records: Vec<Record>,
-    pub index: Index,
+    pub index: DenseIndex,
     /// How many names were given out.
     pub names: u64,
     /// 1 and the number of rounds.

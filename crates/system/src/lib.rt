@@ -8,6 +8,7 @@ mod index_events;
 pub mod keeping;
 pub mod laws;
 pub mod machine;
+pub mod opens;
 pub mod places;
 pub mod records;
 mod request_events;

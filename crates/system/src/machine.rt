@@ -1,20 +1,23 @@
 // The system: it does events, and answers them.
-ghost use Rattle.std.specs.Prelude.{◌≡◌, ◌≤◌, ℕ, List, [], ◌∷◌, ◌++◌, length, take, true, false, IfOk, IsOk, OnOk, OnErr, IfErr};
+ghost use Rattle.std.specs.Prelude.{◌≡◌, ◌≤◌, ◌⊎◌, ℕ, List, [], ◌∷◌, ◌++◌, length, take, true, false, IfOk, IsOk, OnOk, OnErr, IfErr, IfSome, IfNone};
 ghost use Rattle.system.specs.declared.events.Event.{Event as TheEvent};
 ghost use Rattle.system.specs.declared.machine.NewFault.TheVariants as NewFaults;
+ghost use Rattle.system.specs.declared.answers.Answer.TheVariants as Answers;
 ghost use Rattle.system.specs.Laws.{AllHeldAreSafe, NoRetiredCodeStands};
-ghost use Rattle.system.specs.Ran.{RanAtMostOnce};
+ghost use Rattle.system.specs.Ran.{RunAtMostOnce};
+ghost use Rattle.system.specs.Memory.{Accepts, NeedsMemory, StopsAt, copies_freely};
 ghost use Rattle.system.specs.Runs.{answers};
 ghost use Rattle.system.specs.Safepoints.{FinishesAtSafePoints, OperatesAtSafepoints};
 ghost use Rattle.system.specs.Stands.{StandsFor, Next, SameSizes, Does, OfWorld, IsSized, are_sizes, places_of, slots_of, methods_of, world_by, takes_no_memory};
 
-use crate::answers::Answer;
+use crate::answers::{Answer, Refusal};
 use crate::events::{Act, Event};
 use crate::keeping::Core;
+use crate::opens::Opens;
 use crate::places::vacant_places;
 use crate::records::blank_records;
 use crate::requests::Requests;
-use activation_index::Index;
+use activation_index::dense::DenseIndex;
 use method_table::table::MethodTable;
 use operations::queue::Queue;
 use std::alloc::{AllocError, Global};
@@ -48,7 +51,8 @@ pub enum NewFault {
     NoMemory,
 }
 
-/// Memory was refused at the event at this position. The events before it are done and answered, and no other.
+/// Memory was refused at the event at this position; or, at 0, for the answers. The events before it are done and answered, and
+/// no other.
 #[derive(Debug, Drop)]
 pub struct Stopped {
     pub answers: Vec<Answer>,
@@ -77,17 +81,20 @@ impl System {
         }
     }
 
-    /// Does the event, and answers it. Where memory is refused, nothing was done.
+    /// Does the event, and answers it. Where memory is refused, nothing was done; that is only where the event takes memory and
+    /// would be accepted.
     pub fn apply(&mut self, alloc: Global, event: Event) -> Result<Answer, AllocError>
         ensures answered { IfOk result (λ answer. Next self.old event answer self.new) }
         ensures refused { OnErr result (self.new ≡ self.old) }
+        ensures no_memory { (before : List TheEvent) → StandsFor self.old before → OnErr result (NeedsMemory (world_by self.old before) event) }
         ensures sizes { SameSizes self.old self.new }
         ensures succeeds { takes_no_memory event ≡ true → IsOk result }
     {
         apply_to(&mut self.core, alloc, event)
     }
 
-    /// Does the events one after another, and answers them. Room for the answers is reserved first.
+    /// Does the events one after another, and answers them. Room for the answers is reserved first: where that is refused, nothing
+    /// is done. After that memory is refused only at an event that takes memory and would be accepted.
     pub fn run(&mut self, alloc: Global, events: &[Event]) -> Result<Vec<Answer>, Stopped>
         ensures answered { (before : List TheEvent) → StandsFor self.old before →
             IfOk result (λ said. (said.items ≡ answers (world_by self.old before) events.now) × StandsFor self.new (before ++ events.now)) }
@@ -95,8 +102,10 @@ impl System {
             IfErr result (λ stop. (stop.at ≤ length events.now)
             × (stop.answers.items ≡ answers (world_by self.old before) (take stop.at events.now))
             × StandsFor self.new (before ++ take stop.at events.now)) }
+        ensures no_memory { (before : List TheEvent) → StandsFor self.old before →
+            IfErr result (λ stop. ((stop.at ≡ 0) × (self.new ≡ self.old)) ⊎ StopsAt (world_by self.old before) events.now stop.at) }
         ensures sizes { SameSizes self.old self.new }
-        ensures once { (all : List TheEvent) → StandsFor self.new all → RanAtMostOnce (world_by self.new all) }
+        ensures once { (all : List TheEvent) → StandsFor self.new all → RunAtMostOnce (places_of self.new) (slots_of self.new) (methods_of self.new) all }
         ensures handshakes { (all : List TheEvent) → StandsFor self.new all → FinishesAtSafePoints (places_of self.new) (slots_of self.new) (methods_of self.new) all }
         ensures safepoints { (all : List TheEvent) → StandsFor self.new all → OperatesAtSafepoints (places_of self.new) (slots_of self.new) (methods_of self.new) all }
         ensures held { (all : List TheEvent) → StandsFor self.new all → AllHeldAreSafe (world_by self.new all) }
@@ -121,12 +130,16 @@ impl System {
         Ok(said)
     }
 
-    // The same of an event that is lent.
+    // The same of an event that is lent. It is copied where it isn't refused.
     fn apply_copy(&mut self, alloc: Global, event: &Event) -> Result<Answer, AllocError>
         ensures answered { IfOk result (λ answer. Next self.old event.now answer self.new) }
         ensures refused { OnErr result (self.new ≡ self.old) }
+        ensures no_memory { (before : List TheEvent) → StandsFor self.old before → OnErr result (NeedsMemory (world_by self.old before) event.now) }
         ensures sizes { SameSizes self.old self.new }
     {
+        if let Some(refusal) = refusal_before_copy(&self.core, event) {
+            return Ok(Answer::Refused(refusal));
+        }
         let copy = event.copied(alloc)?;
         self.apply(alloc, copy)
     }
@@ -147,15 +160,26 @@ fn new_core(alloc: Global, places: usize, slots: usize, methods: usize) -> Resul
         places: vacant_places(alloc, places)?,
         table: MethodTable::new(alloc, slots as u32, methods as u32)?,
         records: blank_records(alloc, slots)?,
-        index: Index::new(alloc, slots)?,
+        index: DenseIndex::new(alloc, slots)?,
         names: 0,
         moment: 1,
         requests: Requests {
             numbers: 0,
             waiting: Queue::new(alloc),
-            open: None,
+            opens: Opens::new(alloc)?,
         },
     })
+}
+
+// Why an event is refused, of those whose copy takes memory.
+fn refusal_before_copy(core: &Core, event: &Event) -> Option<Refusal>
+    ensures refused { IfSome result (λ refusal. Does event.now core.now (Answers.Refused refusal) core.now) }
+    ensures none { IfNone result ((copies_freely event.now ≡ true) ⊎ Accepts core.now event.now) }
+{
+    match event {
+        Event::Ask(request) => core.ask_refusal(request),
+        _ => None,
+    }
 }
 
 // Each event has its own method.
@@ -164,6 +188,7 @@ fn apply_to(core: &mut Core, alloc: Global, event: Event) -> Result<Answer, Allo
     requires sized { IsSized core.old }
     ensures does { IfOk result (λ answer. Does event core.old answer core.new) }
     ensures refused { OnErr result (core.new ≡ core.old) }
+    ensures no_memory { OnErr result (Accepts core.old event) }
     ensures succeeds { takes_no_memory event ≡ true → IsOk result }
 {
     match event {

@@ -1,8 +1,8 @@
 // The places, and the acts of the threads at them.
-ghost use Rattle.std.specs.Prelude.{◌≡◌, ◌<◌, ◌≤◌, ℕ, List, length, Some, None, IfOk, slice_get, slice_set, true, replicate};
+ghost use Rattle.std.specs.Prelude.{◌≡◌, ◌<◌, ◌≤◌, ℕ, List, length, Some, None, IfOk, OnErr, slice_get, slice_set, true, replicate};
 ghost use Rattle.system.specs.declared.answers.Answer.TheVariants;
 ghost use Rattle.system.specs.Keeps.{is_plain};
-ghost use Rattle.system.specs.Steps.{DidAt, DidExit, DidChange, answer_here, frames_at, vacant_kept};
+ghost use Rattle.system.specs.Steps.{DidAt, DidExit, DidChange, answer_here, frames_at, is_taken, vacant_kept};
 
 use crate::answers::{Answer, FrameList, Refusal};
 use crate::events::Act;
@@ -23,25 +23,25 @@ fn answer_of(outcome: Result<Answer, Refusal>) -> Answer
     }
 }
 
-/// The thread at the place does a plain act, in a system with these codes, this open operation and this moment.
+/// The thread at the place does a plain act, in a system with these codes, these open operations and this moment.
 pub fn act_at(
     places: &mut Vec<Option<Thread>>,
     place: usize,
     act: Act,
     table: &MethodTable,
-    open: &Option<Open>,
+    operations: &[Open],
     now: u64,
 ) -> Answer
     requires plain { is_plain act ≡ true }
     requires few { table.now.methods ≤ 256 }
-    ensures { DidAt act table.now «open».now now place places.old.items places.new.items result }
+    ensures { DidAt act table.now operations.now now place places.old.items places.new.items result }
 {
     if place >= places.len() {
         return Answer::Refused(Refusal::NoSuchPlace);
     }
     match &mut places[place] {
         None => Answer::Refused(Refusal::Illegal(State::Vacant)),
-        Some(thread) => answer_of(thread.act(act, table, open, now)),
+        Some(thread) => answer_of(thread.act(act, table, operations, now)),
     }
 }
 
@@ -82,7 +82,8 @@ pub fn stack_at(
     places: &[Option<Thread>],
     place: usize,
 ) -> Result<Answer, AllocError>
-    ensures { IfOk result (λ answer. answer ≡ frames_at (slice_get places.now place)) }
+    ensures frames { IfOk result (λ answer. answer ≡ frames_at (slice_get places.now place)) }
+    ensures no_memory { OnErr result (is_taken (slice_get places.now place) ≡ true) }
 {
     if place >= places.len() {
         return Ok(Answer::Refused(Refusal::NoSuchPlace));

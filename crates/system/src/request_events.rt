@@ -1,21 +1,51 @@
 // The events of the operations.
-ghost use Rattle.std.specs.Prelude.{◌≡◌, true, IfOk, OnErr};
+ghost use Rattle.std.specs.Prelude.{◌≡◌, true, IfOk, OnErr, IfSome, IfNone};
 ghost use Rattle.system.specs.declared.events.Event.TheVariants as events;
+ghost use Rattle.system.specs.declared.answers.Answer.TheVariants as answers;
+ghost use Rattle.system.specs.Asking.{refusal_of};
+ghost use Rattle.system.specs.Memory.{Accepts};
 ghost use Rattle.system.specs.Stands.{Does};
 
 use crate::answers::{Answer, Refusal};
 use crate::keeping::{Core, LAST};
 use crate::requests::Open;
-use crate::tells::{is_any_held, place_of, tell_at};
+use crate::tells::{may_tell_any, place_of, tell_at};
 use operations::Request;
 use operations::queue::QueueFault;
 use std::alloc::AllocError;
 
+// The refusal for a fault of the queue, None for want of memory.
+fn refusal_of(fault: QueueFault) -> Option<Refusal>
+    ensures { result ≡ refusal_of fault }
+{
+    match fault {
+        QueueFault::QueueFull => Some(Refusal::QueueFull),
+        QueueFault::NoTargets => Some(Refusal::NoTargets),
+        QueueFault::BadTargets => Some(Refusal::BadTargets),
+        QueueFault::NoMemory => None,
+    }
+}
+
 impl Core {
+    /// Why the request wouldn't wait, but for want of memory.
+    pub fn ask_refusal(&self, request: &Request) -> Option<Refusal>
+        ensures refused { IfSome result (λ refusal. Does (events.Ask request.now) self.now (answers.Refused refusal) self.now) }
+        ensures none { IfNone result (Accepts self.now (events.Ask request.now)) }
+    {
+        if self.requests.numbers >= LAST {
+            return Some(Refusal::Spent);
+        }
+        match self.requests.waiting.refusal(request) {
+            Some(fault) => refusal_of(fault),
+            None => None,
+        }
+    }
+
     /// The request waits, with the next number.
     pub fn ask(&mut self, request: Request) -> Result<Answer, AllocError>
         ensures does { IfOk result (λ answer. Does (events.Ask request) self.old answer self.new) }
         ensures refused { OnErr result (self.new ≡ self.old) }
+        ensures no_memory { OnErr result (Accepts self.old (events.Ask request)) }
     {
         if self.requests.numbers >= LAST {
             return Ok(Answer::Refused(Refusal::Spent));
@@ -26,11 +56,9 @@ impl Core {
                 self.requests.numbers = number;
                 Ok(Answer::Asked(number))
             }
-            Err(unqueued) => match unqueued.fault {
-                QueueFault::QueueFull => Ok(Answer::Refused(Refusal::QueueFull)),
-                QueueFault::NoTargets => Ok(Answer::Refused(Refusal::NoTargets)),
-                QueueFault::BadTargets => Ok(Answer::Refused(Refusal::BadTargets)),
-                QueueFault::NoMemory => Err(AllocError),
+            Err(unqueued) => match refusal_of(unqueued.fault) {
+                Some(refusal) => Ok(Answer::Refused(refusal)),
+                None => Err(AllocError),
             },
         }
     }
@@ -39,56 +67,55 @@ impl Core {
     pub fn open_next(&mut self) -> Answer
         ensures { Does events.Open self.old result self.new }
     {
-        if self.requests.open.is_some() {
+        if !self.requests.may_open() {
             return Answer::Refused(Refusal::AlreadyOpen);
         }
         let Some(oldest) = self.requests.waiting.pop() else {
             return Answer::Refused(Refusal::QueueEmpty);
         };
         let kind = oldest.request.kind();
-        self.requests.open = Some(Open {
-            number: oldest.number,
+        let number = oldest.number;
+        self.requests.opens.push(Open {
+            number,
             request: oldest.request,
             names: self.names,
             operated: false,
         });
-        Answer::Opened(oldest.number, kind)
+        Answer::Opened(number, kind)
     }
 
-    /// The open operation is over.
+    /// The oldest open operation is over.
     pub fn close(&mut self) -> Answer
         ensures { Does events.Close self.old result self.new }
     {
-        let Some(open) = &self.requests.open else {
+        let Some(open) = self.requests.opens.oldest() else {
             return Answer::Refused(Refusal::NothingOpen);
         };
-        if is_any_held(&self.places) {
+        if open.is_any_held(&self.places) {
             return Answer::Refused(Refusal::Held);
         }
         if !open.is_over(&self.places) {
             return Answer::Refused(Refusal::NotDone);
         }
         let number = open.number;
-        self.requests.open = None;
+        self.requests.opens.take(0);
         Answer::Closed(number)
     }
 
-    /// The poll of a live target is armed.
+    /// The poll of a live target is armed, for the oldest operation that is new to it.
     pub fn tell(&mut self, name: u64) -> Answer
         ensures { Does (events.Tell name) self.old result self.new }
     {
-        let Some(open) = &self.requests.open else {
+        let operations = self.requests.opens.as_slice();
+        if operations.is_empty() {
             return Answer::Refused(Refusal::NothingOpen);
-        };
-        if !open.may_tell(name, self.names) {
-            return Answer::Refused(Refusal::NotOf);
         }
-        if name > open.names {
-            return Answer::Gone;
+        if !may_tell_any(operations, name, self.names) {
+            return Answer::Refused(Refusal::NotOf);
         }
         let Some(place) = place_of(&self.places, name) else {
             return Answer::Gone;
         };
-        tell_at(&mut self.places, place, open.number)
+        tell_at(&mut self.places, place, operations)
     }
 }

@@ -1,16 +1,18 @@
-// The requests that wait and the one that is open, as the system keeps them.
-ghost use Rattle.std.specs.Prelude.{◌≡◌, ◌==◌, if◌then◌else◌};
-ghost use Rattle.std.specs.List.{list_all};
-ghost use Rattle.operations.specs.Requests.{is_census};
-ghost use Rattle.system.specs.Keeps.{safepoint_by};
-ghost use Rattle.system.specs.Tells.{is_clear_at, is_over_at, may_tell_of};
-ghost use Rattle.system.specs.Censuses.{operated};
+// The requests that wait and those that are open, as the system keeps them.
+ghost use Rattle.std.specs.Prelude.{◌≡◌};
+ghost use Rattle.std.specs.List.{list_all, list_any};
+ghost use Rattle.operations.specs.Names.{is_empty};
+ghost use Rattle.operations.specs.Requests.{is_census, is_target, lists, reply_to};
+ghost use Rattle.system.specs.Censuses.{has_census};
+ghost use Rattle.system.specs.Tells.{is_clear_at, is_held_for, is_over_at, may_tell_of};
 
+use crate::opens::Opens;
 use crate::thread::Thread;
+use frames::image::Image;
 use operations::Request;
 use operations::queue::Queue;
 
-/// The open operation. A thread that lives is a live target where the request lists it and its name is among the first `names`.
+/// An open operation. A thread that lives is a live target where the request lists it and its name is among the first `names`.
 #[derive(Drop)]
 pub struct Open {
     pub number: u64,
@@ -28,14 +30,30 @@ impl Open {
         matches!(&self.request, Request::Census)
     }
 
-    // Whether it is done for a thread for which this operation is the last that is done: a census is done for all at once.
-    pub fn is_done(&self, done: u64) -> bool
-        ensures { result ≡ (if is_census self.now.request then self.now.operated else (done == self.now.number)) }
+    /// Whether it asks the thread of the name; a census asks all.
+    pub fn is_target(&self, name: u64) -> bool
+        ensures { result ≡ is_target self.now.request name }
     {
-        if self.is_census() {
-            self.operated
-        } else {
-            done == self.number
+        self.request.is_target(name)
+    }
+
+    /// Whether it is a handshake of the thread of the name.
+    pub fn lists(&self, name: u64) -> bool
+        ensures { result ≡ lists self.now.request name }
+    {
+        match &self.request {
+            Request::Census => false,
+            Request::Handshake { .. } => self.request.is_target(name),
+        }
+    }
+
+    /// What a thread with this stack replies to it; 0 to a census.
+    pub fn reply_on(&self, image: &Image) -> u64
+        ensures { result ≡ reply_to self.now.request image.now.frames }
+    {
+        match &self.request {
+            Request::Census => 0,
+            Request::Handshake { ask, .. } => ask.reply_on(image),
         }
     }
 
@@ -49,16 +67,30 @@ impl Open {
         }
     }
 
+    // Whether a target of it is held at the place.
+    fn is_held_for(&self, place: &Option<Thread>) -> bool
+        ensures { result ≡ is_held_for self.now place.now }
+    {
+        match place {
+            None => false,
+            Some(thread) => thread.held && self.is_target(thread.name),
+        }
+    }
+
+    /// Whether a target of it is held.
+    pub fn is_any_held(&self, places: &[Option<Thread>]) -> bool
+        ensures { result ≡ list_any (is_held_for self.now) places.now }
+    {
+        places.iter().any(|place| self.is_held_for(place))
+    }
+
     // Whether no live target is at the place, or one for which it is cleared.
     fn is_clear_at(&self, place: &Option<Thread>) -> bool
         ensures { result ≡ is_clear_at self.now place.now }
     {
         match place {
             None => true,
-            Some(thread) => {
-                !(self.request.is_target(thread.name) && thread.name <= self.names)
-                    || thread.marks.cleared == self.number
-            }
+            Some(thread) => self.number <= thread.marks.cleared || !thread.is_live_for(self),
         }
     }
 
@@ -76,31 +108,26 @@ impl Open {
     }
 }
 
-/// How many numbers were given out, the requests that wait, and the one that is open.
+/// How many numbers were given out, the requests that wait, and those that are open.
 #[derive(Drop)]
 pub struct Requests {
     pub numbers: u64,
     pub waiting: Queue<()>,
-    pub open: Option<Open>,
+    pub opens: Opens,
 }
 
 impl Requests {
-    /// Whether a census is open. (overview: at a safepoint)
-    pub fn is_safepoint(&self) -> bool
-        ensures { result ≡ safepoint_by self.now.«open» }
+    /// Whether the oldest request may be opened: one operation is open at a time.
+    pub fn may_open(&self) -> bool
+        ensures { result ≡ is_empty self.now.opens }
     {
-        match &self.open {
-            None => false,
-            Some(open) => open.is_census(),
-        }
+        self.opens.as_slice().is_empty()
     }
 
-    /// The open operation is operated.
-    pub fn set_operated(&mut self)
-        ensures { self.new ≡ record self.old { «open» = operated self.old.«open» } }
+    /// Whether a census is open. (overview: at a safepoint)
+    pub fn is_safepoint(&self) -> bool
+        ensures { result ≡ has_census self.now.opens }
     {
-        if let Some(open) = &mut self.open {
-            open.operated = true;
-        }
+        self.opens.as_slice().iter().any(|open| open.is_census())
     }
 }

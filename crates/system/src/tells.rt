@@ -1,26 +1,19 @@
-// What an open operation asks of the places: who is held, who is a live target, and who is told.
+// Whom the open operations may be told, and the telling.
 ghost use Rattle.std.specs.Prelude.{◌≡◌, ◌<◌, IfSome, IfNone, false, Some, slice_get, slice_set, length};
 ghost use Rattle.std.specs.List.{list_any};
 ghost use Rattle.system.specs.declared.thread.Thread.{Thread as TheThread};
-ghost use Rattle.system.specs.Tells.{is_held_at, is_named_at, answer_told, kept_told};
+ghost use Rattle.system.specs.Keeps.{answer_told, kept_told};
+ghost use Rattle.system.specs.Tells.{is_named_at, may_tell_of};
 
-use crate::answers::{Answer, Refusal};
+use crate::answers::Answer;
+use crate::requests::Open;
 use crate::thread::Thread;
 
-fn is_held_at(place: &Option<Thread>) -> bool
-    ensures { result ≡ is_held_at place.now }
+/// Whether one of the operations may be told to the name, where so many names were given out.
+pub fn may_tell_any(operations: &[Open], name: u64, names: u64) -> bool
+    ensures { result ≡ list_any (λ o. may_tell_of names o.request name) operations.now }
 {
-    match place {
-        None => false,
-        Some(thread) => thread.held,
-    }
-}
-
-/// Whether a thread is held.
-pub fn is_any_held(places: &[Option<Thread>]) -> bool
-    ensures { result ≡ list_any is_held_at places.now }
-{
-    places.iter().any(|place| is_held_at(place))
+    operations.iter().any(|open| open.may_tell(name, names))
 }
 
 fn is_named_at(name: u64, place: &Option<Thread>) -> bool
@@ -45,25 +38,13 @@ pub fn place_of(places: &[Option<Thread>], name: u64) -> Option<usize>
     None
 }
 
-// The operation of the number is the last that is told to the thread.
-fn tell(thread: &mut Thread, number: u64) -> Answer
-    ensures answer { result ≡ answer_told number thread.old }
-    ensures told { thread.new ≡ kept_told number thread.old }
-{
-    if thread.marks.told == number {
-        return Answer::Refused(Refusal::AlreadyTold);
-    }
-    thread.marks.told = number;
-    Answer::Told
-}
-
-/// Tells the operation of the number to the thread at the place.
-pub fn tell_at(places: &mut Vec<Option<Thread>>, place: usize, number: u64) -> Answer
+/// Tells the thread at the place the least operation that has it as a live target and is new to it.
+pub fn tell_at(places: &mut Vec<Option<Thread>>, place: usize, operations: &[Open]) -> Answer
     requires { (kept : TheThread) × (slice_get places.old.items place ≡ Some (Some kept)) }
-    ensures { (kept : TheThread) → slice_get places.old.items place ≡ Some (Some kept) → (result ≡ answer_told number kept) × (places.new.items ≡ slice_set places.old.items place (Some (kept_told number kept))) }
+    ensures { (kept : TheThread) → slice_get places.old.items place ≡ Some (Some kept) → (result ≡ answer_told operations.now kept) × (places.new.items ≡ slice_set places.old.items place (Some (kept_told operations.now kept))) }
 {
     match &mut places[place] {
         None => unreachable!(),
-        Some(thread) => tell(thread, number),
+        Some(thread) => thread.tell(operations),
     }
 }

@@ -1,13 +1,15 @@
 // A thread as the system keeps it, and the acts that change it alone.
-ghost use Rattle.std.specs.Prelude.{◌≡◌, ◌≢◌, ◌≤◌, ℕ, List, Option, Some, None, Ok, IfOk, true, false, ◌==◌};
+ghost use Rattle.std.specs.Prelude.{◌≡◌, ◌≢◌, ◌≤◌, ℕ, List, [], Option, Some, None, Ok, IfOk, true, false, ◌==◌, find, option_copied};
+ghost use Rattle.std.specs.List.{list_any};
+ghost use Rattle.operations.specs.Requests.{is_target, lists};
 ghost use Rattle.frames.specs.ImageView.{IsSettled};
 ghost use Rattle.thread_state.specs.States.{is_in_java};
-ghost use Rattle.system.specs.Operations.{Requests as Asked, poll_of, awaits_census};
+ghost use Rattle.system.specs.Operations.{Requests as Asked, poll_of};
 ghost use Rattle.system.specs.Threads as threads;
 ghost use Rattle.system.specs.World.{World};
 ghost use Rattle.system.specs.Places as acts;
 ghost use Rattle.system.specs.declared.events.Act.TheVariants as TheActs;
-ghost use Rattle.system.specs.Keeps.{SameThread, OpenBy, IsHere, Did, DidWith, DidStay, DidNext, SaysExit, IsNew, enters_frame, frame_refusal, poll_by, common_refusal, lawful_in, is_plain, number_of};
+ghost use Rattle.system.specs.Keeps.{SameThread, IsHere, Did, DidWith, DidStay, DidNext, SaysExit, IsNew, enters_frame, frame_refusal, poll_by, common_refusal, lawful_in, is_plain, is_live_for, was_told, is_done, told_by, undone_by, uncleared_by, awaited_by, live_by, untold_by, is_asked, idle_refusal, answer_told, kept_told};
 
 use crate::answers::{Answer, Refusal};
 use crate::events::Act;
@@ -15,13 +17,13 @@ use crate::requests::Open;
 use frames::image::{DEPTH, Image};
 use frames::{Change, CodeId, EndFault, Frame};
 use method_table::table::{Entry, MethodTable};
-use operations::Request;
 use std::alloc::{AllocError, Global};
 use thread_state::{
     Move, State, is_in_java, is_in_vm, is_safe, is_serving, may_cross, may_publish,
 };
 
-/// The operations that were last told to a thread, done for it, and cleared for it; 0 for none.
+/// The operations that were last told to a thread, done for it, and cleared for it; 0 for none. They are told, done and cleared in rising
+/// order, none of which it is a live target is left out: so the three numbers stand for all.
 #[derive(Clone, Copy, Debug, PartialEq, Eq, Drop)]
 pub struct Marks {
     pub told: u64,
@@ -71,17 +73,17 @@ impl Thread {
         })
     }
 
-    /// Does a plain act, in a system with these codes, this open operation and this moment.
+    /// Does a plain act, in a system with these codes, these open operations and this moment.
     pub fn act(
         &mut self,
         act: Act,
         table: &MethodTable,
-        operation: &Option<Open>,
+        operations: &[Open],
         now: u64,
     ) -> Result<Answer, Refusal>
         requires plain { is_plain act ≡ true }
         requires few { table.now.methods ≤ 256 }
-        ensures { (w : World) (t : _) → table.now.codes ≡ w.codes → table.now.methods ≡ w.methods → IsHere operation.now self.old w.requests t → Did act operation.now w.requests now (acts.here w act t) self.old self.new t result }
+        ensures { (w : World) (t : _) → table.now.codes ≡ w.codes → table.now.methods ≡ w.methods → IsHere operations.now self.old w.requests t → Did act operations.now w.requests now (acts.here w act t) self.old self.new t result }
     {
         if let Some(refusal) = self.common_refusal(act) {
             return Err(refusal);
@@ -96,10 +98,10 @@ impl Thread {
             Act::ToVm => self.moves(Move::ToVm),
             Act::ToNative => self.moves(Move::ToNative),
             Act::Block => self.moves(Move::Block),
-            Act::Take => self.take(operation),
-            Act::Finish => self.finish(operation),
-            Act::Clear => self.clear(operation),
-            Act::Hold => self.hold(operation),
+            Act::Take => self.take(operations),
+            Act::Finish => self.finish(operations),
+            Act::Clear => self.clear(operations),
+            Act::Hold => self.hold(operations),
             Act::Release => self.release(),
             Act::Change | Act::Exit | Act::Stack => unreachable!(),
         }
@@ -259,23 +261,134 @@ impl Thread {
         Ok(Answer::Done)
     }
 
-    // A census is open that was told to the thread and isn't operated.
-    fn awaits_census(&self, operation: &Option<Open>) -> bool
-        ensures { (requests : Asked) → OpenBy operation.now self.now requests requests.opened → result ≡ awaits_census requests self.now.name }
+    /// Whether the thread is a live target of the operation: it started before it was opened.
+    pub fn is_live_for(&self, open: &Open) -> bool
+        ensures { result ≡ is_live_for open.now self.now }
     {
-        match operation {
-            None => false,
-            Some(open) => open.is_census() && !open.operated && self.marks.told == open.number,
+        self.name <= open.names && open.is_target(self.name)
+    }
+
+    // The operation was told to the thread: numbers are told to it in rising order, each of which it is a live target. For the number
+    // told last no target is looked up.
+    fn was_told(&self, open: &Open) -> bool
+        ensures { result ≡ was_told open.now self.now }
+    {
+        open.number <= self.marks.told && (open.number == self.marks.told || self.is_live_for(open))
+    }
+
+    fn is_done(&self, open: &Open) -> bool
+        ensures { result ≡ is_done open.now self.now }
+    {
+        if open.is_census() {
+            open.operated
+        } else {
+            open.number <= self.marks.done
         }
     }
 
-    fn take(&mut self, operation: &Option<Open>) -> Result<Answer, Refusal>
-        ensures { (w : World) (t : _) → IsHere operation.now self.old w.requests t → DidStay (acts.does w TheActs.Take t) self.old self.new t result }
+    fn is_undone(&self, open: &Open) -> bool
+        ensures { result ≡ undone_by self.now open.now }
+    {
+        self.was_told(open) && !self.is_done(open)
+    }
+
+    fn is_uncleared(&self, open: &Open) -> bool
+        ensures { result ≡ uncleared_by self.now open.now }
+    {
+        self.was_told(open) && self.marks.cleared < open.number
+    }
+
+    fn is_listed(&self, operations: &[Open]) -> bool
+        ensures { result ≡ list_any (λ o. lists o.request self.now.name) operations.now }
+    {
+        operations.iter().any(|open| open.lists(self.name))
+    }
+
+    fn is_target(&self, operations: &[Open]) -> bool
+        ensures { result ≡ list_any (λ o. is_target o.request self.now.name) operations.now }
+    {
+        operations.iter().any(|open| open.is_target(self.name))
+    }
+
+    fn is_told(&self, operations: &[Open]) -> bool
+        ensures { result ≡ list_any (told_by self.now) operations.now }
+    {
+        operations.iter().any(|open| self.was_told(open))
+    }
+
+    fn is_waited_for(&self, operations: &[Open]) -> bool
+        ensures { result ≡ list_any (uncleared_by self.now) operations.now }
+    {
+        operations.iter().any(|open| self.is_uncleared(open))
+    }
+
+    // An open operation lists the thread: a handshake that was told to it does, so no list is searched for one that is found undone.
+    fn is_asked(&self, open: &Open, operations: &[Open]) -> bool
+        ensures { result ≡ is_asked self.now open.now operations.now }
+    {
+        !open.is_census() || self.is_listed(operations)
+    }
+
+    // The least told one that isn't done, and the least that isn't cleared.
+    fn next_undone<'a>(&self, operations: &'a [Open]) -> Option<&'a Open>
+        ensures { option_copied result ≡ find (undone_by self.now) operations.now }
+    {
+        operations.iter().find(|open| self.is_undone(open))
+    }
+
+    fn next_uncleared<'a>(&self, operations: &'a [Open]) -> Option<&'a Open>
+        ensures { option_copied result ≡ find (uncleared_by self.now) operations.now }
+    {
+        operations.iter().find(|open| self.is_uncleared(open))
+    }
+
+    /// Tells the least operation that has the thread as a live target and wasn't told to it.
+    pub fn tell(&mut self, operations: &[Open]) -> Answer
+        ensures answer { result ≡ answer_told operations.now self.old }
+        ensures told { self.new ≡ kept_told operations.now self.old }
+    {
+        if !self.is_live_target(operations) {
+            return Answer::Gone;
+        }
+        let Some(open) = self.next_untold(operations) else {
+            return Answer::Refused(Refusal::AlreadyTold);
+        };
+        self.marks.told = open.number;
+        Answer::Told
+    }
+
+    fn is_live_target(&self, operations: &[Open]) -> bool
+        ensures { result ≡ list_any (live_by self.now) operations.now }
+    {
+        operations.iter().any(|open| self.is_live_for(open))
+    }
+
+    fn is_untold(&self, open: &Open) -> bool
+        ensures { result ≡ untold_by self.now open.now }
+    {
+        self.marks.told < open.number && self.is_live_for(open)
+    }
+
+    fn next_untold<'a>(&self, operations: &'a [Open]) -> Option<&'a Open>
+        ensures { option_copied result ≡ find (untold_by self.now) operations.now }
+    {
+        operations.iter().find(|open| self.is_untold(open))
+    }
+
+    // A census is open that was told to the thread and isn't operated.
+    fn awaits_census(&self, operations: &[Open]) -> bool
+        ensures { result ≡ list_any (awaited_by self.now) operations.now }
+    {
+        operations.iter().any(|open| open.is_census() && !open.operated && self.was_told(open))
+    }
+
+    fn take(&mut self, operations: &[Open]) -> Result<Answer, Refusal>
+        ensures { (w : World) (t : _) → IsHere operations.now self.old w.requests t → DidStay (acts.does w TheActs.Take t) self.old self.new t result }
     {
         if self.held {
             return Err(Refusal::Held);
         }
-        if self.awaits_census(operation) {
+        if self.awaits_census(operations) {
             return Err(Refusal::NotDone);
         }
         self.moves(Move::Take)
@@ -284,7 +397,7 @@ impl Thread {
     // Opens a publication at a moment.
     fn begin(&mut self, now: u64) -> Result<Answer, Refusal>
         requires { self.old.image.publishing ≡ false }
-        ensures { (w : World) (t : _) → SameThread self.old t → Did TheActs.Begin None w.requests now (acts.does w TheActs.Begin t) self.old self.new t result }
+        ensures { (w : World) (t : _) → SameThread self.old t → Did TheActs.Begin [] w.requests now (acts.does w TheActs.Begin t) self.old self.new t result }
     {
         match self.image.begin() {
             Ok(()) => {
@@ -296,7 +409,7 @@ impl Thread {
     }
 
     fn end(&mut self) -> Result<Answer, Refusal>
-        ensures { (w : World) (now : ℕ) (t : _) → SameThread self.old t → Did TheActs.End None w.requests now (acts.does w TheActs.End t) self.old self.new t result }
+        ensures { (w : World) (now : ℕ) (t : _) → SameThread self.old t → Did TheActs.End [] w.requests now (acts.does w TheActs.End t) self.old self.new t result }
     {
         match self.image.end() {
             Ok(()) => {
@@ -324,70 +437,55 @@ impl Thread {
         }
     }
 
-    // The callback of a handshake, once for each target, on a published stack. (JEP 312)
-    fn finish(&mut self, operation: &Option<Open>) -> Result<Answer, Refusal>
-        ensures { (w : World) (now : ℕ) (t : _) → IsHere operation.now self.old w.requests t → Did TheActs.Finish operation.now w.requests now (acts.does w TheActs.Finish t) self.old self.new t result }
+    // The callback of a handshake, once for each target, on a published stack: of the least one that waits for it. (JEP 312)
+    fn finish(&mut self, operations: &[Open]) -> Result<Answer, Refusal>
+        ensures { (w : World) (now : ℕ) (t : _) → IsHere operations.now self.old w.requests t → Did TheActs.Finish operations.now w.requests now (acts.does w TheActs.Finish t) self.old self.new t result }
     {
-        let Some(open) = operation else {
-            return Err(Refusal::NothingOpen);
+        let Some(open) = self.next_undone(operations) else {
+            return Err(idle_refusal(
+                operations.is_empty(),
+                self.is_listed(operations),
+                self.is_told(operations),
+            ));
         };
-        let Request::Handshake { ask, .. } = &open.request else {
+        if !self.is_asked(open, operations) {
             return Err(Refusal::NotOf);
-        };
-        if !open.request.is_target(self.name) {
-            return Err(Refusal::NotOf);
-        }
-        if self.marks.told != open.number {
-            return Err(Refusal::NotTold);
-        }
-        if self.marks.done == open.number {
-            return Err(Refusal::AlreadyDone);
         }
         if !self.image.is_settled() {
             return Err(Refusal::Unpublished);
         }
         self.marks.done = open.number;
-        Ok(Answer::Reply(ask.reply_on(&self.image)))
+        Ok(Answer::Reply(open.reply_on(&self.image)))
     }
 
-    // The thread may go on once its own work is done. (JEP 312)
-    fn clear(&mut self, operation: &Option<Open>) -> Result<Answer, Refusal>
-        ensures { (w : World) (now : ℕ) (t : _) → IsHere operation.now self.old w.requests t → Did TheActs.Clear operation.now w.requests now (acts.does w TheActs.Clear t) self.old self.new t result }
+    // The thread may go on once its own work is done: the least one that waits for it is cleared. (JEP 312)
+    fn clear(&mut self, operations: &[Open]) -> Result<Answer, Refusal>
+        ensures { (w : World) (now : ℕ) (t : _) → IsHere operations.now self.old w.requests t → Did TheActs.Clear operations.now w.requests now (acts.does w TheActs.Clear t) self.old self.new t result }
     {
-        let Some(open) = operation else {
-            return Err(Refusal::NothingOpen);
+        let Some(open) = self.next_uncleared(operations) else {
+            return Err(idle_refusal(
+                operations.is_empty(),
+                self.is_target(operations),
+                self.is_told(operations),
+            ));
         };
-        if !open.request.is_target(self.name) {
-            return Err(Refusal::NotOf);
-        }
-        if self.marks.told != open.number {
-            return Err(Refusal::NotTold);
-        }
-        if !open.is_done(self.marks.done) {
+        if !self.is_done(open) {
             return Err(Refusal::NotDone);
-        }
-        if self.marks.cleared == open.number {
-            return Err(Refusal::AlreadyDone);
         }
         self.marks.cleared = open.number;
         Ok(Answer::Done)
     }
 
     // The coordinator keeps a thread blocked in a safe state. (JEP 312)
-    fn hold(&mut self, operation: &Option<Open>) -> Result<Answer, Refusal>
-        ensures { (w : World) (t : _) → IsHere operation.now self.old w.requests t → DidStay (acts.does w TheActs.Hold t) self.old self.new t result }
+    fn hold(&mut self, operations: &[Open]) -> Result<Answer, Refusal>
+        ensures { (w : World) (t : _) → IsHere operations.now self.old w.requests t → DidStay (acts.does w TheActs.Hold t) self.old self.new t result }
     {
-        let Some(open) = operation else {
-            return Err(Refusal::NothingOpen);
-        };
-        if !open.request.is_target(self.name) {
-            return Err(Refusal::NotOf);
-        }
-        if self.marks.told != open.number {
-            return Err(Refusal::NotTold);
-        }
-        if self.marks.cleared == open.number {
-            return Err(Refusal::AlreadyDone);
+        if !self.is_waited_for(operations) {
+            return Err(idle_refusal(
+                operations.is_empty(),
+                self.is_target(operations),
+                self.is_told(operations),
+            ));
         }
         if self.held {
             return Err(Refusal::Held);
@@ -397,6 +495,21 @@ impl Thread {
         }
         self.held = true;
         Ok(Answer::Done)
+    }
+}
+
+// Why no operation waits for a thread: none is open, none is of it, none was told to it, or each that was told is served.
+fn idle_refusal(empty: bool, of: bool, told: bool) -> Refusal
+    ensures { result ≡ idle_refusal empty of told }
+{
+    if empty {
+        Refusal::NothingOpen
+    } else if !of {
+        Refusal::NotOf
+    } else if !told {
+        Refusal::NotTold
+    } else {
+        Refusal::AlreadyDone
     }
 }
 

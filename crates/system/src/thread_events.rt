@@ -3,6 +3,7 @@ ghost use Rattle.std.specs.Prelude.{◌≡◌, ◌≤◌, true, IfOk, OnErr};
 ghost use Rattle.system.specs.declared.events.Event.TheVariants as events;
 ghost use Rattle.system.specs.declared.events.Act.TheVariants as acts;
 ghost use Rattle.system.specs.Keeps.{is_plain};
+ghost use Rattle.system.specs.Memory.{Accepts};
 ghost use Rattle.system.specs.Stands.{Does};
 
 use crate::answers::{Answer, Refusal};
@@ -24,7 +25,7 @@ impl Core {
             place,
             act,
             &self.table,
-            &self.requests.open,
+            self.requests.opens.as_slice(),
             self.moment,
         )
     }
@@ -38,7 +39,8 @@ impl Core {
 
     /// The frames of the thread at the place.
     pub fn stack(&self, alloc: Global, place: usize) -> Result<Answer, AllocError>
-        ensures { IfOk result (λ answer. Does (events.At place acts.Stack) self.now answer self.now) }
+        ensures does { IfOk result (λ answer. Does (events.At place acts.Stack) self.now answer self.now) }
+        ensures no_memory { OnErr result (Accepts self.now (events.At place acts.Stack)) }
     {
         stack_at(alloc, &self.places, place)
     }
@@ -47,6 +49,7 @@ impl Core {
     pub fn start(&mut self, alloc: Global) -> Result<Answer, AllocError>
         ensures does { IfOk result (λ answer. Does events.Start self.old answer self.new) }
         ensures refused { OnErr result (self.new ≡ self.old) }
+        ensures no_memory { OnErr result (Accepts self.old events.Start) }
     {
         if self.requests.is_safepoint() {
             return Ok(Answer::Refused(Refusal::SafepointOpen));

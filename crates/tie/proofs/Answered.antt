@@ -1,6 +1,7 @@
 -- Answers are read off the words that events load.
-use Rattle.std.proofs.Common.{◌≡◌, ◌≢◌, ℕ, Bool, true, false, Some, None, sym, ap, ◌∙◌, subst, arith}
-use Rattle.std.proofs.lemmas.Bool.{eq-eqb, ne_eqb}
+use Rattle.std.proofs.Common.{◌≡◌, ◌≢◌, ℕ, Bool, true, false, cond, length, Some, None, sym, refl, ap, ◌∙◌, subst, arith}
+use Rattle.std.specs.Prelude.{not, nat_lt}
+use Rattle.std.proofs.lemmas.Bool.{eq-eqb, ne_eqb, not-true, not-false}
 use Rattle.frames.specs.declared.board_rule.EntryState.TheVariants as entry
 use Rattle.method_table.specs.declared.Code.{Code}
 use Rattle.method_table.specs.declared.CodeState.TheVariants.{NotEntrant}
@@ -11,22 +12,28 @@ use Rattle.system.specs.declared.events.Event.TheVariants as event
 use Rattle.system.specs.declared.answers.Answer.{Answer}
 use Rattle.system.specs.declared.answers.Answer.TheVariants as answer
 use Rattle.system.specs.declared.answers.Refusal.{Refusal}
+use Rattle.system.specs.declared.answers.Refusal.TheVariants.{Spent}
 use Rattle.frames.specs.BoardWords.{entry_of, count_of, place_of, pack, says_in_use}
+use Rattle.frames.specs.BoardRule.{SlotState}
 use Rattle.frames.specs.BoardStep.{is_late}
 use Rattle.method_table.specs.Codes.{id_of, code_of}
+use Rattle.method_table.proofs.Searches.{below_found}
 use Rattle.system.specs.Threads.{Thread}
+use Rattle.method_table.specs.Numbers.{last_number}
+use Rattle.system.specs.Log.{is_looked, moment}
+use Rattle.system.specs.Verdict.{accepted, unless◌refuse◌then◌}
 use Rattle.system.specs.World.{World, start_world, walk}
-use Rattle.system.specs.Runs.{world_after}
-use Rattle.system.proofs.Outcomes.{is_move, Enters, Misses, Looks, FindsUsed, Retires}
+use Rattle.system.specs.Runs.{answer_of, world_after}
+use Rattle.system.proofs.Outcomes.{is_move, Enters, Misses, Looks, FindsUnlooked, FindsUsed, Retires}
 use Rattle.system.proofs.Cases.{Cases}
 use Rattle.system.proofs.ByCases.{by_cases}
 use Rattle.tie.specs.BoardOf.{word_by, slot_at}
-use Rattle.tie.specs.Answers.{IsReadOff, AnswersAreReadOff}
+use Rattle.tie.specs.Answers.{IsLeastUnlooked, IsReadOff, AnswersAreReadOff, RoundsReadTheMoment}
 use Rattle.tie.proofs.Tied.{IsReached, reached}
 use Rattle.tie.proofs.Quiet.{each_move}
 use Rattle.tie.proofs.Covered.{by_words}
 use Rattle.tie.proofs.EntrySteps.{word_is, word_more}
-use Rattle.tie.proofs.KeeperSteps.{code_here}
+use Rattle.tie.proofs.KeeperSteps.{code_here, slot_is}
 use Rattle.tie.proofs.WeighSteps.{sum_is}
 
 -- The code of a serial is one.
@@ -49,6 +56,17 @@ count_used w serial j h i k is = (ap (λ (x : Code). word_by w (count_of x.slot)
 
 count_none : (w : World) (serial : ℕ) (j : Code) → IsReached w → Retires w serial j → (k : Code) → code_of w.codes serial ≡ Some k → word_by w (count_of k.slot) ≡ 0
 count_none w serial j h i k is = ap (λ (x : Code). word_by w (count_of x.slot)) (same_found w serial k j is (code_here w serial j NotEntrant h i.code_is)) ∙ (sum_is w serial j h i.code_is i.all_looked ∙ i.unused)
+
+least_unlooked : (w : World) (serial p : ℕ) (j : Code) → IsReached w → FindsUnlooked w serial j p → (k : Code) → code_of w.codes serial ≡ Some k → IsLeastUnlooked (slot_at w k.slot).looked p
+least_unlooked w serial p j h i k is =
+    let found = below_found (λ place. not (is_looked w.log serial place)) (length w.places) p i.least in record {
+      unlooked = there p ∙ not-true (is_looked w.log serial p) found.passes;
+      least = λ q low. there q ∙ not-false (is_looked w.log serial q) (found.least q low);
+    }
+  where
+    there : (q : ℕ) → (slot_at w k.slot).looked q ≡ is_looked w.log serial q
+    there q = ap (λ (x : Code). (slot_at w x.slot).looked q) (same_found w serial k j is (code_here w serial j NotEntrant h i.code_is))
+        ∙ (ap (λ (x : SlotState). x.looked q) (slot_is w serial j NotEntrant h i.code_is) ∙ ap (λ n. is_looked w.log n q) i.code_is.serial_is)
 
 -- Refusals and moves are read off none.
 refused_tells : (w : World) (e : Event) (r : Refusal) → IsReadOff w e (answer.Refused r)
@@ -104,9 +122,9 @@ all_read_off w h = record {
   misses = λ p t method serial code i. λ k is. entry_gone w p t method serial code h i k is;
   leaves = λ p t state i. tt;
   exits = λ p t i. tt;
-  finishes = λ p t opened others i. tt;
-  clears = λ p t opened others i. tt;
-  holds = λ p t opened others i. tt;
+  finishes = λ p t opened i. tt;
+  clears = λ p t opened i. tt;
+  holds = λ p t opened i. tt;
   releases = λ p t i. tt;
   shows = λ p t i. tt;
   starts = λ p i. tt;
@@ -115,16 +133,16 @@ all_read_off w h = record {
   goes_round = λ i. tt;
   looks_clear = λ serial p code i. λ k is. place_says w serial p code true h i k is;
   looks_late = λ serial p code i. λ k is. place_says w serial p code false h i k is;
-  finds_unlooked = λ serial code p i. tt;
+  finds_unlooked = λ serial code p i. λ k is. least_unlooked w serial p code h i k is;
   finds_used = λ serial code i. λ k is. count_used w serial code h i k is;
   retires = λ serial code i. λ k is. count_none w serial code h i k is;
   frees = λ serial code i. tt;
   asks = λ request i. tt;
   opens = λ oldest others i. tt;
-  tells = λ name opened others i. tt;
-  finds_gone = λ name opened others i. tt;
+  tells = λ name opened i. tt;
+  finds_gone = λ name i. tt;
   operates = λ opened others i. tt;
-  closes = λ opened others i. tt;
+  closes = λ opened i. tt;
   counts = λ serial code i. tt;
   says_state = λ serial code i. tt;
   resolves = λ method i. tt;
@@ -133,3 +151,12 @@ all_read_off w h = record {
 pub answers_are_read_off : AnswersAreReadOff
 answers_are_read_off places slots methods events e =
     let w : World = world_after (start_world places slots methods) events in by_cases w (λ e a v. IsReadOff w e a) (all_read_off w (reached places slots methods events)) e
+
+-- A Round tests the moment alone.
+pub rounds_read_the_moment : RoundsReadTheMoment
+rounds_read_the_moment places slots methods events =
+    let w : World = world_after (start_world places slots methods) events in by w (nat_lt (moment w.log) last_number)
+  where
+    by : (w : World) (b : Bool) → answer_of (unless b refuse Spent then accepted w answer.Done) ≡ cond b answer.Done (answer.Refused Spent)
+    by w true = refl
+    by w false = refl

@@ -26,7 +26,8 @@ use Rattle.system.proofs.Sound.{counts_sound}
 use Rattle.system.proofs.Moments.{ended_at, left_by, begun_by, ended_by, end_is}
 use Rattle.system.proofs.Reclaim.{is_unused, IsThread}
 use Rattle.system.proofs.ReclaimKept.{left_in}
-use Rattle.tie.specs.BoardOf.{entry_state, newest_in, slot_by, slot_at, stands_in, is_given, is_missed, seat_by, seat_at, board_of, BoardsKeepTheRule}
+use Rattle.method_table.specs.Entries.{entry_state, newest_in}
+use Rattle.tie.specs.BoardOf.{slot_by, slot_at, stands_in, is_given, is_missed, seat_by, seat_at, board_of, BoardsKeepTheRule}
 use Rattle.tie.proofs.Slots.{newest_code, newest_of, newer_than}
 use Rattle.tie.proofs.Tied.{some_place, fresh_unlooked, IsReached, reached, sizes_are}
 

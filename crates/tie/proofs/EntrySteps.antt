@@ -23,7 +23,8 @@ use Rattle.system.specs.Moments.{ended, published_at, publishing_at, is_fresh}
 use Rattle.system.proofs.Outcomes.{Stands, entered, seated, Enters, Misses}
 use Rattle.system.proofs.Frames.{part_quiet}
 use Rattle.system.proofs.Table.{code_serial}
-use Rattle.tie.specs.BoardOf.{entry_state, stands_in, is_given, is_missed, seat_by, seat_at, word_by, slot_by, newest_in, board_of}
+use Rattle.method_table.specs.Entries.{entry_state, newest_in}
+use Rattle.tie.specs.BoardOf.{stands_in, is_given, is_missed, seat_by, seat_at, word_by, slot_by, board_of}
 use Rattle.tie.specs.Steps.{GoesBy, of_thread, for_code, enter_steps}
 use Rattle.tie.proofs.Slots.{newest_code, newest_of, newer_than}
 use Rattle.tie.proofs.Tied.{IsReached}

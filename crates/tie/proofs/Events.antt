@@ -24,7 +24,8 @@ use Rattle.system.proofs.Outcomes.{noted, asked, seated, entered, moved, held, r
 use Rattle.system.proofs.Cases.{Cases}
 use Rattle.system.proofs.ByCases.{by_cases}
 use Rattle.system.proofs.Frames.{part_quiet}
-use Rattle.tie.specs.BoardOf.{newest_in, is_given, is_missed, seat_by, board_of}
+use Rattle.method_table.specs.Entries.{newest_in}
+use Rattle.tie.specs.BoardOf.{is_given, is_missed, seat_by, board_of}
 use Rattle.tie.specs.Steps.{Made, for_code, weigh_steps, is_refused, accepted_steps, act_steps, steps_of, GoesBy, EventsAreTheirSteps}
 use Rattle.tie.proofs.Tied.{IsReached, reached, sizes_are}
 use Rattle.tie.proofs.Quiet.{IsUnseen, each_move, move_unseen}
@@ -114,9 +115,9 @@ all_steps w h = record {
   leaves = λ p t state i. rests w (seated w p (Some (moved (popped t) state)) (event.At p act.Leave) (go_or_stop (poll_of w.requests t.name))) (event.At p act.Leave) (go_or_stop (poll_of w.requests t.name)) refl
       (act_rests w p t (moved (popped t) state) act.Leave (go_or_stop (poll_of w.requests t.name)) i.acts.stands (λ q. record { starts_not = refl; exits_not = refl; begins_not = refl; ends_not = refl; enters_not = λ r. refl; misses_not = λ r. refl }) (quiet_same w p t (moved (popped t) state) (λ c. part_quiet c (moved (popped t) state) i.acts.quiet ∙ sym (part_quiet c t i.acts.quiet)) refl refl));
   exits = λ p t i. exit_step w p t h i;
-  finishes = λ p t opened others i. rests w (asked w (with_done w.requests opened t.name) (event.At p act.Finish) (answer.Reply (reply_to opened.request t.stack))) (event.At p act.Finish) (answer.Reply (reply_to opened.request t.stack)) refl (asked_rests w (event.At p act.Finish) (answer.Reply (reply_to opened.request t.stack)) (record { no_round = refl; no_invalidate = λ r. refl; no_look = λ r q. refl }) (λ q. record { starts_not = refl; exits_not = refl; begins_not = refl; ends_not = refl; enters_not = λ r. refl; misses_not = λ r. refl }) (with_done w.requests opened t.name));
-  clears = λ p t opened others i. rests w (asked w (with_cleared w.requests opened t.name) (event.At p act.Clear) answer.Done) (event.At p act.Clear) answer.Done refl (asked_rests w (event.At p act.Clear) answer.Done (record { no_round = refl; no_invalidate = λ r. refl; no_look = λ r q. refl }) (λ q. record { starts_not = refl; exits_not = refl; begins_not = refl; ends_not = refl; enters_not = λ r. refl; misses_not = λ r. refl }) (with_cleared w.requests opened t.name));
-  holds = λ p t opened others i. rests w (seated w p (Some (held t)) (event.At p act.Hold) answer.Done) (event.At p act.Hold) answer.Done refl
+  finishes = λ p t opened i. rests w (asked w (with_done w.requests opened t.name) (event.At p act.Finish) (answer.Reply (reply_to opened.request t.stack))) (event.At p act.Finish) (answer.Reply (reply_to opened.request t.stack)) refl (asked_rests w (event.At p act.Finish) (answer.Reply (reply_to opened.request t.stack)) (record { no_round = refl; no_invalidate = λ r. refl; no_look = λ r q. refl }) (λ q. record { starts_not = refl; exits_not = refl; begins_not = refl; ends_not = refl; enters_not = λ r. refl; misses_not = λ r. refl }) (with_done w.requests opened t.name));
+  clears = λ p t opened i. rests w (asked w (with_cleared w.requests opened t.name) (event.At p act.Clear) answer.Done) (event.At p act.Clear) answer.Done refl (asked_rests w (event.At p act.Clear) answer.Done (record { no_round = refl; no_invalidate = λ r. refl; no_look = λ r q. refl }) (λ q. record { starts_not = refl; exits_not = refl; begins_not = refl; ends_not = refl; enters_not = λ r. refl; misses_not = λ r. refl }) (with_cleared w.requests opened t.name));
+  holds = λ p t opened i. rests w (seated w p (Some (held t)) (event.At p act.Hold) answer.Done) (event.At p act.Hold) answer.Done refl
       (act_rests w p t (held t) act.Hold answer.Done i.acts.stands (λ q. record { starts_not = refl; exits_not = refl; begins_not = refl; ends_not = refl; enters_not = λ r. refl; misses_not = λ r. refl }) refl);
   releases = λ p t i. rests w (seated w p (Some (released t)) (event.At p act.Release) answer.Done) (event.At p act.Release) answer.Done refl
       (act_rests w p t (released t) act.Release answer.Done i.acts.stands (λ q. record { starts_not = refl; exits_not = refl; begins_not = refl; ends_not = refl; enters_not = λ r. refl; misses_not = λ r. refl }) refl);
@@ -135,10 +136,10 @@ all_steps w h = record {
   frees = λ serial code i. free_step w serial code h i;
   asks = λ request i. rests w (asked w (with_request w request) (event.Ask request) (answer.Asked (operations_given w.log + 1))) (event.Ask request) (answer.Asked (operations_given w.log + 1)) refl (asked_rests w (event.Ask request) (answer.Asked (operations_given w.log + 1)) (record { no_round = refl; no_invalidate = λ r. refl; no_look = λ r q. refl }) (λ q. record { starts_not = refl; exits_not = refl; begins_not = refl; ends_not = refl; enters_not = λ r. refl; misses_not = λ r. refl }) (with_request w request));
   opens = λ oldest others i. rests w (asked w (with_opened w oldest others) event.Open (answer.Opened oldest.number (kind_of oldest.request))) event.Open (answer.Opened oldest.number (kind_of oldest.request)) refl (asked_rests w event.Open (answer.Opened oldest.number (kind_of oldest.request)) (record { no_round = refl; no_invalidate = λ r. refl; no_look = λ r q. refl }) (λ q. record { starts_not = refl; exits_not = refl; begins_not = refl; ends_not = refl; enters_not = λ r. refl; misses_not = λ r. refl }) (with_opened w oldest others));
-  tells = λ name opened others i. rests w (asked w (with_told w.requests opened name) (event.Tell name) answer.Told) (event.Tell name) answer.Told refl (asked_rests w (event.Tell name) answer.Told (record { no_round = refl; no_invalidate = λ r. refl; no_look = λ r q. refl }) (λ q. record { starts_not = refl; exits_not = refl; begins_not = refl; ends_not = refl; enters_not = λ r. refl; misses_not = λ r. refl }) (with_told w.requests opened name));
-  finds_gone = λ name opened others i. rests w (noted w (event.Tell name) answer.Gone) (event.Tell name) answer.Gone refl (noted_rests w (event.Tell name) answer.Gone (record { no_round = refl; no_invalidate = λ r. refl; no_look = λ r q. refl }) (λ q. record { starts_not = refl; exits_not = refl; begins_not = refl; ends_not = refl; enters_not = λ r. refl; misses_not = λ r. refl }));
+  tells = λ name opened i. rests w (asked w (with_told w.requests opened name) (event.Tell name) answer.Told) (event.Tell name) answer.Told refl (asked_rests w (event.Tell name) answer.Told (record { no_round = refl; no_invalidate = λ r. refl; no_look = λ r q. refl }) (λ q. record { starts_not = refl; exits_not = refl; begins_not = refl; ends_not = refl; enters_not = λ r. refl; misses_not = λ r. refl }) (with_told w.requests opened name));
+  finds_gone = λ name i. rests w (noted w (event.Tell name) answer.Gone) (event.Tell name) answer.Gone refl (noted_rests w (event.Tell name) answer.Gone (record { no_round = refl; no_invalidate = λ r. refl; no_look = λ r q. refl }) (λ q. record { starts_not = refl; exits_not = refl; begins_not = refl; ends_not = refl; enters_not = λ r. refl; misses_not = λ r. refl }));
   operates = λ opened others i. rests w (asked w (with_operated w opened) event.Operate (answer.Census (census w))) event.Operate (answer.Census (census w)) refl (asked_rests w event.Operate (answer.Census (census w)) (record { no_round = refl; no_invalidate = λ r. refl; no_look = λ r q. refl }) (λ q. record { starts_not = refl; exits_not = refl; begins_not = refl; ends_not = refl; enters_not = λ r. refl; misses_not = λ r. refl }) (with_operated w opened));
-  closes = λ opened others i. rests w (asked w (without_opened w opened) event.Close (answer.Closed opened.number)) event.Close (answer.Closed opened.number) refl (asked_rests w event.Close (answer.Closed opened.number) (record { no_round = refl; no_invalidate = λ r. refl; no_look = λ r q. refl }) (λ q. record { starts_not = refl; exits_not = refl; begins_not = refl; ends_not = refl; enters_not = λ r. refl; misses_not = λ r. refl }) (without_opened w opened));
+  closes = λ opened i. rests w (asked w (without_opened w opened) event.Close (answer.Closed opened.number)) event.Close (answer.Closed opened.number) refl (asked_rests w event.Close (answer.Closed opened.number) (record { no_round = refl; no_invalidate = λ r. refl; no_look = λ r q. refl }) (λ q. record { starts_not = refl; exits_not = refl; begins_not = refl; ends_not = refl; enters_not = λ r. refl; misses_not = λ r. refl }) (without_opened w opened));
   counts = λ serial code i. rests w (noted w (event.Count serial) (answer.Count (walk w (id_of code)))) (event.Count serial) (answer.Count (walk w (id_of code))) refl (noted_rests w (event.Count serial) (answer.Count (walk w (id_of code))) (record { no_round = refl; no_invalidate = λ r. refl; no_look = λ r q. refl }) (λ q. record { starts_not = refl; exits_not = refl; begins_not = refl; ends_not = refl; enters_not = λ r. refl; misses_not = λ r. refl }));
   says_state = λ serial code i. rests w (noted w (event.CodeState serial) (answer.State code.state)) (event.CodeState serial) (answer.State code.state) refl (noted_rests w (event.CodeState serial) (answer.State code.state) (record { no_round = refl; no_invalidate = λ r. refl; no_look = λ r q. refl }) (λ q. record { starts_not = refl; exits_not = refl; begins_not = refl; ends_not = refl; enters_not = λ r. refl; misses_not = λ r. refl }));
   resolves = λ method i. rests w (noted w (event.Resolve method) (code_or_none (in_use_for w.codes method))) (event.Resolve method) (code_or_none (in_use_for w.codes method)) refl (noted_rests w (event.Resolve method) (code_or_none (in_use_for w.codes method)) (record { no_round = refl; no_invalidate = λ r. refl; no_look = λ r q. refl }) (λ q. record { starts_not = refl; exits_not = refl; begins_not = refl; ends_not = refl; enters_not = λ r. refl; misses_not = λ r. refl }));

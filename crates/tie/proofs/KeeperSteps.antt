@@ -23,9 +23,11 @@ use Rattle.system.proofs.Outcomes.{noted, coded, IsCode}
 use Rattle.system.proofs.Table.{in_state_slot, in_state_here, in_state_other, code_with_state, unfreed_code, unfreed_takes}
 use Rattle.system.proofs.Moments.{moment_step}
 use Rattle.system.proofs.Reclaim.{is_unused}
-use Rattle.tie.specs.BoardOf.{entry_state, newest_in, slot_by, slot_at, stands_in, is_given, is_missed, seat_by, seat_at, word_by, board_of}
+use Rattle.method_table.specs.Entries.{entry_state, newest_in}
+use Rattle.tie.specs.BoardOf.{slot_by, slot_at, stands_in, is_given, is_missed, seat_by, seat_at, word_by, board_of}
 use Rattle.tie.specs.Steps.{Made, GoesBy, of_keeper, for_code}
-use Rattle.tie.proofs.Slots.{newest_with, newest_code, newest_of}
+use Rattle.method_table.proofs.Newest.{newest_with}
+use Rattle.tie.proofs.Slots.{newest_code, newest_of}
 use Rattle.tie.proofs.Tied.{IsReached}
 use Rattle.tie.proofs.Views.{IsOf, slot_same, seat_same, slot_becomes, writes_entry}
 use Rattle.tie.proofs.ThreadSteps.{one}

@@ -19,3 +19,7 @@ pub mod WeighSteps
 pub mod Events
 pub mod Covered
 pub mod Answered
+pub mod Determined
+pub mod DeterminedRows
+pub mod Followed
+pub mod FollowedRows

@@ -12,17 +12,17 @@ use Rattle.system.specs.Operations.{Opened, poll_of, greatest}
 use Rattle.system.specs.World.{World, found, start_world}
 use Rattle.system.specs.Places.{go_or_stop}
 use Rattle.system.specs.Step.{code_or_none}
-use Rattle.system.specs.Ran.{RanAtMostOnce}
-use Rattle.system.specs.Runs.{world_after}
+use Rattle.system.specs.Facts.{IsSound}
+use Rattle.system.specs.Runs.{answer_to, world_after}
 use Rattle.method_table.specs.Codes.{in_use_for}
 use Rattle.system.proofs.Outcomes.{Stands, Moves, ByMove, ByPoll, Clears, move_of, is_move}
 use Rattle.system.proofs.Cases.{Cases}
 use Rattle.system.proofs.ByCases.{by_cases}
-use Rattle.system.proofs.Once.{run_at_most_once}
+use Rattle.system.proofs.Worlds.{worlds_are_sound}
 use Rattle.tie.specs.PollRow.{row_of, armed_at, uncleared_at, cleared_at, number_of, load, step_of, polls_of}
-use Rattle.tie.specs.PollAnswers.{said_by, IsAnswered, PollsAnswerTheirWords}
+use Rattle.tie.specs.PollAnswers.{said_by, IsAnswered, PollsAnswerTheirWords, is_poll, PollsLoadTheirWord}
 use Rattle.tie.proofs.PollKept.{pending_at, IsLast}
-use Rattle.tie.proofs.PollTold.{Cleared, cleared_is}
+use Rattle.tie.proofs.PollTold.{LogTells, log_tells, alone_is, Cleared, cleared_is}
 use Rattle.tie.proofs.PollRows.{RowIn}
 use Rattle.tie.proofs.PollSteps.{go_or_stop_accepted, move_accepted, code_accepted}
 use Rattle.tie.proofs.PollLaws.{row_in, row_word}
@@ -56,12 +56,12 @@ move_said w p t act.Block state given h i is = tt
 move_said w p t act.Take state given h i is = tt
 move_said w p t a state given h i is = absurd (false≢true is)
 
-cleared_met : (w : World) (p : ℕ) (t : Thread) (opened : Opened) (os : List Opened) → RanAtMostOnce w → RowIn w → Clears w p t opened os → (row_of w p).word ≡ number_of w.requests.opened
-cleared_met w p t opened os ran h i = let d : Cleared w p t opened = cleared_is w p t opened os ran h i in
-    (row_word w h p ∙ ap (λ ns. unwrap_or (greatest ns) 0) d.uncleared_is) ∙ sym (ap number_of i.opened_is)
+cleared_met : (w : World) (p : ℕ) (t : Thread) (opened : Opened) → IsSound w → LogTells w → RowIn w → Clears w p t opened → (row_of w p).word ≡ number_of w.requests.opened
+cleared_met w p t opened sound ran h i = let d : Cleared w p t opened = cleared_is w p t opened ran h i in
+    (row_word w h p ∙ ap (λ ns. unwrap_or (greatest ns) 0) d.uncleared_is) ∙ sym (ap number_of (alone_is w opened sound i.open_is))
 
-said : (w : World) → RanAtMostOnce w → RowIn w → Cases w (λ e a v. IsAnswered (polls_of w e a) a)
-said w ran h = record {
+said : (w : World) → IsSound w → LogTells w → RowIn w → Cases w (λ e a v. IsAnswered (polls_of w e a) a)
+said w sound ran h = record {
   refuses = λ e r. tt;
   begins = λ p t i. tt;
   changes = λ p t code i. tt;
@@ -73,9 +73,9 @@ said w ran h = record {
   misses = λ p t method serial code i. tt;
   leaves = λ p t state i. subst (λ b. IsAnswered (if b then load w p else None) (go_or_stop (poll_of w.requests t.name))) (sym (go_or_stop_accepted (poll_of w.requests t.name))) (poll_said w p t h i.acts.stands);
   exits = λ p t i. tt;
-  finishes = λ p t opened others i. tt;
-  clears = λ p t opened others i. cleared_met w p t opened others ran h i;
-  holds = λ p t opened others i. tt;
+  finishes = λ p t opened i. tt;
+  clears = λ p t opened i. cleared_met w p t opened sound ran h i;
+  holds = λ p t opened i. tt;
   releases = λ p t i. tt;
   shows = λ p t i. tt;
   starts = λ p i. tt;
@@ -90,10 +90,10 @@ said w ran h = record {
   frees = λ serial code i. tt;
   asks = λ request i. tt;
   opens = λ oldest others i. tt;
-  tells = λ name opened others i. refl;
-  finds_gone = λ name opened others i. tt;
+  tells = λ name opened i. refl;
+  finds_gone = λ name i. tt;
   operates = λ opened others i. tt;
-  closes = λ opened others i. tt;
+  closes = λ opened i. tt;
   counts = λ serial code i. tt;
   says_state = λ serial code i. tt;
   resolves = λ method i. subst (λ b. IsAnswered (if b then None else None) (code_or_none (in_use_for w.codes method))) (sym (code_accepted (in_use_for w.codes method))) tt;
@@ -102,4 +102,19 @@ said w ran h = record {
 pub polls_answer_their_words : PollsAnswerTheirWords
 polls_answer_their_words places slots methods events next =
     let w : World = world_after (start_world places slots methods) events in
-    by_cases w (λ e a v. IsAnswered (polls_of w e a) a) (said w (run_at_most_once places slots methods events) (row_in places slots methods events)) next
+    by_cases w (λ e a v. IsAnswered (polls_of w e a) a) (said w (worlds_are_sound places slots methods events).0 (log_tells places slots methods events) (row_in places slots methods events)) next
+
+-- A poll that is accepted is a load.
+loaded : (w : World) (p : ℕ) (a : Act) (given : Answer) → is_poll a ≡ true → step_of w (event.At p a) given ≡ load w p
+loaded w p act.Edge given h = refl
+loaded w p act.Leave given h = refl
+loaded w p act.Cross given h = refl
+loaded w p act.FromVm given h = refl
+loaded w p a given h = absurd (false≢true h)
+
+pub polls_load_their_word : PollsLoadTheirWord
+polls_load_their_word places slots methods events p a is accepted =
+    let w : World = world_after (start_world places slots methods) events in
+    let given : Answer = answer_to w (event.At p a) in
+    let step : polls_of w (event.At p a) given ≡ load w p = ap (λ b. if b then step_of w (event.At p a) given else None) accepted ∙ loaded w p a given is in
+    (step, subst (λ s. IsAnswered s given) step (polls_answer_their_words places slots methods events (event.At p a)))

@@ -11,9 +11,9 @@ use Rattle.system.specs.Runs.{after, world_after}
 use Rattle.system.proofs.ByCases.{by_cases}
 use Rattle.system.proofs.Seats.{each_start}
 use Rattle.system.proofs.Worlds.{worlds_are_sound}
-use Rattle.system.proofs.Once.{run_at_most_once}
 use Rattle.tie.specs.PollRow.{row_of, armed_at, uncleared_at, cleared_at, RowsKeepTheRule, polls_of, IsPolled, ChangesByItsStep, EventsAreTheirPolls}
 use Rattle.tie.proofs.PollKept.{word_is, pending_at, IsLast, IsToldTo}
+use Rattle.tie.proofs.PollTold.{log_tells}
 use Rattle.tie.proofs.PollRows.{RowIn, row_kept}
 use Rattle.tie.proofs.PollSteps.{steps}
 
@@ -36,7 +36,7 @@ row_start places slots methods = record {
 }
 
 -- One event more after others.
-one_more : (w : World) (events : List Event) (e : Event) → world_after w (events ++ e ∷ []) ≡ after (world_after w events) e
+pub one_more : (w : World) (events : List Event) (e : Event) → world_after w (events ++ e ∷ []) ≡ after (world_after w events) e
 one_more w [] e = refl
 one_more w (x ∷ events) e = one_more (after w x) events e
 
@@ -47,7 +47,7 @@ row_in places slots methods events = onward [] events (row_start places slots me
     onward before [] h = h
     onward before (e ∷ events) h =
         let w : World = world_after (start_world places slots methods) before in
-        let next : RowIn (after w e) = by_cases w (λ e a v. RowIn v) (row_kept w (worlds_are_sound places slots methods before).0 (run_at_most_once places slots methods before) h) e in
+        let next : RowIn (after w e) = by_cases w (λ e a v. RowIn v) (row_kept w (worlds_are_sound places slots methods before).0 (log_tells places slots methods before) h) e in
         subst (λ v. RowIn (world_after v events)) (one_more (start_world places slots methods) before e)
         (onward (before ++ e ∷ []) events (subst RowIn (sym (one_more (start_world places slots methods) before e)) next))
 
@@ -75,7 +75,7 @@ event_is_its_poll : (places slots methods : ℕ) (events : List Event) (next : E
 event_is_its_poll places slots methods events next =
     let w : World = world_after (start_world places slots methods) events in
     by_cases w (λ e a v. RowIn v → IsPolled (length w.places) (polls_of w e a) (row_of w) (row_of v))
-    (steps w (worlds_are_sound places slots methods events).0 (run_at_most_once places slots methods events) (row_in places slots methods events)) next
+    (steps w (worlds_are_sound places slots methods events).0 (log_tells places slots methods events) (row_in places slots methods events)) next
     (subst RowIn (one_more (start_world places slots methods) events next) (row_in places slots methods (events ++ next ∷ [])))
 
 pub events_are_their_polls : EventsAreTheirPolls

@@ -20,7 +20,7 @@ use Rattle.system.specs.World.{World, thread_at, found, walk, census}
 use Rattle.system.specs.Places.{popped, go_or_stop}
 use Rattle.system.specs.Step.{new_thread, operated_if, code_or_none}
 use Rattle.system.specs.Facts.{IsSound}
-use Rattle.system.specs.Ran.{name_in, started_or, RanAtMostOnce}
+use Rattle.system.specs.Ran.{name_in, started_or}
 use Rattle.system.proofs.Outcomes.{difference, Stands, begun, changed_by, ended, entered, moved, held, released, is_move, noted, seated, asked, with_done, with_cleared, with_told, with_request, newly_opened, with_opened, with_operated, without_opened, Starts, Tells, Clears, Opens, Exits}
 use Rattle.system.proofs.Cases.{Cases}
 use Rattle.system.proofs.Seats.{each_some}
@@ -32,7 +32,7 @@ use Rattle.tie.specs.PollRow.{armed_at, uncleared_at, cleared_at, tells, clears,
 use Rattle.tie.proofs.PollMarks.{waits_none, greatest_none}
 use Rattle.tie.proofs.PollLog.{IsSilent, armed_rests, uncleared_rests, cleared_rests}
 use Rattle.tie.proofs.PollKept.{pending_at, IsLast, last_same, IsToldTo, IsRow, left_waits, seated_row, left_row, asked_row, WasOpen, told_still, log_row}
-use Rattle.tie.proofs.PollTold.{Told, told_is, told_entry, told_armed, told_uncleared, told_cleared, told_less, told_waits, told_waits_other, Cleared, cleared_is, clear_entry, cleared_uncleared, cleared_cleared, cleared_waits, cleared_waits_other}
+use Rattle.tie.proofs.PollTold.{LogTells, alone_is, Told, told_is, told_entry, told_armed, told_uncleared, told_cleared, told_less, told_waits, told_waits_other, Cleared, cleared_is, clear_entry, cleared_uncleared, cleared_cleared, cleared_waits, cleared_waits_other}
 
 abbrev pub RowIn : World → Type 0
 RowIn w = IsRow w.places w.requests w.log
@@ -138,8 +138,8 @@ opened_in w oldest others given sound i h = log_row w.places (with_opened w olde
     later p same = let old = h.few p in let first = sound.numbers.waiting_is 0 oldest (subst (λ ws. slice_get ws 0 ≡ Some oldest) (sym i.waiting_is) refl) in absurd (omega arith)
 
 -- A Tell that is told: what is told is uncleared, and alone.
-told_in : (w : World) (name : ℕ) (opened : Opened) (os : List Opened) → IsSound w → RanAtMostOnce w → Tells w name opened os → RowIn w → RowIn (asked w (with_told w.requests opened name) (event.Tell name) answer.Told)
-told_in w name opened os sound ran i h = record {
+told_in : (w : World) (name : ℕ) (opened : Opened) → IsSound w → LogTells w → Tells w name opened → RowIn w → RowIn (asked w (with_told w.requests opened name) (event.Tell name) answer.Told)
+told_in w name opened sound ran i h = record {
   few = λ q. dite (ℕ_discrete q p)
       (λ e. subst (λ m. armed_at m log + length w.requests.waiting ≤ operations_given w.log) (sym e) (let is = told_armed w name p opened d in let newest = sound.numbers.newest_is 0 opened first in omega arith))
       (λ ne. subst (λ n. n + length w.requests.waiting ≤ operations_given w.log) (sym (armed_rests q (told_entry name) w.log (d.others q ne))) (h.few q));
@@ -150,7 +150,7 @@ told_in w name opened os sound ran i h = record {
       (λ e. subst (λ m. IsLast (uncleared_at m log) (armed_at m log) (cleared_at m log)) (sym e) (inr (told_uncleared w name p opened h d ∙ ap (λ n. n ∷ []) (sym (told_armed w name p opened d)), less)))
       (λ ne. let x = d.others q ne in last_same (uncleared_rests q (told_entry name) w.log x) (armed_rests q (told_entry name) w.log x) (cleared_rests q (told_entry name) w.log x) (h.last q));
   told = λ q v there j o is live number. dite (ℕ_discrete q p)
-      (λ e. let same : o ≡ opened = only_open w.requests.opened opened os sound.numbers.one_open i.opened_is j o is in
+      (λ e. let same : o ≡ opened = only_open w.requests.opened opened [] sound.numbers.one_open (alone_is w opened sound i.open_is) j o is in
       let its : name ≡ v.name = sym d.stands.named ∙ ap (λ (t : Thread). t.name) (same_thread q e v there) in
       subst (λ (x : Opened). is_marked (with_mark w.requests.told opened.number name) x.number v.name ≡ true) (sym same)
       (subst (λ n. is_marked (with_mark w.requests.told opened.number name) opened.number n ≡ true) its (marked_new w.requests.told opened.number name)))
@@ -166,10 +166,10 @@ told_in w name opened os sound ran i h = record {
     log = told_entry name ∷ w.log
 
     d : Told w name (place_of w.places name) opened
-    d = told_is w name opened os sound ran h i
+    d = told_is w name opened sound ran h i
 
     first : slice_get w.requests.opened 0 ≡ Some opened
-    first = first_open w.requests.opened opened os i.opened_is
+    first = first_open w.requests.opened opened [] (alone_is w opened sound i.open_is)
 
     less : cleared_at (place_of w.places name) (told_entry name ∷ w.log) < armed_at (place_of w.places name) (told_entry name ∷ w.log)
     less = let a = told_armed w name (place_of w.places name) opened d in let c = told_cleared w name (place_of w.places name) opened h d in let low = told_less w name (place_of w.places name) opened h d in omega arith
@@ -178,8 +178,8 @@ told_in w name opened os sound ran i h = record {
     same_thread q e v there = let is : Some (Some d.stands.thread) ≡ Some (Some v) = sym d.stands.there ∙ subst (λ n. slice_get w.places n ≡ Some (Some v)) e there in cc
 
 -- A Clear: nothing is uncleared.
-cleared_in : (w : World) (p : ℕ) (t : Thread) (opened : Opened) (os : List Opened) → IsSound w → RanAtMostOnce w → Clears w p t opened os → RowIn w → RowIn (asked w (with_cleared w.requests opened t.name) (event.At p act.Clear) answer.Done)
-cleared_in w p t opened os sound ran i h = record {
+cleared_in : (w : World) (p : ℕ) (t : Thread) (opened : Opened) → IsSound w → LogTells w → Clears w p t opened → RowIn w → RowIn (asked w (with_cleared w.requests opened t.name) (event.At p act.Clear) answer.Done)
+cleared_in w p t opened sound ran i h = record {
   few = h.few;
   waiting = λ q. dite (ℕ_discrete q p)
       (λ e. subst (λ m. pending_at (with_cleared w.requests opened t.name) (thread_at w m) ≡ uncleared_at m (clear_entry p ∷ w.log)) (sym e) (cleared_waits w p t opened h d ∙ sym (cleared_uncleared w p t opened d)))
@@ -193,7 +193,7 @@ cleared_in w p t opened os sound ran i h = record {
 }
   where
     d : Cleared w p t opened
-    d = cleared_is w p t opened os ran h i
+    d = cleared_is w p t opened ran h i
 
 -- Every other event tells and clears nothing.
 noted_in : (w : World) (e : Event) (given : Answer) → ((p : ℕ) (log : List Entry) → tells p e given log ≡ false) → ((p : ℕ) → clears p e ≡ false) → is_start e ≡ false → ((p n : ℕ) → started_or p n e given ≡ n) → ((p : ℕ) → armed_at p w.log + length w.requests.waiting ≤ operations_given (record { event = e; answer = given } ∷ w.log)) → RowIn w → RowIn (noted w e given)
@@ -206,7 +206,7 @@ operated_open n os i o is = let m = map_at (operated_if n) os i o is in
 closed_open : (test : Opened → Bool) (os : List Opened) → WasOpen os (filter test os)
 closed_open test os i o is = let m = filter_at test os i o is in (m.0, o, m.1, refl, refl)
 
-pub row_kept : (w : World) → IsSound w → RanAtMostOnce w → RowIn w → Cases w (λ e a v. RowIn v)
+pub row_kept : (w : World) → IsSound w → LogTells w → RowIn w → Cases w (λ e a v. RowIn v)
 row_kept w sound ran h = record {
   refuses = λ e r. h;
   begins = λ p t i. seated_in w p t (begun t) act.Begin answer.Done (act_silent p act.Begin answer.Done (λ q. refl)) i.stands refl h;
@@ -219,9 +219,9 @@ row_kept w sound ran h = record {
   misses = λ p t method serial code i. seated_in w p t t (act.Enter method (Some serial)) answer.WrongMethod (act_silent p (act.Enter method (Some serial)) answer.WrongMethod (λ q. refl)) i.calls.acts.stands refl h;
   leaves = λ p t state i. seated_in w p t (moved (popped t) state) act.Leave (go_or_stop (poll_of w.requests t.name)) (act_silent p act.Leave (go_or_stop (poll_of w.requests t.name)) (λ q. refl)) i.acts.stands refl h;
   exits = λ p t i. exited_in w p t (answer.Exited t.name) i h;
-  finishes = λ p t opened others i. remarked_in w (with_done w.requests opened t.name) (event.At p act.Finish) (answer.Reply (reply_to opened.request t.stack)) (act_silent p act.Finish (answer.Reply (reply_to opened.request t.stack)) (λ q. refl)) h.few refl refl (λ j o is. (j, o, is, refl, refl)) h.few h;
-  clears = λ p t opened others i. cleared_in w p t opened others sound ran i h;
-  holds = λ p t opened others i. seated_in w p t (held t) act.Hold answer.Done (act_silent p act.Hold answer.Done (λ q. refl)) i.acts.stands refl h;
+  finishes = λ p t opened i. remarked_in w (with_done w.requests opened t.name) (event.At p act.Finish) (answer.Reply (reply_to opened.request t.stack)) (act_silent p act.Finish (answer.Reply (reply_to opened.request t.stack)) (λ q. refl)) h.few refl refl (λ j o is. (j, o, is, refl, refl)) h.few h;
+  clears = λ p t opened i. cleared_in w p t opened sound ran i h;
+  holds = λ p t opened i. seated_in w p t (held t) act.Hold answer.Done (act_silent p act.Hold answer.Done (λ q. refl)) i.acts.stands refl h;
   releases = λ p t i. seated_in w p t (released t) act.Release answer.Done (act_silent p act.Release answer.Done (λ q. refl)) i.acts.stands refl h;
   shows = λ p t i. seated_in w p t t act.Stack (answer.Frames t.stack) (act_silent p act.Stack (answer.Frames t.stack) (λ q. refl)) i refl h;
   starts = λ p i. started_in w p sound i h;
@@ -236,10 +236,10 @@ row_kept w sound ran h = record {
   frees = λ serial code i. noted_in w (event.Free serial) answer.Done (λ p log. refl) (λ p. refl) refl (λ p n. refl) h.few h;
   asks = λ request i. asked_in w request h;
   opens = λ oldest others i. opened_in w oldest others (answer.Opened oldest.number (kind_of oldest.request)) sound i h;
-  tells = λ name opened others i. told_in w name opened others sound ran i h;
-  finds_gone = λ name opened others i. noted_in w (event.Tell name) answer.Gone (λ p log. refl) (λ p. refl) refl (λ p n. refl) h.few h;
+  tells = λ name opened i. told_in w name opened sound ran i h;
+  finds_gone = λ name i. noted_in w (event.Tell name) answer.Gone (λ p log. refl) (λ p. refl) refl (λ p n. refl) h.few h;
   operates = λ opened others i. remarked_in w (with_operated w opened) event.Operate (answer.Census (census w)) (record { tells_none = λ p log. refl; clears_none = λ p. refl; starts_none = refl; names_none = λ p n. refl }) h.few refl refl (operated_open opened.number w.requests.opened) h.few h;
-  closes = λ opened others i. remarked_in w (without_opened w opened) event.Close (answer.Closed opened.number) (record { tells_none = λ p log. refl; clears_none = λ p. refl; starts_none = refl; names_none = λ p n. refl }) h.few refl refl (closed_open (λ (o : Opened). not (o.number == opened.number)) w.requests.opened) h.few h;
+  closes = λ opened i. remarked_in w (without_opened w opened) event.Close (answer.Closed opened.number) (record { tells_none = λ p log. refl; clears_none = λ p. refl; starts_none = refl; names_none = λ p n. refl }) h.few refl refl (closed_open (λ (o : Opened). not (o.number == opened.number)) w.requests.opened) h.few h;
   counts = λ serial code i. noted_in w (event.Count serial) (answer.Count (walk w (id_of code))) (λ p log. refl) (λ p. refl) refl (λ p n. refl) h.few h;
   says_state = λ serial code i. noted_in w (event.CodeState serial) (answer.State code.state) (λ p log. refl) (λ p. refl) refl (λ p n. refl) h.few h;
   resolves = λ method i. noted_in w (event.Resolve method) (code_or_none (in_use_for w.codes method)) (λ p log. refl) (λ p. refl) refl (λ p n. refl) h.few h;

@@ -1,5 +1,5 @@
 -- Each event changes the poll row by its step.
-use Rattle.std.proofs.Common.{◌≡◌, ◌≢◌, ℕ, ◌+◌, ◌<◌, true, false, cond, List, ◌∷◌, length, Option, Some, None, sym, refl, ap, ◌∙◌, ⊎_elim, subst, arith}
+use Rattle.std.proofs.Common.{[], ◌≡◌, ◌≢◌, ℕ, ◌+◌, ◌<◌, true, false, cond, List, ◌∷◌, length, Option, Some, None, sym, refl, ap, ◌∙◌, ⊎_elim, subst, arith}
 use Rattle.std.specs.Prelude.{◌==◌, slice_set, unwrap_or, if◌then◌else◌}
 use Rattle.std.proofs.lemmas.Bool.{false≢true, eq-eqb}
 use Rattle.thread_state.specs.declared.State.{State}
@@ -21,7 +21,6 @@ use Rattle.system.specs.World.{World, thread_at, walk, census}
 use Rattle.system.specs.Places.{popped, go_or_stop}
 use Rattle.system.specs.Step.{new_thread, code_or_none}
 use Rattle.system.specs.Facts.{IsSound}
-use Rattle.system.specs.Ran.{RanAtMostOnce}
 use Rattle.system.specs.Safepoints.{is_accepted}
 use Rattle.system.proofs.Outcomes.{Leaves, Moves, ByMove, ByPoll, seated, noted, asked, difference, begun, changed_by, ended, entered, moved, held, released, is_move, with_done, with_cleared, with_told, with_request, with_opened, with_operated, without_opened, Tells, Clears}
 use Rattle.system.proofs.Cases.{Cases}
@@ -29,7 +28,7 @@ use Rattle.system.proofs.Marks.{first_open}
 use Rattle.tie.specs.PollRow.{armed_at, cleared_at, tells, clears, word_of, row_of, number_of, place_of, load, exchange, store, step_of, polls_of, IsPolled}
 use Rattle.tie.proofs.PollLog.{IsElsewhere, armed_rests, uncleared_rests, cleared_rests}
 use Rattle.tie.proofs.PollKept.{pending_at, IsRow, word_is, same_word}
-use Rattle.tie.proofs.PollTold.{Told, told_is, told_entry, told_armed, told_cleared, told_waits, told_waits_other, Cleared, cleared_is, clear_entry, cleared_cleared, cleared_waits, cleared_waits_other}
+use Rattle.tie.proofs.PollTold.{LogTells, alone_is, Told, told_is, told_entry, told_armed, told_cleared, told_waits, told_waits_other, Cleared, cleared_is, clear_entry, cleared_cleared, cleared_waits, cleared_waits_other}
 use Rattle.tie.proofs.PollRows.{RowIn, move_clears_not}
 
 abbrev SameRow : World → World → Type 0
@@ -92,11 +91,11 @@ left_step w p t state h i next =
     (poll_step w v p i.acts.stands.low (quiet w (slice_set w.places p (Some (moved (popped t) state))) w.requests (event.At p act.Leave) given h (λ q. refl) (λ q. refl) next))
 
 -- A Tell that is told is a store.
-told_step : (w : World) (name : ℕ) (opened : Opened) (os : List Opened) → IsSound w → RanAtMostOnce w → RowIn w → Tells w name opened os
+told_step : (w : World) (name : ℕ) (opened : Opened) → IsSound w → LogTells w → RowIn w → Tells w name opened
     → IsPolled (length w.places) (store w name) (row_of w) (row_of (asked w (with_told w.requests opened name) (event.Tell name) answer.Told))
-told_step w name opened os sound ran h i = record {
+told_step w name opened sound ran h i = record {
   in_range = d.stands.low;
-  step = subst (λ n. PollStep p (Store p n) (row_of w p) (row_of v p)) (sym (ap number_of i.opened_is)) (subst (PollStep p (Store p opened.number) (row_of w p)) (sym (λ j. record { word = words j; armed = armed j; cleared = cleared j })) (stores (row_of w p) opened.number d.before));
+  step = subst (λ n. PollStep p (Store p n) (row_of w p) (row_of v p)) (sym (ap number_of (alone_is w opened sound i.open_is))) (subst (PollStep p (Store p opened.number) (row_of w p)) (sym (λ j. record { word = words j; armed = armed j; cleared = cleared j })) (stores (row_of w p) opened.number d.before));
   others = λ q ne. same_place w v (told_entry name) q refl (d.others q ne) (told_waits_other w name p opened sound d q ne);
 }
   where
@@ -107,7 +106,7 @@ told_step w name opened os sound ran h i = record {
     v = asked w (with_told w.requests opened name) (event.Tell name) answer.Told
 
     d : Told w name (place_of w.places name) opened
-    d = told_is w name opened os sound ran h i
+    d = told_is w name opened sound ran h i
 
     words : word_of (with_told w.requests opened name) (thread_at w (place_of w.places name)) ≡ opened.number
     words = word_is (with_told w.requests opened name) (thread_at w (place_of w.places name)) ∙ ap (λ ns. unwrap_or (greatest ns) 0) (told_waits w name (place_of w.places name) opened d)
@@ -119,11 +118,11 @@ told_step w name opened os sound ran h i = record {
     cleared = told_cleared w name (place_of w.places name) opened h d
 
 -- A Clear is an exchange, which meets the number.
-cleared_step : (w : World) (p : ℕ) (t : Thread) (opened : Opened) (os : List Opened) → IsSound w → RanAtMostOnce w → RowIn w → Clears w p t opened os
+cleared_step : (w : World) (p : ℕ) (t : Thread) (opened : Opened) → IsSound w → LogTells w → RowIn w → Clears w p t opened
     → IsPolled (length w.places) (exchange w p) (row_of w) (row_of (asked w (with_cleared w.requests opened t.name) (event.At p act.Clear) answer.Done))
-cleared_step w p t opened os sound ran h i = record {
+cleared_step w p t opened sound ran h i = record {
   in_range = d.low;
-  step = subst (λ n. PollStep p (Exchange n (row_of w p).word) (row_of w p) (row_of v p)) (sym (ap number_of i.opened_is))
+  step = subst (λ n. PollStep p (Exchange n (row_of w p).word) (row_of w p) (row_of v p)) (sym (ap number_of (alone_is w opened sound i.open_is)))
       (subst (PollStep p (Exchange opened.number (row_of w p).word) (row_of w p)) (sym (λ j. record { word = words j; armed = armed_at p w.log; cleared = cleared j })) (exchanges (row_of w p) opened.number some));
   others = λ q ne. same_place w v (clear_entry p) q refl (d.others q ne) (cleared_waits_other w p t opened sound d q ne);
 }
@@ -132,10 +131,10 @@ cleared_step w p t opened os sound ran h i = record {
     v = asked w (with_cleared w.requests opened t.name) (event.At p act.Clear) answer.Done
 
     d : Cleared w p t opened
-    d = cleared_is w p t opened os ran h i
+    d = cleared_is w p t opened ran h i
 
     some : opened.number ≢ 0
-    some is = let from = (sound.numbers.opened_is 0 opened (first_open w.requests.opened opened os i.opened_is)).0 in absurd (omega arith)
+    some is = let from = (sound.numbers.opened_is 0 opened (first_open w.requests.opened opened [] (alone_is w opened sound i.open_is))).0 in absurd (omega arith)
 
     met : (row_of w p).word ≡ opened.number
     met = word_is w.requests (thread_at w p) ∙ ap (λ ns. unwrap_or (greatest ns) 0) (h.waiting p ∙ d.uncleared_is)
@@ -172,7 +171,7 @@ resolved_step w method h next =
     subst (λ b. IsPolled (length w.places) (if b then None else None) (row_of w) (row_of v)) (sym (code_accepted (in_use_for w.codes method)))
     (noted_quiet w (event.Resolve method) (code_or_none (in_use_for w.codes method)) h (λ q. refl) (λ q. refl) next)
 
-pub steps : (w : World) → IsSound w → RanAtMostOnce w → RowIn w → Cases w (StepsTo w)
+pub steps : (w : World) → IsSound w → LogTells w → RowIn w → Cases w (StepsTo w)
 steps w sound ran h = record {
   refuses = λ e r next q. refl;
   begins = λ p t i. seated_quiet w p (Some (begun t)) act.Begin answer.Done h (λ q. refl);
@@ -185,9 +184,9 @@ steps w sound ran h = record {
   misses = λ p t method serial code i. seated_quiet w p (Some t) (act.Enter method (Some serial)) answer.WrongMethod h (λ q. refl);
   leaves = λ p t state i. left_step w p t state h i;
   exits = λ p t i. seated_quiet w p None act.Exit (answer.Exited t.name) h (λ q. refl);
-  finishes = λ p t opened others i. asked_quiet w (with_done w.requests opened t.name) (event.At p act.Finish) (answer.Reply (reply_to opened.request t.stack)) h (λ q. refl) (λ q. refl);
-  clears = λ p t opened others i next. cleared_step w p t opened others sound ran h i;
-  holds = λ p t opened others i. seated_quiet w p (Some (held t)) act.Hold answer.Done h (λ q. refl);
+  finishes = λ p t opened i. asked_quiet w (with_done w.requests opened t.name) (event.At p act.Finish) (answer.Reply (reply_to opened.request t.stack)) h (λ q. refl) (λ q. refl);
+  clears = λ p t opened i next. cleared_step w p t opened sound ran h i;
+  holds = λ p t opened i. seated_quiet w p (Some (held t)) act.Hold answer.Done h (λ q. refl);
   releases = λ p t i. seated_quiet w p (Some (released t)) act.Release answer.Done h (λ q. refl);
   shows = λ p t i. seated_quiet w p (Some t) act.Stack (answer.Frames t.stack) h (λ q. refl);
   starts = λ p i. quiet w (slice_set w.places p (Some (new_thread (names_given w.log + 1)))) w.requests event.Start (answer.Thread (names_given w.log + 1) p) h (λ q. refl) (λ q. refl);
@@ -202,10 +201,10 @@ steps w sound ran h = record {
   frees = λ serial code i. noted_quiet w (event.Free serial) answer.Done h (λ q. refl) (λ q. refl);
   asks = λ request i. asked_quiet w (with_request w request) (event.Ask request) (answer.Asked (operations_given w.log + 1)) h (λ q. refl) (λ q. refl);
   opens = λ oldest others i. asked_quiet w (with_opened w oldest others) event.Open (answer.Opened oldest.number (kind_of oldest.request)) h (λ q. refl) (λ q. refl);
-  tells = λ name opened others i next. told_step w name opened others sound ran h i;
-  finds_gone = λ name opened others i. noted_quiet w (event.Tell name) answer.Gone h (λ q. refl) (λ q. refl);
+  tells = λ name opened i next. told_step w name opened sound ran h i;
+  finds_gone = λ name i. noted_quiet w (event.Tell name) answer.Gone h (λ q. refl) (λ q. refl);
   operates = λ opened others i. asked_quiet w (with_operated w opened) event.Operate (answer.Census (census w)) h (λ q. refl) (λ q. refl);
-  closes = λ opened others i. asked_quiet w (without_opened w opened) event.Close (answer.Closed opened.number) h (λ q. refl) (λ q. refl);
+  closes = λ opened i. asked_quiet w (without_opened w opened) event.Close (answer.Closed opened.number) h (λ q. refl) (λ q. refl);
   counts = λ serial code i. noted_quiet w (event.Count serial) (answer.Count (walk w (id_of code))) h (λ q. refl) (λ q. refl);
   says_state = λ serial code i. noted_quiet w (event.CodeState serial) (answer.State code.state) h (λ q. refl) (λ q. refl);
   resolves = λ method i next. resolved_step w method h next;

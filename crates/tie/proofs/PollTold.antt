@@ -1,5 +1,5 @@
 -- What a Tell and a Clear find, and what they leave.
-use Rattle.std.proofs.Common.{◌≡◌, ◌≢◌, ℕ, ◌<◌, Bool, true, false, cond, List, [], ◌∷◌, length, Option, Some, None, sym, refl, ap, ◌∙◌, inl, inr, ⊎_elim, subst, arith}
+use Rattle.std.proofs.Common.{◌≡◌, ◌≢◌, ℕ, zero, suc, ◌<◌, ◌≤◌, Bool, true, false, cond, List, [], ◌∷◌, length, Option, Some, None, sym, refl, ap, ◌∙◌, inl, inr, ⊎_elim, subst, arith}
 use Rattle.std.specs.Prelude.{not, ◌==◌, slice_get, filter}
 use Rattle.std.proofs.lemmas.Bool.{false≢true, and_parts, or_cases, eqb-true, eq-eqb, ne_eqb}
 use Rattle.operations.specs.Names.{among, is_empty}
@@ -9,16 +9,37 @@ use Rattle.system.specs.declared.answers.Answer.TheVariants as answer
 use Rattle.system.specs.Threads.{Thread}
 use Rattle.system.specs.Operations.{Opened, is_marked, pending}
 use Rattle.system.specs.Log.{Entry}
-use Rattle.system.specs.World.{World, thread_at, found, is_live}
+use Rattle.system.specs.World.{World, start_world, thread_at, found, is_live}
+use Rattle.system.specs.Runs.{world_after}
+use Rattle.system.specs.declared.events.Event.{Event}
+use Rattle.system.proofs.Once.{run_at_most_once}
 use Rattle.system.specs.Facts.{IsSound}
-use Rattle.system.specs.Ran.{open_in, name_in, RanAtMostOnce}
-use Rattle.system.proofs.Outcomes.{Tells, Clears, with_told, with_cleared}
+use Rattle.system.specs.Ran.{open_in, name_in}
+use Rattle.system.proofs.Outcomes.{IsOpen, Tells, Clears, with_told, with_cleared}
 use Rattle.system.proofs.Marks.{only_open, first_open}
-use Rattle.system.proofs.Polls.{waits}
+use Rattle.system.proofs.Marking.{waits}
 use Rattle.tie.specs.PollRow.{tells, clears, armed_at, uncleared_at, cleared_at, place_of}
 use Rattle.tie.proofs.PollMarks.{waits_none, waits_has, waits_told, waits_told_other, waits_cleared, waits_cleared_other, StandsThere, stands_there}
 use Rattle.tie.proofs.PollLog.{IsElsewhere}
 use Rattle.tie.proofs.PollKept.{pending_at, IsRow, IsLast}
+
+-- The log tells which operation is open, and who stands at a place.
+pub record LogTells (w : World) : Type 0 where
+  pub open_is : (position : ℕ) (opened : Opened) → slice_get w.requests.opened position ≡ Some opened → open_in w.log ≡ opened.number
+  pub name_is : (place : ℕ) (t : Thread) → thread_at w place ≡ Some t → name_in place w.log ≡ t.name
+
+pub log_tells : (places slots methods : ℕ) (events : List Event) → LogTells (world_after (start_world places slots methods) events)
+log_tells places slots methods events = let ran = run_at_most_once places slots methods events in record { open_is = ran.open_is; name_is = ran.name_is }
+
+-- One operation is open at a time.
+lone : (os : List Opened) (i : ℕ) (o : Opened) → length os ≤ 1 → slice_get os i ≡ Some o → os ≡ o ∷ []
+lone [] i o few here = cc
+lone (x ∷ y ∷ os) i o few here = absurd (omega arith)
+lone (x ∷ []) zero o few here = let is : x ≡ o = cc in ap (λ y. y ∷ []) is
+lone (x ∷ []) (suc i) o few here = cc
+
+pub alone_is : (w : World) (o : Opened) → IsSound w → IsOpen w o → w.requests.opened ≡ o ∷ []
+alone_is w o sound open_ = lone w.requests.opened open_.position o sound.numbers.one_open open_.here
 
 abbrev pub told_entry : ℕ → Entry
 told_entry name = record { event = event.Tell name; answer = answer.Told }
@@ -40,8 +61,8 @@ pub record Told (w : World) (name p : ℕ) (opened : Opened) : Type 0 where
   pub not_cleared : is_marked w.requests.cleared opened.number name ≡ false
   pub before : armed_at p w.log < opened.number
 
-pub told_is : (w : World) (name : ℕ) (opened : Opened) (os : List Opened) → IsSound w → RanAtMostOnce w → IsRow w.places w.requests w.log → Tells w name opened os → Told w name (place_of w.places name) opened
-told_is w name opened os sound ran row i = record {
+pub told_is : (w : World) (name : ℕ) (opened : Opened) → IsSound w → LogTells w → IsRow w.places w.requests w.log → Tells w name opened → Told w name (place_of w.places name) opened
+told_is w name opened sound ran row i = record {
   stands = stands;
   open_is = ran.open_is 0 opened first;
   here = eq-eqb (name_in p w.log) name named;
@@ -54,8 +75,11 @@ told_is w name opened os sound ran row i = record {
     p : ℕ
     p = place_of w.places name
 
+    only : w.requests.opened ≡ opened ∷ []
+    only = alone_is w opened sound i.open_is
+
     first : slice_get w.requests.opened 0 ≡ Some opened
-    first = first_open w.requests.opened opened os i.opened_is
+    first = first_open w.requests.opened opened [] only
 
     live : (among name opened.live ≡ true) × (is_live w name ≡ true)
     live = and_parts (among name opened.live) (is_live w name) i.live
@@ -73,7 +97,7 @@ told_is w name opened os sound ran row i = record {
     all_cleared n marked true e = refl
     all_cleared n marked false e =
         let r = sound.marks.uncleared_open (place_of w.places name) stands.thread n stands.there (subst (λ m. is_marked w.requests.told n m ≡ true) (sym stands.named) marked) (subst (λ m. is_marked w.requests.cleared n m ≡ false) (sym stands.named) e) in
-        let same : r.1 ≡ opened = only_open w.requests.opened opened os sound.numbers.one_open i.opened_is r.0 r.1 r.2 in
+        let same : r.1 ≡ opened = only_open w.requests.opened opened [] sound.numbers.one_open only r.0 r.1 r.2 in
         let number : n ≡ opened.number = sym r.3 ∙ ap (λ (o : Opened). o.number) same in
         absurd (false≢true (sym i.not_told ∙ subst (λ m. is_marked w.requests.told m name ≡ true) number marked))
 
@@ -127,13 +151,13 @@ pub record Cleared (w : World) (p : ℕ) (t : Thread) (opened : Opened) : Type 0
   pub armed_is : armed_at p w.log ≡ opened.number
   pub uncleared_is : uncleared_at p w.log ≡ opened.number ∷ []
 
-pub cleared_is : (w : World) (p : ℕ) (t : Thread) (opened : Opened) (os : List Opened) → RanAtMostOnce w → IsRow w.places w.requests w.log → Clears w p t opened os → Cleared w p t opened
-cleared_is w p t opened os ran row i = record {
+pub cleared_is : (w : World) (p : ℕ) (t : Thread) (opened : Opened) → LogTells w → IsRow w.places w.requests w.log → Clears w p t opened → Cleared w p t opened
+cleared_is w p t opened ran row i = record {
   there = i.acts.stands.there;
   low = i.acts.stands.low;
   here = eq-eqb p p refl;
   others = λ q ne. record { tells_not = refl; clears_not = ne_eqb p q (λ same. ne (sym same)) };
-  open_is = ran.open_is 0 opened (first_open w.requests.opened opened os i.opened_is);
+  open_is = ran.open_is i.open_is.position opened i.open_is.here;
   armed_is = facts.0;
   uncleared_is = facts.1;
 }

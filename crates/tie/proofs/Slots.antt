@@ -1,75 +1,21 @@
 -- The newest code of each slot.
-use Rattle.std.proofs.Common.{◌≡◌, ◌⊎◌, ℕ, zero, suc, ◌+◌, ◌<◌, ◌≤◌, Bool, true, false, cond, List, [], ◌∷◌, ◌++◌, length, Option, Some, None, sym, refl, ap, ◌∙◌, inl, inr, ⊎_elim, subst, arith}
-use Rattle.std.specs.Prelude.{not, ◌&&◌, ◌==◌, slice_get, option_map}
-use Rattle.std.proofs.lemmas.Bool.{false≢true, not-true, and_cases, eqb-true, eqb-false, eq-eqb}
+use Rattle.std.proofs.Common.{◌≡◌, ◌⊎◌, ℕ, ◌+◌, ◌<◌, true, false, List, length, Some, sym, refl, ap, ◌∙◌, inl, inr, ⊎_elim, subst, arith}
+use Rattle.std.specs.Prelude.{not, ◌&&◌, ◌==◌, slice_get}
+use Rattle.std.proofs.lemmas.Bool.{false≢true, not-true, and_cases, eqb-false}
 use mathlib.Core.Logic.{dite}
 use native.Mathlib.Decide.{ℕ_discrete}
 use Rattle.method_table.specs.declared.Code.{Code}
 use Rattle.method_table.specs.declared.CodeState.{CodeState}
 use Rattle.method_table.specs.Numbers.{below}
 use Rattle.method_table.specs.Codes.{code_of, is_taken, takes_slot, with_code, in_state, with_state}
+use Rattle.method_table.specs.Entries.{newest_in}
+use Rattle.method_table.proofs.Newest.{newest_place, newest_last}
 use Rattle.system.specs.World.{World}
 use Rattle.system.specs.Facts.{TableIsSound}
 use Rattle.system.proofs.Outcomes.{IsCode, Installs}
 use Rattle.system.proofs.Lists.{map_at, push_at, at_low, same_at, found_passes, find_place, any_none_at, below_low}
 use Rattle.system.proofs.Table.{in_state_slot, in_state_other, unfreed_code, unfreed_takes}
 use Rattle.system.proofs.Reclaimed.{code_at}
-use Rattle.tie.specs.BoardOf.{first_of, newest_in}
-
--- The search for the newest code through a push and a change of state.
-first_none : (o : Option Code) → first_of o None ≡ o
-first_none None = refl
-first_none (Some k) = refl
-
-first_assoc : (a b c : Option Code) → first_of (first_of a b) c ≡ first_of a (first_of b c)
-first_assoc None b c = refl
-first_assoc (Some k) b c = refl
-
-first_map : (f : Code → Code) (a b : Option Code) → first_of (option_map f a) (option_map f b) ≡ option_map f (first_of a b)
-first_map f None b = refl
-first_map f (Some k) b = refl
-
-abbrev here : Code → ℕ → Option Code
-here k slot = cond (k.slot == slot) (Some k) None
-
-pub newest_push : (codes : List Code) (k : Code) (slot : ℕ) → newest_in (codes ++ k ∷ []) slot ≡ first_of (here k slot) (newest_in codes slot)
-newest_push [] k slot = sym (first_none (here k slot))
-newest_push (x ∷ xs) k slot = ap (λ o. first_of o (here x slot)) (newest_push xs k slot) ∙ first_assoc (here k slot) (newest_in xs slot) (here x slot)
-
-pub newest_with : (codes : List Code) (s : ℕ) (state : CodeState) (slot : ℕ) → newest_in (with_state codes s state) slot ≡ option_map (in_state s state) (newest_in codes slot)
-newest_with [] s state slot = refl
-newest_with (x ∷ xs) s state slot =
-    ap (λ o. first_of o (here (in_state s state x) slot)) (newest_with xs s state slot)
-    ∙ (ap (λ n. first_of (option_map (in_state s state) (newest_in xs slot)) (cond (n == slot) (Some (in_state s state x)) None)) (in_state_slot s state x)
-    ∙ (ap (first_of (option_map (in_state s state) (newest_in xs slot))) (two (x.slot == slot)) ∙ first_map (in_state s state) (newest_in xs slot) (here x slot)))
-  where
-    two : (b : Bool) → cond b (Some (in_state s state x)) None ≡ option_map (in_state s state) (cond b (Some x) None)
-    two true = refl
-    two false = refl
-
--- Where it stands.
-pub newest_place : (codes : List Code) (slot : ℕ) (k : Code) → newest_in codes slot ≡ Some k → (i : ℕ) × (slice_get codes i ≡ Some k) × (k.slot ≡ slot)
-newest_place [] slot k h = cc
-newest_place (x ∷ xs) slot k h = by (newest_in xs slot) refl h (newest_place xs slot)
-  where
-    two : (b : Bool) → (x.slot == slot) ≡ b → cond b (Some x) None ≡ Some k → (i : ℕ) × (slice_get (x ∷ xs) i ≡ Some k) × (k.slot ≡ slot)
-    two true e h = let same : x ≡ k = cc in (0, h, ap (λ (y : Code). y.slot) (sym same) ∙ eqb-true x.slot slot e)
-    two false e h = cc
-
-    by : (o : Option Code) → newest_in xs slot ≡ o → first_of o (here x slot) ≡ Some k → ((j : Code) → newest_in xs slot ≡ Some j → (i : ℕ) × (slice_get xs i ≡ Some j) × (j.slot ≡ slot)) → (i : ℕ) × (slice_get (x ∷ xs) i ≡ Some k) × (k.slot ≡ slot)
-    by None e h rest = two (x.slot == slot) refl h
-    by (Some j) e h rest = let r = rest k (e ∙ h) in (suc r.0, r.1, r.2)
-
-pub newest_last : (codes : List Code) (slot i : ℕ) (k : Code) → slice_get codes i ≡ Some k → k.slot ≡ slot → (n : ℕ) × (j : Code) × (newest_in codes slot ≡ Some j) × (slice_get codes n ≡ Some j) × (i ≤ n)
-newest_last [] slot i k h e = cc
-newest_last (x ∷ xs) slot zero k h e = by (newest_in xs slot) refl
-  where
-    by : (o : Option Code) → newest_in xs slot ≡ o → (n : ℕ) × (j : Code) × (first_of o (here x slot) ≡ Some j) × (slice_get (x ∷ xs) n ≡ Some j) × (0 ≤ n)
-    by None z = let same : x ≡ k = cc in let a = eq-eqb x.slot slot (ap (λ (y : Code). y.slot) same ∙ e) in (0, x, (rw a refl), refl, omega arith)
-    by (Some j) z = let p = newest_place xs slot j z in (suc p.0, j, refl, p.1, omega arith)
-newest_last (x ∷ xs) slot (suc i) k h e =
-    let r = newest_last xs slot i k h e in let low = r.4 in
-    (suc r.0, r.1, ap (λ o. first_of o (here x slot)) r.2, r.3, omega arith)
 
 -- It is the code of its serial, in its slot.
 pub newest_code : (slots methods : ℕ) (codes : List Code) → TableIsSound slots methods codes → (slot : ℕ) (k : Code) → newest_in codes slot ≡ Some k → (code_of codes k.serial ≡ Some k) × (k.slot ≡ slot) × (slot < slots) × (k.serial < length codes + 1)

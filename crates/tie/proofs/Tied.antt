@@ -141,9 +141,9 @@ tied_kept w t r h = record {
       (λ x. inl x) (or_cases ((p == q) && (serial == s)) (is_missed q s w.log) f));
   leaves = λ p u state i. plain (record { event = event.At p act.Leave; answer = go_or_stop (poll_of w.requests u.name) }) (λ q s f. f) (λ q s f. f);
   exits = λ p u i. plain (record { event = event.At p act.Exit; answer = answer.Exited u.name }) (λ q s f. (and_parts _ (is_fresh q s w.log) f).1) (λ q s f. f);
-  finishes = λ p u opened others i. plain (record { event = event.At p act.Finish; answer = answer.Reply (reply_to opened.request u.stack) }) (λ q s f. f) (λ q s f. f);
-  clears = λ p u opened others i. plain (record { event = event.At p act.Clear; answer = answer.Done }) (λ q s f. f) (λ q s f. f);
-  holds = λ p u opened others i. plain (record { event = event.At p act.Hold; answer = answer.Done }) (λ q s f. f) (λ q s f. f);
+  finishes = λ p u opened i. plain (record { event = event.At p act.Finish; answer = answer.Reply (reply_to opened.request u.stack) }) (λ q s f. f) (λ q s f. f);
+  clears = λ p u opened i. plain (record { event = event.At p act.Clear; answer = answer.Done }) (λ q s f. f) (λ q s f. f);
+  holds = λ p u opened i. plain (record { event = event.At p act.Hold; answer = answer.Done }) (λ q s f. f) (λ q s f. f);
   releases = λ p u i. plain (record { event = event.At p act.Release; answer = answer.Done }) (λ q s f. f) (λ q s f. f);
   shows = λ p u i. plain (record { event = event.At p act.Stack; answer = answer.Frames u.stack }) (λ q s f. f) (λ q s f. f);
   starts = λ p i. plain (record { event = event.Start; answer = answer.Thread (names_given w.log + 1) p }) (λ q s f. (and_parts _ (is_fresh q s w.log) f).1) (λ q s f. f);
@@ -161,10 +161,10 @@ tied_kept w t r h = record {
       absurd (false≢true (sym (ap (λ (y : Code). may_stand y.state) same ∙ ap may_stand i.state_is) ∙ l.2))));
   asks = λ request i. plain (record { event = event.Ask request; answer = answer.Asked (operations_given w.log + 1) }) (λ q s f. f) (λ q s f. f);
   opens = λ oldest others i. plain (record { event = event.Open; answer = answer.Opened oldest.number (kind_of oldest.request) }) (λ q s f. f) (λ q s f. f);
-  tells = λ name opened others i. plain (record { event = event.Tell name; answer = answer.Told }) (λ q s f. f) (λ q s f. f);
-  finds_gone = λ name opened others i. plain (record { event = event.Tell name; answer = answer.Gone }) (λ q s f. f) (λ q s f. f);
+  tells = λ name opened i. plain (record { event = event.Tell name; answer = answer.Told }) (λ q s f. f) (λ q s f. f);
+  finds_gone = λ name i. plain (record { event = event.Tell name; answer = answer.Gone }) (λ q s f. f) (λ q s f. f);
   operates = λ opened others i. plain (record { event = event.Operate; answer = answer.Census (census w) }) (λ q s f. f) (λ q s f. f);
-  closes = λ opened others i. plain (record { event = event.Close; answer = answer.Closed opened.number }) (λ q s f. f) (λ q s f. f);
+  closes = λ opened i. plain (record { event = event.Close; answer = answer.Closed opened.number }) (λ q s f. f) (λ q s f. f);
   counts = λ serial code i. plain (record { event = event.Count serial; answer = answer.Count (walk w (id_of code)) }) (λ q s f. f) (λ q s f. f);
   says_state = λ serial code i. plain (record { event = event.CodeState serial; answer = answer.State code.state }) (λ q s f. f) (λ q s f. f);
   resolves = λ method i. plain (record { event = event.Resolve method; answer = code_or_none (in_use_for w.codes method) }) (λ q s f. f) (λ q s f. f);

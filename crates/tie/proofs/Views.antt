@@ -19,7 +19,8 @@ use Rattle.system.specs.Moments.{left_at, begun, ended, published_at, publishing
 use Rattle.system.proofs.Outcomes.{seated, coded}
 use Rattle.system.proofs.Seats.{get_set_same, get_set_other}
 use Rattle.system.proofs.Moments.{moment_step}
-use Rattle.tie.specs.BoardOf.{newest_in, slot_by, slot_at, is_given, seat_by, seat_at, word_by, board_of}
+use Rattle.method_table.specs.Entries.{newest_in}
+use Rattle.tie.specs.BoardOf.{slot_by, slot_at, is_given, seat_by, seat_at, word_by, board_of}
 use Rattle.tie.proofs.Quiet.{IsUnseen, unseen_fresh, unseen_missed}
 
 -- An entry that the keeper doesn't notice: it is no round, invalidates no code, and finds no place clear.

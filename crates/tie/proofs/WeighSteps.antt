@@ -30,9 +30,11 @@ use Rattle.system.proofs.Lists.{at_low, find_push, find_place}
 use Rattle.system.proofs.Table.{code_serial}
 use Rattle.system.proofs.Reclaim.{is_unused}
 use Rattle.system.proofs.Reclaimed.{covered_is}
-use Rattle.tie.specs.BoardOf.{entry_state, newest_in, slot_by, slot_at, stands_in, is_given, is_missed, seat_by, seat_at, word_by, board_of}
+use Rattle.method_table.specs.Entries.{entry_state, newest_in}
+use Rattle.tie.specs.BoardOf.{slot_by, slot_at, stands_in, is_given, is_missed, seat_by, seat_at, word_by, board_of}
 use Rattle.tie.specs.Steps.{GoesBy, of_keeper, for_code, for_slot, weigh_steps}
-use Rattle.tie.proofs.Slots.{newest_push, newest_place, newest_code, free_is}
+use Rattle.method_table.proofs.Newest.{newest_push, newest_place}
+use Rattle.tie.proofs.Slots.{newest_code, free_is}
 use Rattle.tie.proofs.Tied.{IsReached, looked_all}
 use Rattle.tie.proofs.Board.{board_kept, never_left, stand_takes}
 use Rattle.tie.proofs.Views.{IsOf, slot_same, slot_becomes, writes_entry, loads_entry}

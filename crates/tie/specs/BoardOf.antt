@@ -1,11 +1,8 @@
 -- The board of a world: the words and the views that a running board would have where the core is in this world.
-use Rattle.std.specs.Prelude.{◌≡◌, ℕ, Bool, false, ◌&&◌, ◌==◌, List, [], ◌∷◌, Option, Some, None, if◌then◌else◌}
+use Rattle.std.specs.Prelude.{◌≡◌, ℕ, Bool, false, ◌&&◌, ◌==◌, List, Option, Some, None}
 use Rattle.std.specs.List.{list_any}
 use Rattle.frames.specs.declared.CodeId.{CodeId}
-use Rattle.frames.specs.declared.board_rule.EntryState.{EntryState}
-use Rattle.frames.specs.declared.board_rule.EntryState.TheVariants as entry
 use Rattle.method_table.specs.declared.Code.{Code}
-use Rattle.method_table.specs.declared.CodeState.{CodeState}
 use Rattle.method_table.specs.declared.CodeState.TheVariants as state
 use Rattle.system.specs.declared.events.Act.TheVariants as act
 use Rattle.system.specs.declared.events.Event.{Event}
@@ -16,29 +13,13 @@ use Rattle.frames.specs.BoardWords.{Word, entry_of, count_of, place_of, the_mome
 use Rattle.frames.specs.BoardRule.{SlotState, SeatState, BoardState, code, first_slot, IsBoardKept}
 use Rattle.frames.specs.BoardStep.{is_late}
 use Rattle.method_table.specs.Codes.{code_of}
+use Rattle.method_table.specs.Entries.{entry_state, newest_in}
 use Rattle.system.specs.Threads.{Thread}
 use Rattle.system.specs.Log.{Entry, moment, is_looked}
 use Rattle.system.specs.Moments.{left_at, published_at, publishing_at, is_fresh}
 use Rattle.system.specs.World.{World, start_world, part_at, walk, thread_at, covered}
 use Rattle.system.specs.Laws.{is_retired}
 use Rattle.system.specs.Runs.{world_after}
-
--- The state of a code as an entry has it: a freed code leaves its slot vacant.
-abbrev pub entry_state : CodeState → EntryState
-entry_state state.InUse = entry.InUse
-entry_state state.NotEntrant = entry.NotEntrant
-entry_state state.Zombie = entry.Zombie
-entry_state state.Freed = entry.Vacant
-
--- The first, where there is one, else the other.
-abbrev pub first_of : Option Code → Option Code → Option Code
-first_of None other = other
-first_of (Some code) other = Some code
-
--- The newest code of a slot, whatever its state. Codes go by rising serial, so it has the greatest serial of its slot.
-abbrev pub newest_in : List Code → ℕ → Option Code
-newest_in [] slot = None
-newest_in (code ∷ codes) slot = first_of (newest_in codes slot) (if code.slot == slot then Some code else None)
 
 -- What the keeper knows of a slot with this newest code: its serial and state; the moment of its invalidation; the places that
 -- were looked at for it and found clear; and that it was weighed clear, which zombies and freed codes were. A freed code leaves

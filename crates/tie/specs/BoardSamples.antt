@@ -11,14 +11,10 @@ use Rattle.system.specs.declared.events.Act.TheVariants as act
 use Rattle.system.specs.declared.events.Event.{Event}
 use Rattle.system.specs.declared.events.Event.TheVariants as event
 use Rattle.system.specs.World.{World, start_world}
-use Rattle.system.specs.Runs.{after, answer_to, world_after}
+use Rattle.system.specs.Runs.{world_after}
 use Rattle.tie.specs.BoardOf.{word_by}
-use Rattle.tie.specs.Steps.{Made, steps_of}
-
--- The steps of the events, one event after the other.
-abbrev pub steps_of_run : World → List Event → List Made
-steps_of_run w [] = []
-steps_of_run w (event ∷ events) = steps_of w event (answer_to w event) ++ steps_of_run (after w event) events
+use Rattle.tie.specs.Steps.{Made}
+use Rattle.tie.specs.Followed.{steps_of_run}
 
 -- The board's words: the entries, the counts, the places, and the moment.
 abbrev pub words_of : World → List ℕ

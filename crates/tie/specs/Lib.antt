@@ -5,3 +5,6 @@ pub mod BoardSamples
 pub mod PollRow
 pub mod PollAnswers
 pub mod WorkedRuns
+pub mod Determined
+pub mod Followed
+pub mod PollSamples

@@ -1,13 +1,17 @@
 -- What the answer to an event says of the poll word that its step met.
-use Rattle.std.specs.Prelude.{◌≡◌, ℕ, ◌==◌, List, Option, Some, None, if◌then◌else◌}
+use Rattle.std.specs.Prelude.{◌≡◌, ℕ, ◌==◌, Bool, true, false, List, Option, Some, None, if◌then◌else◌}
 use Rattle.thread_state.specs.declared.poll_rule.Deed.{Deed}
 use Rattle.thread_state.specs.declared.poll_rule.Deed.TheVariants.{Nothing, Load, Store, Exchange}
+use Rattle.system.specs.declared.events.Act.{Act}
+use Rattle.system.specs.declared.events.Act.TheVariants as act
 use Rattle.system.specs.declared.events.Event.{Event}
+use Rattle.system.specs.declared.events.Event.TheVariants as event
 use Rattle.system.specs.declared.answers.Answer.{Answer}
 use Rattle.system.specs.declared.answers.Answer.TheVariants as answer
-use Rattle.system.specs.World.{start_world}
+use Rattle.system.specs.World.{World, start_world}
 use Rattle.system.specs.Runs.{answer_to, world_after}
-use Rattle.tie.specs.PollRow.{PollDeed, polls_of}
+use Rattle.system.specs.Safepoints.{is_accepted}
+use Rattle.tie.specs.PollRow.{PollDeed, row_of, load, polls_of}
 
 -- A poll that found 0 goes on, and one that found another number stops for it.
 abbrev pub said_by : ℕ → Answer
@@ -31,3 +35,19 @@ abbrev pub PollsAnswerTheirWords : Type 0
 PollsAnswerTheirWords = (places slots methods : ℕ) (events : List Event) (next : Event)
     → IsAnswered (polls_of (world_after (start_world places slots methods) events) next (answer_to (world_after (start_world places slots methods) events) next))
     (answer_to (world_after (start_world places slots methods) events) next)
+
+-- The acts of a thread that poll.
+abbrev pub is_poll : Act → Bool
+is_poll act.Edge = true
+is_poll act.Leave = true
+is_poll act.Cross = true
+is_poll act.FromVm = true
+is_poll other = false
+
+-- Where such an act is accepted, its one step is the load of its place's word, and its answer is read off what was found there.
+abbrev pub IsOneLoad : World → ℕ → Act → Answer → Type 0
+IsOneLoad w place polling said = is_accepted said ≡ true → (polls_of w (event.At place polling) said ≡ load w place) × (said ≡ said_by (row_of w place).word)
+
+abbrev pub PollsLoadTheirWord : Type 0
+PollsLoadTheirWord = (places slots methods : ℕ) (events : List Event) (place : ℕ) (polling : Act) → is_poll polling ≡ true
+    → IsOneLoad (world_after (start_world places slots methods) events) place polling (answer_to (world_after (start_world places slots methods) events) (event.At place polling))

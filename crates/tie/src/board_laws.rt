@@ -1,7 +1,7 @@
 // Laws of the board of a world.
 ghost use Rattle.tie.specs.BoardOf.{BoardsKeepTheRule, CoveredComparesWords};
 ghost use Rattle.tie.specs.Steps.{EventsAreTheirSteps};
-ghost use Rattle.tie.specs.Answers.{AnswersAreReadOff};
+ghost use Rattle.tie.specs.Answers.{AnswersAreReadOff, RoundsReadTheMoment};
 
 /// The board of a world meets the rule of a code board, whatever happened.
 pub fn boards_keep_the_rule()
@@ -26,4 +26,9 @@ pub fn covered_compares_words()
 /// the code where that is 0.
 pub fn answers_are_read_off_the_words()
     ensures { AnswersAreReadOff }
+{}
+
+/// A Round's answer is read off the keeper's view: it is accepted exactly where the moment is below 2^40 - 1, and else Spent.
+pub fn rounds_read_the_moment()
+    ensures { RoundsReadTheMoment }
 {}

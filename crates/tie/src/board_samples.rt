@@ -4,7 +4,7 @@ ghost use Rattle.frames.specs.BoardRule.{first_slot};
 ghost use Rattle.system.specs.declared.events.Act.TheVariants as act;
 ghost use Rattle.system.specs.declared.events.Event.TheVariants as event;
 ghost use Rattle.tie.specs.BoardOf.{slot_at, seat_at};
-ghost use Rattle.tie.specs.BoardSamples.{Makes, Knows, core_after, steps_of_run, words_of, life_of_a_code, steps_of_a_life, words_after_a_life, one_frame_counted, place_given_up, look_before_a_round, publication_begun_before_the_round, two_threads, amid_a_publication};
+ghost use Rattle.tie.specs.BoardSamples.{Makes, Knows, core_after, words_of, life_of_a_code, steps_of_a_life, words_after_a_life, one_frame_counted, place_given_up, look_before_a_round, publication_begun_before_the_round, two_threads, amid_a_publication};
 
 /// The whole life of a code makes each kind of step, with these codes, places and numbers, in this order.
 pub fn life_of_a_code()

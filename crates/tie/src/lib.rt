@@ -6,7 +6,10 @@
 mod beside_core;
 pub mod board_laws;
 pub mod board_samples;
+pub mod followed_runs;
 pub mod poll_row;
+pub mod poll_samples;
+pub mod step_laws;
 #[cfg(test)]
 mod tests;
 pub mod worked_runs;

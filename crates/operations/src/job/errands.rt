@@ -1,10 +1,10 @@
 // What carries jobs without naming their box.
-ghost use Rattle.std.specs.Prelude.{◌≡◌, ℕ};
-ghost use Rattle.frames.specs.ImageView.{IsSettled};
+ghost use Rattle.std.specs.Prelude.{◌≡◌, ◌↔◌, ℕ};
+ghost use Rattle.frames.specs.ImageView.{ImageView, IsSettled};
 ghost use Rattle.operations.specs.declared.Ask.{Ask};
 ghost use Rattle.operations.specs.Asks.{reply};
 
-use super::{Done, Job};
+use super::{Call, Done, Job};
 use crate::Ask;
 use frames::image::Image;
 
@@ -20,6 +20,9 @@ pub trait Errand: Drop {
     /// What it asks.
     ghost asks: { Self → Ask };
 
+    /// Its callback may answer this on this image.
+    ghost may_answer: { Self → ImageView → ℕ → Type 0 };
+
     fn op_of(&self) -> u64
         ensures { result ≡ number self.now };
 
@@ -32,12 +35,15 @@ pub trait Errand: Drop {
     /// The same with another number.
     fn numbered(self, op: u64) -> Self
         ensures number { number result ≡ op }
-        ensures same { (whom result ≡ whom self) × (asks result ≡ asks self) };
+        ensures same { (whom result ≡ whom self) × (asks result ≡ asks self) }
+        ensures callback { (image : ImageView) (reply : ℕ) → may_answer result image reply ↔ may_answer self image reply };
 
+    /// Calls the callback on the image: the reply is what it answered there.
     fn run_on(self, image: &Image) -> Done
         requires { IsSettled image.now }
         ensures same { (result.op ≡ number self) × (result.target ≡ whom self) × (result.ask ≡ asks self) }
-        ensures reply { result.reply ≡ reply (asks self) image.now.frames };
+        ensures reply { result.reply ≡ reply (asks self) image.now.frames }
+        ensures called { may_answer self image.now result.reply };
 }
 
 impl Errand for Job {
@@ -46,6 +52,8 @@ impl Errand for Job {
     ghost whom = { λ j. j.target };
 
     ghost asks = { λ j. j.ask };
+
+    ghost may_answer = { λ j image reply. (i : _) × (i.now ≡ image) × Call.post j.call i reply };
 
     fn op_of(&self) -> u64 {
         self.op()
@@ -63,6 +71,7 @@ impl Errand for Job {
         Job::numbered(self, op)
     }
 
+    /// Calls the callback on the image: the reply is what it answered there.
     fn run_on(self, image: &Image) -> Done {
         self.run(image)
     }

@@ -31,7 +31,7 @@ impl Job {
         requires { IsSettled image.now }
         ensures same { (result.op ≡ ⟦<Job as Errand>⟧.number self) × (result.target ≡ ⟦<Job as Errand>⟧.whom self) × (result.ask ≡ ⟦<Job as Errand>⟧.asks self) }
         ensures reply { result.reply ≡ reply (⟦<Job as Errand>⟧.asks self) image.now.frames }
-        ensures called { Call.post self.call image.entry result.reply }
+        ensures called { ⟦<Job as Errand>⟧.may_answer self image.now result.reply }
     {
         let Job {
             op,

@@ -1,5 +1,5 @@
 // Poll words beside the core.
-ghost use Rattle.std.specs.Prelude.{◌≡◌, ◌∷◌, [], IfOk};
+ghost use Rattle.std.specs.Prelude.{◌≡◌, ◌<◌, ◌^◌, ◌∷◌, [], length, slice_index, IfOk};
 
 use super::*;
 use operations::{Ask, Request, Targets};
@@ -17,13 +17,20 @@ fn one_place(alloc: Global) -> Result<(PollRow, Armer, Poller), AllocError>
     Ok((row, armer, poller))
 }
 
-// A handshake of one thread is asked for.
-fn asked(events: &mut Vec<Event>, alloc: Global, name: u64) -> Result<(), AllocError> {
-    let names = vec![in alloc; name]?;
-    events.push(Event::Ask(Request::Handshake {
+// A handshake of one thread.
+fn handshake(alloc: Global, name: u64) -> Result<Request, AllocError> {
+    let mut names = Vec::new(alloc);
+    names.push(name)?;
+    Ok(Request::Handshake {
         targets: Targets::from_vec(names),
         ask: Ask::Depth,
-    }))?;
+    })
+}
+
+// It is asked for.
+fn asked(events: &mut Vec<Event>, alloc: Global, name: u64) -> Result<(), AllocError> {
+    let request = handshake(alloc, name)?;
+    events.push(Event::Ask(request))?;
     Ok(())
 }
 
@@ -41,45 +48,64 @@ fn served(events: &mut Vec<Event>, name: u64) -> Result<(), AllocError> {
     Ok(())
 }
 
+// Two operations are told to a thread, and served, one after the other.
+fn two_operations_by_core(alloc: Global) -> Result<Option<Vec<Said>>, AllocError> {
+    let mut events = Vec::new(alloc);
+    started(&mut events, 0)?;
+    asked(&mut events, alloc, 1)?;
+    asked(&mut events, alloc, 1)?;
+    served(&mut events, 1)?;
+    served(&mut events, 1)?;
+    let Ok(mut core) = System::new(alloc, 1, 4, 2) else {
+        return Ok(None);
+    };
+    Ok(core_says(&mut core, alloc, &events, Of::Row))
+}
+
+// The place is polled, armed with the number and polled, cleared and polled. What the polls met, and whether it was cleared.
+fn told_and_cleared(
+    row: &PollRow,
+    armer: &mut Armer,
+    poller: &mut Poller,
+    number: u64,
+) -> ([u64; 3], bool)
+    requires tables { (armer.old.table ≡ row.now) × (poller.old.table ≡ row.now) }
+    requires place { length armer.old.seen.armed ≡ 1 }
+    requires later { slice_index armer.old.seen.armed 0 < number }
+    requires small { number < 2 ^ 40 }
+    ensures tables { (armer.new.table ≡ armer.old.table) × (poller.new.table ≡ poller.old.table) }
+    ensures armed { armer.new.seen.armed ≡ number ∷ [] }
+{
+    let before = poller.poll(row);
+    armer.arm(row, 0, number);
+    let told = poller.poll(row);
+    let cleared = poller.clear(row, number);
+    let after = poller.poll(row);
+    ([before, told, after], cleared)
+}
+
 // A place is armed for two operations, one after the other.
 #[test]
 fn two_operations_in_turn(rt: HostRuntime) -> Result<(), Fail> {
-    let mut events = Vec::new(rt.alloc());
-    started(&mut events, 0)?;
-    asked(&mut events, rt.alloc(), 1)?;
-    asked(&mut events, rt.alloc(), 1)?;
-    served(&mut events, 1)?;
-    served(&mut events, 1)?;
-    let Ok(mut core) = System::new(rt.alloc(), 1, 4, 2) else {
-        panic!(rt; "no system");
-    };
-    let Some(by_core) = core_says(&mut core, rt.alloc(), &events, Of::Row) else {
+    let Some(by_core) = two_operations_by_core(rt.alloc())? else {
         panic!(rt; "refused");
     };
     let (row, mut armer, mut poller) = one_place(rt.alloc())?;
     let started = poller.poll(&row);
-    let before_first = poller.poll(&row);
-    armer.arm(&row, 0, 1);
-    let first = poller.poll(&row);
-    let first_cleared = poller.clear(&row, 1);
-    let after_first = poller.poll(&row);
-    let before_second = poller.poll(&row);
-    armer.arm(&row, 0, 2);
-    let second = poller.poll(&row);
-    let second_cleared = poller.clear(&row, 2);
-    let after_second = poller.poll(&row);
+    let (first, first_cleared) = told_and_cleared(&row, &mut armer, &mut poller, 1);
+    let (second, second_cleared) = told_and_cleared(&row, &mut armer, &mut poller, 2);
     let polls = [
         Said::Polled(started),
-        Said::Polled(before_first),
-        Said::Polled(first),
-        Said::Polled(after_first),
-        Said::Polled(before_second),
-        Said::Polled(second),
-        Said::Polled(after_second),
+        Said::Polled(first[0]),
+        Said::Polled(first[1]),
+        Said::Polled(first[2]),
+        Said::Polled(second[0]),
+        Said::Polled(second[1]),
+        Said::Polled(second[2]),
     ];
     assert!(rt; by_core.as_slice() == polls.as_slice());
     assert!(rt; first_cleared && second_cleared);
-    assert!(rt; (first, after_first, second, after_second) == (1, 0, 2, 0));
+    assert!(rt; first == [0, 1, 0] && second == [0, 2, 0]);
     assert!(rt; armer.last(0) == 2);
     Ok(())
 }

@@ -34,7 +34,7 @@ overflow_add-net c =
     let is : c.index.result.now.by ≡ net_in c.args.nets.now.items c.args.code = ap (λ (e : Change). e.by) at_ ∙ net in
     let low = c.requires.within.low in
     let high = c.requires.within.high in
-    let one = c.requires.one in
+    let small = c.requires.small in
     omega (arith, ints)
 
 pub returns-then-net-eq0-clause-items : goal.returns-then-net-eq0-clause-items
@@ -46,7 +46,7 @@ returns-then-net-eq0-clause-items c =
     let is : c.index.result.now.by ≡ net_in c.args.nets.now.items c.args.code = ap (λ (e : Change). e.by) at_ ∙ net in
     let low = c.requires.within.low in
     let high = c.requires.within.high in
-    let one = c.requires.one in
+    let small = c.requires.small in
     let sum : c.index.result.now.by +ℤ c.args.by ≡ pos 0 = omega (arith, ints, c.if-net-eq0.true) in
     let zero_ = is_zero_at _ (ap (λ (e : Change). e.by +ℤ c.args.by) (sym at_) ∙ sum) in
     rw (c.remove.ensures.items, place) (removed c.args.nets.now.items c.args.code c.args.by c.index.result.now here zero_)
@@ -60,7 +60,7 @@ returns-else-net-eq0-clause-items c =
     let is : c.index.result.now.by ≡ net_in c.args.nets.now.items c.args.code = ap (λ (e : Change). e.by) at_ ∙ net in
     let low = c.requires.within.low in
     let high = c.requires.within.high in
-    let one = c.requires.one in
+    let small = c.requires.small in
     let sum : to_z w32 (of_z w32 (to_z w32 (of_z w32 c.index.result.now.by) +ℤ to_z w32 (of_z w32 c.args.by))) ≡ c.index.result.now.by +ℤ c.args.by = omega (arith, ints) in
     let some = not_zero (c.index.result.now.by +ℤ c.args.by) (λ e. omega (arith, ints, c.if-net-eq0.false)) in
     rw (place, sum) (setted c.args.nets.now.items c.args.code c.args.by (c.index.result.now.by +ℤ c.args.by) c.index.result.now here (ap (λ (e : Change). e.by +ℤ c.args.by) at_) some)

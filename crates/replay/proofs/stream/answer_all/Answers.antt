@@ -33,6 +33,9 @@ loop-turn-preserved g c =
       source = c.in-Ok.ensures.failures;
       sink = c.in-Ok-flush.ensures.done.2;
       room = c.loop-turn.invariant.room;
+      text_room = c.feed.ensures.text_room;
+      waits_room = omega (arith, c.feed.ensures.waits_room, c.flush.ensures.kept);
+      none_wait = c.in-Ok-flush.ensures.none_wait;
       none = c.in-Ok-flush.ensures.done.1;
       so_far = so_far_more (g.R.Source.left c.args.source.now) (g.R.Source.left c.loop-turn.source) (g.R.Source.left c.read.new.self) (g.W.Sink.got c.args.sink.now) (g.W.Sink.got c.loop-turn.sink) (g.W.Sink.got c.feed.new.sink) (g.W.Sink.got c.flush.new.sink) c.loop-turn.system c.feed.new.system c.loop-turn.held c.feed.new.held (take c.in-Ok.n c.read.new.buf) c.loop-turn.waits.items c.feed.new.waits.items c.loop-turn.invariant.so_far c.in-Ok.ensures.bytes.0 c.loop-turn.invariant.none all c.in-Ok-flush.ensures.done.0;
     }

@@ -14,5 +14,5 @@ returns c = blank_stands _ c.args.places c.args.slots c.args.methods (record {
   moment_is = refl;
   numbers_are = refl;
   waiting_are = c.new-3.ensures;
-  open_is = refl;
+  opens_are = c.in_ok-new-3.ensures;
 })

@@ -1,6 +1,6 @@
-use Rattle.std.proofs.Common.{arith, ◌≡◌, ℕ, ◌+◌, ◌<◌, sym, ap, ◌∙◌, subst, Some, slice_get}
+use Rattle.std.proofs.Common.{[], arith, ◌≡◌, ℕ, ◌+◌, ◌<◌, sym, ap, ◌∙◌, subst, Some, slice_get}
 use Rattle.frames.specs.declared.board_rule.BoardView.TheVariants.{Keeper}
-use Rattle.board.specs.Boards.{keeper_of, stamp_of, IsKeeper, AreFirst, left_of, right_of, first_seat, board_id, thread_of}
+use Rattle.board.specs.Boards.{keeper_of, stamp_of, IsKeeper, AreFirst, left_of, first_seat, board_id}
 use Rattle.board.proofs.Openings.{opens, splits, next_each}
 use Rattle.board.proofs.board.Board.new.Goals as goal
 
@@ -11,7 +11,7 @@ pub split_seat-seat-requires : goal.split_seat-seat-requires
 split_seat-seat-requires c =
     let i = c.loop-place.invariant in let t = c.in_ok-table.ensures in let low = c.loop-place-test.true in
     let at : (keeper_of c.loop-place.seat.me.0).split ≡ c.loop-place.place = ap (λ u. (keeper_of u).split) i.keeper in
-    let is : IsKeeper c.loop-place.seat.me.0 = i.keeper ∙ ap (λ u. Keeper (keeper_of u) (stamp_of u)) (sym i.keeper) in
+    let is : IsKeeper c.loop-place.seat.me.0 = i.keeper ∙ ap (λ u. Keeper (keeper_of u) [] (stamp_of u)) (sym i.keeper) in
     let wide = c.as_slice.ensures.value in let first = c.in_ok-words.ensures in let len = first.wide in let words = t.0 in
     let key : c.in_ok-table.table.shared.key.1 ≡ c.args.places = ap (λ n. n.1) t.5 in
     (i.table, omega (arith, ap lib.ListN.length wide), splits _ _ _ is (omega arith))

@@ -1,6 +1,6 @@
-use Rattle.std.proofs.Common.{◌≡◌, get_or, sym, ap, ◌∙◌}
+use Rattle.std.proofs.Common.{get_or, sym, ap, ◌∙◌}
 use Rattle.std.specs.Mem.Slots.{slots_items}
-use Rattle.frames.specs.BoardWords.{entry_of, count_of, place_of, unpack}
+use Rattle.frames.specs.BoardWords.{count_of}
 use Rattle.board.specs.Closing.{word_left}
 use Rattle.board.proofs.Closings.{found_at}
 use Rattle.board.proofs.closed.ClosedBoard.count.Goals as goal

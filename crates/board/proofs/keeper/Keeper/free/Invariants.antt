@@ -1,4 +1,4 @@
-use Rattle.board.specs.Plays.{asked, asked_of}
+use Rattle.board.specs.Plays.{asked}
 use Rattle.board.proofs.keeper.Keeper.free.Given as goal
 
 abbrev pub ghosts-store_vacant : goal.ghosts-store_vacant

@@ -1,4 +1,4 @@
-use Rattle.std.proofs.Common.{arith, ◌≡◌, ℕ, ◌^◌, ◌<◌, length, sym, ap, ◌∙◌, subst}
+use Rattle.std.proofs.Common.{◌≡◌, ℕ, ◌^◌, ◌<◌, length, subst}
 use Rattle.frames.specs.BoardViews.{slot_of}
 use Rattle.board.specs.Boards.{KeeperSeen}
 use Rattle.board.proofs.keeper.Keeper.has_slots.Goals as goal

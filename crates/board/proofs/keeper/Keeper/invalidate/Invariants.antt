@@ -1,4 +1,4 @@
-use Rattle.board.specs.Plays.{asked, asked_of}
+use Rattle.board.specs.Plays.{asked}
 use Rattle.board.proofs.keeper.Keeper.invalidate.Given as goal
 
 abbrev pub ghosts-store_not_entrant : goal.ghosts-store_not_entrant

@@ -1,14 +1,12 @@
-use Rattle.std.proofs.Common.{arith, ◌≡◌, ◌≢◌, ◌⊎◌, ℕ, ◌+◌, ◌*◌, ◌^◌, ◌<◌, ◌≤◌, true, set, length, sym, refl, ap, ◌∙◌, subst, inl, inr, length-set, get_or-set_same}
-use Rattle.frames.specs.declared.CodeId.{CodeId}
-use Rattle.frames.specs.declared.board_rule.SlotView.{SlotView}
+use Rattle.std.proofs.Common.{[], arith, ◌≡◌, ℕ, sym, refl, ap, ◌∙◌, subst}
 use Rattle.frames.specs.declared.board_rule.KeeperView.{KeeperView}
 use Rattle.frames.specs.declared.board_rule.BoardView.TheVariants.{Keeper}
-use Rattle.frames.specs.declared.board_rule.EntryState.TheVariants.{InUse, NotEntrant, Zombie, Vacant}
+use Rattle.frames.specs.declared.board_rule.EntryState.TheVariants.{NotEntrant}
 use Rattle.frames.specs.BoardViews.{how_often, has_code, slot_of, IsIn, in_use, not_entrant, in_state, entry_stored, slot_with_look}
-use Rattle.board.specs.Boards.{BoardId, board_id, thread_of, keeper_of, stamp_of}
-use Rattle.board.specs.Plays.{asked, asked_of}
-use Rattle.board.specs.Notes.{IsLooked, AreNoted, Agrees, blank}
-use Rattle.board.proofs.Notes.{noted_set, noted_same, agrees_new, agrees_look, noted_first, any_default}
+use Rattle.board.specs.Boards.{BoardId, board_id, keeper_of, stamp_of}
+use Rattle.board.specs.Plays.{asked}
+use Rattle.board.specs.Notes.{Agrees, blank}
+use Rattle.board.proofs.Notes.{noted_set, agrees_look, any_default}
 use Rattle.board.proofs.Keepers.{loads_place}
 use Rattle.board.proofs.keeper.Keeper.load_place.Goals as goal
 
@@ -46,7 +44,7 @@ invariant_of-self g c =
     let low = c.requires.slot.0 in let low' = c.requires.slot.1 in let load = c.load-found.ensures in let after = load.2.0 in let k = keeper_of c.self.inside.seat.me.0 in let small = mine.4 in
     let notes = mine.6 in let long = notes.notes_are in
     let after' : keeper_of c.load-found.new.seat.me.0 ≡ Rattle.frames.specs.BoardViews.looked_at k c.args.code c.args.place c.load-found.result = ap keeper_of after ∙ rw c.requires.about refl in (
-      after ∙ ap (λ v. Keeper (keeper_of v) (stamp_of v)) (sym after),
+      after ∙ ap (λ v. Keeper (keeper_of v) [] (stamp_of v)) (sym after),
       mine.1 ∙ sym (ap (λ (v : KeeperView). v.moment) after'),
       ap (λ z. z.words) load.0 ∙ mine.2,
       mine.3,
@@ -54,7 +52,6 @@ invariant_of-self g c =
       mine.5,
       noted_set c.self.inside.slots c.self.inside.notes.items k (keeper_of c.load-found.new.seat.me.0) c.args.code.slot _ (slot_with_look (slot_of k c.args.code.slot) c.args.place c.load-found.result)
           (ap (λ (v : KeeperView). v.slots) after') notes (omega arith)
-          (subst (λ t. Agrees t (slot_with_look (slot_of k c.args.code.slot) c.args.place c.load-found.result)) (sym c.look-late.ensures.note)
-          (agrees_look c.index.result.now (slot_of k c.args.code.slot) c.args.place c.load-found.result (omega arith)
-          (let e = c.index.ensures in subst (λ t. Agrees t (slot_of k c.args.code.slot)) (sym (e ∙ any_default c.self.inside.notes.items c.args.code.slot c.index.result.now blank (omega arith))) (notes.each c.args.code.slot (omega arith))))),
+          (agrees_look c.index.result.now _ (slot_of k c.args.code.slot) c.args.place c.load-found.result c.look-late.ensures.note
+          (let e = c.index.ensures in subst (λ t. Agrees t (slot_of k c.args.code.slot)) (sym (e ∙ any_default c.self.inside.notes.items c.args.code.slot c.index.result.now blank (omega arith))) (notes.each c.args.code.slot (omega arith)))),
     )

@@ -1,4 +1,4 @@
-use Rattle.std.proofs.Common.{arith, ◌≡◌, sym, ap, ◌∙◌, subst}
+use Rattle.std.proofs.Common.{[], sym, ap, ◌∙◌, subst}
 use Rattle.frames.specs.declared.board_rule.BoardView.TheVariants.{Keeper}
 use Rattle.board.specs.Boards.{keeper_of, stamp_of}
 use Rattle.board.specs.Notes.{AreNoted}
@@ -8,7 +8,7 @@ use Rattle.board.proofs.keeper.Keeper.of.Goals as goal
 pub invariant_of-result : goal.invariant_of-result
 invariant_of-result c =
     let k = c.requires.keeper in let b = c.requires.board in (
-      k ∙ ap (λ v. Keeper (keeper_of v) (stamp_of v)) (sym k),
+      k ∙ ap (λ v. Keeper (keeper_of v) [] (stamp_of v)) (sym k),
       sym (ap (λ v. (keeper_of v).moment) k),
       b.0,
       b.1,

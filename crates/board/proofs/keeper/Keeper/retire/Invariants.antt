@@ -1,4 +1,4 @@
-use Rattle.board.specs.Plays.{asked, asked_of}
+use Rattle.board.specs.Plays.{asked}
 use Rattle.board.proofs.keeper.Keeper.retire.Given as goal
 
 abbrev pub ghosts-store_zombie : goal.ghosts-store_zombie

@@ -1,4 +1,4 @@
-use Rattle.board.specs.Plays.{asked, asked_of}
+use Rattle.board.specs.Plays.{asked_of}
 use Rattle.board.proofs.keeper.Keeper.round.Given as goal
 
 abbrev pub ghosts-add_moment : goal.ghosts-add_moment

@@ -1,14 +1,12 @@
-use Rattle.std.proofs.Common.{arith, ◌≡◌, ◌≢◌, ◌⊎◌, ℕ, ◌+◌, ◌*◌, ◌^◌, ◌<◌, ◌≤◌, true, set, length, sym, refl, ap, ◌∙◌, subst, inl, inr, length-set, get_or-set_same}
-use Rattle.frames.specs.declared.CodeId.{CodeId}
-use Rattle.frames.specs.declared.board_rule.SlotView.{SlotView}
+use Rattle.std.proofs.Common.{[], arith, ◌≡◌, ℕ, sym, refl, ap, ◌∙◌, subst}
 use Rattle.frames.specs.declared.board_rule.KeeperView.{KeeperView}
 use Rattle.frames.specs.declared.board_rule.BoardView.TheVariants.{Keeper}
-use Rattle.frames.specs.declared.board_rule.EntryState.TheVariants.{InUse, NotEntrant, Zombie, Vacant}
-use Rattle.frames.specs.BoardViews.{how_often, has_code, slot_of, IsIn, in_use, not_entrant, in_state, entry_stored, slot_with_look}
-use Rattle.board.specs.Boards.{BoardId, board_id, thread_of, keeper_of, stamp_of}
-use Rattle.board.specs.Plays.{asked, asked_of}
-use Rattle.board.specs.Notes.{IsLooked, AreNoted, Agrees, blank}
-use Rattle.board.proofs.Notes.{noted_set, noted_same, agrees_new, agrees_look, noted_first, any_default}
+use Rattle.frames.specs.declared.board_rule.EntryState.TheVariants.{InUse}
+use Rattle.frames.specs.BoardViews.{IsIn, not_entrant, entry_stored}
+use Rattle.board.specs.Boards.{BoardId, board_id, keeper_of, stamp_of}
+use Rattle.board.specs.Plays.{asked}
+use Rattle.board.specs.Notes.{Agrees}
+use Rattle.board.proofs.Notes.{noted_set, agrees_new}
 use Rattle.board.proofs.Keepers.{stores_not_entrant}
 use Rattle.board.proofs.keeper.Keeper.store_not_entrant.Goals as goal
 
@@ -45,7 +43,7 @@ invariant_of-self g c =
     let now_places : c.args.self.now.board.places ≡ c.self.inside.places = sym (ap (λ t. t.board.places) c.self.view_is) in
     let low = c.requires.slot in let after = c.store.ensures.2.0 in let notes = mine.6 in let k = keeper_of c.self.inside.seat.me.0 in
     let after' : keeper_of c.store.new.seat.me.0 ≡ entry_stored k c.args.code (not_entrant c.args.code k.moment) = ap keeper_of after ∙ rw c.requires.about refl in (
-      after ∙ ap (λ v. Keeper (keeper_of v) (stamp_of v)) (sym after),
+      after ∙ ap (λ v. Keeper (keeper_of v) [] (stamp_of v)) (sym after),
       mine.1 ∙ sym (ap (λ (v : KeeperView). v.moment) after'),
       ap (λ z. z.words) c.store.ensures.0 ∙ mine.2,
       mine.3,

@@ -1,5 +1,4 @@
-use Rattle.std.proofs.Common.{◌≡◌, ◌<◌, arith, eqb, length, true, sym, refl, ap, ◌∙◌, subst}
-use Rattle.frames.specs.declared.board_rule.KeeperView.{KeeperView}
+use Rattle.std.proofs.Common.{arith, eqb, ap, ◌∙◌}
 use Rattle.frames.specs.declared.board_rule.SlotView.{SlotView}
 use Rattle.frames.specs.BoardViews.{slot_of}
 use Rattle.board.proofs.Closings.{clear_nowhere, weighed_slot}

@@ -1,4 +1,4 @@
-use Rattle.board.specs.Plays.{asked, asked_of}
+use Rattle.board.specs.Plays.{asked}
 use Rattle.board.proofs.keeper.Keeper.weigh.Given as goal
 
 abbrev pub ghosts-load_count : goal.ghosts-load_count

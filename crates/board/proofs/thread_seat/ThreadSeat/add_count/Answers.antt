@@ -1,9 +1,7 @@
-use Rattle.std.proofs.Common.{arith, ◌≡◌, ◌≢◌, ◌⊎◌, ℕ, ◌+◌, ◌*◌, ◌^◌, ◌<◌, ◌≤◌, true, sym, refl, ap, ◌∙◌, subst, inl, inr}
-use Rattle.frames.specs.declared.CodeId.{CodeId}
-use Rattle.frames.specs.BoardViews.{how_often, has_code, slot_of, IsIn}
-use Rattle.board.specs.Boards.{BoardId, board_id, thread_of, keeper_of}
-use Rattle.board.specs.Plays.{asked, asked_of}
-use Rattle.board.specs.Notes.{IsLooked}
+use Rattle.std.proofs.Common.{arith, ◌≡◌, ℕ, ◌+◌, ◌≤◌, true, sym, ap, ◌∙◌, subst}
+use Rattle.frames.specs.BoardViews.{how_often, has_code}
+use Rattle.board.specs.Boards.{BoardId, board_id}
+use Rattle.board.specs.Plays.{asked}
 use Rattle.board.proofs.Threads.{adds_count}
 use Rattle.board.proofs.thread_seat.ThreadSeat.add_count.Goals as goal
 
@@ -19,7 +17,7 @@ fetch_add-requires g c =
     let seen = ap (λ t. t.seen) c.self.view_is in
     let now_slots : c.args.self.now.board.slots ≡ c.self.inside.slots = sym (ap (λ t. t.board.slots) c.self.view_is) in
     let now_places : c.args.self.now.board.places ≡ c.self.inside.places = sym (ap (λ t. t.board.places) c.self.view_is) in
-    let low = c.requires.slot in let small = mine.6 in (
+    let low = c.requires.slot in let small = mine.7 in (
       ap (λ (b : BoardId). b.table) same,
       omega arith,
       rw c.requires.about (adds_count _ _ _ _ (asked c.args.self.now.board c.args.code 0) mine.0 sizes _ _ (omega arith) (omega arith) c.requires.some

@@ -1,4 +1,4 @@
-use Rattle.board.specs.Plays.{asked, asked_of}
+use Rattle.board.specs.Plays.{asked}
 use Rattle.board.proofs.thread_seat.ThreadSeat.count_change.Given as goal
 
 abbrev pub ghosts-add_count : goal.ghosts-add_count

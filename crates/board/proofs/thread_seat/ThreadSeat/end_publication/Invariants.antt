@@ -1,4 +1,4 @@
-use Rattle.board.specs.Plays.{asked, asked_of}
+use Rattle.board.specs.Plays.{asked_of}
 use Rattle.board.proofs.thread_seat.ThreadSeat.end_publication.Given as goal
 
 abbrev pub ghosts-store_read : goal.ghosts-store_read

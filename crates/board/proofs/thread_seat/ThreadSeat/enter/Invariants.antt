@@ -1,4 +1,4 @@
-use Rattle.board.specs.Plays.{asked, asked_of}
+use Rattle.board.specs.Plays.{asked}
 use Rattle.board.proofs.thread_seat.ThreadSeat.enter.Given as goal
 
 abbrev pub ghosts-load_entry : goal.ghosts-load_entry

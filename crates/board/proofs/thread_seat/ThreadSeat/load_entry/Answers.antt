@@ -1,9 +1,6 @@
-use Rattle.std.proofs.Common.{arith, ◌≡◌, ◌≢◌, ◌⊎◌, ℕ, ◌+◌, ◌*◌, ◌^◌, ◌<◌, ◌≤◌, true, sym, refl, ap, ◌∙◌, subst, inl, inr}
-use Rattle.frames.specs.declared.CodeId.{CodeId}
-use Rattle.frames.specs.BoardViews.{how_often, has_code, slot_of, IsIn}
-use Rattle.board.specs.Boards.{BoardId, board_id, thread_of, keeper_of}
-use Rattle.board.specs.Plays.{asked, asked_of}
-use Rattle.board.specs.Notes.{IsLooked}
+use Rattle.std.proofs.Common.{arith, ◌≡◌, ℕ, sym, refl, ap, ◌∙◌}
+use Rattle.board.specs.Boards.{BoardId, board_id}
+use Rattle.board.specs.Plays.{asked}
 use Rattle.board.proofs.Threads.{loads_entry}
 use Rattle.board.proofs.thread_seat.ThreadSeat.load_entry.Goals as goal
 

@@ -1,4 +1,4 @@
-use Rattle.board.specs.Plays.{asked, asked_of}
+use Rattle.board.specs.Plays.{asked_of}
 use Rattle.board.proofs.thread_seat.ThreadSeat.read_moment.Given as goal
 
 abbrev pub ghosts-load_moment : goal.ghosts-load_moment

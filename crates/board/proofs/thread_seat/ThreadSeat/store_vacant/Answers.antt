@@ -1,9 +1,8 @@
-use Rattle.std.proofs.Common.{arith, ◌≡◌, ◌≢◌, ◌⊎◌, ℕ, ◌+◌, ◌*◌, ◌^◌, ◌<◌, ◌≤◌, true, sym, refl, ap, ◌∙◌, subst, inl, inr}
+use Rattle.std.proofs.Common.{arith, ◌≡◌, ℕ, sym, refl, ap, ◌∙◌, subst, inr}
 use Rattle.frames.specs.declared.CodeId.{CodeId}
-use Rattle.frames.specs.BoardViews.{how_often, has_code, slot_of, IsIn}
-use Rattle.board.specs.Boards.{BoardId, board_id, thread_of, keeper_of}
-use Rattle.board.specs.Plays.{asked, asked_of}
-use Rattle.board.specs.Notes.{IsLooked}
+use Rattle.frames.specs.BoardViews.{how_often}
+use Rattle.board.specs.Boards.{BoardId, board_id}
+use Rattle.board.specs.Plays.{asked_of}
 use Rattle.board.proofs.Threads.{stores_place}
 use Rattle.board.proofs.thread_seat.ThreadSeat.store_vacant.Goals as goal
 
@@ -19,7 +18,7 @@ store-requires g c =
     let seen = ap (λ t. t.seen) c.self.view_is in
     let now_slots : c.args.self.now.board.slots ≡ c.self.inside.slots = sym (ap (λ t. t.board.slots) c.self.view_is) in
     let now_places : c.args.self.now.board.places ≡ c.self.inside.places = sym (ap (λ t. t.board.places) c.self.view_is) in
-    let low = mine.2 in let at = mine.1 in (
+    let low = mine.3 in let at = mine.2 in (
       ap (λ (b : BoardId). b.table) same,
       omega arith,
       rw c.requires.about (stores_place _ _ _ _ (asked_of c.args.self.now.board) mine.0 sizes _ _ (omega arith)

@@ -1,4 +1,4 @@
-use Rattle.board.specs.Plays.{asked, asked_of}
+use Rattle.board.specs.Plays.{asked_of}
 use Rattle.board.proofs.thread_seat.ThreadSeat.vacate.Given as goal
 
 abbrev pub ghosts-store_vacant : goal.ghosts-store_vacant

@@ -1,33 +1,32 @@
-use Rattle.std.proofs.Common.{◌≡◌, ◌∙◌, ◌<◌, ◌≤◌, ◌+◌, sym, ap, refl, rules, arith, length, drop, take, true, false, [], ◌∷◌, None, subst}
-use Rattle.std.proofs.lemmas.Bool.Decides.{nat_tests}
+use Rattle.std.proofs.Common.{◌≡◌, ◌∙◌, ◌≤◌, ◌+◌, sym, ap, refl, rules, arith, length, drop, take, true, false, [], ◌∷◌, None, subst}
 use Rattle.frames.specs.declared.CodeId.{CodeId}
 use Rattle.frames.specs.Stack.{act}
 use Rattle.frames.specs.Nets.{codes_in, first_of, net_in, IsRising, IsWithin}
 use Rattle.frames.proofs.Moves.{zero_not}
-use Rattle.frames.proofs.Settling.{next_of_left, is_next_of, drop_all, left_is, rising_drop, within_rest, first_by, first_moved, first_others, among_taken, fresh_at, unsettled_fewer}
+use Rattle.frames.proofs.Settling.{next_of_left, is_next_of, drop_all, left_is, rising_drop, within_rest, first_by, first_moved, first_others, past, found, among_taken, fresh_at, unsettled_fewer}
 use Rattle.frames.proofs.image.Image.next_change.Goals as goal
 
 pub returns-in_default-clause-code : goal.returns-in_default-clause-code
 returns-in_default-clause-code c = λ publishing.
-    let all : length c.self.inside.nets.items ≤ c.self.inside.given = grind (arith, nat_tests, c.in_default.ensures.lookup.0, c.deref.ensures.len) in
-    rw (← c.self.view_is) (sym (next_of_left c.self.inside.frames.items c.self.inside.nets.items c.self.inside.given c.self.invariant.5 c.self.invariant.6 ∙ ap first_of (drop_all c.self.inside.given c.self.inside.nets.items all)))
+    let all : length c.self.inside.nets.entries ≤ c.self.inside.given = past c.self.inside.nets.entries c.self.inside.given c.in_default.ensures in
+    rw (← c.self.view_is) (sym (next_of_left c.self.inside.frames.items c.self.inside.nets.entries c.self.inside.given c.self.invariant.5 c.self.invariant.6 ∙ ap first_of (drop_all c.self.inside.given c.self.inside.nets.entries all)))
 
 pub returns-in_default-clause-next : goal.returns-in_default-clause-next
 returns-in_default-clause-next c = λ publishing.
-    let all : length c.self.inside.nets.items ≤ c.self.inside.given = grind (arith, nat_tests, c.in_default.ensures.lookup.0, c.deref.ensures.len) in
-    let none = drop_all c.self.inside.given c.self.inside.nets.items all in
-    let changed = codes_in (take c.self.inside.given c.self.inside.nets.items) in
+    let all : length c.self.inside.nets.entries ≤ c.self.inside.given = past c.self.inside.nets.entries c.self.inside.given c.in_default.ensures in
+    let none = drop_all c.self.inside.given c.self.inside.nets.entries all in
+    let changed = codes_in (take c.self.inside.given c.self.inside.nets.entries) in
     let within = subst (λ xs. (code : CodeId) → IsWithin (net_in xs code) (act code c.self.inside.frames.items)) none c.self.invariant.6 in
     rw (← c.self.view_is, none) (is_next_of c.self.inside.frames.items [] changed c.self.inside.publishing tt within)
 
 pub returns-clause-by : goal.returns-clause-by
 returns-clause-by c =
     let frames = c.self.inside.frames.items in
-    let nets = c.self.inside.nets.items in
+    let nets = c.self.inside.nets.entries in
     let n = c.self.inside.given in
-    let x = c.in-Some.change.now in
-    let look = rw c.deref.ensures.value at c.in-Some.ensures.lookup in
-    let left : drop n nets ≡ x ∷ drop (n + 1) nets = left_is n nets x _ look.0 look.1 in
+    let x = c.in-Some.change in
+    let look = found nets n x c.in-Some.ensures in
+    let left : drop n nets ≡ x ∷ drop (n + 1) nets = left_is n nets x look.0 look.1 in
     let rising : IsRising None (x ∷ drop (n + 1) nets) = subst (IsRising None) left (rising_drop n nets c.self.invariant.5) in
     let within = subst (λ xs. (code : CodeId) → IsWithin (net_in xs code) (act code frames)) left c.self.invariant.6 in
     zero_not x.by rising.1
@@ -35,11 +34,11 @@ returns-clause-by c =
 pub returns-clause-code : goal.returns-clause-code
 returns-clause-code c = λ publishing.
     let frames = c.self.inside.frames.items in
-    let nets = c.self.inside.nets.items in
+    let nets = c.self.inside.nets.entries in
     let n = c.self.inside.given in
-    let x = c.in-Some.change.now in
-    let look = rw c.deref.ensures.value at c.in-Some.ensures.lookup in
-    let left : drop n nets ≡ x ∷ drop (n + 1) nets = left_is n nets x _ look.0 look.1 in
+    let x = c.in-Some.change in
+    let look = found nets n x c.in-Some.ensures in
+    let left : drop n nets ≡ x ∷ drop (n + 1) nets = left_is n nets x look.0 look.1 in
     let rising : IsRising None (x ∷ drop (n + 1) nets) = subst (IsRising None) left (rising_drop n nets c.self.invariant.5) in
     let within = subst (λ xs. (code : CodeId) → IsWithin (net_in xs code) (act code frames)) left c.self.invariant.6 in
     rw (← c.self.view_is) (sym (next_of_left frames nets n c.self.invariant.5 c.self.invariant.6 ∙ ap first_of left))
@@ -47,11 +46,11 @@ returns-clause-code c = λ publishing.
 pub returns-clause-next : goal.returns-clause-next
 returns-clause-next c = λ publishing.
     let frames = c.self.inside.frames.items in
-    let nets = c.self.inside.nets.items in
+    let nets = c.self.inside.nets.entries in
     let n = c.self.inside.given in
-    let x = c.in-Some.change.now in
-    let look = rw c.deref.ensures.value at c.in-Some.ensures.lookup in
-    let left : drop n nets ≡ x ∷ drop (n + 1) nets = left_is n nets x _ look.0 look.1 in
+    let x = c.in-Some.change in
+    let look = found nets n x c.in-Some.ensures in
+    let left : drop n nets ≡ x ∷ drop (n + 1) nets = left_is n nets x look.0 look.1 in
     let rising : IsRising None (x ∷ drop (n + 1) nets) = subst (IsRising None) left (rising_drop n nets c.self.invariant.5) in
     let within = subst (λ xs. (code : CodeId) → IsWithin (net_in xs code) (act code frames)) left c.self.invariant.6 in
     rw (← c.self.view_is, left) (is_next_of frames (x ∷ drop (n + 1) nets) (codes_in (take n nets)) c.self.inside.publishing rising within)
@@ -59,24 +58,24 @@ returns-clause-next c = λ publishing.
 pub returns-clause-fresh : goal.returns-clause-fresh
 returns-clause-fresh c =
     let frames = c.self.inside.frames.items in
-    let nets = c.self.inside.nets.items in
+    let nets = c.self.inside.nets.entries in
     let n = c.self.inside.given in
-    let x = c.in-Some.change.now in
-    let look = rw c.deref.ensures.value at c.in-Some.ensures.lookup in
-    let left : drop n nets ≡ x ∷ drop (n + 1) nets = left_is n nets x _ look.0 look.1 in
+    let x = c.in-Some.change in
+    let look = found nets n x c.in-Some.ensures in
+    let left : drop n nets ≡ x ∷ drop (n + 1) nets = left_is n nets x look.0 look.1 in
     let rising : IsRising None (x ∷ drop (n + 1) nets) = subst (IsRising None) left (rising_drop n nets c.self.invariant.5) in
     let within = subst (λ xs. (code : CodeId) → IsWithin (net_in xs code) (act code frames)) left c.self.invariant.6 in
-    let more : n < length nets = grind (arith, nat_tests, look.0) in
+    let more = look.0 in
     rw (← c.self.view_is, look.1) (fresh_at n nets None _ c.self.invariant.5 more).0
 
 pub returns-clause-fewer : goal.returns-clause-fewer
 returns-clause-fewer c =
     let frames = c.self.inside.frames.items in
-    let nets = c.self.inside.nets.items in
+    let nets = c.self.inside.nets.entries in
     let n = c.self.inside.given in
-    let x = c.in-Some.change.now in
-    let look = rw c.deref.ensures.value at c.in-Some.ensures.lookup in
-    let left : drop n nets ≡ x ∷ drop (n + 1) nets = left_is n nets x _ look.0 look.1 in
+    let x = c.in-Some.change in
+    let look = found nets n x c.in-Some.ensures in
+    let left : drop n nets ≡ x ∷ drop (n + 1) nets = left_is n nets x look.0 look.1 in
     let rising : IsRising None (x ∷ drop (n + 1) nets) = subst (IsRising None) left (rising_drop n nets c.self.invariant.5) in
     let within = subst (λ xs. (code : CodeId) → IsWithin (net_in xs code) (act code frames)) left c.self.invariant.6 in
     rw (← c.self.view_is) (unsettled_fewer frames nets n x (codes_in (take n nets)) (codes_in (take (n + 1) nets)) c.self.inside.publishing c.self.invariant.5 c.self.invariant.6 left)
@@ -84,14 +83,14 @@ returns-clause-fewer c =
 pub returns-clause-counts : goal.returns-clause-counts
 returns-clause-counts c =
     let frames = c.self.inside.frames.items in
-    let nets = c.self.inside.nets.items in
+    let nets = c.self.inside.nets.entries in
     let n = c.self.inside.given in
-    let x = c.in-Some.change.now in
-    let look = rw c.deref.ensures.value at c.in-Some.ensures.lookup in
-    let left : drop n nets ≡ x ∷ drop (n + 1) nets = left_is n nets x _ look.0 look.1 in
+    let x = c.in-Some.change in
+    let look = found nets n x c.in-Some.ensures in
+    let left : drop n nets ≡ x ∷ drop (n + 1) nets = left_is n nets x look.0 look.1 in
     let rising : IsRising None (x ∷ drop (n + 1) nets) = subst (IsRising None) left (rising_drop n nets c.self.invariant.5) in
     let within = subst (λ xs. (code : CodeId) → IsWithin (net_in xs code) (act code frames)) left c.self.invariant.6 in
-    let more : n < length nets = grind (arith, nat_tests, look.0) in
+    let more = look.0 in
     rw (← c.self.view_is, left) (record {
       frames_stay = refl;
       publishing_stays = refl;
@@ -104,14 +103,14 @@ returns-clause-counts c =
 pub invariant_of-self : goal.invariant_of-self
 invariant_of-self c =
     let frames = c.self.inside.frames.items in
-    let nets = c.self.inside.nets.items in
+    let nets = c.self.inside.nets.entries in
     let n = c.self.inside.given in
-    let x = c.in-Some.change.now in
-    let look = rw c.deref.ensures.value at c.in-Some.ensures.lookup in
-    let left : drop n nets ≡ x ∷ drop (n + 1) nets = left_is n nets x _ look.0 look.1 in
+    let x = c.in-Some.change in
+    let look = found nets n x c.in-Some.ensures in
+    let left : drop n nets ≡ x ∷ drop (n + 1) nets = left_is n nets x look.0 look.1 in
     let rising : IsRising None (x ∷ drop (n + 1) nets) = subst (IsRising None) left (rising_drop n nets c.self.invariant.5) in
     let within = subst (λ xs. (code : CodeId) → IsWithin (net_in xs code) (act code frames)) left c.self.invariant.6 in
-    let more : n < length nets = grind (arith, nat_tests, look.0) in
+    let more = look.0 in
     let open_ : c.self.inside.publishing ≡ true = search rules in (
       c.self.invariant.0,
       c.self.invariant.1,

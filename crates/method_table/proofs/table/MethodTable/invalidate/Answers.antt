@@ -3,7 +3,7 @@ use Rattle.std.proofs.Common.{◌≡◌, Some, ap, sym, ◌∙◌, refl, rules}
 use Rattle.method_table.specs.declared.CodeState.TheVariants.{NotEntrant}
 use Rattle.method_table.specs.Codes.{unfreed}
 use Rattle.method_table.specs.TableView.{TableView}
-use Rattle.method_table.proofs.KeptLemmas.{slot_within, record_there, dropped, method_within}
+use Rattle.method_table.proofs.KeptLemmas.{table_is, slot_within, record_there, dropped, method_within}
 use Rattle.method_table.proofs.table.MethodTable.invalidate.Goals as goal
 
 pub set_state-requires : goal.set_state-requires
@@ -27,3 +27,6 @@ invariant_of-self c =
     let there = record_there _ _ _ _ _ _ _ c.self.invariant c.args.serial c.in-Some.code found in
     let used = sym c.is_in_use.ensures ∙ c.if-not-is_in_use.false in
     rw (c.then-self-inside.ensures, c.set_state.ensures c.in-Some.code there) (dropped _ _ _ _ _ _ _ c.self.invariant c.args.serial c.in-Some.code found NotEntrant used refl refl)
+
+pub returns-clause-sound : goal.returns-clause-sound
+returns-clause-sound c = table_is _ _ _ _ _ _ _ (invariant_of-self c)

@@ -1,5 +1,10 @@
-use Rattle.system.proofs.Censusing.{named_counts}
+use Rattle.std.proofs.Common.{refl}
 use Rattle.system.proofs.keeping.Core.census.Goals as goal
 
-pub returns-clause-census : goal.returns-clause-census
-returns-clause-census c = rw (c.from_vec.ensures, c.in_ok-code_counts.ensures, c.deref.ensures.value, c.in_ok-counts.ensures.census) (named_counts c.args.self.now.index.entries)
+pub returns : goal.returns
+returns c = record {
+  pairs = c.in_ok-counts.counts.items;
+  counts_are = rw (c.from_vec.ensures, c.in_ok-code_counts.ensures, c.deref.ensures.value) refl;
+  same = c.in_ok-counts.ensures.census;
+  rising = c.in_ok-counts.ensures.rising;
+}

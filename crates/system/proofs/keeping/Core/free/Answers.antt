@@ -3,4 +3,4 @@ use Rattle.system.proofs.Codings.{freed}
 use Rattle.system.proofs.keeping.Core.free.Goals as goal
 
 pub returns-in-Ok : goal.returns-in-Ok
-returns-in-Ok c = freed c.args.self.now _ c.args.serial c.in-Ok.ensures.accepted (record { table = c.in-Ok.ensures.codes; places = refl; index = refl; names = refl; moment_is = refl; requests = refl }) refl
+returns-in-Ok c = freed c.args.self.now _ c.args.serial c.in-Ok.ensures.accepted (record { table = c.in-Ok.ensures.codes; places = refl; names = refl; moment_is = refl; requests = refl }) refl refl

@@ -26,5 +26,5 @@ returns c =
     let same = same_at c.args.self.now.records.items c.in-Ok.code.slot c.index_mut.result.now c.index.result.now again at_slot in
     clear c.args.self.now _ c.args.serial c.args.place c.in-Ok.code c.index.result.now c.index-2.result.now (sym c.not_entrant.ensures.value ∙ c.in-Ok.is) at_slot
     (at_index c.args.self.now.places.items c.args.place c.index-2.result.now (omega arith) c.index-2.ensures)
-    (sym c.is_clear.ensures ∙ c.if-not-is_clear.false) (record { table = refl; places = refl; index = refl; names = refl; moment_is = refl; requests = refl })
-    (ap (λ (r : Record). slice_set c.args.self.now.records.items c.in-Ok.code.slot r) (c.look.ensures ∙ ap (λ (r : Record). with_look r c.args.place) same))
+    (sym c.is_clear.ensures ∙ c.if-not-is_clear.false) (record { table = refl; places = refl; names = refl; moment_is = refl; requests = refl })
+    (ap (λ (r : Record). slice_set c.args.self.now.records.items c.in-Ok.code.slot r) (c.look.ensures ∙ ap (λ (r : Record). with_look r c.args.place) same)) refl

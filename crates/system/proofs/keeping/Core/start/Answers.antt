@@ -1,7 +1,11 @@
 use Rattle.std.proofs.Common.{◌≡◌, refl, rules, Some, sym, ap, ◌∙◌, ◌+◌, length, arith}
 use Rattle.system.specs.Steps.{vacant_kept}
-use Rattle.system.proofs.Starts.{refused_full, refused_spent, start_does, vacant_low}
+use Rattle.system.proofs.Starts.{refused_open, refused_full, refused_spent, start_does, may_start, vacant_low}
+use Rattle.system.proofs.Runs.{on_err}
 use Rattle.system.proofs.keeping.Core.start.Goals as goal
+
+pub returns-then-is_safepoint-clause-does : goal.returns-then-is_safepoint-clause-does
+returns-then-is_safepoint-clause-does c = refused_open c.args.self.now (sym c.is_safepoint.ensures ∙ c.if-is_safepoint.true)
 
 pub returns-in_default-clause-does : goal.returns-in_default-clause-does
 returns-in_default-clause-does c = refused_full c.args.self.now (search rules) (search rules)
@@ -19,3 +23,8 @@ returns-clause-does c =
     let some : vacant_kept c.args.self.now.places.items ≡ Some c.in-Some.place = ap vacant_kept (sym c.deref.ensures.value) ∙ (sym c.vacant_place.ensures ∙ c.in-Some.is) in
     start_does c.args.self.now _ c.in-Some.place (c.args.self.now.names + 1) c.in_ok-thread.thread (search rules) some (search rules) refl
     (record { table = refl; records = refl; index = refl; names = refl; moment = refl; requests = refl; places = refl; new_is = c.in_ok-thread.ensures })
+
+pub returns-in_err-thread-clause-no_memory : goal.returns-in_err-thread-clause-no_memory
+returns-in_err-thread-clause-no_memory c =
+    let some : vacant_kept c.args.self.now.places.items ≡ Some c.in-Some.place = ap vacant_kept (sym c.deref.ensures.value) ∙ (sym c.vacant_place.ensures ∙ c.in-Some.is) in
+    on_err c.from_residual.result (may_start c.args.self.now c.in-Some.place (search rules) some (search rules))

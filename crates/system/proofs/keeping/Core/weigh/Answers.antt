@@ -15,11 +15,11 @@ pub returns-then-count-ne0 : goal.returns-then-count-ne0
 returns-then-count-ne0 c =
     used c.args.self.now c.args.serial c.count-count.result c.in-Ok.code c.index.result.now (sym c.not_entrant.ensures.value ∙ c.in-Ok.is)
     (at_index c.args.self.now.records.items c.in-Ok.code.slot c.index.result.now (omega (arith, c.in-Ok.ensures.slot)) c.index.ensures)
-    (λ place lt. c.in_default.ensures.none place (omega arith)) c.count-count.ensures.count c.if-count-ne0.true
+    (λ place lt. c.in_default.ensures.none place (omega arith)) c.count-count.ensures c.if-count-ne0.true
 
 pub returns : goal.returns
 returns c =
     retired c.args.self.now _ c.args.serial c.count-count.result c.in-Ok.code c.index.result.now (sym c.not_entrant.ensures.value ∙ c.in-Ok.is)
     (at_index c.args.self.now.records.items c.in-Ok.code.slot c.index.result.now (omega (arith, c.in-Ok.ensures.slot)) c.index.ensures)
-    (λ place lt. c.in_default.ensures.none place (omega arith)) c.count-count.ensures.count c.if-count-ne0.false
-    (record { table = c.in-Ok-retire.ensures.codes; places = refl; index = refl; names = refl; moment_is = refl; requests = refl }) refl
+    (λ place lt. c.in_default.ensures.none place (omega arith)) c.count-count.ensures c.if-count-ne0.false
+    (record { table = c.in-Ok-retire.ensures.codes; places = refl; names = refl; moment_is = refl; requests = refl }) refl refl

@@ -1,5 +1,5 @@
-use Rattle.std.proofs.Common.{rules, arith}
-use Rattle.system.proofs.Runs.{sizes_through, ran_on}
+use Rattle.std.proofs.Common.{◌++◌, take, rules, arith, inr}
+use Rattle.system.proofs.Runs.{sizes_through, ran_on, stops_at}
 use Rattle.system.proofs.Once.{run_at_most_once}
 use Rattle.system.proofs.Safely.{handshakes_run, censuses_run}
 use Rattle.system.proofs.Held.{held_are_safe}
@@ -60,3 +60,6 @@ returns-clause-held c = λ all stands. held_are_safe _ _ _ all
 
 pub returns-clause-reclaimed : goal.returns-clause-reclaimed
 returns-clause-reclaimed c = λ all stands. retired_stand_nowhere _ _ _ all
+
+pub returns-in-Err-clause-no_memory : goal.returns-in-Err-clause-no_memory
+returns-in-Err-clause-no_memory c = λ before stood. inr (stops_at c.args.self.now c.loop-at.self before c.args.events.now c.loop-at.at _ c.loop-at.invariant.sizes (omega arith) (search rules) (c.in-Err.ensures.no_memory (before ++ take c.loop-at.at c.args.events.now) (c.loop-at.invariant.stands before stood).1))

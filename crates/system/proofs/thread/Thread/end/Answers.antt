@@ -4,7 +4,6 @@ use Rattle.frames.specs.declared.EndFault.{EndFault}
 use Rattle.frames.specs.declared.EndFault.TheVariants.{NotBegun, ChangesLeft}
 use Rattle.frames.specs.Stack.{act}
 use Rattle.frames.specs.ImageView.{next_code, ImageView, IsCounted}
-use Rattle.frames.proofs.Fewer.{none_next}
 use Rattle.system.specs.Threads.{next_change}
 use Rattle.system.proofs.Images.{ended, next_is_left, none_is, some_is}
 use Rattle.system.proofs.thread.Thread.end.Goals as goal
@@ -25,7 +24,7 @@ returns-in-Ok c = λ w now t same.
     let facts = accepted old.publishing (is_some (next_code old)) c.in-Ok.ensures.accepted in
     let open_ : is_some t.changed ≡ true = sym same.image.publishing ∙ facts.0 in
     let none : next_change t ≡ None = sym (next_is_left old t same.image) ∙ none_is (next_code old) facts.1 in
-    let was : IsCounted old = none_next old (none_is (next_code old) facts.1) in
+    let was : IsCounted old = c.in-Ok.ensures.counted in
     rw (open_, none) (
       refl,
       record {

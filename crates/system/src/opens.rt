@@ -1,0 +1,78 @@
+// The open operations, in a list that takes no memory.
+ghost use Rattle.std.specs.Prelude.{◌≡◌, [], ◌∷◌, ◌++◌, ◌<◌, length, IfOk, remove, slice_get, option_copied};
+ghost use Rattle.system.specs.Censuses.{operated};
+
+use crate::requests::Open;
+use std::alloc::{AllocError, Global};
+use std::marker::Model;
+
+/// How many operations can be open.
+pub const OPEN: usize = 4;
+
+/// The open operations, the oldest first. There is room for four from the start.
+#[derive(Drop)]
+pub struct Opens {
+    items: Vec<Open>,
+}
+
+impl Model for Opens {
+    ghost use Rattle.std.specs.Prelude.{List, ◌≤◌, vec_len, vec_capacity};
+    ghost use Rattle.system.specs.declared.requests.Open.{Open};
+
+    ghost Value = { List Open };
+
+    ghost view = { λ o. o.items.items };
+
+    ghost invariant = { λ o. (vec_len o.items ≤ 4) × (4 ≤ vec_capacity o.items) };
+}
+
+impl Opens {
+    pub fn new(alloc: Global) -> Result<Opens, AllocError>
+        ensures { IfOk result (λ opens. opens ≡ []) }
+    {
+        Ok(Opens {
+            items: Vec::with_capacity(alloc, OPEN)?,
+        })
+    }
+
+    pub fn as_slice(&self) -> &[Open]
+        ensures { result.now ≡ self.now }
+    {
+        &self.items
+    }
+
+    /// The one that was opened first.
+    pub fn oldest(&self) -> Option<&Open>
+        ensures { option_copied result ≡ slice_get self.now 0 }
+    {
+        self.items.first()
+    }
+
+    /// Takes no memory.
+    pub fn push(&mut self, open: Open)
+        requires { length self.old < 4 }
+        ensures { self.new ≡ self.old ++ «open» ∷ [] }
+    {
+        match self.items.push(open) {
+            Ok(()) => {}
+            Err(_) => unreachable!(),
+        }
+    }
+
+    /// The one at the position is open no more.
+    pub fn take(&mut self, at: usize)
+        requires { at < length self.old }
+        ensures { self.new ≡ remove self.old at }
+    {
+        let _closed = self.items.remove(at);
+    }
+
+    /// The oldest, which is a census, is operated.
+    pub fn set_operated(&mut self)
+        ensures { self.new ≡ operated self.old }
+    {
+        if !self.items.is_empty() {
+            self.items[0].operated = true;
+        }
+    }
+}

@@ -1,0 +1,6 @@
+-- By induction over the events and their steps.
+use Rattle.tie.proofs.Followed as law
+use Rattle.tie.proofs.followed_runs.words_follow_the_events.Goals as goal
+
+pub returns : goal.returns
+returns c = law.words_follow_the_events
