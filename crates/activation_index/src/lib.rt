@@ -2,6 +2,8 @@
 //!
 //! An [`Index`] is a map from serials to counts. It is a list of entries in rising serial without
 //! zeros, reserved once and searched from the front, so a census is the list as it stands.
+//! A [`DenseIndex`](dense::DenseIndex) has a cell for each slot instead, so that adding and reading
+//! search nothing, and sorts its cells for a census.
 #![tactic(auto)]
 
 ghost use Rattle.std.specs.Prelude.{◌≡◌, ◌≢◌, ℕ, ◌+◌, ◌-◌, ◌<◌, ◌≤◌, ◌==◌, List, [], ◌∷◌, ◌++◌, length, take, drop, true, false, IfOk, pos, ℤ, ◌+ℤ◌, ◌≤ℤ◌, ◌<ℤ◌, map, nat_lt, vec_capacity, vec_len, insert, remove, slice_set, slice_get};

@@ -1,5 +1,5 @@
 -- What each step of a body keeps.
-use Rattle.std.proofs.Common.{◌≡◌, ◌≢◌, ◌⊎◌, ℕ, ℤ, pos, negsuc, ◌+ℤ◌, ◌<ℤ◌, ◌≤ℤ◌, zero, suc, ◌+◌, ◌-◌, ◌*◌, ◌<◌, ◌≤◌, ◌∙◌, sym, Bool, true, false, not, eqb, ◌&&◌, ◌||◌, List, [], ◌∷◌, ◌++◌, length, Option, Some, None, IfSome, refl, ap, subst, cond, arith, inl, inr, ⊎_elim, length-append}
+use Rattle.std.proofs.Common.{◌≡◌, ◌≢◌, ℕ, ℤ, pos, negsuc, ◌+ℤ◌, ◌<ℤ◌, ◌≤ℤ◌, ◌+◌, ◌<◌, ◌≤◌, ◌∙◌, sym, Bool, true, false, not, eqb, ◌&&◌, ◌||◌, List, [], ◌∷◌, ◌++◌, length, Option, Some, None, IfSome, refl, ap, subst, cond, arith, inl, inr, ⊎_elim, length-append}
 use Rattle.std.proofs.lemmas.Bool.Decides.{nat_tests}
 use Rattle.std.proofs.lemmas.Bool.{false≢true}
 use Rattle.std.proofs.lemmas.Int.{ints}
@@ -10,12 +10,12 @@ use Rattle.frames.specs.declared.CodeId.{CodeId}
 use Rattle.frames.specs.declared.Frame.{Frame}
 use Rattle.frames.specs.declared.Change.{Change}
 use Rattle.frames.specs.declared.board_rule.SeatView.{SeatView}
-use Rattle.frames.specs.Stack.{same_code, is_of, is_code, act, times}
+use Rattle.frames.specs.Stack.{same_code, is_of, act, times}
 use Rattle.frames.specs.ImageView.{ImageView, HasFrames, Counts, IsCounted, IsSettled, is_uncounted, next_code}
 use Rattle.frames.specs.declared.board_rule.EntryState.TheVariants.{InUse}
-use Rattle.frames.specs.BoardWords.{pack, entry_of}
-use Rattle.frames.specs.BoardRule.{BoardState, SeatState, IsBoardKept, IsStanding, IsHeldBy}
-use Rattle.frames.specs.BoardViews.{how_often, has_code, with_code, entered, moment_read, stored_as, counted_as, count_changed, IsHeld, IsStandingWord, seat_state}
+use Rattle.frames.specs.BoardWords.{pack}
+use Rattle.frames.specs.BoardRule.{SeatState, IsStanding, IsHeldBy}
+use Rattle.frames.specs.BoardViews.{how_often, has_code, with_code, entered, moment_read, stored_as, count_changed, IsHeld}
 use Rattle.frames.proofs.Bags.{same_code-equal, same_code-refl, act-cons, times-cons}
 use Rattle.frames.proofs.Fewer.{next_differs, none_next}
 use Rattle.thread_state.specs.declared.poll_rule.Watching.{Watching}

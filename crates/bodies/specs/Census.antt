@@ -1,5 +1,5 @@
 -- How many frames of a serial stand on the stacks.
-use Rattle.std.specs.Prelude.{◌≡◌, ℕ, zero, suc, ◌+◌, ◌<◌, ◌≤◌, ◌==◌, List, [], ◌∷◌, if◌then◌else◌}
+use Rattle.std.specs.Prelude.{◌≡◌, ℕ, ◌+◌, ◌<◌, ◌≤◌, ◌==◌, List, [], ◌∷◌, if◌then◌else◌}
 use Rattle.frames.specs.Stack.{serial_count}
 use Rattle.bodies.specs.Bodies.{BodyView}
 

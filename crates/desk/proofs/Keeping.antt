@@ -1,13 +1,13 @@
 -- A history with one entry more.
-use Rattle.std.proofs.Common.{◌≡◌, ◌≢◌, ℕ, zero, suc, ◌+◌, ◌-◌, ◌<◌, ◌≤◌, List, [], ◌∷◌, ◌++◌, Bool, true, false, not, cond, Option, Some, None, length, map, refl, sym, ap, ◌∙◌, subst, arith, length-append}
-use Rattle.std.specs.Prelude.{◌&&◌, ◌==◌, is_none, slice_get, slice_set, filter}
+use Rattle.std.proofs.Common.{◌≡◌, ◌≢◌, ℕ, zero, suc, ◌+◌, ◌<◌, ◌≤◌, List, [], ◌∷◌, ◌++◌, Bool, true, false, not, cond, Some, None, length, map, refl, sym, ap, ◌∙◌, subst, arith, length-append}
+use Rattle.std.specs.Prelude.{◌&&◌, ◌==◌, is_none, slice_get, slice_set}
 use Rattle.std.proofs.lemmas.Bool.{eq-eqb, ne_eqb, and_parts}
 use Rattle.std.proofs.lemmas.List.{map-append}
 use Rattle.frames.specs.declared.CodeId.{CodeId}
 use Rattle.method_table.specs.declared.Code.{Code}
 use Rattle.method_table.specs.declared.CodeState.{CodeState}
 use Rattle.method_table.specs.declared.CodeState.TheVariants as state
-use Rattle.method_table.specs.Codes.{unfreed, with_code, with_state, in_state, next_serial, free_slot, takes_slot}
+use Rattle.method_table.specs.Codes.{unfreed, with_code, with_state, in_state, next_serial, free_slot}
 use Rattle.method_table.specs.TableView.{TableView, IsTable, install_fault, invalidate_fault, retire_fault, free_fault}
 use Rattle.operations.specs.declared.Request.{Request}
 use Rattle.operations.specs.declared.Request.TheVariants.{Handshake, Census}
@@ -16,11 +16,11 @@ use Rattle.operations.specs.Names.{among}
 use Rattle.operations.specs.Requests.{is_census}
 use Rattle.desk.specs.CodeBoard.{with_codes}
 use Rattle.desk.specs.declared.entries.Entry.{Entry}
-use Rattle.desk.specs.declared.entries.Entry.TheVariants.{Start, Exit, Ask, Open, Finish, Operate, Close, Install, Invalidate, Retire, Free}
+use Rattle.desk.specs.declared.entries.Entry.TheVariants.{Start, Exit, Ask, Open, Finish, Operate, Close, Install}
 use Rattle.desk.specs.declared.entries.Live.{Live}
 use Rattle.desk.specs.declared.entries.Carried.{Carried}
 use Rattle.desk.specs.declared.entries.Opened.{Opened}
-use Rattle.desk.specs.Machine.{State, step, lawful, start, after_from, legal_from, after, is_legal, needs, is_taken, is_live, without, others, Asked, Current, needs_of_asked, needs_of_opened, needs_of_codes, states_left, may_open_more, is_first, live_of, none_live, open_next, opened_of, rest_of, finished, as_operated, Book, has_census, open_of, passes, is_due, may_operate, may_close, at_number, without_number, targets_of, steps_of, is_free_slot, empty_table, Stands, stands}
+use Rattle.desk.specs.Machine.{State, step, lawful, start, after_from, legal_from, after, is_legal, needs, is_taken, is_live, without, Asked, Current, needs_of_asked, needs_of_opened, needs_of_codes, states_left, may_open_more, is_first, live_of, open_next, opened_of, rest_of, finished, as_operated, Book, has_census, open_of, passes, is_due, may_operate, may_close, at_number, without_number, targets_of, steps_of, is_free_slot, Stands, stands}
 use Rattle.desk.specs.Fields.{IsKept, AreFit, state_of, asked_of, current_of, due_of, IsIndex, AreCarried, DeskSeen, Enters, at}
 use Rattle.desk.proofs.Fewer.{filter_le, filter_less}
 use Rattle.desk.proofs.Newest.{same_at}

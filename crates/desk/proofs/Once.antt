@@ -1,16 +1,14 @@
 -- In a legal history each operation and name has at most one Finish.
-use Rattle.std.proofs.Common.{◌≡◌, ◌≢◌, ℕ, ◌+◌, ◌-◌, ◌<◌, ◌≤◌, List, [], ◌∷◌, ◌++◌, Bool, true, false, not, Option, Some, None, length, refl, sym, ap, ◌∙◌, subst, arith}
+use Rattle.std.proofs.Common.{◌≡◌, ◌≢◌, ℕ, ◌+◌, ◌<◌, ◌≤◌, List, [], ◌∷◌, ◌++◌, Bool, true, false, not, Some, refl, sym, ap, ◌∙◌, subst, arith}
 use Rattle.std.specs.Prelude.{◌&&◌, ◌||◌, ◌==◌, filter, cond}
 use Rattle.std.specs.List.{list_any}
 use Rattle.std.proofs.lemmas.Bool.{eq-eqb}
 use Rattle.std.proofs.lemmas.Bool.Decides.{nat_tests}
-use Rattle.std.proofs.lemmas.List.Folds.{list_any-append}
 use Rattle.operations.specs.Names.{among}
-use Rattle.operations.specs.declared.Request.{Request}
 use Rattle.desk.specs.declared.entries.Entry.{Entry}
 use Rattle.desk.specs.declared.entries.Entry.TheVariants.{Start, Exit, Ask, Open, Finish, Operate, Close, Install, Invalidate, Retire, Free}
 use Rattle.desk.specs.declared.entries.Live.{Live}
-use Rattle.desk.specs.Machine.{State, Asked, Current, step, lawful, start, legal_from, is_legal, others, is_live, is_first, is_due, passes, open_of, at_number, without_number, may_open_more, rest_of, open_next, opened_of, finished, as_operated, live_of, targets_of}
+use Rattle.desk.specs.Machine.{State, Asked, Current, step, lawful, start, legal_from, is_legal, others, is_first, is_due, passes, open_of, at_number, without_number, rest_of, open_next, opened_of, finished, as_operated, live_of, targets_of}
 use Rattle.desk.specs.Once.{is_finish, finishes, AtMostOnce}
 
 and_true : (a b : Bool) → (a && b) ≡ true → (a ≡ true) × (b ≡ true)

@@ -1,5 +1,5 @@
 -- The state that the desk's fields stand for, and what they keep.
-use Rattle.std.specs.Prelude.{◌≢◌, ◌<◌, Option, Some, None, slice_get, ◌≡◌, ℕ, ◌+◌, ◌≤◌, true, Bool, List, [], ◌∷◌, ◌++◌, length, map, if◌then◌else◌}
+use Rattle.std.specs.Prelude.{◌≢◌, ◌<◌, Option, Some, None, slice_get, ◌≡◌, ℕ, ◌+◌, ◌≤◌, true, List, [], ◌∷◌, ◌++◌, length, map, if◌then◌else◌}
 use Rattle.frames.specs.declared.board_rule.KeeperView.{KeeperView}
 use Rattle.method_table.specs.TableView.{TableView}
 use Rattle.operations.specs.declared.queue.Waiting.{Waiting}

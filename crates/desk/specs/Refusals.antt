@@ -1,14 +1,11 @@
 -- When each refusal comes: its own test holds, and those before it don't.
-use Rattle.std.specs.Prelude.{nat_le, ◌&&◌, ◌==◌, slice_get, ◌≡◌, ℕ, ◌+◌, ◌<◌, ◌≤◌, ◌^◌, true, false, Bool, List, [], ◌∷◌, Option, Some, None, length, map}
+use Rattle.std.specs.Prelude.{nat_le, ◌&&◌, ◌==◌, slice_get, ◌≡◌, ℕ, ◌+◌, ◌<◌, ◌≤◌, ◌^◌, true, false, Bool, List, [], ◌∷◌, Option, Some, None, length}
 use Rattle.std.specs.List.{list_any, list_all}
 use Rattle.frames.specs.ImageView.{IsSettled}
 use Rattle.bodies.specs.Bodies.{BodyView}
 use Rattle.desk.specs.declared.entries.Live.{Live}
 use Rattle.operations.specs.declared.Request.{Request}
 use Rattle.operations.specs.Requests.{has_targets, are_targets}
-use Rattle.operations.specs.Queues.{MayWait}
-use Rattle.method_table.specs.declared.table.InstallFault.{InstallFault}
-use Rattle.method_table.specs.declared.table.InstallFault.TheVariants as table
 use Rattle.method_table.specs.TableView.{install_fault, retire_fault}
 use Rattle.method_table.specs.Codes.{unfreed}
 use Rattle.desk.specs.declared.faults.ReclaimFault.{ReclaimFault}

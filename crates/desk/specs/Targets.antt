@@ -1,5 +1,5 @@
 -- How names stand to the oldest open request.
-use Rattle.std.specs.Prelude.{ℕ, ◌≡◌, List, [], ◌∷◌, Bool, true, false, ◌&&◌, not, nat_lt, Option, Some, None, if◌then◌else◌}
+use Rattle.std.specs.Prelude.{ℕ, List, [], ◌∷◌, Bool, ◌&&◌, not, nat_lt, Option, Some, None, if◌then◌else◌}
 use Rattle.operations.specs.declared.Request.{Request}
 use Rattle.operations.specs.declared.Request.TheVariants.{Handshake, Census}
 use Rattle.operations.specs.Names.{among}

@@ -16,6 +16,10 @@ pub const DEPTH: usize = 256;
 /// A publication is a [`begin`](Image::begin), a [`next_change`](Image::next_change) for each code
 /// whose count differs, and an [`end`](Image::end). While one is open the stack doesn't change.
 ///
+/// What differs is kept as frames come and go, so that a publication costs no more than its
+/// changes, and calls of one code with their returns the same at any depth. Only
+/// [`count_of`](Image::count_of) goes over the frames.
+///
 /// Contracts see the frames, the bag of counted codes, the codes already changed in the open
 /// publication, and whether one is open. Of the bag they say only how often a code is in it.
 #[derive(Drop)]

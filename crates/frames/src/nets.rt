@@ -12,9 +12,10 @@ pub(crate) const NETS: usize = 512;
 
 /// Nets by code, rising by serial and then by slot, none of them 0. It reserves its room once.
 ///
-/// The code that moved last stands in a register before the list, so that a call and its return
-/// search the list no more than once and move none of it. Contracts see the list as if that move
-/// stood in it, and whether the register is empty.
+/// The code that moved last stands in a register before the list, so that calls of one code and
+/// their returns neither search the list nor move any of it; a call of another code first puts the
+/// register's move into the list. Contracts see the list as if that move stood in it, and whether
+/// the register is empty.
 #[derive(Drop)]
 pub(crate) struct Nets {
     list: Vec<Change>,

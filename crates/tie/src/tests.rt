@@ -75,7 +75,7 @@ fn life_of_a_code(rt: HostRuntime) -> Result<(), Fail> {
     keeper.install(&board, next);
     assert!(rt; !seat.enter(&board, C));
     assert!(rt; seat.enter(&board, next));
-    let closed = board.close(keeper);
+    let closed = board.close(keeper, Vec::new(rt.alloc()));
     let (entry, count, first, second, moment) = words(&closed);
     closed.free();
     assert!(rt;
@@ -101,7 +101,7 @@ fn one_frame_counted(rt: HostRuntime) -> Result<(), Fail> {
     seat.count_change(&board, C, 1);
     seat.end_publication(&board);
     keeper.invalidate(&board, C);
-    let closed = board.close(keeper);
+    let closed = board.close(keeper, Vec::new(rt.alloc()));
     let (entry, count, first, second, moment) = words(&closed);
     closed.free();
     assert!(rt;
@@ -128,7 +128,7 @@ fn place_given_up(rt: HostRuntime) -> Result<(), Fail> {
     assert!(rt; keeper.look(&board, C, 1));
     assert!(rt; matches!(keeper.weigh(&board, C), Weighed::Clear));
     keeper.retire(&board, C);
-    let closed = board.close(keeper);
+    let closed = board.close(keeper, Vec::new(rt.alloc()));
     let (entry, count, first, second, moment) = words(&closed);
     closed.free();
     assert!(rt;
@@ -152,7 +152,7 @@ fn look_before_a_round(rt: HostRuntime) -> Result<(), Fail> {
     keeper.invalidate(&board, C);
     assert!(rt; matches!(keeper.weigh(&board, C), Weighed::NotLooked(0)));
     assert!(rt; !keeper.look(&board, C, 0));
-    let closed = board.close(keeper);
+    let closed = board.close(keeper, Vec::new(rt.alloc()));
     let (entry, count, first, second, moment) = words(&closed);
     closed.free();
     assert!(rt;
@@ -183,7 +183,7 @@ fn publication_begun_before_the_round(rt: HostRuntime) -> Result<(), Fail> {
     assert!(rt; keeper.look(&board, C, 1));
     assert!(rt; matches!(keeper.weigh(&board, C), Weighed::Clear));
     keeper.retire(&board, C);
-    let closed = board.close(keeper);
+    let closed = board.close(keeper, Vec::new(rt.alloc()));
     let (entry, count, first, second, moment) = words(&closed);
     closed.free();
     assert!(rt;
@@ -214,7 +214,7 @@ fn two_threads(rt: HostRuntime) -> Result<(), Fail> {
     other.read_moment(&board);
     other.count_change(&board, C, 1);
     other.end_publication(&board);
-    let closed = board.close(keeper);
+    let closed = board.close(keeper, Vec::new(rt.alloc()));
     let (entry, count, first, second, moment) = words(&closed);
     closed.free();
     assert!(rt;

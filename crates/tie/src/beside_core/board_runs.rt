@@ -24,11 +24,11 @@ fn one_place(alloc: Global, slots: usize) -> Result<(Board, Keeper, ThreadSeat),
 }
 
 // The words of slot 0 and place 0 that a board leaves, and its moment: entry, count, place, moment.
-fn words_left(board: Board, keeper: Keeper) -> (u64, u64, u64, u64)
+fn words_left(alloc: Global, board: Board, keeper: Keeper) -> (u64, u64, u64, u64)
     requires keeper { keeper.board ≡ board }
     requires sizes { (0 < board.slots) × (0 < board.places) }
 {
-    let closed = board.close(keeper);
+    let closed = board.close(keeper, Vec::new(alloc));
     let words = (
         closed.entry(0).pack(),
         closed.count(0),
@@ -79,7 +79,7 @@ fn life(alloc: Global) -> Result<([Said; 8], (u64, u64, u64, u64)), AllocError> 
         Said::Weighed(used),
         Said::Weighed(unused),
     ];
-    Ok((said, words_left(board, keeper)))
+    Ok((said, words_left(alloc, board, keeper)))
 }
 
 #[test]
@@ -119,11 +119,11 @@ fn a_code_is_reclaimed_after_use(rt: HostRuntime) -> Result<(), Fail> {
 const NEXT: CodeId = CodeId { slot: 1, serial: 2 };
 
 // The entries of slots 0 and 1 that a board leaves, and its words: the counts of both, place 0, the moment.
-fn both_codes_left(board: Board, keeper: Keeper) -> ([Entry; 2], [u64; 4])
+fn both_codes_left(alloc: Global, board: Board, keeper: Keeper) -> ([Entry; 2], [u64; 4])
     requires keeper { keeper.board ≡ board }
     requires sizes { (1 < board.slots) × (0 < board.places) }
 {
-    let closed = board.close(keeper);
+    let closed = board.close(keeper, Vec::new(alloc));
     let entries = [closed.entry(0), closed.entry(1)];
     let words = [
         closed.count(0),
@@ -200,7 +200,7 @@ fn a_method_has_its_next_code(rt: HostRuntime) -> Result<(), Fail> {
         Said::Weighed(used),
     ];
     assert!(rt; by_core.as_slice() == said.as_slice());
-    let (entries, words) = both_codes_left(board, keeper);
+    let (entries, words) = both_codes_left(rt.alloc(), board, keeper);
     assert!(rt;
         entries
             == [

@@ -1,7 +1,5 @@
-use Rattle.std.proofs.Common.{◌≡◌, ◌+◌, ℕ, ap, sym, ◌∙◌, arith, rules, [], List}
-use Rattle.activation_index.specs.declared.Entry.{Entry}
+use Rattle.std.proofs.Common.{◌≡◌, ℕ, ap, arith}
 use Rattle.activation_index.specs.Counts.{count_in, IndexView}
-use Rattle.bodies.specs.Census.{total_count}
 use Rattle.bodies.proofs.Pairs.{is_census}
 use Rattle.bodies.proofs.census.census_of.Goals as goal
 

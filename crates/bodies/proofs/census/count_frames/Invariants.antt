@@ -1,7 +1,6 @@
-use Rattle.std.proofs.Common.{◌≡◌, ◌+◌, ◌*◌, ◌≤◌, ℕ, length}
+use Rattle.std.proofs.Common.{◌≡◌, ◌+◌, ◌≤◌, ℕ, length}
 use Rattle.frames.specs.Stack.{serial_count}
 use Rattle.activation_index.specs.Counts.{count_in, IsRisingFrom}
-use Rattle.bodies.specs.Census.{total_count}
 use Rattle.bodies.proofs.census.count_frames.Given as goal
 
 abbrev pub invariant-loop-frame : goal.invariant-loop-frame

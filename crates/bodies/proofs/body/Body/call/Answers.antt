@@ -1,4 +1,4 @@
-use Rattle.std.proofs.Common.{◌≡◌, ◌<◌, length, sym, ◌∙◌, subst}
+use Rattle.std.proofs.Common.{◌<◌, length, sym, ◌∙◌, subst}
 use Rattle.bodies.specs.Bodies.{BodyView, IsCalled}
 use Rattle.bodies.proofs.Keeping.{called, called_fits, tried_place}
 use Rattle.bodies.proofs.body.Body.call.Goals as goal

@@ -1,4 +1,4 @@
-use Rattle.std.proofs.Common.{arith, ◌≡◌, ◌<◌, ◌∙◌, sym, ap, subst, refl, ◌≢◌}
+use Rattle.std.proofs.Common.{arith, ◌∙◌, sym, ap, subst}
 use Rattle.frames.specs.declared.board_rule.SeatView.{SeatView}
 use Rattle.board.specs.Boards.{BoardId}
 use Rattle.frames.proofs.Fewer.{none_next}

@@ -1,14 +1,11 @@
-use Rattle.std.proofs.Common.{◌≡◌, ◌<◌, ◌≤◌, ◌+◌, ◌∙◌, sym, ap, subst, refl, Some, None, rules, arith, length, true, false, List, ◌∷◌}
-use Rattle.std.specs.Prelude.{is_none, ◌&&◌, slice_get, map}
+use Rattle.std.proofs.Common.{◌≡◌, ◌∙◌, ap, subst, refl, Some, None, rules, true, false}
+use Rattle.std.specs.Prelude.{◌&&◌, slice_get}
 use Rattle.std.proofs.lemmas.Option.{slice_get_read}
 use Rattle.std.proofs.lemmas.Bool.{and_parts}
-use Rattle.method_table.specs.declared.Code.{Code}
-use Rattle.method_table.specs.TableView.{TableView}
-use Rattle.desk.specs.declared.entries.Opened.{Opened}
 use Rattle.desk.specs.declared.entries.Entry.TheVariants as entry
-use Rattle.desk.specs.Machine.{State, lawful, is_due, is_live, may_open_more, finished}
-use Rattle.desk.specs.Fields.{DeskSeen, state_of, current_of, IsIndex, at, Enters}
-use Rattle.desk.proofs.Keeping.{start_keeps, exit_keeps, ask_keeps, carried_push, open_keeps, finish_keeps, close_keeps, open_room, enters_by, finish_is, finish_not}
+use Rattle.desk.specs.Machine.{State, lawful, is_due, is_live, finished}
+use Rattle.desk.specs.Fields.{DeskSeen, current_of, IsIndex, at, Enters}
+use Rattle.desk.proofs.Keeping.{finish_keeps, enters_by, finish_is, finish_not}
 use Rattle.desk.proofs.desk.Desk.finish.Goals as goal
 
 pub returns-in_default-clause-err : goal.returns-in_default-clause-err

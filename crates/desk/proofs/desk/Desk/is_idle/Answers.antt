@@ -1,4 +1,4 @@
-use Rattle.std.proofs.Common.{◌≡◌, ◌∙◌, sym, ap, subst, refl, rules, ℕ, length, Bool}
+use Rattle.std.proofs.Common.{◌≡◌, ◌∙◌, sym, subst, rules, length}
 use Rattle.std.specs.Prelude.{◌&&◌, ◌==◌, map}
 use Rattle.std.proofs.lemmas.List.{length-map}
 use Rattle.desk.specs.Machine.{State}

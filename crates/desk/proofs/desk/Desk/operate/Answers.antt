@@ -1,9 +1,6 @@
-use Rattle.std.proofs.Common.{◌≡◌, ◌≢◌, ◌<◌, ◌≤◌, ◌+◌, ◌∙◌, ℕ, sym, ap, subst, refl, Some, None, rules, arith, length, true, false, List, ◌∷◌}
-use Rattle.std.specs.Prelude.{is_none, slice_get}
+use Rattle.std.proofs.Common.{◌≡◌, ◌<◌, refl, Some, rules, length}
+use Rattle.std.specs.Prelude.{slice_get}
 use Rattle.std.proofs.lemmas.Option.{slice_get_read}
-use Rattle.desk.specs.declared.entries.Opened.{Opened}
-use Rattle.desk.specs.Machine.{may_operate}
-use Rattle.desk.specs.Fields.{DeskSeen, state_of, current_of, IsIndex, at, Enters}
 use Rattle.desk.proofs.Newest.{same_at}
 use Rattle.desk.proofs.Keeping.{operate_keeps, first_index, may_operate_is}
 use Rattle.desk.proofs.desk.Desk.operate.Goals as goal

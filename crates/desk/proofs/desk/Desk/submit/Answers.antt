@@ -1,4 +1,4 @@
-use Rattle.std.proofs.Common.{◌≡◌, ◌<◌, ◌≤◌, ◌+◌, ◌∙◌, sym, ap, subst, refl, Some, None, rules, arith, length, true, false, List, ◌∷◌}
+use Rattle.std.proofs.Common.{sym, subst, refl, rules}
 use Rattle.operations.specs.declared.queue.Waiting.{Waiting}
 use Rattle.desk.specs.declared.entries.Carried.{Carried}
 use Rattle.desk.specs.Fields.{AreCarried}
