@@ -3,8 +3,8 @@ ghost use Rattle.std.specs.Prelude.{◌≡◌, ◌≢◌, ◌<◌, ◌^◌, [], 
 ghost use Rattle.frames.specs.ImageView.{IsCounted};
 
 use crate::room::Room;
-use bodies::{Body, Name, SpareSeat};
 use board::Board;
+use bodies::{Body, Name, SpareSeat};
 use operations::job::Errand;
 use std::sync::{Condvar, Mutex, Wait};
 use std::thread;
@@ -19,7 +19,10 @@ pub struct Berth<N: Name, J: Errand> {
 impl<N: Name, J: Errand> Berth<N, J> {
     /// The berth of this room.
     pub fn new(room: Room<N, J>) -> Berth<N, J> {
-        Berth { room: Mutex::new(room), bell: Condvar::new() }
+        Berth {
+            room: Mutex::new(room),
+            bell: Condvar::new(),
+        }
     }
 
     /// The room under its lock.

@@ -34,7 +34,11 @@ impl Hints {
         for _ in 0..methods {
             words.push(AtomicU64::new(0)).map_err(|_| AllocError)?;
         }
-        Ok(Hints { words, methods, slots })
+        Ok(Hints {
+            words,
+            methods,
+            slots,
+        })
     }
 
     /// How many methods there are.
@@ -69,7 +73,12 @@ impl Hints {
     /// The method's calls try this code first from now on.
     pub fn set(&self, method: u32, code: CodeId) {
         if let Some(word) = self.words.get(method as usize) {
-            word.store(code.serial.saturating_mul(SLOTS).saturating_add(code.slot as u64), Ordering::SeqCst);
+            word.store(
+                code.serial
+                    .saturating_mul(SLOTS)
+                    .saturating_add(code.slot as u64),
+                Ordering::SeqCst,
+            );
         }
     }
 }

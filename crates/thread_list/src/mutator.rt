@@ -190,7 +190,11 @@ impl<'a, N: Name, J: Errand> Mutator<'a, N, J> {
             unreachable!()
         };
         let found = body.poll(self.shared.row());
-        self.state = if found == 0 { State::InJava } else { State::AtPoll(Back::Java) };
+        self.state = if found == 0 {
+            State::InJava
+        } else {
+            State::AtPoll(Back::Java)
+        };
         poll_of(found)
     }
 }

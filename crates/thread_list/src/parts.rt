@@ -9,8 +9,8 @@ use crate::berth::Berth;
 use crate::hints::Hints;
 use crate::room::Room;
 use crate::shared::Shared;
-use bodies::{Name, SpareSeat};
 use board::{Board, Keeper, ThreadSeat};
+use bodies::{Name, SpareSeat};
 use desk::Desk;
 use method_table::table::MethodTable;
 use operations::job::Errand;
@@ -21,7 +21,9 @@ use std::sync::Mutex;
 
 /// The most places, slots and methods that a system has.
 pub const MOST_PLACES: usize = 64;
+
 pub const MOST_SLOTS: usize = 1024;
+
 pub const MOST_METHODS: usize = 256;
 
 /// Why no parts are made, in the order of the tests.
@@ -62,7 +64,12 @@ impl Model for Parts {
 
 impl Parts {
     /// The parts of a system of so many places (1 to 64), slots for codes (1 to 1024) and methods (1 to 256).
-    pub fn new(alloc: Global, places: usize, slots: usize, methods: usize) -> Result<Parts, PartsFault>
+    pub fn new(
+        alloc: Global,
+        places: usize,
+        slots: usize,
+        methods: usize,
+    ) -> Result<Parts, PartsFault>
         ensures sizes { IfOk result (λ p. (p.board.places ≡ places) × (p.board.slots ≡ slots) × (p.methods ≡ methods)) }
         ensures refused { IfErr result (parts_refused places slots methods) }
     {
@@ -75,7 +82,16 @@ impl Parts {
         let Ok((row, armer, pollers)) = PollRow::new(alloc, places) else {
             return Err(PartsFault::NoMemory);
         };
-        Ok(Parts { board, keeper, seats, row, armer, pollers, slots: slots as u32, methods: methods as u32 })
+        Ok(Parts {
+            board,
+            keeper,
+            seats,
+            row,
+            armer,
+            pollers,
+            slots: slots as u32,
+            methods: methods as u32,
+        })
     }
 }
 
@@ -87,20 +103,30 @@ fn fits(size: usize, most: usize) -> bool
 }
 
 // Empty lists with room for a job each, and room for as many berths.
-fn job_lists<N: Name, J: Errand>(alloc: Global, places: usize) -> Result<(Vec<Vec<J>>, Vec<Berth<N, J>>), AllocError>
+fn job_lists<N: Name, J: Errand>(
+    alloc: Global,
+    places: usize,
+) -> Result<(Vec<Vec<J>>, Vec<Berth<N, J>>), AllocError>
     ensures lists { IfOk result (λ r. vec_len r.0 ≡ places) }
     ensures berths { IfOk result (λ r. (vec_len r.1 ≡ 0) × (places ≤ vec_capacity r.1)) }
 {
     let berths = Vec::with_capacity(alloc, places)?;
     let mut lists = Vec::new(alloc);
     while lists.len() < places {
-        lists.push(Vec::with_capacity(alloc, 1)?).map_err(|_| AllocError)?;
+        lists
+            .push(Vec::with_capacity(alloc, 1)?)
+            .map_err(|_| AllocError)?;
     }
     Ok((lists, berths))
 }
 
 // A berth for each seat with its poller, without a name.
-fn berths_of<N: Name, J: Errand>(seats: Vec<ThreadSeat>, pollers: Vec<Poller>, lists: Vec<Vec<J>>, room: Vec<Berth<N, J>>) -> Vec<Berth<N, J>>
+fn berths_of<N: Name, J: Errand>(
+    seats: Vec<ThreadSeat>,
+    pollers: Vec<Poller>,
+    lists: Vec<Vec<J>>,
+    room: Vec<Berth<N, J>>,
+) -> Vec<Berth<N, J>>
     requires seats { AreSeatsOf N.board seats.items }
     requires pollers { ArePollersOf N.poll_row pollers.items }
     requires count { (length seats.items ≡ length pollers.items) × (length seats.items ≡ vec_len lists) }
@@ -143,13 +169,40 @@ impl<N: Name, J: Errand> Shared<N, J> {
         let Ok(table) = MethodTable::new(alloc, parts.slots, parts.methods) else {
             return Err(parts);
         };
-        let Parts { board, keeper, seats, row, armer, pollers, slots, methods } = parts;
+        let Parts {
+            board,
+            keeper,
+            seats,
+            row,
+            armer,
+            pollers,
+            slots,
+            methods,
+        } = parts;
         match Desk::new(alloc, table, keeper, &board, places) {
             Ok(desk) => {
                 let berths = berths_of(seats, pollers, lists, room);
-                Ok((Shared { board, row, berths, desk: Mutex::new(desk), hints }, armer))
+                Ok((
+                    Shared {
+                        board,
+                        row,
+                        berths,
+                        desk: Mutex::new(desk),
+                        hints,
+                    },
+                    armer,
+                ))
             }
-            Err(keeper) => Err(Parts { board, keeper, seats, row, armer, pollers, slots, methods }),
+            Err(keeper) => Err(Parts {
+                board,
+                keeper,
+                seats,
+                row,
+                armer,
+                pollers,
+                slots,
+                methods,
+            }),
         }
     }
 }

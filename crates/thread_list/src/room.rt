@@ -6,8 +6,8 @@ ghost use Rattle.frames.specs.BoardViews.{stored_as};
 ghost use Rattle.thread_list.specs.Berths.{told_of, name_of};
 ghost use Rattle.thread_list.specs.declared.room.Holder.TheVariants.{Vacant as IsVacant, Away as IsAway, Out as IsOut, Home as IsAtHome};
 
-use bodies::{Body, Name, SpareSeat};
 use board::Board;
+use bodies::{Body, Name, SpareSeat};
 use operations::job::Errand;
 use std::marker::Model;
 
@@ -65,7 +65,11 @@ impl<N: Name, J: Errand> Room<N, J> {
     pub fn note_sleeper(&mut self, sleeps: bool)
         ensures { self.new ≡ self.old }
     {
-        self.sleepers = if sleeps { self.sleepers.saturating_add(1) } else { self.sleepers.saturating_sub(1) };
+        self.sleepers = if sleeps {
+            self.sleepers.saturating_add(1)
+        } else {
+            self.sleepers.saturating_sub(1)
+        };
     }
 
     /// Whether a thread waits for a change.
@@ -250,7 +254,11 @@ impl<N: Name, J: Errand> Room<N, J> {
         let Holder::Out(name) = self.holder else {
             return Err(body);
         };
-        if name != body.name() || self.place != body.place() || !self.jobs.is_empty() || self.mark != 0 {
+        if name != body.name()
+            || self.place != body.place()
+            || !self.jobs.is_empty()
+            || self.mark != 0
+        {
             return Err(body);
         }
         self.holder = Holder::Vacant(body.vacate(board));

@@ -1,8 +1,9 @@
 //! What a thread does while it has stopped.
-ghost use Rattle.std.specs.Prelude.{◌≡◌, ◌≢◌, ◌<◌};
+ghost use Rattle.std.specs.Prelude.{◌≡◌, ◌≢◌, ◌<◌, ℕ};
 ghost use Rattle.frames.specs.ImageView.{IsSettled};
 ghost use Rattle.operations.specs.Asks.{reply};
 ghost use Rattle.thread_state.specs.declared.poll_rule.Deed.TheVariants.{Load};
+ghost use Rattle.thread_state.specs.PollRule.{exchanged};
 ghost use Rattle.desk.specs.declared.entries.Entry.{Entry};
 
 use crate::shared::Shared;
@@ -38,11 +39,17 @@ pub fn served<N: Name, J: Errand, R: Wait>(rt: &R, shared: &Shared<N, J>, body: 
 }
 
 /// Runs a job on a settled body, enters what it answered, and clears the operation. The receipt is of that entry.
-pub fn serve<N: Name, J: Errand, R: Wait>(rt: &R, shared: &Shared<N, J>, body: &mut Body<N>, job: J) -> Receipt<N>
+pub fn serve<N: Name, J: Errand, R: Wait>(
+    rt: &R,
+    shared: &Shared<N, J>,
+    body: &mut Body<N>,
+    job: J,
+) -> Receipt<N>
     requires job { (J.whom job ≡ body.old.name) × (0 < J.number job) }
     requires settled { IsSettled body.old.image }
     ensures entry { result.entry ≡ Entry.Finish (J.number job) (J.whom job) (reply (J.asks job) body.old.image.frames) }
     ensures body { (body.new.name ≡ body.old.name) × (body.new.image ≡ body.old.image) × (body.new.seat ≡ body.old.seat) }
+    ensures cleared { (found : ℕ) × (body.new.poller ≡ exchanged body.old.poller (J.number job) found) }
 {
     let n = job.op_of();
     let done = body.run(job);

@@ -14,10 +14,9 @@ ghost use Rattle.desk.specs.Refusals.{ask_refused, install_refused};
 
 use crate::berth::Berth;
 use crate::hints::Hints;
-use bodies::{Body, Name};
 use board::Board;
-use desk::{CodeFault, Desk, NotLive, Refused};
-use desk::Receipt;
+use bodies::{Body, Name};
+use desk::{CodeFault, Desk, NotLive, Receipt, Refused};
 use frames::CodeId;
 use method_table::table::InvalidateFault;
 use operations::Request;
@@ -100,7 +99,12 @@ impl<N: Name, J: Errand> Shared<N, J> {
 
     /// A request waits from now on, with its jobs: one for each target in order, each with the request's ask. Answers the number of
     /// the operation, with the receipt of its Ask. Where it is refused the jobs come back.
-    pub fn submit<R: Wait>(&self, rt: &R, request: Request, jobs: Vec<J>) -> Result<(u64, Receipt<N>), Refused<J>>
+    pub fn submit<R: Wait>(
+        &self,
+        rt: &R,
+        request: Request,
+        jobs: Vec<J>,
+    ) -> Result<(u64, Receipt<N>), Refused<J>>
         ensures asked { IfOk result (λ r. r.1.entry ≡ Entry.Ask r.0 request) }
         ensures refused { IfErr result (λ e. (s : DeskState) × (book : Book) × ask_refused s request (jobs_fit J.whom J.asks request jobs.items) book e.fault) }
         ensures handed_back { IfErr result (λ e. e.jobs ≡ jobs) }

@@ -9,8 +9,7 @@ use crate::mutator::Mutator;
 use crate::serving::served;
 use crate::shared::Shared;
 use bodies::{Body, Name};
-use desk::StartFault;
-use desk::Receipt;
+use desk::{Receipt, StartFault};
 use frames::image::Image;
 use operations::job::Errand;
 use std::alloc::Global;
@@ -20,15 +19,17 @@ use thread_state::State;
 impl<N: Name, J: Errand> Shared<N, J> {
     /// Starts a thread in the least vacant place: it makes its first publication and crosses into Java, after it has served what it
     /// was told by then. Answers the thread, with the receipt of its Start.
-    pub fn start<R: Wait>(&self, rt: &R, alloc: Global) -> Result<(Mutator<'_, N, J>, Receipt<N>), StartFault>
+    pub fn start<R: Wait>(
+        &self,
+        rt: &R,
+        alloc: Global,
+    ) -> Result<(Mutator<'_, N, J>, Receipt<N>), StartFault>
         ensures started { IfOk result (λ r. (r.0.state ≡ IsInJava) × (r.1.entry ≡ Entry.Start r.0.name r.0.place)) }
         ensures refused { IfErr result (λ e. (s : DeskState) × (book : Book) × start_refused s N.board.places book e) }
     {
         let image = Image::new(alloc);
         let (name, place, receipt) = self.enter(rt, image.is_ok())?;
-        let Ok(image) = image else {
-            unreachable!()
-        };
+        let Ok(image) = image else { unreachable!() };
         let berth = self.berth(place);
         let mut body = Body::new(name, image, berth.start(rt, place));
         body.publish(self.board());
@@ -37,12 +38,23 @@ impl<N: Name, J: Errand> Shared<N, J> {
         if body.poll(self.row()) != 0 {
             body = served(rt, self, body);
         }
-        let mutator = Mutator { shared: self, name, place, methods: self.methods(), state: State::InJava, body: Some(body) };
+        let mutator = Mutator {
+            shared: self,
+            name,
+            place,
+            methods: self.methods(),
+            state: State::InJava,
+            body: Some(body),
+        };
         Ok((mutator, receipt))
     }
 
     // Enters the start of the next name, where there is an image for it.
-    fn enter<R: Wait>(&self, rt: &R, has_image: bool) -> Result<(u64, usize, Receipt<N>), StartFault>
+    fn enter<R: Wait>(
+        &self,
+        rt: &R,
+        has_image: bool,
+    ) -> Result<(u64, usize, Receipt<N>), StartFault>
         ensures ok { IfOk result (λ r. (r.2.entry ≡ Entry.Start r.0 r.1) × (r.1 < N.board.places) × (0 < r.0)) }
         ensures image { OnOk result (has_image ≡ true) }
         ensures refused { IfErr result (λ e. (s : DeskState) × (book : Book) × start_refused s N.board.places book e) }

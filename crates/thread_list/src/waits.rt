@@ -133,10 +133,17 @@ impl<'a, N: Name, J: Errand> Mutator<'a, N, J> {
         ensures polled { GoesBack self.new back result }
         ensures same { SameThread self.old self.new }
     {
-        let mut body = self.shared.berth(self.place).wake(rt, self.name, self.place);
+        let mut body = self
+            .shared
+            .berth(self.place)
+            .wake(rt, self.name, self.place);
         let found = body.poll(self.shared.row());
         self.body = Some(body);
-        self.state = if found == 0 { state_of(back) } else { State::AtPoll(back) };
+        self.state = if found == 0 {
+            state_of(back)
+        } else {
+            State::AtPoll(back)
+        };
         poll_of(found)
     }
 
@@ -153,12 +160,24 @@ impl<'a, N: Name, J: Errand> Mutator<'a, N, J> {
         if self.depth() != 0 {
             return Err((ExitFault::StackNotEmpty, self));
         }
-        let Mutator { shared, name, place, methods, state: _, body } = self;
-        let Some(body) = body else {
-            unreachable!()
-        };
+        let Mutator {
+            shared,
+            name,
+            place,
+            methods,
+            state: _,
+            body,
+        } = self;
+        let Some(body) = body else { unreachable!() };
         if let Err(body) = vacate(rt, shared, body) {
-            let back = Mutator { shared, name, place, methods, state: State::InJava, body: Some(body) };
+            let back = Mutator {
+                shared,
+                name,
+                place,
+                methods,
+                state: State::InJava,
+                body: Some(body),
+            };
             return Err((ExitFault::StackNotEmpty, back));
         }
         Ok(shared.leave(rt, name))
@@ -177,7 +196,11 @@ impl<'a, N: Name, J: Errand> Mutator<'a, N, J> {
 }
 
 // Publishes an empty stack and gives the place up, after all that was told is served. The body comes back where it has frames.
-fn vacate<N: Name, J: Errand, R: Wait>(rt: &R, shared: &Shared<N, J>, body: Body<N>) -> Result<(), Body<N>>
+fn vacate<N: Name, J: Errand, R: Wait>(
+    rt: &R,
+    shared: &Shared<N, J>,
+    body: Body<N>,
+) -> Result<(), Body<N>>
     requires body { (body.seat.stored ≢ 0) × (0 < body.name) }
     ensures same { IfErr result (λ b. (b.name ≡ body.name) × (b.seat.place ≡ body.seat.place) × (b.seat.stored ≢ 0)) }
     ensures frames { IfErr result (λ b. 0 < length b.image.frames) }

@@ -5,8 +5,7 @@ use Rattle.thread_list.proofs.parts.berths_of.Goals as goal
 
 pub new-pair-requires-clause-tables : goal.new-pair-requires-clause-tables
 new-pair-requires-clause-tables g c =
-    let i = c.loop-seat.invariant in
-    (
+    let i = c.loop-seat.invariant in (
       (i.seats (length c.pop.new.self.items) c.in-Some.seat (last_at c.loop-seat.seats.items c.pop.new.self.items c.in-Some.seat c.in-Some.ensures.items)).0,
       (i.pollers (length c.pop-in-Some.new.self.items) c.in-Some-pop.poller (last_at c.loop-seat.pollers.items c.pop-in-Some.new.self.items c.in-Some-pop.poller c.in-Some-pop.ensures.items)).0,
     )

@@ -6,8 +6,7 @@ use Rattle.thread_list.proofs.parts.Parts.new.Goals as goal
 pub invariant_of-result : goal.invariant_of-result
 invariant_of-result c =
     let b = c.in-Ok.ensures in
-    let r = c.in-Ok-new.ensures in
-    (
+    let r = c.in-Ok-new.ensures in (
       b.keeper,
       r.armer ∙ ap (full_armer c.in-Ok-new.row) (sym b.board.1),
       seats_made c.in-Ok.board c.args.places c.in-Ok.seats.items b.seats b.each_seat,
