@@ -11,13 +11,13 @@ use Rattle.frames.specs.declared.Frame.{Frame}
 use Rattle.frames.specs.declared.Change.{Change}
 use Rattle.frames.specs.declared.board_rule.SeatView.{SeatView}
 use Rattle.frames.specs.Stack.{same_code, is_of, act, times}
-use Rattle.frames.specs.ImageView.{ImageView, HasFrames, Counts, IsCounted, IsSettled, is_uncounted, next_code}
+use Rattle.frames.specs.ImageView.{ImageView, HasFrames, Counts, IsCounted, Differs, IsSettled, is_uncounted, next_code}
 use Rattle.frames.specs.declared.board_rule.EntryState.TheVariants.{InUse}
 use Rattle.frames.specs.BoardWords.{pack}
 use Rattle.frames.specs.BoardRule.{SeatState, IsStanding, IsHeldBy}
 use Rattle.frames.specs.BoardViews.{how_often, has_code, with_code, entered, moment_read, stored_as, count_changed, IsHeld}
 use Rattle.frames.proofs.Bags.{same_code-equal, same_code-refl, act-cons, times-cons}
-use Rattle.frames.proofs.Fewer.{next_differs, none_next}
+use Rattle.frames.proofs.Uncounted.{none_next}
 use Rattle.thread_state.specs.declared.poll_rule.Watching.{Watching}
 use Rattle.bodies.specs.declared.body.Called.{Called}
 use Rattle.bodies.specs.Bodies.{IsFit, IsSpare, BodyView, IsTried, IsCalled, called_in, AreMade, IsPublished, AreStanding, all_changed, changed, code_if, frame}
@@ -181,13 +181,12 @@ pub record IsChangeable (slots : ℕ) (seat : SeatView) (change : Change) : Type
 more_of : (t a : ℕ) (by : ℤ) → pos t +ℤ by ≡ pos a → pos 0 <ℤ by → t < a
 more_of t a by e h = omega (arith, ints)
 
-pub changeable : (slots : ℕ) (image image' : ImageView) (seat : SeatView) (change : Change) → IsFit slots image seat → next_code image ≡ Some change.code → Counts image image' change → IsChangeable slots seat change
-changeable slots image image' seat change fit next counts =
+pub changeable : (slots : ℕ) (image image' : ImageView) (seat : SeatView) (change : Change) → IsFit slots image seat → Differs image change.code → Counts image image' change → IsChangeable slots seat change
+changeable slots image image' seat change fit ne counts =
     let t : ℕ = times change.code image.counted in let a : ℕ = act change.code image.frames in
     let by : pos t +ℤ change.by ≡ pos a = counts.by in
     let often : how_often seat.counted change.code ≡ t = sym (fit.counted_is change.code) in
     let by' : pos (how_often seat.counted change.code) +ℤ change.by ≡ pos a = ap (λ n. pos n +ℤ change.by) often ∙ by in
-    let ne : a ≢ t = next_differs image change.code next in
     let few : a ≤ length image.frames = act_at_most change.code image.frames in let most = fit.few in record {
       slot = dite (ℕ_discrete a 0) (λ e. fit.counted_slots change.code (omega arith)) (λ n. fit.frame_slots change.code (omega arith));
       differs = λ e. ne (same_at change.by t a e by);
@@ -230,9 +229,9 @@ pub none_made : (old image : ImageView) (start : SeatView) → image ≡ old →
 none_made old image start e = subst (λ i. AreMade old i start start []) (sym e) (record { frames_stay = refl; publishing_stays = refl; seat_is = refl; each = λ c. omega arith })
 
 -- one more is made
-pub one_made : (old image image' : ImageView) (start seat seat' : SeatView) (made : List (Change × ℕ)) (change : Change) (found : ℕ) → AreMade old image start seat made → next_code image ≡ Some change.code → Counts image image' change
+pub one_made : (old image image' : ImageView) (start seat seat' : SeatView) (made : List (Change × ℕ)) (change : Change) (found : ℕ) → AreMade old image start seat made → Differs image change.code → Counts image image' change
     → seat' ≡ count_changed seat change.code change.by found → AreMade old image' start seat' ((change, found) ∷ made)
-one_made old image image' start seat seat' made change found are next counts is = record {
+one_made old image image' start seat seat' made change found are ne counts is = record {
   frames_stay = counts.frames_stay ∙ are.frames_stay;
   publishing_stays = counts.publishing_stays ∙ are.publishing_stays;
   seat_is = is ∙ ap (λ t. count_changed t change.code change.by found) are.seat_is;
@@ -254,7 +253,7 @@ one_made old image image' start seat seat' made change found are next counts is 
         let one : cond {A = ℕ} (same_code change.code c) 1 0 ≡ 1 = ap (λ x. cond {A = ℕ} x 1 0) e in
         let is : change.code ≡ c = same_code-equal change.code c e in
         let after : cond {A = ℕ} (is_uncounted image'.frames image'.counted c) 1 0 ≡ 0 = equal (act c image'.frames) (times c image'.counted) (subst (λ d. act d image'.frames ≡ times d image'.counted) is (ap (act change.code) counts.frames_stay ∙ sym counts.moved)) in
-        let before : cond {A = ℕ} (is_uncounted image.frames image.counted c) 1 0 ≡ 1 = different (act c image.frames) (times c image.counted) (subst (λ d. act d image.frames ≢ times d image.counted) is (next_differs image change.code next)) in
+        let before : cond {A = ℕ} (is_uncounted image.frames image.counted c) 1 0 ≡ 1 = different (act c image.frames) (times c image.counted) (subst (λ d. act d image.frames ≢ times d image.counted) is ne) in
         let was = are.each c in omega arith
     once c false e =
         let cons : times c (change.code ∷ changed made) ≡ cond (same_code change.code c) 1 0 + times c (changed made) = times-cons c change.code (changed made) in

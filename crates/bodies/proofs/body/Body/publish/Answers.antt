@@ -1,7 +1,7 @@
 use Rattle.std.proofs.Common.{arith, ◌∙◌, sym, ap, subst}
 use Rattle.frames.specs.declared.board_rule.SeatView.{SeatView}
 use Rattle.board.specs.Boards.{BoardId}
-use Rattle.frames.proofs.Fewer.{none_next}
+use Rattle.frames.proofs.Uncounted.{none_next}
 use Rattle.bodies.specs.Bodies.{IsFit, IsPublished, BodyView}
 use Rattle.bodies.proofs.Keeping.{counted_moment, counted_fits, published}
 use Rattle.bodies.proofs.body.Body.publish.Goals as goal
