@@ -255,7 +255,7 @@ fn run_one<N: Name, J: Errand, R: Wait>(rt: &R, alloc: Global, shared: &Shared<N
 }
 
 // Two threads at once.
-fn run_two<N: Name, J: Errand, R: Wait + Threads + Sync>(
+fn run_two<N: Name + Send, J: Errand + Send, R: Wait + Threads + Sync>(
     rt: &R,
     alloc: Global,
     shared: &Shared<N, J>,
@@ -269,7 +269,7 @@ fn run_two<N: Name, J: Errand, R: Wait + Threads + Sync>(
 }
 
 // Four threads at once, which leave nothing counted.
-fn run_four<N: Name, J: Errand, R: Wait + Threads + Sync + Abort>(
+fn run_four<N: Name + Send, J: Errand + Send, R: Wait + Threads + Sync + Abort>(
     rt: &R,
     alloc: Global,
     parts: Parts,
