@@ -11,7 +11,6 @@ use std::marker::Brand;
 use std::process::Abort;
 use std::sync::Wait;
 use std::test::*;
-use std::thread::{Threads, join};
 use thread_state::{Back, State};
 
 // What threads share over the parts. Where memory is refused the parts come back, and are used again.
@@ -58,18 +57,35 @@ fn return_thrice<N: Name, J: Errand, R: Abort>(rt: &R, thread: &mut Mutator<'_, 
     assert!(rt; matches!(thread.ret(), Err(ReturnFault::EmptyStack)));
 }
 
-// The threads that are live have these names.
-fn live_are<N: Name, J: Errand, R: Wait + Abort>(
+// A thread calls, publishes, returns and exits.
+fn call_and_exit<N: Name, J: Errand, R: Wait + Abort>(
     rt: &R,
     shared: &Shared<N, J>,
-    names: &[u64],
+    thread: Mutator<'_, N, J>,
+) {
+    let mut thread = thread;
+    call_thrice(rt, shared, &mut thread);
+    assert!(rt; thread.publish().is_ok() && shared.peek_counts() == 1);
+    return_thrice(rt, &mut thread);
+    assert!(rt; thread.exit(rt).is_ok());
+}
+
+// Two threads start where there are two places, and the first exits.
+fn start_two<N: Name, J: Errand, R: Wait + Abort>(
+    rt: &R,
+    alloc: Global,
+    shared: &Shared<N, J>,
 ) -> Result<(), AllocError> {
+    let first = started(rt, alloc, shared)?;
+    let second = started(rt, alloc, shared)?;
+    assert!(rt; matches!(shared.start(rt, alloc), Err(StartFault::PlacesFull)));
+    call_and_exit(rt, shared, first);
     let live = shared.live(rt)?;
-    assert!(rt; live.as_slice() == names);
+    assert!(rt; live.len() == 1 && live[0] == 2);
+    assert!(rt; second.place() == 1 && second.exit(rt).is_ok());
     Ok(())
 }
 
-// Two threads start, and the first calls, returns, publishes and exits.
 fn live_and_exit<N: Name, J: Errand, R: Wait + Abort>(
     rt: &R,
     alloc: Global,
@@ -82,16 +98,7 @@ fn live_and_exit<N: Name, J: Errand, R: Wait + Abort>(
         return Err(AllocError);
     };
     assert!(rt; serial == 1);
-    let mut first = started(rt, alloc, &shared)?;
-    let second = started(rt, alloc, &shared)?;
-    assert!(rt; matches!(shared.start(rt, alloc), Err(StartFault::PlacesFull)));
-    call_thrice(rt, &shared, &mut first);
-    assert!(rt; first.publish().is_ok() && shared.peek_counts() == 1);
-    return_thrice(rt, &mut first);
-    assert!(rt; first.exit(rt).is_ok());
-    live_are(rt, &shared, &[2])?;
-    assert!(rt; second.place() == 1 && second.exit(rt).is_ok());
-    Ok(())
+    start_two(rt, alloc, &shared)
 }
 
 #[test]
@@ -149,7 +156,41 @@ fn sizes_have_limits(rt: HostRuntime) -> Result<(), Fail> {
     Ok(())
 }
 
-// As many threads start as there are places, call by a code, publish, return and exit.
+// A thread starts, calls the last method by its code, and publishes.
+fn start_and_call<'a, N: Name, J: Errand, R: Wait + Abort>(
+    rt: &R,
+    alloc: Global,
+    shared: &'a Shared<N, J>,
+) -> Result<Mutator<'a, N, J>, AllocError> {
+    let mut thread = started(rt, alloc, shared)?;
+    assert!(rt; matches!(thread.call(255, shared.hint(255)), Ok(Called::Compiled(1))));
+    assert!(rt; thread.publish().is_ok());
+    Ok(thread)
+}
+
+// As many threads start as there are places.
+fn start_all<'a, N: Name, J: Errand, R: Wait + Abort>(
+    rt: &R,
+    alloc: Global,
+    shared: &'a Shared<N, J>,
+) -> Result<Vec<Mutator<'a, N, J>>, AllocError> {
+    let mut threads = Vec::new(alloc);
+    for _ in 0..64 {
+        let thread = start_and_call(rt, alloc, shared)?;
+        threads.push(thread).map_err(|_| AllocError)?;
+    }
+    Ok(threads)
+}
+
+// Each thread returns and exits.
+fn exit_all<N: Name, J: Errand, R: Wait + Abort>(rt: &R, threads: Vec<Mutator<'_, N, J>>) {
+    for thread in threads {
+        let mut thread = thread;
+        assert!(rt; thread.ret().is_ok());
+        assert!(rt; thread.exit(rt).is_ok());
+    }
+}
+
 fn fill_and_leave<N: Name, J: Errand, R: Wait + Abort>(
     rt: &R,
     alloc: Global,
@@ -161,20 +202,11 @@ fn fill_and_leave<N: Name, J: Errand, R: Wait + Abort>(
     if shared.install(rt, 255).is_err() {
         return Err(AllocError);
     }
-    let mut threads = Vec::with_capacity(alloc, 64)?;
-    for _ in 0..64 {
-        let mut thread = started(rt, alloc, &shared)?;
-        assert!(rt; matches!(thread.call(255, shared.hint(255)), Ok(Called::Compiled(1))));
-        assert!(rt; thread.publish().is_ok());
-        threads.push(thread).map_err(|_| AllocError)?;
-    }
+    let threads = start_all(rt, alloc, &shared)?;
     assert!(rt; shared.peek_counts() == 64);
-    while let Some(thread) = threads.pop() {
-        let mut thread = thread;
-        assert!(rt; thread.ret().is_ok() && thread.exit(rt).is_ok());
-    }
+    exit_all(rt, threads);
     assert!(rt; shared.peek_counts() == 0);
-    live_are(rt, &shared, &[])
+    Ok(())
 }
 
 #[test]
@@ -203,7 +235,35 @@ fn block<N: Name, J: Errand, R: Wait + Abort>(rt: &R, thread: &mut Mutator<'_, N
     assert!(rt; matches!(thread.from_vm(), Ok(Poll::Go)));
 }
 
-// A thread crosses every way, and is refused where it is in another state, also where it isn't to exit.
+// A thread in native code doesn't exit, and comes back.
+fn refused_exit<'a, N: Name, J: Errand, R: Wait>(
+    rt: &R,
+    thread: Mutator<'a, N, J>,
+) -> Result<Mutator<'a, N, J>, AllocError> {
+    match thread.exit(rt) {
+        Ok(_) => Err(AllocError),
+        Err((ExitFault::Illegal(State::InNative(Back::Java)), back)) => Ok(back),
+        Err(_) => Err(AllocError),
+    }
+}
+
+// A thread crosses every way, and is refused where it is in another state, also where it is to exit.
+fn cross_and_exit<N: Name, J: Errand, R: Wait + Abort>(
+    rt: &R,
+    alloc: Global,
+    shared: &Shared<N, J>,
+) -> Result<(), AllocError> {
+    let mut thread = started(rt, alloc, shared)?;
+    go_native(rt, &mut thread);
+    block(rt, &mut thread);
+    assert!(rt; matches!(thread.stop(rt), Err(State::InJava)));
+    assert!(rt; thread.to_native(rt).is_ok());
+    let mut back = refused_exit(rt, thread)?;
+    assert!(rt; back.from_native(rt).is_ok());
+    assert!(rt; back.exit(rt).is_ok());
+    Ok(())
+}
+
 fn cross<N: Name, J: Errand, R: Wait + Abort>(
     rt: &R,
     alloc: Global,
@@ -212,89 +272,12 @@ fn cross<N: Name, J: Errand, R: Wait + Abort>(
     requires tables { (parts.board ≡ N.board) × (parts.row ≡ N.poll_row) }
 {
     let shared = shared_over::<N, J>(alloc, parts)?;
-    let mut thread = started(rt, alloc, &shared)?;
-    go_native(rt, &mut thread);
-    block(rt, &mut thread);
-    assert!(rt; matches!(thread.stop(rt), Err(State::InJava)));
-    assert!(rt; thread.to_native(rt).is_ok());
-    let Err((fault, mut thread)) = thread.exit(rt) else {
-        panic!(rt; "it exits from native code")
-    };
-    assert!(rt; fault == ExitFault::Illegal(State::InNative(Back::Java)));
-    assert!(rt; thread.from_native(rt).is_ok() && thread.exit(rt).is_ok());
-    Ok(())
+    cross_and_exit(rt, alloc, &shared)
 }
 
 #[test]
 fn a_thread_crosses_every_way(rt: HostRuntime) -> Result<(), Fail> {
     let parts = Parts::new(rt.alloc(), 1, 1, 1).map_err(|_| AllocError)?;
     cross::<Brand, Job, HostRuntime>(&rt, rt.alloc(), parts)?;
-    Ok(())
-}
-
-// Calls by the hint and returns, as often as told.
-fn call_often<N: Name, J: Errand>(
-    shared: &Shared<N, J>,
-    thread: &mut Mutator<'_, N, J>,
-    times: u32,
-) -> bool {
-    for _ in 0..times {
-        if thread.call(0, shared.hint(0)).is_err() || thread.ret().is_err() {
-            return false;
-        }
-    }
-    true
-}
-
-// A thread starts, calls and returns 1,000 times and exits.
-fn run_one<N: Name, J: Errand, R: Wait>(rt: &R, alloc: Global, shared: &Shared<N, J>) -> bool {
-    let Ok(mut thread) = started(rt, alloc, shared) else {
-        return false;
-    };
-    call_often(shared, &mut thread, 1000) && thread.publish().is_ok() && thread.exit(rt).is_ok()
-}
-
-// Two threads at once.
-fn run_two<N: Name + Send, J: Errand + Send, R: Wait + Threads + Sync>(
-    rt: &R,
-    alloc: Global,
-    shared: &Shared<N, J>,
-) -> bool {
-    let (one, other) = join(
-        rt,
-        || run_one(rt, alloc, shared),
-        || run_one(rt, alloc, shared),
-    );
-    one && other
-}
-
-// Four threads at once, which leave nothing counted.
-fn run_four<N: Name + Send, J: Errand + Send, R: Wait + Threads + Sync + Abort>(
-    rt: &R,
-    alloc: Global,
-    parts: Parts,
-) -> Result<(), AllocError>
-    requires tables { (parts.board ≡ N.board) × (parts.row ≡ N.poll_row) }
-{
-    let shared = shared_over::<N, J>(alloc, parts)?;
-    if shared.install(rt, 0).is_err() {
-        return Err(AllocError);
-    }
-    let (two, others) = join(
-        rt,
-        || run_two(rt, alloc, &shared),
-        || run_two(rt, alloc, &shared),
-    );
-    if !(two && others) {
-        return Err(AllocError);
-    }
-    assert!(rt; shared.peek_counts() == 0);
-    live_are(rt, &shared, &[])
-}
-
-#[test]
-fn four_threads_call_and_return(rt: HostRuntime) -> Result<(), Fail> {
-    let parts = Parts::new(rt.alloc(), 4, 4, 1).map_err(|_| AllocError)?;
-    run_four::<Brand, Job, HostRuntime>(&rt, rt.alloc(), parts)?;
     Ok(())
 }
