@@ -67,22 +67,25 @@ impl<N: Name, J: Errand> Model for Desk<N, J> {
 }
 
 impl<N: Name, J: Errand> Desk<N, J> {
-    /// An empty desk.
+    /// An empty desk. Where memory is refused the keeper comes back.
     pub fn new(
         alloc: Global,
         table: MethodTable,
         keeper: Keeper,
         board: &Board,
         places: usize,
-    ) -> Result<Desk<N, J>, AllocError>
+    ) -> Result<Desk<N, J>, Keeper>
         requires board { board.now ≡ N.board }
         requires keeper { keeper ≡ first_keeper board.now }
         requires table { (table.codes ≡ []) × (table.slots ≡ N.board.slots) }
         requires places { places ≡ N.board.places }
         ensures book { IfOk result (λ d. (d.book.history ≡ []) × (d.book.reserved ≡ 0)) }
         ensures sizes { IfOk result (λ d. (d.slots ≡ table.slots) × (d.methods ≡ table.methods)) }
+        ensures handed_back { IfErr result (λ k. k ≡ keeper) }
     {
-        let opened = Vec::with_capacity(alloc, 1)?;
+        let Ok(opened) = Vec::with_capacity(alloc, 1) else {
+            return Err(keeper);
+        };
         Ok(Desk {
             alloc,
             places,
@@ -96,9 +99,10 @@ impl<N: Name, J: Errand> Desk<N, J> {
         })
     }
 
-    /// Enters the start of the next name in the least place that is free.
-    pub fn start(&mut self) -> Result<(u64, usize, Receipt<N>), StartFault>
+    /// Enters the start of the next name in the least place that is free. `has_image` says whether there is memory for its stack.
+    pub fn start(&mut self, has_image: bool) -> Result<(u64, usize, Receipt<N>), StartFault>
         ensures ok { IfOk result (λ r. Enters self.old self.new (Entry.Start r.0 r.1) r.2 × (r.1 < N.board.places) × (0 < r.0)) }
+        ensures image { OnOk result (has_image ≡ true) }
         ensures least { IfOk result (λ r. (k : ℕ) → k < r.1 → is_taken k (at self.old).live ≡ true) }
         ensures reserved { IfOk result (λ r. (self.new.book.reserved ≡ self.old.book.reserved + 1) × (self.new.keeper ≡ self.old.keeper)) }
         ensures err { IfErr result (λ e. (self.new ≡ self.old) × start_refused (at self.old) N.board.places self.old.book e) }
@@ -115,7 +119,7 @@ impl<N: Name, J: Errand> Desk<N, J> {
         if let Err(fault) = self.log.keep(2) {
             return Err(start_fault(fault));
         }
-        if self.live.reserve(1).is_err() {
+        if !has_image || self.live.reserve(1).is_err() {
             self.log.give_back(2);
             return Err(StartFault::NoMemory);
         }

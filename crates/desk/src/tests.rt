@@ -49,7 +49,7 @@ fn small_desk<N: Name, J: Errand>(
     requires sizes { (N.board.slots ≡ 1) × (N.board.places ≡ 1) }
 {
     let table = MethodTable::new(alloc, 1, 2)?;
-    Desk::new(alloc, table, keeper, board, 1)
+    Desk::new(alloc, table, keeper, board, 1).map_err(|_| AllocError)
 }
 
 fn handshake(alloc: Global, name: u64) -> Result<Request, AllocError> {
@@ -90,7 +90,7 @@ fn ask_census<N: Name, J: Errand, R: Abort>(
     );
     assert!(rt; matches!(desk.open(), Ok((1, _))));
     assert!(rt; matches!(desk.open(), Err(OpenFault::AlreadyOpen)));
-    assert!(rt; matches!(desk.start(), Err(StartFault::SafepointOpen)));
+    assert!(rt; matches!(desk.start(true), Err(StartFault::SafepointOpen)));
     assert!(rt; matches!(desk.close(false), Err(CloseFault::NotDone)));
     let none: Vec<Body<N>> = Vec::new(alloc);
     assert!(rt; matches!(desk.operate(none.as_slice()), Ok((1, _))));
@@ -150,8 +150,8 @@ fn asked_desk<N: Name, J: Errand, R: Abort>(
     requires sizes { (N.board.slots ≡ 1) × (N.board.places ≡ 1) }
 {
     let mut desk = small_desk::<N, J>(alloc, board, keeper)?;
-    assert!(rt; matches!(desk.start(), Ok((1, 0, _))));
-    assert!(rt; matches!(desk.start(), Err(StartFault::PlacesFull)));
+    assert!(rt; matches!(desk.start(true), Ok((1, 0, _))));
+    assert!(rt; matches!(desk.start(true), Err(StartFault::PlacesFull)));
     let without = desk.submit(handshake(alloc, 1)?, Vec::new(alloc));
     assert!(rt;
         matches!(
@@ -255,9 +255,9 @@ fn fill<N: Name, J: Errand, R: Abort>(
 {
     let mut desk = small_desk::<N, J>(alloc, &board, keeper)?;
     for name in 1..500_001 {
-        assert!(rt; desk.start().is_ok() && desk.exit(name).is_ok());
+        assert!(rt; desk.start(true).is_ok() && desk.exit(name).is_ok());
     }
-    assert!(rt; matches!(desk.start(), Err(StartFault::HistoryFull)));
+    assert!(rt; matches!(desk.start(true), Err(StartFault::HistoryFull)));
     assert!(rt; matches!(desk.install(&board, 0), Err(CodeFault::HistoryFull)));
     let refused = desk.submit(Request::Census, Vec::new(alloc));
     assert!(rt;

@@ -1,0 +1,3 @@
+pub mod Berthed
+pub mod Popped
+pub mod Made

@@ -1,0 +1,35 @@
+use Rattle.std.proofs.Common.{◌≡◌, ◌∙◌, sym, ap, refl, arith, rules, length, ℕ, [], List}
+use Rattle.frames.specs.declared.board_rule.SeatView.{SeatView}
+use Rattle.thread_list.proofs.Popped.{last_at, rest_at, one_less}
+use Rattle.thread_list.proofs.parts.berths_of.Goals as goal
+
+pub new-pair-requires-clause-tables : goal.new-pair-requires-clause-tables
+new-pair-requires-clause-tables g c =
+    let i = c.loop-seat.invariant in (
+      (i.seats (length c.pop.new.self.items) c.in-Some.seat (last_at c.loop-seat.seats.items c.pop.new.self.items c.in-Some.seat c.in-Some.ensures.items)).0,
+      (i.pollers (length c.pop-in-Some.new.self.items) c.in-Some-pop.poller (last_at c.loop-seat.pollers.items c.pop-in-Some.new.self.items c.in-Some-pop.poller c.in-Some-pop.ensures.items)).0,
+    )
+
+pub new-pair-requires-clause-place : goal.new-pair-requires-clause-place
+new-pair-requires-clause-place g c =
+    let i = c.loop-seat.invariant in
+    (i.pollers (length c.pop-in-Some.new.self.items) c.in-Some-pop.poller (last_at c.loop-seat.pollers.items c.pop-in-Some.new.self.items c.in-Some-pop.poller c.in-Some-pop.ensures.items)).1
+    ∙ (sym (one_less c.loop-seat.seats.items c.pop.new.self.items c.in-Some.seat c.loop-seat.pollers.items c.pop-in-Some.new.self.items c.in-Some-pop.poller c.in-Some.ensures.items c.in-Some-pop.ensures.items i.count)
+    ∙ sym (ap (λ (s : SeatView). s.place) (i.seats (length c.pop.new.self.items) c.in-Some.seat (last_at c.loop-seat.seats.items c.pop.new.self.items c.in-Some.seat c.in-Some.ensures.items)).1))
+
+pub new-pair-requires-clause-unused : goal.new-pair-requires-clause-unused
+new-pair-requires-clause-unused g c =
+    let i = c.loop-seat.invariant in
+    let is = (i.seats (length c.pop.new.self.items) c.in-Some.seat (last_at c.loop-seat.seats.items c.pop.new.self.items c.in-Some.seat c.in-Some.ensures.items)).1 in
+    (ap (λ (s : SeatView). s.stored) is, ap (λ (s : SeatView). s.counted) is)
+
+pub loop-seat-preserved : goal.loop-seat-preserved
+loop-seat-preserved g c =
+    let i = c.loop-seat.invariant in record {
+      count = one_less c.loop-seat.seats.items c.pop.new.self.items c.in-Some.seat c.loop-seat.pollers.items c.pop-in-Some.new.self.items c.in-Some-pop.poller c.in-Some.ensures.items c.in-Some-pop.ensures.items i.count;
+      lists = search rules;
+      many = search rules;
+      room = search rules;
+      seats = λ k s h. i.seats k s (rest_at c.loop-seat.seats.items c.pop.new.self.items c.in-Some.seat k s c.in-Some.ensures.items h);
+      pollers = λ k p h. i.pollers k p (rest_at c.loop-seat.pollers.items c.pop-in-Some.new.self.items c.in-Some-pop.poller k p c.in-Some-pop.ensures.items h);
+    }

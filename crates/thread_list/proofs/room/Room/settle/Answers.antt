@@ -1,0 +1,12 @@
+use Rattle.std.proofs.Common.{◌≡◌, ◌≢◌, ◌<◌, ◌∙◌, sym, ap, subst, refl, rules, arith, map, [], List}
+use Rattle.thread_list.specs.declared.room.Holder.{Holder}
+use Rattle.thread_list.specs.declared.room.Holder.TheVariants.{Vacant, Away, Out, Home}
+use Rattle.thread_list.specs.Berths.{Told, told_of, AreFor, IsMark, IsBerth, IsHolder, name_of}
+use Rattle.thread_list.proofs.Berthed.{none_for, for_push, settles, empties, tells}
+use Rattle.thread_list.proofs.room.Room.settle.Goals as goal
+
+pub invariant_of-self : goal.invariant_of-self
+invariant_of-self g c =
+    let i = c.self.inside in
+    let ts : List Told = map (told_of g.J.Errand.number g.J.Errand.whom) i.jobs.items in
+    settles {N = g.row.N.Denot} i.place (Home c.args.body) ts i.mark (subst (λ (h : Holder g.row.N.Denot). IsBerth i.place h ts i.mark) c.in-Away.is c.self.invariant) (search rules)

@@ -1,0 +1,5 @@
+pub mod Berths
+pub mod Hinted
+pub mod Moves
+pub mod Refused
+pub mod Sized

@@ -1,0 +1,207 @@
+//! A berth: where a thread's body is while the thread doesn't own itself.
+ghost use Rattle.std.specs.Prelude.{◌≡◌, ◌≢◌, ◌<◌, ◌^◌, [], OnOk, IfErr, IfSome};
+ghost use Rattle.frames.specs.ImageView.{IsCounted};
+
+use crate::room::Room;
+use board::Board;
+use bodies::{Body, Name, SpareSeat};
+use operations::job::Errand;
+use std::sync::{Condvar, Mutex, Wait};
+use std::thread;
+
+/// A room under a lock, and a bell that rings for those that wait for a change of it. Each call takes this lock, and no other.
+#[derive(Drop)]
+pub struct Berth<N: Name, J: Errand> {
+    room: Mutex<Room<N, J>>,
+    bell: Condvar,
+}
+
+impl<N: Name, J: Errand> Berth<N, J> {
+    /// The berth of this room.
+    pub fn new(room: Room<N, J>) -> Berth<N, J> {
+        Berth {
+            room: Mutex::new(room),
+            bell: Condvar::new(),
+        }
+    }
+
+    /// The room under its lock.
+    pub fn room(&self) -> &Mutex<Room<N, J>> {
+        let _ = &self.bell;
+        &self.room
+    }
+
+    // Wakes those that wait for a change, where there are any.
+    fn ring(&self, wanted: bool) {
+        if wanted {
+            self.bell.notify_all();
+        }
+    }
+
+    fn try_give<R: Wait>(&self, rt: &R, body: Body<N>) -> Result<(), Body<N>>
+        requires body { (body.seat.stored ≢ 0) × (0 < body.name) }
+        ensures err { IfErr result (λ b. b ≡ body) }
+    {
+        let mut room = self.room.lock(rt);
+        room.give(body)?;
+        let wanted = room.has_sleepers();
+        drop(room);
+        self.ring(wanted);
+        Ok(())
+    }
+
+    /// The body goes in.
+    pub fn give<R: Wait>(&self, rt: &R, body: Body<N>)
+        requires body { (body.seat.stored ≢ 0) × (0 < body.name) }
+    {
+        let mut body = body;
+        for _ in rt.forever() {
+            match self.try_give(rt, body) {
+                Ok(()) => return,
+                Err(back) => body = back,
+            }
+            thread::yield_now();
+        }
+        unreachable!()
+    }
+
+    fn try_settle<R: Wait>(&self, rt: &R, body: Body<N>) -> Result<(), Body<N>>
+        requires body { (body.seat.stored ≢ 0) × (0 < body.name) }
+        ensures err { IfErr result (λ b. b ≡ body) }
+    {
+        let mut room = self.room.lock(rt);
+        room.settle(body)?;
+        let wanted = room.has_sleepers();
+        drop(room);
+        self.ring(wanted);
+        Ok(())
+    }
+
+    /// Name and body of a thread that starts go in.
+    pub fn settle<R: Wait>(&self, rt: &R, body: Body<N>)
+        requires body { (body.seat.stored ≢ 0) × (0 < body.name) }
+    {
+        let mut body = body;
+        for _ in rt.forever() {
+            match self.try_settle(rt, body) {
+                Ok(()) => return,
+                Err(back) => body = back,
+            }
+            thread::yield_now();
+        }
+        unreachable!()
+    }
+
+    fn try_release<R: Wait>(&self, rt: &R, body: Body<N>, operated: bool) -> Result<(), Body<N>>
+        requires body { (body.seat.stored ≢ 0) × (0 < body.name) }
+        ensures err { IfErr result (λ b. b ≡ body) }
+    {
+        let mut room = self.room.lock(rt);
+        room.release(body, operated)?;
+        let wanted = room.has_sleepers();
+        drop(room);
+        self.ring(wanted);
+        Ok(())
+    }
+
+    /// A held body goes back. Where a census was operated over it, nothing keeps the thread any more.
+    pub fn release<R: Wait>(&self, rt: &R, body: Body<N>, operated: bool)
+        requires body { (body.seat.stored ≢ 0) × (0 < body.name) }
+    {
+        let mut body = body;
+        for _ in rt.forever() {
+            match self.try_release(rt, body, operated) {
+                Ok(()) => return,
+                Err(back) => body = back,
+            }
+            thread::yield_now();
+        }
+        unreachable!()
+    }
+
+    /// The seat and the poller come out for a thread that starts in this place, once no thread has them.
+    pub fn start<R: Wait>(&self, rt: &R, place: usize) -> SpareSeat<N>
+        ensures { result.seat.place ≡ place }
+    {
+        for _ in rt.forever() {
+            let mut room = self.room.lock(rt);
+            if room.place() == place {
+                if let Some(pair) = room.start() {
+                    return pair;
+                }
+            }
+            drop(room);
+            thread::yield_now();
+        }
+        unreachable!()
+    }
+
+    /// Takes the body of the name, where it is here.
+    pub fn take<R: Wait>(&self, rt: &R, name: u64, place: usize) -> Option<Body<N>>
+        ensures { IfSome result (λ b. (b.name ≡ name) × (0 < b.name) × (b.seat.place ≡ place) × (b.seat.stored ≢ 0)) }
+    {
+        let mut room = self.room.lock(rt);
+        if room.place() != place {
+            return None;
+        }
+        room.take(name)
+    }
+
+    /// Takes the body of the name out, once it is here and nobody holds it.
+    pub fn wake<R: Wait>(&self, rt: &R, name: u64, place: usize) -> Body<N>
+        ensures { (result.name ≡ name) × (0 < result.name) × (result.seat.place ≡ place) × (result.seat.stored ≢ 0) }
+    {
+        for _ in rt.forever() {
+            let mut room = self.room.lock(rt);
+            if room.place() == place {
+                if let Some(body) = room.take(name) {
+                    return body;
+                }
+            }
+            room.note_sleeper(true);
+            let mut room = self.bell.wait(rt, room);
+            room.note_sleeper(false);
+        }
+        unreachable!()
+    }
+
+    /// Takes the body of the name out, once it is here and no census keeps it, with its oldest job.
+    pub fn serve<R: Wait>(&self, rt: &R, name: u64, place: usize) -> (Body<N>, Option<J>)
+        ensures body { (result.0.name ≡ name) × (0 < result.0.name) × (result.0.seat.place ≡ place) × (result.0.seat.stored ≢ 0) }
+        ensures job { IfSome result.1 (λ j. (J.whom j ≡ name) × (0 < J.number j)) }
+    {
+        for _ in rt.forever() {
+            let mut room = self.room.lock(rt);
+            if room.place() == place {
+                if let Some(both) = room.serve(name) {
+                    return both;
+                }
+            }
+            room.note_sleeper(true);
+            let mut room = self.bell.wait(rt, room);
+            room.note_sleeper(false);
+        }
+        unreachable!()
+    }
+
+    /// The oldest job that was told to a thread whose body is out.
+    pub fn job<R: Wait>(&self, rt: &R, name: u64) -> Option<J>
+        ensures { IfSome result (λ j. (J.whom j ≡ name) × (0 < J.number j)) }
+    {
+        self.room.lock(rt).job(name)
+    }
+
+    /// The name is taken off and the place is given up. The body comes back where something is told to it.
+    pub fn exit<R: Wait>(&self, rt: &R, body: Body<N>, board: &Board) -> Result<(), Body<N>>
+        requires board { board.now ≡ N.board }
+        requires empty { (body.image.frames ≡ []) × IsCounted body.image }
+        ensures err { IfErr result (λ b. b ≡ body) }
+    {
+        let mut room = self.room.lock(rt);
+        room.exit(body, board)?;
+        let wanted = room.has_sleepers();
+        drop(room);
+        self.ring(wanted);
+        Ok(())
+    }
+}

@@ -1,0 +1,84 @@
+//! Which code a call of a method tries first.
+ghost use Rattle.std.specs.Prelude.{◌≡◌, ◌<◌, ◌≤◌, ◌^◌, IfOk, IfSome};
+
+use frames::CodeId;
+use std::alloc::{AllocError, Global};
+use std::marker::Model;
+use std::sync::atomic::{AtomicU64, Ordering};
+
+// A word is the serial and the slot below it; no code has the serial 0.
+const SLOTS: u64 = 1024;
+
+/// A plain word for each method. Contracts see how many slots the codes' board has.
+#[derive(Drop)]
+pub struct Hints {
+    words: Vec<AtomicU64>,
+    methods: u32,
+    slots: u32,
+}
+
+impl Model for Hints {
+    ghost use Rattle.thread_list.specs.Hinted.{Hinted};
+
+    ghost Value = { Hinted };
+
+    ghost view = { λ h. record { methods = h.methods; slots = h.slots } };
+}
+
+impl Hints {
+    /// No hint for any method. The error is that memory was refused.
+    pub fn new(alloc: Global, methods: u32, slots: u32) -> Result<Hints, AllocError>
+        ensures { IfOk result (λ h. (h.methods ≡ methods) × (h.slots ≡ slots)) }
+    {
+        let mut words = Vec::with_capacity(alloc, methods as usize)?;
+        for _ in 0..methods {
+            words.push(AtomicU64::new(0)).map_err(|_| AllocError)?;
+        }
+        Ok(Hints {
+            words,
+            methods,
+            slots,
+        })
+    }
+
+    /// How many methods there are.
+    pub fn methods(&self) -> u32
+        ensures { result ≡ self.now.methods }
+    {
+        let _ = &self.words;
+        self.methods
+    }
+
+    /// How many slots the codes have.
+    pub fn slots(&self) -> u32
+        ensures { result ≡ self.now.slots }
+    {
+        let _ = &self.words;
+        self.slots
+    }
+
+    /// The code that was set last for the method; None without one, and where its slot isn't one of the board's.
+    pub fn of(&self, method: u32) -> Option<CodeId>
+        ensures { IfSome result (λ c. c.slot < self.now.slots) }
+    {
+        let word = self.words.get(method as usize)?.load(Ordering::SeqCst);
+        let slot = (word % SLOTS) as u32;
+        let serial = word / SLOTS;
+        if serial == 0 || slot >= self.slots {
+            return None;
+        }
+        Some(CodeId { slot, serial })
+    }
+
+    /// The method's calls try this code first from now on.
+    pub fn set(&self, method: u32, code: CodeId) {
+        if let Some(word) = self.words.get(method as usize) {
+            word.store(
+                code.serial
+                    .saturating_mul(SLOTS)
+                    .saturating_add(code.slot as u64),
+                Ordering::SeqCst,
+            );
+        }
+    }
+}

@@ -1,0 +1,33 @@
+//! The threads of a running system: what they share, the berth of each place, and a thread's own part.
+//!
+//! A thread that owns itself has its body in hand. It calls methods, returns, polls, publishes and crosses into the VM and back
+//! without a lock (`Mutator::call`, `ret`, `back_edge`, `publish`, `to_vm`, `from_vm`), and nobody can hold it. Where it doesn't own
+//! itself its body is in its berth, where another may take it, step for it and bring it back.
+//!
+//! There is one lock for the desk and one for each berth. `Shared::submit`, `install`, `invalidate`, `live`, `replies`, `finish` and
+//! `leave` take the desk's, once in each try. `Mutator::to_native`, `from_native`, `block` and `unblock` take the lock of the
+//! thread's berth. `Shared::start`, `Mutator::stop` and `exit` take both, one after the other. `Shared::hint` and `peek_counts` read
+//! words and take none. No call holds two locks.
+#![tactic(auto)]
+
+mod berth;
+mod hints;
+mod mutator;
+mod parts;
+mod polls;
+mod room;
+mod serving;
+mod shared;
+mod starts;
+#[cfg(test)]
+mod tests;
+mod waits;
+
+pub use berth::Berth;
+pub use mutator::{CallFault, Mutator, ReturnFault};
+pub use parts::{MOST_METHODS, MOST_PLACES, MOST_SLOTS, Parts, PartsFault};
+pub use polls::{Poll, poll_of};
+pub use room::{Holder, Room};
+pub use serving::{serve, served};
+pub use shared::Shared;
+pub use waits::ExitFault;

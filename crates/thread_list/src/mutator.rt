@@ -1,0 +1,207 @@
+//! A thread's own part: what it calls while it runs, and waits for nobody.
+ghost use Rattle.std.specs.Prelude.{◌≡◌, ◌≢◌, ◌<◌, ◌==◌, ◌++◌, ◌∷◌, [], ℕ, true, false, Some, None, IfOk, OnOk, OnErr, IfErr, IfSome, length};
+ghost use Rattle.thread_state.specs.declared.State.TheVariants.{InJava as IsInJava, InVm as IsInVm};
+ghost use Rattle.bodies.specs.Bodies.{BodyView, IsCalled, IsPublished};
+ghost use Rattle.thread_list.specs.Moves.{SameThread, Polls, Leaves, is_running};
+ghost use Rattle.thread_list.specs.Refused.{call_refused, return_refused};
+
+use crate::polls::{Poll, poll_of};
+use crate::shared::Shared;
+use bodies::{Body, Called, Name};
+use frames::CodeId;
+use operations::job::Errand;
+use std::marker::Model;
+use thread_state::{Back, State};
+
+/// A running thread, as itself: its name, its state and, while it owns itself, its body. One that is dropped leaves its place
+/// taken.
+#[derive(Drop)]
+pub struct Mutator<'a, N: Name, J: Errand> {
+    pub(crate) shared: &'a Shared<N, J>,
+    pub(crate) name: u64,
+    pub(crate) place: usize,
+    pub(crate) methods: u32,
+    pub(crate) state: State,
+    pub(crate) body: Option<Body<N>>,
+}
+
+impl<'a, N: Name, J: Errand> Model for Mutator<'a, N, J> {
+    ghost use Rattle.thread_list.specs.Moves.{Running, IsRunning};
+
+    ghost Value = { Running };
+
+    ghost view = { λ m. record { name = m.name; place = m.place; methods = m.methods; state = m.state; body = m.body } };
+
+    ghost invariant = { λ m. IsRunning N.board.places m.name m.place m.state m.body };
+}
+
+/// Why a thread doesn't enter a method, in the order of the tests.
+#[derive(Clone, Copy, PartialEq, Eq, Debug, Drop)]
+pub enum CallFault {
+    /// It isn't in Java.
+    Illegal(State),
+    NoSuchMethod,
+    /// Its stack has 256 frames.
+    DepthFull,
+}
+
+/// Why a thread doesn't return from a method, in the order of the tests.
+#[derive(Clone, Copy, PartialEq, Eq, Debug, Drop)]
+pub enum ReturnFault {
+    /// It isn't in Java.
+    Illegal(State),
+    EmptyStack,
+}
+
+impl<'a, N: Name, J: Errand> Mutator<'a, N, J> {
+    /// The thread's name.
+    pub fn name(&self) -> u64
+        ensures { result ≡ self.now.name }
+    {
+        let _ = &self.body;
+        self.name
+    }
+
+    /// The place whose words are the thread's.
+    pub fn place(&self) -> usize
+        ensures { result ≡ self.now.place }
+    {
+        let _ = &self.body;
+        self.place
+    }
+
+    /// The thread's state.
+    pub fn state(&self) -> State
+        ensures { result ≡ self.now.state }
+    {
+        let _ = &self.body;
+        self.state
+    }
+
+    /// Enters a method: by the code of the hint where its entry is found in use, by one load, and otherwise, or without a
+    /// hint, as an interpreted frame.
+    pub fn call(&mut self, method: u32, hint: Option<CodeId>) -> Result<Called, CallFault>
+        requires slot { IfSome hint (λ c. c.slot < N.board.slots) }
+        ensures step { IfOk result (λ said. (old : BodyView) × (new : BodyView) × (self.old.body ≡ Some old) × (self.new.body ≡ Some new) × IsCalled old new method hint said × (new.name ≡ old.name) × (new.poller ≡ old.poller)) }
+        ensures state { self.new.state ≡ self.old.state }
+        ensures same { SameThread self.old self.new }
+        ensures err { IfErr result (λ e. (self.new ≡ self.old) × call_refused self.old method e) }
+    {
+        let State::InJava = self.state else {
+            return Err(CallFault::Illegal(self.state));
+        };
+        if method >= self.methods {
+            return Err(CallFault::NoSuchMethod);
+        }
+        let Some(body) = &mut self.body else {
+            unreachable!()
+        };
+        if body.depth() >= 256 {
+            return Err(CallFault::DepthFull);
+        }
+        Ok(body.call(self.shared.board(), method, hint))
+    }
+
+    /// Returns from the method of the top frame, and polls: one load.
+    pub fn ret(&mut self) -> Result<Poll, ReturnFault>
+        ensures left { IfOk result (Leaves self.old self.new) }
+        ensures same { SameThread self.old self.new }
+        ensures err { IfErr result (λ e. (self.new ≡ self.old) × return_refused self.old e) }
+    {
+        let State::InJava = self.state else {
+            return Err(ReturnFault::Illegal(self.state));
+        };
+        let Some(body) = &mut self.body else {
+            unreachable!()
+        };
+        if body.depth() == 0 {
+            return Err(ReturnFault::EmptyStack);
+        }
+        body.ret();
+        let found = body.poll(self.shared.row());
+        if found != 0 {
+            self.state = State::AtPoll(Back::Java);
+        }
+        Ok(poll_of(found))
+    }
+
+    /// A back edge of a loop: the thread polls, by one load. A thread that isn't in Java is refused with its state.
+    pub fn back_edge(&mut self) -> Result<Poll, State>
+        ensures ok { IfOk result (λ said. (self.old.state ≡ IsInJava) × Polls self.old self.new IsInJava said) }
+        ensures same { SameThread self.old self.new }
+        ensures err { IfErr result (λ s. (s ≡ self.old.state) × (s ≢ IsInJava) × (self.new ≡ self.old)) }
+    {
+        let State::InJava = self.state else {
+            return Err(self.state);
+        };
+        Ok(self.poll_into_java())
+    }
+
+    /// Publishes the stack: one load of the moment, a step for each code whose counts differ, and a store of the moment that was
+    /// loaded. A thread that doesn't own itself is refused with its state.
+    pub fn publish(&mut self) -> Result<(), State>
+        ensures published { OnOk result ((old : BodyView) × (new : BodyView) × (self.old.body ≡ Some old) × (self.new.body ≡ Some new) × IsPublished old new) }
+        ensures lawful { OnOk result (is_running self.old.state ≡ true) }
+        ensures state { self.new.state ≡ self.old.state }
+        ensures same { SameThread self.old self.new }
+        ensures err { IfErr result (λ s. (s ≡ self.old.state) × (is_running s ≡ false) × (self.new ≡ self.old)) }
+    {
+        if !is_running(self.state) {
+            return Err(self.state);
+        }
+        let Some(body) = &mut self.body else {
+            unreachable!()
+        };
+        body.publish(self.shared.board());
+        Ok(())
+    }
+
+    /// From Java into the VM, without a poll. A thread that isn't in Java is refused with its state.
+    pub fn to_vm(&mut self) -> Result<(), State>
+        ensures ok { OnOk result ((self.old.state ≡ IsInJava) × (self.new ≡ record self.old { state = IsInVm })) }
+        ensures err { IfErr result (λ s. (s ≡ self.old.state) × (s ≢ IsInJava) × (self.new ≡ self.old)) }
+    {
+        let State::InJava = self.state else {
+            return Err(self.state);
+        };
+        self.state = State::InVm;
+        Ok(())
+    }
+
+    /// From the VM back into Java: the thread polls, by one load. A thread that isn't in the VM is refused with its state.
+    pub fn from_vm(&mut self) -> Result<Poll, State>
+        ensures ok { IfOk result (λ said. (self.old.state ≡ IsInVm) × Polls self.old self.new IsInVm said) }
+        ensures same { SameThread self.old self.new }
+        ensures err { IfErr result (λ s. (s ≡ self.old.state) × (s ≢ IsInVm) × (self.new ≡ self.old)) }
+    {
+        let State::InVm = self.state else {
+            return Err(self.state);
+        };
+        Ok(self.poll_into_java())
+    }
+
+    // The poll of a thread that owns itself and goes on in Java: one load.
+    fn poll_into_java(&mut self) -> Poll
+        requires running { is_running self.old.state ≡ true }
+        ensures polled { Polls self.old self.new self.old.state result }
+        ensures same { SameThread self.old self.new }
+    {
+        let Some(body) = &mut self.body else {
+            unreachable!()
+        };
+        let found = body.poll(self.shared.row());
+        self.state = if found == 0 {
+            State::InJava
+        } else {
+            State::AtPoll(Back::Java)
+        };
+        poll_of(found)
+    }
+}
+
+/// Whether a thread in this state runs its own code, in Java or in the VM.
+pub fn is_running(state: State) -> bool
+    ensures { result ≡ is_running state }
+{
+    matches!(state, State::InJava | State::InVm)
+}

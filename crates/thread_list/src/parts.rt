@@ -1,0 +1,208 @@
+//! What a system of running threads is made of.
+ghost use Rattle.std.specs.Prelude.{◌≡◌, ◌≤◌, ◌<◌, ℕ, [], ◌∷◌, Some, length, slice_get, vec_len, vec_capacity, IfOk, IfErr, OnOk};
+ghost use Rattle.frames.specs.BoardViews.{seat_view};
+ghost use Rattle.board.specs.Boards.{SeatSeen, first_keeper};
+ghost use Rattle.poll.specs.Rows.{PollerSeen, full_armer};
+ghost use Rattle.thread_list.specs.Sized.{parts_refused, AreSeatsOf, ArePollersOf};
+
+use crate::berth::Berth;
+use crate::hints::Hints;
+use crate::room::Room;
+use crate::shared::Shared;
+use board::{Board, Keeper, ThreadSeat};
+use bodies::{Name, SpareSeat};
+use desk::Desk;
+use method_table::table::MethodTable;
+use operations::job::Errand;
+use poll::{Armer, PollRow, Poller};
+use std::alloc::{AllocError, Global};
+use std::marker::Model;
+use std::sync::Mutex;
+
+/// The most places, slots and methods that a system has.
+pub const MOST_PLACES: usize = 64;
+
+pub const MOST_SLOTS: usize = 1024;
+
+pub const MOST_METHODS: usize = 256;
+
+/// Why no parts are made, in the order of the tests.
+#[derive(Clone, Copy, PartialEq, Eq, Debug, Drop)]
+pub enum PartsFault {
+    /// A size is 0, or above its limit.
+    BadSize,
+    NoMemory,
+}
+
+/// The words of a system with the seats that step on them, before anything shares them. Contracts see which board and which row
+/// they are, and how many methods there are.
+#[derive(Drop)]
+pub struct Parts {
+    board: Board,
+    keeper: Keeper,
+    seats: Vec<ThreadSeat>,
+    row: PollRow,
+    armer: Armer,
+    pollers: Vec<Poller>,
+    slots: u32,
+    methods: u32,
+}
+
+impl Model for Parts {
+    ghost use Rattle.std.specs.Prelude.{◌≡◌, ℕ, Some, length, slice_get};
+    ghost use Rattle.frames.specs.BoardViews.{seat_view};
+    ghost use Rattle.board.specs.Boards.{SeatSeen, first_keeper};
+    ghost use Rattle.poll.specs.Rows.{PollerSeen, full_armer};
+    ghost use Rattle.thread_list.specs.Sized.{PartsSeen, AreSeatsOf, ArePollersOf};
+
+    ghost Value = { PartsSeen };
+
+    ghost view = { λ p. record { board = p.board; row = p.row; methods = p.methods } };
+
+    ghost invariant = { λ p. (p.keeper ≡ first_keeper p.board) × (p.armer ≡ full_armer p.row p.board.places) × AreSeatsOf p.board p.seats.items × ArePollersOf p.row p.pollers.items × (length p.seats.items ≡ p.board.places) × (length p.pollers.items ≡ p.board.places) × (p.slots ≡ p.board.slots) };
+}
+
+impl Parts {
+    /// The parts of a system of so many places (1 to 64), slots for codes (1 to 1024) and methods (1 to 256).
+    pub fn new(
+        alloc: Global,
+        places: usize,
+        slots: usize,
+        methods: usize,
+    ) -> Result<Parts, PartsFault>
+        ensures sizes { IfOk result (λ p. (p.board.places ≡ places) × (p.board.slots ≡ slots) × (p.methods ≡ methods)) }
+        ensures refused { IfErr result (parts_refused places slots methods) }
+    {
+        if !(fits(places, MOST_PLACES) && fits(slots, MOST_SLOTS) && fits(methods, MOST_METHODS)) {
+            return Err(PartsFault::BadSize);
+        }
+        let Ok((board, keeper, seats)) = Board::new(alloc, places, slots) else {
+            return Err(PartsFault::NoMemory);
+        };
+        let Ok((row, armer, pollers)) = PollRow::new(alloc, places) else {
+            return Err(PartsFault::NoMemory);
+        };
+        Ok(Parts {
+            board,
+            keeper,
+            seats,
+            row,
+            armer,
+            pollers,
+            slots: slots as u32,
+            methods: methods as u32,
+        })
+    }
+}
+
+// Whether a size is one that a system can have.
+fn fits(size: usize, most: usize) -> bool
+    ensures { result ≡ Rattle.thread_list.specs.Sized.fits size most }
+{
+    size != 0 && size <= most
+}
+
+// Empty lists with room for a job each, and room for as many berths.
+fn job_lists<N: Name, J: Errand>(
+    alloc: Global,
+    places: usize,
+) -> Result<(Vec<Vec<J>>, Vec<Berth<N, J>>), AllocError>
+    ensures lists { IfOk result (λ r. vec_len r.0 ≡ places) }
+    ensures berths { IfOk result (λ r. (vec_len r.1 ≡ 0) × (places ≤ vec_capacity r.1)) }
+{
+    let berths = Vec::with_capacity(alloc, places)?;
+    let mut lists = Vec::new(alloc);
+    while lists.len() < places {
+        lists
+            .push(Vec::with_capacity(alloc, 1)?)
+            .map_err(|_| AllocError)?;
+    }
+    Ok((lists, berths))
+}
+
+// A berth for each seat with its poller, without a name.
+fn berths_of<N: Name, J: Errand>(
+    seats: Vec<ThreadSeat>,
+    pollers: Vec<Poller>,
+    lists: Vec<Vec<J>>,
+    room: Vec<Berth<N, J>>,
+) -> Vec<Berth<N, J>>
+    requires seats { AreSeatsOf N.board seats.items }
+    requires pollers { ArePollersOf N.poll_row pollers.items }
+    requires count { (length seats.items ≡ length pollers.items) × (length seats.items ≡ vec_len lists) }
+    requires room { (vec_len room ≡ 0) × (length seats.items ≤ vec_capacity room) }
+    ensures { length result.items ≡ length seats.items }
+{
+    let mut seats = seats;
+    let mut pollers = pollers;
+    let mut lists = lists;
+    let mut berths = room;
+    while let Some(seat) = seats.pop() {
+        let Some(poller) = pollers.pop() else {
+            unreachable!()
+        };
+        let Some(mut jobs) = lists.pop() else {
+            unreachable!()
+        };
+        let pair = SpareSeat::new(seat, poller);
+        jobs.clear();
+        berths.push_reserved(Berth::new(Room::new(pair.place(), pair, jobs)));
+    }
+    berths.reverse();
+    berths
+}
+
+impl<N: Name, J: Errand> Shared<N, J> {
+    /// What threads share, over these parts, and the armer of their poll words. Where memory is refused the parts come back.
+    pub fn new(alloc: Global, parts: Parts) -> Result<(Shared<N, J>, Armer), Parts>
+        requires tables { (parts.board ≡ N.board) × (parts.row ≡ N.poll_row) }
+        ensures armer { IfOk result (λ r. r.1 ≡ full_armer N.poll_row N.board.places) }
+        ensures handed_back { IfErr result (λ p. p ≡ parts) }
+    {
+        let places = parts.seats.len();
+        let Ok((lists, room)) = job_lists(alloc, places) else {
+            return Err(parts);
+        };
+        let Ok(hints) = Hints::new(alloc, parts.methods, parts.slots) else {
+            return Err(parts);
+        };
+        let Ok(table) = MethodTable::new(alloc, parts.slots, parts.methods) else {
+            return Err(parts);
+        };
+        let Parts {
+            board,
+            keeper,
+            seats,
+            row,
+            armer,
+            pollers,
+            slots,
+            methods,
+        } = parts;
+        match Desk::new(alloc, table, keeper, &board, places) {
+            Ok(desk) => {
+                let berths = berths_of(seats, pollers, lists, room);
+                Ok((
+                    Shared {
+                        board,
+                        row,
+                        berths,
+                        desk: Mutex::new(desk),
+                        hints,
+                    },
+                    armer,
+                ))
+            }
+            Err(keeper) => Err(Parts {
+                board,
+                keeper,
+                seats,
+                row,
+                armer,
+                pollers,
+                slots,
+                methods,
+            }),
+        }
+    }
+}

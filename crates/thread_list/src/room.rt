@@ -1,0 +1,267 @@
+//! What a berth keeps under its lock.
+ghost use Rattle.std.specs.Prelude.{◌≡◌, ◌<◌, ◌≢◌, Some, None, [], IfOk, IfErr, OnOk, OnErr, IfSome, IfNone};
+ghost use Rattle.std.specs.Prelude.{◌++◌, ◌∷◌, true, false, if◌then◌else◌};
+ghost use Rattle.frames.specs.ImageView.{IsCounted};
+ghost use Rattle.frames.specs.BoardViews.{stored_as};
+ghost use Rattle.thread_list.specs.Berths.{told_of, name_of};
+ghost use Rattle.thread_list.specs.declared.room.Holder.TheVariants.{Vacant as IsVacant, Away as IsAway, Out as IsOut, Home as IsAtHome};
+
+use board::Board;
+use bodies::{Body, Name, SpareSeat};
+use operations::job::Errand;
+use std::marker::Model;
+
+/// Who has the seat and the poller of a place.
+#[derive(Drop)]
+pub enum Holder<N: Name> {
+    /// Nobody: they are here.
+    Vacant(SpareSeat<N>),
+    /// A thread that starts here: it has taken them out, and hasn't brought its body yet.
+    Away,
+    /// The thread of the name, or the coordinator, has its body.
+    Out(u64),
+    /// The body of a thread is here.
+    Home(Body<N>),
+}
+
+/// What a berth keeps: who has the seat and the poller of its place, the jobs that the thread was told, in order, the census
+/// that it was told and that isn't operated (0 for none), and how many threads wait for a change of it.
+#[derive(Drop)]
+pub struct Room<N: Name, J: Errand> {
+    place: usize,
+    holder: Holder<N>,
+    jobs: Vec<J>,
+    mark: u64,
+    sleepers: usize,
+}
+
+impl<N: Name, J: Errand> Model for Room<N, J> {
+    ghost use Rattle.std.specs.Prelude.{map};
+    ghost use Rattle.thread_list.specs.Berths.{Berthing, IsBerth, told_of};
+
+    ghost Value = { Berthing N };
+
+    ghost view = { λ r. record { place = r.place; holder = r.holder; jobs = map (told_of J.number J.whom) r.jobs.items; mark = r.mark } };
+
+    ghost invariant = { λ r. IsBerth r.place r.holder (map (told_of J.number J.whom) r.jobs.items) r.mark };
+}
+
+impl<N: Name, J: Errand> Room<N, J> {
+    /// The berth of a vacant place.
+    pub fn new(place: usize, pair: SpareSeat<N>, jobs: Vec<J>) -> Room<N, J>
+        requires { (pair.seat.place ≡ place) × (jobs.items ≡ []) }
+        ensures { (result.place ≡ place) × (result.holder ≡ IsVacant pair) × (result.jobs ≡ []) × (result.mark ≡ 0) }
+    {
+        Room {
+            place,
+            holder: Holder::Vacant(pair),
+            jobs,
+            mark: 0,
+            sleepers: 0,
+        }
+    }
+
+    /// A thread waits for a change from now on, or (`false`) waits no more.
+    pub fn note_sleeper(&mut self, sleeps: bool)
+        ensures { self.new ≡ self.old }
+    {
+        self.sleepers = if sleeps {
+            self.sleepers.saturating_add(1)
+        } else {
+            self.sleepers.saturating_sub(1)
+        };
+    }
+
+    /// Whether a thread waits for a change.
+    pub fn has_sleepers(&self) -> bool {
+        let _ = &self.mark;
+        self.sleepers != 0
+    }
+
+    /// The seat and the poller come out, where no thread has them.
+    pub fn start(&mut self) -> Option<SpareSeat<N>>
+        ensures some { IfSome result (λ p. (self.old.holder ≡ IsVacant p) × (p.seat.place ≡ self.old.place) × (self.new ≡ record self.old { holder = IsAway })) }
+        ensures none { IfNone result (self.new ≡ self.old) }
+    {
+        match std::mem::replace(&mut self.holder, Holder::Away) {
+            Holder::Vacant(pair) => Some(pair),
+            other => {
+                self.holder = other;
+                None
+            }
+        }
+    }
+
+    /// Name and body of a thread that starts go in.
+    pub fn settle(&mut self, body: Body<N>) -> Result<(), Body<N>>
+        requires body { (body.seat.stored ≢ 0) × (0 < body.name) }
+        ensures ok { OnOk result ((self.old.holder ≡ IsAway) × (self.new ≡ record self.old { holder = IsAtHome body })) }
+        ensures err { IfErr result (λ b. (b ≡ body) × (self.new ≡ self.old)) }
+    {
+        let Holder::Away = self.holder else {
+            return Err(body);
+        };
+        if self.place != body.place() {
+            return Err(body);
+        }
+        self.holder = Holder::Home(body);
+        Ok(())
+    }
+
+    /// The body goes in. It comes back where the berth bears another name, or has a body.
+    pub fn give(&mut self, body: Body<N>) -> Result<(), Body<N>>
+        requires body { (body.seat.stored ≢ 0) × (0 < body.name) }
+        ensures ok { OnOk result ((self.old.holder ≡ IsOut body.name) × (self.new ≡ record self.old { holder = IsAtHome body })) }
+        ensures err { IfErr result (λ b. (b ≡ body) × (self.new ≡ self.old)) }
+    {
+        let Holder::Out(name) = self.holder else {
+            return Err(body);
+        };
+        if name != body.name() || self.place != body.place() {
+            return Err(body);
+        }
+        self.holder = Holder::Home(body);
+        Ok(())
+    }
+
+    /// The body of the name comes out, where it is there.
+    pub fn take(&mut self, name: u64) -> Option<Body<N>>
+        ensures some { IfSome result (λ b. (self.old.holder ≡ IsAtHome b) × (b.name ≡ name) × (self.new ≡ record self.old { holder = IsOut name })) }
+        ensures body { IfSome result (λ b. (b.seat.place ≡ self.old.place) × (0 < b.name) × (b.seat.stored ≢ 0)) }
+        ensures none { IfNone result (self.new ≡ self.old) }
+    {
+        match std::mem::replace(&mut self.holder, Holder::Away) {
+            Holder::Home(body) => {
+                if body.name() == name {
+                    self.holder = Holder::Out(name);
+                    Some(body)
+                } else {
+                    self.holder = Holder::Home(body);
+                    None
+                }
+            }
+            Holder::Vacant(pair) => {
+                self.holder = Holder::Vacant(pair);
+                None
+            }
+            Holder::Out(other) => {
+                self.holder = Holder::Out(other);
+                None
+            }
+            Holder::Away => None,
+        }
+    }
+
+    /// The body of the name comes out to serve, with its oldest job. It stays where it was told a census that isn't operated.
+    pub fn serve(&mut self, name: u64) -> Option<(Body<N>, Option<J>)>
+        ensures body { IfSome result (λ r. (self.old.holder ≡ IsAtHome r.0) × (r.0.name ≡ name) × (0 < r.0.name) × (r.0.seat.place ≡ self.old.place) × (r.0.seat.stored ≢ 0) × (self.old.mark ≡ 0)) }
+        ensures job { IfSome result (λ r. IfSome r.1 (λ j. (J.whom j ≡ name) × (0 < J.number j) × (self.old.jobs ≡ told_of J.number J.whom j ∷ self.new.jobs))) }
+        ensures no_job { IfSome result (λ r. IfNone r.1 ((self.old.jobs ≡ []) × (self.new.jobs ≡ []))) }
+        ensures left { IfSome result (λ r. (self.new.holder ≡ IsOut name) × (self.new.mark ≡ 0)) }
+        ensures none { IfNone result (self.new ≡ self.old) }
+    {
+        if self.mark != 0 {
+            return None;
+        }
+        let body = self.take(name)?;
+        if self.jobs.is_empty() {
+            return Some((body, None));
+        }
+        let job = self.jobs.remove(0);
+        Some((body, Some(job)))
+    }
+
+    /// The oldest job of the name, whose body is out.
+    pub fn job(&mut self, name: u64) -> Option<J>
+        ensures some { IfSome result (λ j. (J.whom j ≡ name) × (0 < J.number j) × (self.old.jobs ≡ told_of J.number J.whom j ∷ self.new.jobs)) }
+        ensures same { (self.new.holder ≡ self.old.holder) × (self.new.mark ≡ self.old.mark) }
+        ensures none { IfNone result (self.new ≡ self.old) }
+    {
+        let Holder::Out(out) = self.holder else {
+            return None;
+        };
+        if out != name || self.jobs.is_empty() {
+            return None;
+        }
+        Some(self.jobs.remove(0))
+    }
+
+    /// A job goes in for its target, behind those that are there.
+    pub fn tell(&mut self, job: J) -> Result<(), J>
+        requires number { 0 < J.number job }
+        ensures ok { OnOk result ((name_of self.old.holder ≡ J.whom job) × (self.new ≡ record self.old { jobs = self.old.jobs ++ told_of J.number J.whom job ∷ [] })) }
+        ensures err { IfErr result (λ j. (j ≡ job) × (self.new ≡ self.old)) }
+    {
+        let name = self.name();
+        if name == 0 || name != job.target_of() || self.jobs.len() >= self.jobs.capacity() {
+            return Err(job);
+        }
+        self.jobs.push_reserved(job);
+        Ok(())
+    }
+
+    pub fn place(&self) -> usize
+        ensures { result ≡ self.now.place }
+    {
+        let _ = &self.mark;
+        self.place
+    }
+
+    /// The name that it bears, 0 for none.
+    pub fn name(&self) -> u64
+        ensures { result ≡ name_of self.now.holder }
+    {
+        match &self.holder {
+            Holder::Home(body) => body.name(),
+            Holder::Out(name) => *name,
+            Holder::Vacant(_) | Holder::Away => 0,
+        }
+    }
+
+    /// A census that was told, until it is operated.
+    pub fn mark(&mut self, name: u64, number: u64) -> bool
+        requires number { 0 < number }
+        ensures yes { result ≡ true → (name_of self.old.holder ≡ name) × (0 < name) × (self.new ≡ record self.old { mark = number }) }
+        ensures no { result ≡ false → self.new ≡ self.old }
+    {
+        if name == 0 || name != self.name() {
+            return false;
+        }
+        self.mark = number;
+        true
+    }
+
+    /// The body that was held goes in, and the mark of an operated census goes.
+    pub fn release(&mut self, body: Body<N>, operated: bool) -> Result<(), Body<N>>
+        requires body { (body.seat.stored ≢ 0) × (0 < body.name) }
+        ensures ok { OnOk result ((self.old.holder ≡ IsOut body.name) × (self.new ≡ record self.old { holder = IsAtHome body; mark = if operated then 0 else self.old.mark })) }
+        ensures err { IfErr result (λ b. (b ≡ body) × (self.new ≡ self.old)) }
+    {
+        self.give(body)?;
+        if operated {
+            self.mark = 0;
+        }
+        Ok(())
+    }
+
+    /// The name is taken off and the place is given up: one store of 0. The body comes back where something is told to it.
+    pub fn exit(&mut self, body: Body<N>, board: &Board) -> Result<(), Body<N>>
+        requires board { board.now ≡ N.board }
+        requires empty { (body.image.frames ≡ []) × IsCounted body.image }
+        ensures ok { OnOk result ((self.old.holder ≡ IsOut body.name) × (self.old.jobs ≡ []) × (self.old.mark ≡ 0) × (self.new.jobs ≡ []) × (self.new.mark ≡ 0) × (self.new.holder ≡ IsVacant (record { seat = stored_as body.seat 0; poller = body.poller }))) }
+        ensures err { IfErr result (λ b. (b ≡ body) × (self.new ≡ self.old)) }
+    {
+        let Holder::Out(name) = self.holder else {
+            return Err(body);
+        };
+        if name != body.name()
+            || self.place != body.place()
+            || !self.jobs.is_empty()
+            || self.mark != 0
+        {
+            return Err(body);
+        }
+        self.holder = Holder::Vacant(body.vacate(board));
+        Ok(())
+    }
+}

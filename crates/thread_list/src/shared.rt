@@ -1,0 +1,197 @@
+//! What all threads share.
+ghost use Rattle.std.specs.Prelude.{◌≡◌, ◌≢◌, ◌<◌, ◌≤◌, [], ℕ, List, Some, None, length, IfOk, IfErr, IfSome};
+ghost use Rattle.frames.specs.ImageView.{IsSettled};
+ghost use Rattle.operations.specs.Asks.{reply};
+ghost use Rattle.method_table.specs.Codes.{unfreed};
+ghost use Rattle.method_table.specs.TableView.{invalidate_fault};
+ghost use Rattle.thread_state.specs.declared.State.TheVariants.{InJava as IsInJava};
+ghost use Rattle.desk.specs.declared.entries.Entry.{Entry, Entry as EntryOf};
+ghost use Rattle.desk.specs.Machine.{State as DeskState, Book};
+ghost use Rattle.desk.specs.JobsFit.{jobs_fit};
+ghost use Rattle.desk.specs.Once.{replies_of};
+ghost use Rattle.desk.specs.Machine.{names_of};
+ghost use Rattle.desk.specs.Refusals.{ask_refused, install_refused};
+
+use crate::berth::Berth;
+use crate::hints::Hints;
+use board::Board;
+use bodies::{Body, Name};
+use desk::{CodeFault, Desk, NotLive, Receipt, Refused};
+use frames::CodeId;
+use method_table::table::InvalidateFault;
+use operations::Request;
+use operations::job::{Done, Errand};
+use poll::PollRow;
+use std::alloc::AllocError;
+use std::marker::Model;
+use std::sync::{Mutex, Wait};
+use std::thread;
+
+/// The words, the desk under a lock, and a berth for each place, each under a lock of its own. No call holds two locks.
+#[derive(Drop)]
+pub struct Shared<N: Name, J: Errand> {
+    pub(crate) board: Board,
+    pub(crate) row: PollRow,
+    pub(crate) berths: Vec<Berth<N, J>>,
+    pub(crate) desk: Mutex<Desk<N, J>>,
+    pub(crate) hints: Hints,
+    ghost named: { (board ≡ N.board) × (row ≡ N.poll_row) },
+    ghost seated: { length berths.items ≡ N.board.places },
+    ghost hinted: { hints.slots ≡ N.board.slots },
+}
+
+impl<N: Name, J: Errand> Shared<N, J> {
+    /// The board of the codes' words.
+    pub fn board(&self) -> &Board
+        ensures { result.now ≡ N.board }
+    {
+        &self.board
+    }
+
+    /// The row of the threads' poll words.
+    pub fn row(&self) -> &PollRow
+        ensures { result.now ≡ N.poll_row }
+    {
+        &self.row
+    }
+
+    /// The desk's lock.
+    pub fn desk(&self) -> &Mutex<Desk<N, J>> {
+        let _ = &self.hints;
+        &self.desk
+    }
+
+    /// How many methods there are.
+    pub fn methods(&self) -> u32 {
+        let _ = &self.desk;
+        self.hints.methods()
+    }
+
+    /// The berth of a place.
+    pub fn berth(&self, place: usize) -> &Berth<N, J>
+        requires { place < N.board.places }
+    {
+        &self.berths[place]
+    }
+
+    /// The berth of a body's place.
+    pub fn berth_of(&self, body: &Body<N>) -> &Berth<N, J> {
+        &self.berths[body.place()]
+    }
+
+    /// The code that a call of the method tries first: what was installed for it last, None without such a method or code. It is
+    /// read off a plain word, so the code may be gone by then; `call` finds that out.
+    pub fn hint(&self, method: u32) -> Option<CodeId>
+        ensures { IfSome result (λ c. c.slot < N.board.slots) }
+    {
+        let _ = &self.desk;
+        self.hints.of(method)
+    }
+
+    /// The sum of all count words as they were a moment ago. Nothing is promised of it.
+    pub fn peek_counts(&self) -> u64 {
+        let mut sum: u64 = 0;
+        for slot in 0..self.hints.slots() {
+            sum = sum.saturating_add(self.board.peek_count(slot));
+        }
+        sum
+    }
+
+    /// A request waits from now on, with its jobs: one for each target in order, each with the request's ask. Answers the number of
+    /// the operation, with the receipt of its Ask. Where it is refused the jobs come back.
+    pub fn submit<R: Wait>(
+        &self,
+        rt: &R,
+        request: Request,
+        jobs: Vec<J>,
+    ) -> Result<(u64, Receipt<N>), Refused<J>>
+        ensures asked { IfOk result (λ r. r.1.entry ≡ Entry.Ask r.0 request) }
+        ensures refused { IfErr result (λ e. (s : DeskState) × (book : Book) × ask_refused s request (jobs_fit J.whom J.asks request jobs.items) book e.fault) }
+        ensures handed_back { IfErr result (λ e. e.jobs ≡ jobs) }
+    {
+        let mut desk = self.desk.lock(rt);
+        match desk.submit(request, jobs) {
+            Ok(asked) => Ok(asked),
+            Err(refused) => Err(refused),
+        }
+    }
+
+    /// Installs a code for the method. Answers its serial, with the receipt of its Install.
+    pub fn install<R: Wait>(&self, rt: &R, method: u32) -> Result<(u64, Receipt<N>), CodeFault>
+        ensures installed { IfOk result (λ r. (slot : ℕ) × (r.1.entry ≡ Entry.Install (record { slot = slot; serial = r.0 }) method)) }
+        ensures refused { IfErr result (λ e. (s : DeskState) × (book : Book) × install_refused s method book e) }
+    {
+        let mut desk = self.desk.lock(rt);
+        let (id, receipt) = desk.install(&self.board, method as u64)?;
+        self.hints.set(method, id);
+        Ok((id.serial, receipt))
+    }
+
+    /// No thread enters the code of the serial any more. Answers the receipt of its Invalidate.
+    pub fn invalidate<R: Wait>(&self, rt: &R, serial: u64) -> Result<Receipt<N>, InvalidateFault>
+        ensures invalidated { IfOk result (λ r. r.entry ≡ Entry.Invalidate serial) }
+        ensures refused { IfErr result (λ e. (s : DeskState) × (invalidate_fault (unfreed s.table.codes serial) ≡ Some e)) }
+    {
+        self.desk.lock(rt).invalidate(&self.board, serial)
+    }
+
+    /// The names of the threads that are live, rising. Refused only for want of memory.
+    pub fn live<R: Wait>(&self, rt: &R) -> Result<Vec<u64>, AllocError>
+        ensures { IfOk result (λ names. (s : DeskState) × (names.items ≡ names_of s.live)) }
+    {
+        let desk = self.desk.lock(rt);
+        let names = desk.live()?;
+        Ok(names)
+    }
+
+    /// The names with their replies of an operation, in the order in which it was finished. Refused only for want of memory.
+    pub fn replies<R: Wait>(&self, rt: &R, op: u64) -> Result<Vec<(u64, u64)>, AllocError>
+        ensures { IfOk result (λ list. (history : List EntryOf) × (list.items ≡ replies_of op history)) }
+    {
+        let desk = self.desk.lock(rt);
+        let list = desk.replies(op)?;
+        Ok(list)
+    }
+
+    fn try_finish<R: Wait>(&self, rt: &R, body: &Body<N>, done: Done) -> Result<Receipt<N>, Done>
+        requires name { body.now.name ≡ done.target }
+        requires settled { IsSettled body.now.image }
+        requires reply { done.reply ≡ reply done.ask body.now.image.frames }
+        ensures ok { IfOk result (λ r. r.entry ≡ Entry.Finish done.op done.target done.reply) }
+        ensures err { IfErr result (λ d. d ≡ done) }
+    {
+        self.desk.lock(rt).finish(body, done)
+    }
+
+    /// Enters what a job answered on a settled body.
+    pub fn finish<R: Wait>(&self, rt: &R, body: &Body<N>, done: Done) -> Receipt<N>
+        requires name { body.now.name ≡ done.target }
+        requires settled { IsSettled body.now.image }
+        requires reply { done.reply ≡ reply done.ask body.now.image.frames }
+        ensures { result.entry ≡ Entry.Finish done.op done.target done.reply }
+    {
+        let mut done = done;
+        for _ in rt.forever() {
+            match self.try_finish(rt, body, done) {
+                Ok(receipt) => return receipt,
+                Err(back) => done = back,
+            }
+            thread::yield_now();
+        }
+        unreachable!()
+    }
+
+    /// Enters that the thread of the name exits.
+    pub fn leave<R: Wait>(&self, rt: &R, name: u64) -> Receipt<N>
+        ensures { result.entry ≡ Entry.Exit name }
+    {
+        for _ in rt.forever() {
+            let gone = self.desk.lock(rt).exit(name);
+            if let Ok(receipt) = gone {
+                return receipt;
+            }
+            thread::yield_now();
+        }
+        unreachable!()
+    }
+}

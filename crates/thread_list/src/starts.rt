@@ -1,0 +1,66 @@
+//! Threads that start.
+ghost use Rattle.std.specs.Prelude.{◌≡◌, IfOk, IfErr, true, ◌<◌, OnOk};
+ghost use Rattle.thread_state.specs.declared.State.TheVariants.{InJava as IsInJava};
+ghost use Rattle.desk.specs.declared.entries.Entry.{Entry};
+ghost use Rattle.desk.specs.Machine.{State as DeskState, Book};
+ghost use Rattle.desk.specs.Refusals.{start_refused};
+
+use crate::mutator::Mutator;
+use crate::serving::served;
+use crate::shared::Shared;
+use bodies::{Body, Name};
+use desk::{Receipt, StartFault};
+use frames::image::Image;
+use operations::job::Errand;
+use std::alloc::Global;
+use std::sync::Wait;
+use thread_state::State;
+
+impl<N: Name, J: Errand> Shared<N, J> {
+    /// Starts a thread in the least vacant place: it makes its first publication and crosses into Java, after it has served what it
+    /// was told by then. Answers the thread, with the receipt of its Start.
+    pub fn start<R: Wait>(
+        &self,
+        rt: &R,
+        alloc: Global,
+    ) -> Result<(Mutator<'_, N, J>, Receipt<N>), StartFault>
+        ensures started { IfOk result (λ r. (r.0.state ≡ IsInJava) × (r.1.entry ≡ Entry.Start r.0.name r.0.place)) }
+        ensures refused { IfErr result (λ e. (s : DeskState) × (book : Book) × start_refused s N.board.places book e) }
+    {
+        let image = Image::new(alloc);
+        let (name, place, receipt) = self.enter(rt, image.is_ok())?;
+        let Ok(image) = image else { unreachable!() };
+        let berth = self.berth(place);
+        let mut body = Body::new(name, image, berth.start(rt, place));
+        body.publish(self.board());
+        berth.settle(rt, body);
+        let mut body = berth.wake(rt, name, place);
+        if body.poll(self.row()) != 0 {
+            body = served(rt, self, body);
+        }
+        let mutator = Mutator {
+            shared: self,
+            name,
+            place,
+            methods: self.methods(),
+            state: State::InJava,
+            body: Some(body),
+        };
+        Ok((mutator, receipt))
+    }
+
+    // Enters the start of the next name, where there is an image for it.
+    fn enter<R: Wait>(
+        &self,
+        rt: &R,
+        has_image: bool,
+    ) -> Result<(u64, usize, Receipt<N>), StartFault>
+        ensures ok { IfOk result (λ r. (r.2.entry ≡ Entry.Start r.0 r.1) × (r.1 < N.board.places) × (0 < r.0)) }
+        ensures image { OnOk result (has_image ≡ true) }
+        ensures refused { IfErr result (λ e. (s : DeskState) × (book : Book) × start_refused s N.board.places book e) }
+    {
+        let mut desk = self.desk.lock(rt);
+        let started = desk.start(has_image)?;
+        Ok(started)
+    }
+}

@@ -1,0 +1,220 @@
+//! What a thread calls that may wait for others: it gives its body away and gets it back.
+ghost use Rattle.std.specs.Prelude.{◌≡◌, ◌≢◌, ◌<◌, ◌==◌, ◌⊎◌, [], ℕ, true, false, Some, None, IfOk, OnOk, IfErr, length};
+ghost use Rattle.thread_state.specs.declared.Back.{Back as WayBack};
+ghost use Rattle.thread_state.specs.declared.State.TheVariants.{InJava as IsInJava, InVm as IsInVm, InNative as IsInNative, Blocked as IsBlocked, NativeTrans as IsNativeTrans, BlockedTrans as IsBlockedTrans, AtPoll as IsAtPoll, Serving as IsServing};
+ghost use Rattle.thread_state.specs.declared.Move.TheVariants as movement;
+ghost use Rattle.thread_state.specs.States as table;
+ghost use Rattle.desk.specs.declared.entries.Entry.{Entry};
+ghost use Rattle.thread_list.specs.declared.polls.Poll.TheVariants.{Go as GoesOn};
+ghost use Rattle.thread_list.specs.Moves.{SameThread, ComesBack, GoesBack, is_running, owns};
+ghost use Rattle.thread_list.specs.Refused.{exit_refused, HasFrames};
+
+use crate::mutator::{Mutator, is_running};
+use crate::polls::{Poll, poll_of};
+use crate::serving::served;
+use crate::shared::Shared;
+use bodies::{Body, Name};
+use desk::Receipt;
+use operations::job::Errand;
+use std::sync::Wait;
+use thread_state::{Back, State};
+
+/// Why a thread doesn't exit, in the order of the tests.
+#[derive(Clone, Copy, PartialEq, Eq, Debug, Drop)]
+pub enum ExitFault {
+    /// It isn't in Java or in the VM.
+    Illegal(State),
+    StackNotEmpty,
+}
+
+// The state that a way back names.
+fn state_of(back: Back) -> State
+    ensures { result ≡ table.state_of back }
+{
+    match back {
+        Back::Java => State::InJava,
+        Back::Vm => State::InVm,
+    }
+}
+
+impl<'a, N: Name, J: Errand> Mutator<'a, N, J> {
+    /// From Java or the VM into native code, without a poll: the body goes into its berth, where it may be held. A thread that is
+    /// in neither is refused with its state.
+    pub fn to_native<R: Wait>(&mut self, rt: &R) -> Result<(), State>
+        ensures ok { OnOk result ((table.step self.old.state movement.ToNative ≡ Some self.new.state) × (self.new.body ≡ None)) }
+        ensures same { SameThread self.old self.new }
+        ensures err { IfErr result (λ s. (s ≡ self.old.state) × (table.step s movement.ToNative ≡ None) × (self.new ≡ self.old)) }
+    {
+        let back = match self.state {
+            State::InJava => Back::Java,
+            State::InVm => Back::Vm,
+            other => return Err(other),
+        };
+        self.give(rt, State::InNative(back));
+        Ok(())
+    }
+
+    /// Back from native code: the body comes out of its berth once nobody holds it, and the thread polls. A thread that isn't in
+    /// native code is refused with its state.
+    pub fn from_native<R: Wait>(&mut self, rt: &R) -> Result<Poll, State>
+        ensures ok { IfOk result (λ said. (back : WayBack) × (self.old.state ≡ IsInNative back) × ComesBack self.new (IsNativeTrans back) said) }
+        ensures same { SameThread self.old self.new }
+        ensures err { IfErr result (λ s. (s ≡ self.old.state) × ((back : WayBack) → s ≢ IsInNative back) × (self.new ≡ self.old)) }
+    {
+        let State::InNative(back) = self.state else {
+            return Err(self.state);
+        };
+        Ok(self.come_back(rt, back))
+    }
+
+    /// From the VM into a wait that the runtime knows of, without a poll: the body goes into its berth, where it may be held. A
+    /// thread that isn't in the VM is refused with its state.
+    pub fn block<R: Wait>(&mut self, rt: &R) -> Result<(), State>
+        ensures ok { OnOk result ((self.old.state ≡ IsInVm) × (self.new.state ≡ IsBlocked) × (self.new.body ≡ None)) }
+        ensures same { SameThread self.old self.new }
+        ensures err { IfErr result (λ s. (s ≡ self.old.state) × (s ≢ IsInVm) × (self.new ≡ self.old)) }
+    {
+        let State::InVm = self.state else {
+            return Err(self.state);
+        };
+        self.give(rt, State::Blocked);
+        Ok(())
+    }
+
+    /// Back from a wait: the body comes out of its berth once nobody holds it, and the thread polls. A thread that isn't blocked is
+    /// refused with its state.
+    pub fn unblock<R: Wait>(&mut self, rt: &R) -> Result<Poll, State>
+        ensures ok { IfOk result (λ said. (self.old.state ≡ IsBlocked) × ComesBack self.new IsBlockedTrans said) }
+        ensures same { SameThread self.old self.new }
+        ensures err { IfErr result (λ s. (s ≡ self.old.state) × (s ≢ IsBlocked) × (self.new ≡ self.old)) }
+    {
+        let State::Blocked = self.state else {
+            return Err(self.state);
+        };
+        Ok(self.come_back(rt, Back::Vm))
+    }
+
+    /// After a poll that answered Stop: the thread stops, serves what it was told, and goes on where its last poll goes on. A thread
+    /// that isn't at a poll is refused with its state.
+    pub fn stop<R: Wait>(&mut self, rt: &R) -> Result<(), State>
+        ensures ok { OnOk result ((back : WayBack) × (self.old.state ≡ IsAtPoll back) × ComesBack self.new (IsServing back) GoesOn) }
+        ensures same { SameThread self.old self.new }
+        ensures err { IfErr result (λ s. (s ≡ self.old.state) × ((back : WayBack) → s ≢ IsAtPoll back) × (self.new ≡ self.old)) }
+    {
+        let State::AtPoll(back) = self.state else {
+            return Err(self.state);
+        };
+        let Some(body) = self.body.take() else {
+            unreachable!()
+        };
+        self.body = Some(served(rt, self.shared, body));
+        self.state = state_of(back);
+        Ok(())
+    }
+
+    // The body goes into its berth, and the thread is in this state, in which it doesn't own itself.
+    fn give<R: Wait>(&mut self, rt: &R, to: State)
+        requires running { is_running self.old.state ≡ true }
+        requires safe { table.is_safe to ≡ true }
+        requires away { owns to ≡ false }
+        ensures state { (self.new.state ≡ to) × (self.new.body ≡ None) }
+        ensures same { SameThread self.old self.new }
+    {
+        let Some(body) = self.body.take() else {
+            unreachable!()
+        };
+        self.state = to;
+        let berth = self.shared.berth_of(&body);
+        berth.give(rt, body);
+    }
+
+    // The body comes out of its berth, and the thread polls: it goes on where the way back leads, or stops there.
+    fn come_back<R: Wait>(&mut self, rt: &R, back: Back) -> Poll
+        ensures polled { GoesBack self.new back result }
+        ensures same { SameThread self.old self.new }
+    {
+        let mut body = self
+            .shared
+            .berth(self.place)
+            .wake(rt, self.name, self.place);
+        let found = body.poll(self.shared.row());
+        self.body = Some(body);
+        self.state = if found == 0 {
+            state_of(back)
+        } else {
+            State::AtPoll(back)
+        };
+        poll_of(found)
+    }
+
+    /// The thread ends: it publishes its empty stack, serves what it was told before, and gives its place up. Answers the receipt of
+    /// its Exit. It is refused, with the mutator as it was, where it isn't in Java or in the VM, and where its stack isn't empty. A
+    /// body that came back from serving may have frames that a holder left there; then it is refused in Java, where it served.
+    pub fn exit<R: Wait>(self, rt: &R) -> Result<Receipt<N>, (ExitFault, Mutator<'a, N, J>)>
+        ensures exited { IfOk result (λ r. (r.entry ≡ Entry.Exit self.entry.name) × (is_running self.entry.state ≡ true)) }
+        ensures refused { IfErr result (λ e. ((e.1 ≡ self.entry) × exit_refused self.entry e.0) ⊎ ((e.0 ≡ ExitFault.StackNotEmpty) × (e.1.state ≡ IsInJava) × SameThread self.entry e.1 × exit_refused e.1 e.0)) }
+    {
+        if !is_running(self.state) {
+            return Err((ExitFault::Illegal(self.state), self));
+        }
+        if self.depth() != 0 {
+            return Err((ExitFault::StackNotEmpty, self));
+        }
+        let Mutator {
+            shared,
+            name,
+            place,
+            methods,
+            state: _,
+            body,
+        } = self;
+        let Some(body) = body else { unreachable!() };
+        if let Err(body) = vacate(rt, shared, body) {
+            let back = Mutator {
+                shared,
+                name,
+                place,
+                methods,
+                state: State::InJava,
+                body: Some(body),
+            };
+            return Err((ExitFault::StackNotEmpty, back));
+        }
+        Ok(shared.leave(rt, name))
+    }
+
+    // How many frames the stack of the thread has, as far as it has its body.
+    fn depth(&self) -> usize
+        ensures deep { (b : _) → self.now.body ≡ Some b → result ≡ length b.image.frames }
+    {
+        let _ = &self.name;
+        match &self.body {
+            Some(body) => body.depth(),
+            None => 0,
+        }
+    }
+}
+
+// Publishes an empty stack and gives the place up, after all that was told is served. The body comes back where it has frames.
+fn vacate<N: Name, J: Errand, R: Wait>(
+    rt: &R,
+    shared: &Shared<N, J>,
+    body: Body<N>,
+) -> Result<(), Body<N>>
+    requires body { (body.seat.stored ≢ 0) × (0 < body.name) }
+    ensures same { IfErr result (λ b. (b.name ≡ body.name) × (b.seat.place ≡ body.seat.place) × (b.seat.stored ≢ 0)) }
+    ensures frames { IfErr result (λ b. 0 < length b.image.frames) }
+{
+    let mut body = body;
+    for _ in rt.forever() {
+        if body.depth() > 0 {
+            return Err(body);
+        }
+        body.publish(shared.board());
+        match shared.berth_of(&body).exit(rt, body, shared.board()) {
+            Ok(()) => return Ok(()),
+            Err(back) => body = served(rt, shared, back),
+        }
+    }
+    unreachable!()
+}
