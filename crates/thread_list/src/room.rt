@@ -81,7 +81,7 @@ impl<N: Name, J: Errand> Room<N, J> {
     /// The seat and the poller come out, where no thread has them.
     pub fn start(&mut self) -> Option<SpareSeat<N>>
         ensures some { IfSome result (λ p. (self.old.holder ≡ IsVacant p) × (p.seat.place ≡ self.old.place) × (self.new ≡ record self.old { holder = IsAway })) }
-        ensures none { IfNone result (self.new ≡ self.old) }
+        ensures none { IfNone result ((self.new ≡ self.old) × ((p : _) → self.old.holder ≢ IsVacant p)) }
     {
         match std::mem::replace(&mut self.holder, Holder::Away) {
             Holder::Vacant(pair) => Some(pair),
@@ -96,7 +96,7 @@ impl<N: Name, J: Errand> Room<N, J> {
     pub fn settle(&mut self, body: Body<N>) -> Result<(), Body<N>>
         requires body { (body.seat.stored ≢ 0) × (0 < body.name) }
         ensures ok { OnOk result ((self.old.holder ≡ IsAway) × (self.new ≡ record self.old { holder = IsAtHome body })) }
-        ensures err { IfErr result (λ b. (b ≡ body) × (self.new ≡ self.old)) }
+        ensures err { IfErr result (λ b. (b ≡ body) × (self.new ≡ self.old) × (self.old.holder ≡ IsAway → self.old.place ≢ body.seat.place)) }
     {
         let Holder::Away = self.holder else {
             return Err(body);
@@ -112,7 +112,7 @@ impl<N: Name, J: Errand> Room<N, J> {
     pub fn give(&mut self, body: Body<N>) -> Result<(), Body<N>>
         requires body { (body.seat.stored ≢ 0) × (0 < body.name) }
         ensures ok { OnOk result ((self.old.holder ≡ IsOut body.name) × (self.new ≡ record self.old { holder = IsAtHome body })) }
-        ensures err { IfErr result (λ b. (b ≡ body) × (self.new ≡ self.old)) }
+        ensures err { IfErr result (λ b. (b ≡ body) × (self.new ≡ self.old) × (self.old.holder ≡ IsOut body.name → self.old.place ≢ body.seat.place)) }
     {
         let Holder::Out(name) = self.holder else {
             return Err(body);
@@ -128,7 +128,7 @@ impl<N: Name, J: Errand> Room<N, J> {
     pub fn take(&mut self, name: u64) -> Option<Body<N>>
         ensures some { IfSome result (λ b. (self.old.holder ≡ IsAtHome b) × (b.name ≡ name) × (self.new ≡ record self.old { holder = IsOut name })) }
         ensures body { IfSome result (λ b. (b.seat.place ≡ self.old.place) × (0 < b.name) × (b.seat.stored ≢ 0)) }
-        ensures none { IfNone result (self.new ≡ self.old) }
+        ensures none { IfNone result ((self.new ≡ self.old) × ((b : _) → self.old.holder ≡ IsAtHome b → b.name ≢ name)) }
     {
         match std::mem::replace(&mut self.holder, Holder::Away) {
             Holder::Home(body) => {
@@ -158,7 +158,7 @@ impl<N: Name, J: Errand> Room<N, J> {
         ensures job { IfSome result (λ r. IfSome r.1 (λ j. (J.whom j ≡ name) × (0 < J.number j) × (self.old.jobs ≡ told_of J.number J.whom j ∷ self.new.jobs))) }
         ensures no_job { IfSome result (λ r. IfNone r.1 ((self.old.jobs ≡ []) × (self.new.jobs ≡ []))) }
         ensures left { IfSome result (λ r. (self.new.holder ≡ IsOut name) × (self.new.mark ≡ 0)) }
-        ensures none { IfNone result (self.new ≡ self.old) }
+        ensures none { IfNone result ((self.new ≡ self.old) × (self.old.mark ≡ 0 → (b : _) → self.old.holder ≡ IsAtHome b → b.name ≢ name)) }
     {
         if self.mark != 0 {
             return None;
@@ -175,7 +175,7 @@ impl<N: Name, J: Errand> Room<N, J> {
     pub fn job(&mut self, name: u64) -> Option<J>
         ensures some { IfSome result (λ j. (J.whom j ≡ name) × (0 < J.number j) × (self.old.jobs ≡ told_of J.number J.whom j ∷ self.new.jobs)) }
         ensures same { (self.new.holder ≡ self.old.holder) × (self.new.mark ≡ self.old.mark) }
-        ensures none { IfNone result (self.new ≡ self.old) }
+        ensures none { IfNone result ((self.new ≡ self.old) × (self.old.holder ≡ IsOut name → self.old.jobs ≡ [])) }
     {
         let Holder::Out(out) = self.holder else {
             return None;
@@ -235,7 +235,7 @@ impl<N: Name, J: Errand> Room<N, J> {
     pub fn release(&mut self, body: Body<N>, operated: bool) -> Result<(), Body<N>>
         requires body { (body.seat.stored ≢ 0) × (0 < body.name) }
         ensures ok { OnOk result ((self.old.holder ≡ IsOut body.name) × (self.new ≡ record self.old { holder = IsAtHome body; mark = if operated then 0 else self.old.mark })) }
-        ensures err { IfErr result (λ b. (b ≡ body) × (self.new ≡ self.old)) }
+        ensures err { IfErr result (λ b. (b ≡ body) × (self.new ≡ self.old) × (self.old.holder ≡ IsOut body.name → self.old.place ≢ body.seat.place)) }
     {
         self.give(body)?;
         if operated {
@@ -249,7 +249,7 @@ impl<N: Name, J: Errand> Room<N, J> {
         requires board { board.now ≡ N.board }
         requires empty { (body.image.frames ≡ []) × IsCounted body.image }
         ensures ok { OnOk result ((self.old.holder ≡ IsOut body.name) × (self.old.jobs ≡ []) × (self.old.mark ≡ 0) × (self.new.jobs ≡ []) × (self.new.mark ≡ 0) × (self.new.holder ≡ IsVacant (record { seat = stored_as body.seat 0; poller = body.poller }))) }
-        ensures err { IfErr result (λ b. (b ≡ body) × (self.new ≡ self.old)) }
+        ensures err { IfErr result (λ b. (b ≡ body) × (self.new ≡ self.old) × (self.old.holder ≡ IsOut body.name → self.old.place ≡ body.seat.place → self.old.jobs ≡ [] → self.old.mark ≢ 0)) }
     {
         let Holder::Out(name) = self.holder else {
             return Err(body);
