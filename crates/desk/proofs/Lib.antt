@@ -5,3 +5,6 @@ pub mod OpenLists
 pub mod Keeping
 pub mod Once
 pub mod Rising
+pub mod ReplyLists
+pub mod RoomKept
+pub mod RoomSteps

@@ -57,13 +57,15 @@ pub struct Desk<N: Name, J: Errand> {
 
 impl<N: Name, J: Errand> Model for Desk<N, J> {
     ghost use Rattle.std.specs.Prelude.{◌≡◌, ◌<◌, ◌≤◌, vec_len, vec_capacity};
-    ghost use Rattle.desk.specs.Fields.{DeskSeen, state_of, IsKept, AreCarried};
+    ghost use Rattle.std.specs.Prelude.{map};
+    ghost use Rattle.desk.specs.Fields.{DeskSeen, state_of, IsKept, AreCarried, asked_of, current_of};
+    ghost use Rattle.desk.specs.Replies.{HaveRoom};
 
     ghost Value = { DeskSeen };
 
-    ghost view = { λ d. record { book = d.log; slots = d.codes.table.slots; methods = d.codes.table.methods; keeper = d.codes.keeper } };
+    ghost view = { λ d. record { book = d.log.book; slots = d.codes.table.slots; methods = d.codes.table.methods; keeper = d.codes.keeper } };
 
-    ghost invariant = { λ d. IsKept d.codes.table.slots d.codes.table.methods d.log (state_of d.next_name d.live.items d.next_number d.queue d.opened.items d.codes.table) × AreCarried d.queue × (vec_len d.opened ≤ 1) × (1 ≤ vec_capacity d.opened) × (d.places ≡ N.board.places) × (0 < d.next_name) };
+    ghost invariant = { λ d. IsKept d.codes.table.slots d.codes.table.methods d.log.book (state_of d.next_name d.live.items d.next_number d.queue d.opened.items d.codes.table) × AreCarried d.queue × (vec_len d.opened ≤ 1) × (1 ≤ vec_capacity d.opened) × (d.places ≡ N.board.places) × (0 < d.next_name) × HaveRoom d.next_number (map asked_of d.queue) (map current_of d.opened.items) d.log.lists };
 }
 
 impl<N: Name, J: Errand> Desk<N, J> {
@@ -260,6 +262,13 @@ impl<N: Name, J: Errand> Desk<N, J> {
                 jobs,
             });
         };
+        let Ok(list) = self.log.new_list(self.alloc, due.len()) else {
+            self.log.give_back(3 + steps);
+            return Err(Refused {
+                fault: AskFault::NoMemory,
+                jobs,
+            });
+        };
         let number = self.next_number;
         if let Err(back) = self.queue.push(number, request, Carried { due, jobs }) {
             self.log.give_back(3 + steps);
@@ -275,7 +284,7 @@ impl<N: Name, J: Errand> Desk<N, J> {
             });
         }
         self.next_number += 1;
-        Ok((number, self.log.enter(Entry::Ask(number, copy))))
+        Ok((number, self.log.enter_ask(number, copy, list)))
     }
 
     /// Opens the oldest request.
@@ -329,7 +338,7 @@ impl<N: Name, J: Errand> Desk<N, J> {
         finish_at(&mut self.opened, place, done.target());
         Ok(
             self.log
-                .enter(Entry::Finish(done.op(), done.target(), done.reply())),
+                .enter_finish(done.op(), done.target(), done.reply()),
         )
     }
 

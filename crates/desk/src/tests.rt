@@ -178,6 +178,7 @@ fn look_up<N: Name, J: Errand, R: Abort>(rt: &R, desk: &Desk<N, J>) -> Result<()
     };
     assert!(rt; desk.standing(1) == Standing::Asked(answered));
     assert!(rt; desk.replies(1)?.as_slice() == [(1, 0)].as_slice());
+    assert!(rt; desk.replies(0)?.is_empty() && desk.replies(2)?.is_empty());
     assert!(rt; desk.live()?.as_slice() == [1].as_slice());
     Ok(())
 }
