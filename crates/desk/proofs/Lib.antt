@@ -8,3 +8,4 @@ pub mod Rising
 pub mod ReplyLists
 pub mod RoomKept
 pub mod RoomSteps
+pub mod JobsLeft

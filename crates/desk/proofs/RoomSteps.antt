@@ -8,7 +8,7 @@ use Rattle.desk.specs.declared.entries.Live.{Live}
 use Rattle.desk.specs.declared.entries.Carried.{Carried}
 use Rattle.desk.specs.declared.entries.Opened.{Opened}
 use Rattle.desk.specs.Machine.{is_live, live_of, targets_of, finished, as_operated}
-use Rattle.desk.specs.Fields.{asked_of, current_of, IsIndex, AreCarried}
+use Rattle.desk.specs.Fields.{asked_of, current_of, IsIndex, IsCarried, AreCarried}
 use Rattle.desk.specs.Replies.{Said, of_number, HasLess, HaveRoom}
 use Rattle.desk.proofs.Fewer.{filter_le}
 use Rattle.desk.proofs.OpenLists.{open_at, set_at}
@@ -29,12 +29,12 @@ pub ask_has_room : {J : Type 0} (num : ℕ) (q q' : List (Waiting (Carried J))) 
 ask_has_room num q q' w os lists lists' x have is number enough lists_is =
     ask_room num (map asked_of q) (map asked_of q') (map current_of os) (asked_of w) lists lists' x have (ap (map asked_of) is ∙ map-append asked_of q (w ∷ [])) number enough lists_is
 
-pub open_has_room : {J : Type 0} (num : ℕ) (live : List Live) (q q' : List (Waiting (Carried J))) (w : Waiting (Carried J)) (os os' : List (Opened J)) (o : Opened J) (lists : List Said)
-    → HasRoom num q os lists → AreCarried q → q ≡ w ∷ q' → os' ≡ os ++ o ∷ [] → o.number ≡ w.number → o.due.items ≡ live_of live w.load.due.items → HasRoom num q' os' lists
-open_has_room num live q q' w os os' o lists have are is opened number due =
-    let carried : (w.load.due.items ≡ targets_of w.request) × AreCarried q' = subst AreCarried is are in
+pub open_has_room : {J : Type 0} (whom : J → ℕ) (num : ℕ) (live : List Live) (q q' : List (Waiting (Carried J))) (w : Waiting (Carried J)) (os os' : List (Opened J)) (o : Opened J) (lists : List Said)
+    → HasRoom num q os lists → AreCarried whom q → q ≡ w ∷ q' → os' ≡ os ++ o ∷ [] → o.number ≡ w.number → o.due.items ≡ live_of live w.load.due.items → HasRoom num q' os' lists
+open_has_room whom num live q q' w os os' o lists have are is opened number due =
+    let carried : IsCarried whom w × AreCarried whom q' = subst (AreCarried whom) is are in
     let less = filter_le (λ (t : ℕ). is_live t live) w.load.due.items in
-    let a = ap (λ (l : List ℕ). length l) due in let b = ap (λ (l : List ℕ). length l) carried.0 in
+    let a = ap (λ (l : List ℕ). length l) due in let b = ap (λ (l : List ℕ). length l) carried.0.due in
     open_room num (map asked_of q) (map asked_of q') (map current_of os) (map current_of os') (asked_of w) (current_of o) lists have (ap (map asked_of) is) (ap (map current_of) opened ∙ map-append current_of os (o ∷ [])) number (omega arith)
 
 pub due_has_room : {J : Type 0} (num n name i : ℕ) (q : List (Waiting (Carried J))) (os : List (Opened J)) (o : Opened J) (lists : List Said)

@@ -1,10 +1,11 @@
-use Rattle.std.proofs.Common.{◌<◌, sym, ◌≡◌, ◌∙◌, ap, subst, refl, Some, None, rules, true, false}
+use Rattle.std.proofs.Common.{map, ◌<◌, sym, ◌≡◌, ◌∙◌, ap, subst, refl, Some, None, rules, true, false}
 use Rattle.std.specs.Prelude.{◌&&◌, slice_get}
 use Rattle.std.proofs.lemmas.Option.{slice_get_read}
 use Rattle.std.proofs.lemmas.Bool.{and_parts}
 use Rattle.desk.specs.declared.entries.Entry.TheVariants as entry
 use Rattle.desk.specs.Machine.{State, lawful, is_due, is_live, finished}
-use Rattle.desk.specs.Fields.{DeskSeen, current_of, IsIndex, at, Enters}
+use Rattle.desk.specs.Fields.{DeskSeen, current_of, names_left, IsIndex, at, Enters}
+use Rattle.desk.proofs.JobsLeft.{set_left}
 use Rattle.desk.proofs.Keeping.{finish_keeps, enters_by, finish_is, finish_not}
 use Rattle.desk.specs.Replies.{of_number, HasLess}
 use Rattle.desk.proofs.RoomSteps.{due_has_room, finish_has_room}
@@ -54,8 +55,16 @@ returns-clause-ok g c =
     let where_is : IsIndex {J = g.row.J.Denot} c.args.done.op i.opened.items (Some c.in-Some.place) = search rules in
     let here : slice_get i.opened.items c.in-Some.place ≡ Some o = slice_get_read i.opened.items _ c.in-Some.place o refl where_is.0 c.index.ensures in
     let due : true ≡ (is_due c.args.done.target (current_of o) && is_live c.args.done.target i.live.items) = search rules in
-    let is : record { book = i.log.book; slots = i.codes.table.slots; methods = i.codes.table.methods; keeper = i.codes.keeper } ≡ c.args.self.now = c.self.view_is in
-    subst (λ (d : DeskSeen). Enters d (record { book = c.enter_finish.new.self.book; slots = i.codes.table.slots; methods = i.codes.table.methods; keeper = i.codes.keeper }) (entry.Finish c.args.done.op c.args.done.target c.args.done.reply) c.enter_finish.result) is
-    (enters_by (record { book = i.log.book; slots = i.codes.table.slots; methods = i.codes.table.methods; keeper = i.codes.keeper }) (record { book = c.enter_finish.new.self.book; slots = i.codes.table.slots; methods = i.codes.table.methods; keeper = i.codes.keeper }) _ (entry.Finish c.args.done.op c.args.done.target c.args.done.reply) c.enter_finish.result m.0.state
+    let is : record { book = i.log.book; slots = i.codes.table.slots; methods = i.codes.table.methods; keeper = i.codes.keeper; jobs = map (names_left g.J.Errand.whom) i.opened.items } ≡ c.args.self.now = c.self.view_is in
+    subst (λ (d : DeskSeen). Enters d (record { book = c.enter_finish.new.self.book; slots = i.codes.table.slots; methods = i.codes.table.methods; keeper = i.codes.keeper; jobs = map (names_left g.J.Errand.whom) c.finish_at.new.opened.items }) (entry.Finish c.args.done.op c.args.done.target c.args.done.reply) c.enter_finish.result) is
+    (enters_by (record { book = i.log.book; slots = i.codes.table.slots; methods = i.codes.table.methods; keeper = i.codes.keeper; jobs = map (names_left g.J.Errand.whom) i.opened.items }) (record { book = c.enter_finish.new.self.book; slots = i.codes.table.slots; methods = i.codes.table.methods; keeper = i.codes.keeper; jobs = map (names_left g.J.Errand.whom) c.finish_at.new.opened.items }) _ (entry.Finish c.args.done.op c.args.done.target c.args.done.reply) c.enter_finish.result m.0.state
     (finish_is c.args.done.op c.args.done.target c.args.done.reply i.next_name i.next_number c.in-Some.place i.live.items i.queue i.opened.items o i.codes.table true where_is here due)
     (search rules) (search rules) refl refl)
+
+pub returns-clause-jobs : goal.returns-clause-jobs
+returns-clause-jobs g c =
+    let i = c.self.inside in let o = c.index.result.now in
+    let where_is : IsIndex {J = g.row.J.Denot} c.args.done.op i.opened.items (Some c.in-Some.place) = search rules in
+    let here : slice_get i.opened.items c.in-Some.place ≡ Some o = slice_get_read i.opened.items _ c.in-Some.place o refl where_is.0 c.index.ensures in
+    let made = c.finish_at.ensures.step o here in
+    ap (map (names_left g.J.Errand.whom)) made.2 ∙ set_left g.J.Errand.whom c.in-Some.place i.opened.items o made.0 here made.3 ∙ ap (λ (d : DeskSeen). d.jobs) c.self.view_is
