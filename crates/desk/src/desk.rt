@@ -396,6 +396,7 @@ impl<N: Name, J: Errand> Desk<N, J> {
         requires board { board.now ≡ N.board }
         ensures retired { IfOk result (λ r. IfSome r.1 (λ receipt. Enters self.old self.new (Entry.Retire serial) receipt)) }
         ensures weighed { IfOk result (λ r. (code : CodeOf) × (unfreed (at self.old).table.codes serial ≡ Some code) × KeeperWeighs N.board.places (id_of code) self.old.keeper self.new.keeper r.0) }
+        ensures clear { IfOk result (λ r. IfSome r.1 (λ _. r.0 ≡ Weighed.Clear)) }
         ensures others { IfOk result (λ r. IfNone r.1 ((self.new.book ≡ self.old.book) × (self.new.slots ≡ self.old.slots) × (self.new.methods ≡ self.old.methods) × (r.0 ≢ Weighed.Clear))) }
         ensures err { IfErr result (λ e. (self.new ≡ self.old) × (retire_fault (unfreed (at self.old).table.codes serial) ≡ Some e)) }
     {
