@@ -2,7 +2,7 @@
 ghost use Rattle.std.specs.Prelude.{◌≡◌, IfErr, OnOk};
 ghost use Rattle.thread_state.specs.declared.State.TheVariants.{InJava, InVm};
 ghost use Rattle.thread_list.specs.Moves.{SameThread};
-ghost use Rattle.thread_list.specs.Refused.{return_refused};
+ghost use Rattle.thread_list.specs.Refused.{return_refused, HasNoFrame};
 ghost use Rattle.workers.specs.Marks.{goes_on, Settles, Returns, Turns, GoesNative, GoesVm, Blocks, ComesFromVm};
 
 use bodies::Name;
@@ -38,6 +38,21 @@ pub fn leave<N: Name, J: Errand, R: Wait>(
     thread.ret()?;
     settle(rt, thread);
     Ok(())
+}
+
+/// Returns from all methods.
+pub fn unwind<N: Name, J: Errand, R: Wait>(rt: &R, thread: &mut Mutator<'_, N, J>)
+    requires { thread.old.state ≡ InJava }
+    ensures state { thread.new.state ≡ InJava }
+    ensures frames { HasNoFrame thread.new.body }
+    ensures same { SameThread thread.old thread.new }
+{
+    for _ in rt.forever() {
+        if let Err(ReturnFault::EmptyStack) = leave(rt, thread) {
+            return;
+        }
+    }
+    unreachable!()
 }
 
 /// The back edge of a loop.

@@ -3,7 +3,11 @@
 
 mod crossings;
 mod gate;
+mod report;
+mod task;
 mod worker;
 
 pub use gate::{Gate, OpenGate};
+pub use report::{Ending, Report};
+pub use task::{BeginFault, FUEL, Task};
 pub use worker::{Refused, Worker};

@@ -2,11 +2,13 @@
 ghost use Rattle.std.specs.Prelude.{◌≡◌, ◌||◌, OnOk, IfOk, IfErr, true, false};
 ghost use Rattle.thread_state.specs.declared.State.TheVariants.{InJava};
 ghost use Rattle.thread_list.specs.Moves.{Running, SameThread};
+ghost use Rattle.desk.specs.declared.entries.Entry.{Entry};
 ghost use Rattle.workers.specs.Marks.{Marked, IsRefused, Enters, enter_refused, is_compiled};
 
-use crate::crossings::{block, go_native, go_vm, leave, turn};
+use crate::crossings::{block, go_native, go_vm, leave, turn, unwind};
 use crate::gate::Gate;
 use bodies::{Called, Name};
+use desk::Receipt;
 use interp::{Mark, Steps};
 use operations::job::Errand;
 use std::marker::Model;
@@ -62,6 +64,37 @@ impl<'a, N: Name, J: Errand, R: Wait, G: Gate> Worker<'a, N, J, R, G> {
             thread,
             compiled: false,
         }
+    }
+
+    /// The name of its thread.
+    pub fn name(&self) -> u64
+        ensures { result ≡ self.now.thread.name }
+    {
+        let _ = &self.shared;
+        self.thread.name()
+    }
+
+    /// Whether some frame so far was compiled.
+    pub fn compiled(&self) -> bool
+        ensures { result ≡ self.now.compiled }
+    {
+        let _ = &self.thread;
+        self.compiled
+    }
+
+    /// Returns from all methods, and exits. Answers the receipt of the thread's Exit.
+    pub fn exit(self) -> Receipt<N>
+        ensures { result.entry ≡ Entry.Exit self.entry.thread.name }
+    {
+        let mut thread = self.thread;
+        for _ in self.rt.forever() {
+            unwind(self.rt, &mut thread);
+            match thread.exit(self.rt) {
+                Ok(receipt) => return receipt,
+                Err((_, back)) => thread = back,
+            }
+        }
+        unreachable!()
     }
 
     fn enter(&mut self, method: usize) -> Result<(), CallFault>
