@@ -1,3 +1,4 @@
 pub mod Berthed
 pub mod Popped
 pub mod Made
+pub mod Crosses

@@ -5,9 +5,11 @@ mod crossings;
 mod gate;
 mod report;
 mod task;
+mod threads;
 mod worker;
 
 pub use gate::{Gate, OpenGate};
 pub use report::{Ending, Report};
 pub use task::{BeginFault, FUEL, Task};
+pub use threads::{NoThread, Promised, start};
 pub use worker::{Refused, Worker};

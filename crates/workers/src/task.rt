@@ -69,6 +69,14 @@ impl<'a, N: Name, J: Errand, R: Wait, G: Gate> Task<'a, N, J, R, G> {
         }
     }
 
+    /// The code of its script.
+    pub fn code(&self) -> &'a Code
+        ensures { result.now ≡ self.now.code }
+    {
+        let _ = &self.worker;
+        self.code
+    }
+
     /// The name of its thread.
     pub fn name(&self) -> u64
         ensures { result ≡ self.now.name }
