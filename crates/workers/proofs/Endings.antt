@@ -12,14 +12,13 @@ use Rattle.interp.specs.Trace.{Trace, finished, overflowed, made, after, method_
 use Rattle.interp.specs.Chain.{Chain}
 use Rattle.interp.specs.Left.{Left, made_by}
 use Rattle.interp.specs.Stepped.{IsEnd, Stepped, EndsSo, Ran}
-use Rattle.desk.specs.declared.entries.Entry.{Entry}
 use Rattle.desk.specs.declared.entries.Entry.TheVariants.{Exit}
 use Rattle.thread_list.specs.Moves.{SameThread}
 use Rattle.workers.specs.declared.worker.Refused.{Refused}
 use Rattle.workers.specs.declared.report.Ending.{Ending}
 use Rattle.workers.specs.declared.report.Ending.TheVariants.{Finished, Overflow, OutOfFuel}
 use Rattle.workers.specs.Marks.{Working, Marked, IsRefused}
-use Rattle.workers.specs.Ended.{Ended, after_marks, one_more, ended, most, EndsAs, IsReport, ending_of, IsBegun}
+use Rattle.workers.specs.Ended.{Ended, after_marks, one_more, ended, most, EndsAs, Reported, IsReport, ending_of, IsBegun}
 
 ends_finished : (fuel : ℕ) (ms : List Mark) → length ms ≤ fuel → ended fuel (after ms finished) ≡ after_marks Finished (length ms)
 unfolding ended
@@ -103,15 +102,18 @@ one_before fuel m u (Ok ending) n e = ap one_more e
 one_before fuel m u (Err refused) n e = tt
 
 -- the other marks, from the first on
-pub reported : (code : List (List Op)) (name : ℕ) (r q : Runner) (s t : Working) (o : Outcome Refused) (entry : Entry)
-    → IsBegun code name s.thread.name r → Ran Does Refuses r s 999999 o q t → entry ≡ Exit t.thread.name → IsReport code name entry (ending_of o) (made_by q)
-reported code name r q s t o entry begins ran exited = λ bs is checked.
+pub reported : (code : List (List Op)) (name : ℕ) (r q : Runner) (s t : Working) (o : Outcome Refused) (report : Reported)
+    → IsBegun code name s.thread.name r → Ran Does Refuses r s 999999 o q t
+    → report.exited ≡ Exit t.thread.name → report.name ≡ name → report.ending ≡ ending_of o → report.made ≡ made_by q → IsReport code report
+reported code name r q s t o report begins ran exited named ending made_all = λ bs is checked.
     let (m, u, first, own, left, one) = begins bs is checked in
     let (ms, v, rest, left_still, count, ends) = ran u left in
     let (same, end, few) = told s ms v 999999 o t ends in
     let total : made_by q ≡ suc (length ms) = count ∙ ap (λ (n : ℕ). min (n + length ms) (2 ^ 64 - 1)) one ∙ omega (arith, few) in
     let all : EndsAs most (made m u) (ending_of o) (suc (length ms)) =
-    one_before 999999 m u (ending_of o) (length ms) (subst (λ (w : Trace). EndsAs 999999 w (ending_of o) (length ms)) (sym rest) end) in (
-      exited ∙ ap (λ (n : ℕ). Exit n) (same ∙ own),
-      subst (λ (n : ℕ). EndsAs most (trace bs) (ending_of o) n) (sym total) (subst (λ (w : Trace). EndsAs most w (ending_of o) (suc (length ms))) (sym first) all),
+    one_before 999999 m u (ending_of o) (length ms) (subst (λ (w : Trace). EndsAs 999999 w (ending_of o) (length ms)) (sym rest) end) in
+    let there : EndsAs most (trace bs) (ending_of o) (suc (length ms)) = subst (λ (w : Trace). EndsAs most w (ending_of o) (suc (length ms))) (sym first) all in
+    let counted : EndsAs most (trace bs) (ending_of o) report.made = subst (λ (n : ℕ). EndsAs most (trace bs) (ending_of o) n) (sym (made_all ∙ total)) there in (
+      exited ∙ ap (λ (n : ℕ). Exit n) (same ∙ own ∙ sym named),
+      subst (λ (e : Result Ending Refused). EndsAs most (trace bs) e report.made) (sym ending) counted,
     )

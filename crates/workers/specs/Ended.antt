@@ -1,5 +1,5 @@
 -- How the run of a trace ends, and how many marks it makes.
-use Rattle.std.specs.Prelude.{◌≡◌, ℕ, zero, suc, List, map, Result, Ok, Err, ⊤}
+use Rattle.std.specs.Prelude.{◌≡◌, ℕ, zero, suc, Bool, List, map, Result, Ok, Err, ⊤}
 use Rattle.script.specs.declared.code.Op.{Op}
 use Rattle.script.specs.Body.{Body}
 use Rattle.script.specs.Checked.{AreChecked}
@@ -43,9 +43,17 @@ abbrev pub EndsAs : ℕ → Trace → Result Ending Refused → ℕ → Type 0
 EndsAs fuel t (Ok ending) marks = ended fuel t ≡ after_marks ending marks
 EndsAs fuel t (Err refused) marks = ⊤
 
--- Where that is the code of a checked script, the thread of that name exited, by that entry, and its run of the script ended so.
-abbrev pub IsReport : List (List Op) → ℕ → Entry → Result Ending Refused → ℕ → Type 0
-IsReport code name entry ending marks = (bs : List Body) → code ≡ map routine bs → AreChecked bs → (entry ≡ Exit name) × EndsAs most (trace bs) ending marks
+-- What a thread reports: the entry of its exit, its name, how its run ended, the marks that it made, and whether some frame was compiled.
+pub record Reported : Type 0 where
+  pub exited : Entry
+  pub name : ℕ
+  pub ending : Result Ending Refused
+  pub made : ℕ
+  pub compiled : Bool
+
+-- Where that is the code of a checked script, a thread exited by its name, and its run of the script ended as it reports.
+abbrev pub IsReport : List (List Op) → Reported → Type 0
+IsReport code r = (bs : List Body) → code ≡ map routine bs → AreChecked bs → (r.exited ≡ Exit r.name) × EndsAs most (trace bs) r.ending r.made
 
 abbrev pub ending_of : Outcome Refused → Result Ending Refused
 ending_of outcome.Finished = Ok Finished

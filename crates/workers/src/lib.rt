@@ -11,5 +11,5 @@ mod worker;
 pub use gate::{Gate, OpenGate};
 pub use report::{Ending, Report};
 pub use task::{BeginFault, FUEL, Task};
-pub use threads::{NoThread, Promised, start};
+pub use threads::{NoThread, Promised, Started, join_all, start, start_all};
 pub use worker::{Refused, Worker};

@@ -87,23 +87,19 @@ impl<'a, N: Name, J: Errand, R: Wait, G: Gate> Task<'a, N, J, R, G> {
 
     /// Makes all other marks for which there is fuel, returns from all methods, and exits.
     pub fn finish(self) -> Report<N>
-        ensures { IsReport self.entry.code self.entry.name result.exited.entry result.ending result.made }
+        ensures report { IsReport self.entry.code result }
+        ensures name { result.name ≡ self.entry.name }
     {
         let Task {
             code: _,
-            name: _,
+            name,
             mut runner,
             mut worker,
         } = self;
         let ending = ending_of(runner.run(&mut worker, FUEL - 1));
         let made = runner.made();
         let compiled = worker.compiled();
-        Report {
-            exited: worker.exit(),
-            ending,
-            made,
-            compiled,
-        }
+        Report::new(worker.exit(), name, ending, made, compiled)
     }
 }
 
