@@ -1,0 +1,3 @@
+pub mod Landings
+pub mod Endings
+pub mod Crosses

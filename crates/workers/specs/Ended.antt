@@ -1,0 +1,71 @@
+-- How the run of a trace ends, and how many marks it makes.
+use Rattle.std.specs.Prelude.{◌≡◌, ℕ, zero, suc, Bool, List, map, Result, Ok, Err, ⊤}
+use Rattle.script.specs.declared.code.Op.{Op}
+use Rattle.script.specs.Body.{Body}
+use Rattle.script.specs.Checked.{AreChecked}
+use Rattle.script.specs.Layout.{routine}
+use Rattle.interp.specs.declared.mark.Mark.{Mark}
+use Rattle.interp.specs.declared.runner.Runner.{Runner}
+use Rattle.interp.specs.declared.runner.Outcome.{Outcome}
+use Rattle.interp.specs.declared.runner.Outcome.TheVariants as outcome
+use Rattle.interp.specs.Trace.{Trace, finished, overflowed, made, trace}
+use Rattle.interp.specs.Left.{Left, made_by}
+use Rattle.desk.specs.declared.entries.Entry.{Entry}
+use Rattle.desk.specs.declared.entries.Entry.TheVariants.{Exit}
+use Rattle.workers.specs.declared.worker.Refused.{Refused}
+use Rattle.workers.specs.declared.report.Ending.{Ending}
+use Rattle.workers.specs.declared.report.Ending.TheVariants.{Finished, Overflow, OutOfFuel}
+
+-- An ending, and the marks made by then.
+pub record Ended : Type 0 where
+  pub ending : Ending
+  pub marks : ℕ
+
+abbrev pub after_marks : Ending → ℕ → Ended
+after_marks e n = record { ending = e; marks = n }
+
+abbrev pub one_more : Ended → Ended
+one_more e = after_marks e.ending (suc e.marks)
+
+-- with so much fuel, one unit a mark
+unfoldable pub ended : ℕ → Trace → Ended
+ended fuel finished = after_marks Finished 0
+ended fuel overflowed = after_marks Overflow 0
+ended zero (made m t) = after_marks OutOfFuel 0
+ended (suc fuel) (made m t) = one_more (ended fuel t)
+
+-- The most marks of a run.
+abbrev pub most : ℕ
+most = 1000000
+
+-- Where no mark was refused, a run of that trace with so much fuel ended as it does.
+abbrev pub EndsAs : ℕ → Trace → Result Ending Refused → ℕ → Type 0
+EndsAs fuel t (Ok ending) marks = ended fuel t ≡ after_marks ending marks
+EndsAs fuel t (Err refused) marks = ⊤
+
+-- What a thread reports: the entry of its exit, its name, how its run ended, the marks that it made, and whether some frame was compiled.
+pub record Reported : Type 0 where
+  pub exited : Entry
+  pub name : ℕ
+  pub ending : Result Ending Refused
+  pub made : ℕ
+  pub compiled : Bool
+
+-- Where that is the code of a checked script, a thread exited by its name, and its run of the script ended as it reports.
+abbrev pub IsReport : List (List Op) → Reported → Type 0
+IsReport code r = (bs : List Body) → code ≡ map routine bs → AreChecked bs → (r.exited ≡ Exit r.name) × EndsAs most (trace bs) r.ending r.made
+
+abbrev pub ending_of : Outcome Refused → Result Ending Refused
+ending_of outcome.Finished = Ok Finished
+ending_of outcome.Overflow = Ok Overflow
+ending_of outcome.OutOfFuel = Ok OutOfFuel
+ending_of (outcome.Refused refused) = Err refused
+
+-- Where that is the code of a checked script, the thread of that name has made the first mark, and the runner has the others left.
+abbrev pub IsBegun : List (List Op) → ℕ → ℕ → Runner → Type 0
+IsBegun code name own r = (bs : List Body) → code ≡ map routine bs → AreChecked bs → (m : Mark) × (t : Trace) × (trace bs ≡ made m t) × (own ≡ name) × Left r t × (made_by r ≡ 1)
+
+-- What contracts see of a task: the code that it runs, and the thread's name.
+pub record Tasked : Type 0 where
+  pub code : List (List Op)
+  pub name : ℕ

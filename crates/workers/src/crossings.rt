@@ -1,0 +1,131 @@
+//! What a thread in Java does at a mark of a script that enters no method: it polls, or goes away and comes back.
+ghost use Rattle.std.specs.Prelude.{◌≡◌, IfErr, OnOk};
+ghost use Rattle.thread_state.specs.declared.State.TheVariants.{InJava, InVm};
+ghost use Rattle.thread_list.specs.Moves.{SameThread};
+ghost use Rattle.thread_list.specs.Refused.{return_refused, HasNoFrame};
+ghost use Rattle.workers.specs.Marks.{goes_on, Settles, Returns, Turns, GoesNative, GoesVm, Blocks, ComesFromVm};
+
+use bodies::Name;
+use operations::job::Errand;
+use std::sync::Wait;
+use thread_list::{Mutator, ReturnFault};
+use thread_state::State;
+
+/// A thread that stopped at its last poll serves what it was told, and goes on where that poll leads. Any other is as before.
+pub fn settle<N: Name, J: Errand, R: Wait>(rt: &R, thread: &mut Mutator<'_, N, J>)
+    ensures settled { Settles thread.old thread.new }
+    ensures state { thread.new.state ≡ goes_on thread.old.state }
+    ensures same { SameThread thread.old thread.new }
+{
+    if let State::AtPoll(_) = thread.state() {
+        let Ok(()) = thread.stop(rt) else {
+            unreachable!()
+        };
+    }
+}
+
+/// Returns from the method of the top frame, and polls. Refused only where there is no frame.
+pub fn leave<N: Name, J: Errand, R: Wait>(
+    rt: &R,
+    thread: &mut Mutator<'_, N, J>,
+) -> Result<(), ReturnFault>
+    requires { thread.old.state ≡ InJava }
+    ensures ok { OnOk result (Returns thread.old thread.new) }
+    ensures state { thread.new.state ≡ InJava }
+    ensures same { SameThread thread.old thread.new }
+    ensures err { IfErr result (λ e. (thread.new ≡ thread.old) × return_refused thread.old e) }
+{
+    thread.ret()?;
+    settle(rt, thread);
+    Ok(())
+}
+
+/// Returns from all methods.
+pub fn unwind<N: Name, J: Errand, R: Wait>(rt: &R, thread: &mut Mutator<'_, N, J>)
+    requires { thread.old.state ≡ InJava }
+    ensures state { thread.new.state ≡ InJava }
+    ensures frames { HasNoFrame thread.new.body }
+    ensures same { SameThread thread.old thread.new }
+{
+    for _ in rt.forever() {
+        if let Err(ReturnFault::EmptyStack) = leave(rt, thread) {
+            return;
+        }
+    }
+    unreachable!()
+}
+
+/// The back edge of a loop.
+pub fn turn<N: Name, J: Errand, R: Wait>(rt: &R, thread: &mut Mutator<'_, N, J>)
+    requires { thread.old.state ≡ InJava }
+    ensures turned { Turns thread.old thread.new }
+    ensures state { thread.new.state ≡ InJava }
+    ensures same { SameThread thread.old thread.new }
+{
+    let Ok(_) = thread.back_edge() else {
+        unreachable!()
+    };
+    settle(rt, thread);
+}
+
+/// Into native code and back.
+pub fn go_native<N: Name, J: Errand, R: Wait>(rt: &R, thread: &mut Mutator<'_, N, J>)
+    requires { thread.old.state ≡ InJava }
+    ensures went { GoesNative thread.new }
+    ensures state { thread.new.state ≡ InJava }
+    ensures same { SameThread thread.old thread.new }
+{
+    let Ok(()) = thread.to_native(rt) else {
+        unreachable!()
+    };
+    let Ok(_) = thread.from_native(rt) else {
+        unreachable!()
+    };
+    settle(rt, thread);
+}
+
+/// Into the VM and back.
+pub fn go_vm<N: Name, J: Errand, R: Wait>(rt: &R, thread: &mut Mutator<'_, N, J>)
+    requires { thread.old.state ≡ InJava }
+    ensures went { GoesVm thread.old thread.new }
+    ensures state { thread.new.state ≡ InJava }
+    ensures same { SameThread thread.old thread.new }
+{
+    let Ok(()) = thread.to_vm() else {
+        unreachable!()
+    };
+    come_from_vm(rt, thread);
+}
+
+/// Into the VM, into a wait, and all the way back.
+pub fn block<N: Name, J: Errand, R: Wait>(rt: &R, thread: &mut Mutator<'_, N, J>)
+    requires { thread.old.state ≡ InJava }
+    ensures blocked { Blocks thread.new }
+    ensures state { thread.new.state ≡ InJava }
+    ensures same { SameThread thread.old thread.new }
+{
+    let Ok(()) = thread.to_vm() else {
+        unreachable!()
+    };
+    let Ok(()) = thread.block(rt) else {
+        unreachable!()
+    };
+    let Ok(_) = thread.unblock(rt) else {
+        unreachable!()
+    };
+    settle(rt, thread);
+    come_from_vm(rt, thread);
+}
+
+// From the VM back into Java.
+fn come_from_vm<N: Name, J: Errand, R: Wait>(rt: &R, thread: &mut Mutator<'_, N, J>)
+    requires { thread.old.state ≡ InVm }
+    ensures came { ComesFromVm thread.old thread.new }
+    ensures state { thread.new.state ≡ InJava }
+    ensures same { SameThread thread.old thread.new }
+{
+    let Ok(_) = thread.from_vm() else {
+        unreachable!()
+    };
+    settle(rt, thread);
+}

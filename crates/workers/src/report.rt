@@ -1,0 +1,89 @@
+//! What becomes of a thread's run of a script.
+ghost use Rattle.std.specs.Prelude.{◌≡◌};
+
+use crate::worker::Refused;
+use bodies::Name;
+use desk::Receipt;
+use std::marker::Model;
+
+/// How a thread's run ended.
+#[derive(Clone, Copy, PartialEq, Eq, Debug, Drop)]
+pub enum Ending {
+    /// The whole trace is made.
+    Finished,
+    /// The next mark would call above the most calls that stand at once.
+    Overflow,
+    /// A mark is left, and no fuel.
+    OutOfFuel,
+}
+
+/// What a thread says of its run once it has exited: its name, how its run ended or why a mark of it was refused, how many marks it
+/// made, and whether some frame was compiled. It has the receipt of the thread's Exit.
+#[derive(Drop)]
+pub struct Report<N: Name> {
+    exited: Receipt<N>,
+    name: u64,
+    ending: Result<Ending, Refused>,
+    made: u64,
+    compiled: bool,
+}
+
+impl<N: Name> Model for Report<N> {
+    ghost use Rattle.workers.specs.Ended.{Reported};
+
+    ghost Value = { Reported };
+
+    ghost view = { λ r. record { exited = r.exited.entry; name = r.name; ending = r.ending; made = r.made; compiled = r.compiled } };
+}
+
+impl<N: Name> Report<N> {
+    pub(crate) fn new(
+        exited: Receipt<N>,
+        name: u64,
+        ending: Result<Ending, Refused>,
+        made: u64,
+        compiled: bool,
+    ) -> Report<N>
+        ensures { result ≡ record { exited = exited.entry; name = name; ending = ending; made = made; compiled = compiled } }
+    {
+        Report {
+            exited,
+            name,
+            ending,
+            made,
+            compiled,
+        }
+    }
+
+    /// The thread's name.
+    pub fn name(&self) -> u64
+        ensures { result ≡ self.now.name }
+    {
+        let _ = &self.exited;
+        self.name
+    }
+
+    /// How the run ended, or why a mark was refused.
+    pub fn ending(&self) -> Result<Ending, Refused>
+        ensures { result ≡ self.now.ending }
+    {
+        let _ = &self.exited;
+        self.ending
+    }
+
+    /// How many marks were made.
+    pub fn made(&self) -> u64
+        ensures { result ≡ self.now.made }
+    {
+        let _ = &self.exited;
+        self.made
+    }
+
+    /// Whether some frame was compiled.
+    pub fn compiled(&self) -> bool
+        ensures { result ≡ self.now.compiled }
+    {
+        let _ = &self.exited;
+        self.compiled
+    }
+}
