@@ -97,6 +97,15 @@ operate_refused s bs operate.NotOf = front_is (λ c. is_census c.request) s.open
 operate_refused s bs operate.AlreadyDone = front_is (λ c. is_census c.request) s.opened true × front_is (λ c. c.operated) s.opened true
 operate_refused s bs operate.NotAllHeld = front_is (λ c. is_census c.request) s.opened true × front_is (λ c. c.operated) s.opened false × (are_all s.live bs ≡ false)
 
+-- the open census may be operated over the bodies
+abbrev pub MayOperate : State → List BodyView → Type 0
+MayOperate s bs = front_is (λ c. is_census c.request) s.opened true × front_is (λ c. c.operated) s.opened false × (are_all s.live bs ≡ true)
+
+-- why the open census isn't operated, or that it may be
+abbrev pub operate_said : State → List BodyView → Option OperateFault → Type 0
+operate_said s bs None = MayOperate s bs
+operate_said s bs (Some fault) = operate_refused s bs fault
+
 abbrev pub is_idle : State → Bool
 is_idle s = (length s.opened == 0) && (length s.waiting == 0)
 

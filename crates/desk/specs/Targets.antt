@@ -1,5 +1,5 @@
 -- How names stand to the oldest open request.
-use Rattle.std.specs.Prelude.{ℕ, List, [], ◌∷◌, Bool, ◌&&◌, not, nat_lt, Option, Some, None, if◌then◌else◌}
+use Rattle.std.specs.Prelude.{ℕ, List, [], ◌∷◌, Bool, ◌==◌, ◌&&◌, not, nat_lt, Option, Some, None, if◌then◌else◌}
 use Rattle.operations.specs.declared.Request.{Request}
 use Rattle.operations.specs.declared.Request.TheVariants.{Handshake, Census}
 use Rattle.operations.specs.Names.{among}
@@ -49,3 +49,16 @@ front_due name ls (c ∷ cs) = due_after name c ls
 
 abbrev pub next_due : State → ℕ → Option Live
 next_due s name = front_due name s.live s.opened
+
+-- the name that is live at a place
+abbrev pub name_at : ℕ → List Live → Option ℕ
+name_at place [] = None
+name_at place (l ∷ ls) = if l.place == place then Some l.name else name_at place ls
+
+abbrev pub front_kind : List Current → Option Bool
+front_kind [] = None
+front_kind (c ∷ cs) = Some (is_census c.request)
+
+-- whether the oldest open request is a census; None where nothing is open
+abbrev pub open_kind : State → Option Bool
+open_kind s = front_kind s.opened

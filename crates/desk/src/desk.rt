@@ -10,9 +10,9 @@ ghost use Rattle.method_table.specs.TableView.{install_fault, invalidate_fault, 
 ghost use Rattle.method_table.specs.Codes.{unfreed, id_of};
 ghost use Rattle.desk.specs.CodeBoard.{AreEntries, KeeperWeighs};
 ghost use Rattle.desk.specs.Machine.{is_legal, is_taken, names_of, lawful, needs_of_opened, steps_of};
-ghost use Rattle.desk.specs.Refusals.{start_refused, ask_refused, open_refused, close_refused, install_refused, operate_refused, reclaim_refused, is_idle, front_is, AreSettled, are_all};
+ghost use Rattle.desk.specs.Refusals.{start_refused, ask_refused, open_refused, close_refused, install_refused, operate_refused, reclaim_refused, is_idle, front_is, AreSettled, are_all, operate_said};
 ghost use Rattle.desk.specs.Fields.{DeskSeen, at, Enters};
-ghost use Rattle.desk.specs.Targets.{standing, next_due};
+ghost use Rattle.desk.specs.Targets.{standing, next_due, name_at, open_kind};
 ghost use Rattle.desk.specs.Once.{replies_of};
 ghost use Rattle.desk.specs.JobsFit.{jobs_fit};
 
@@ -24,8 +24,8 @@ use crate::faults::{
 };
 use crate::lists::{
     are_all, due_after, finish_at, index_of, is_census, is_census_open, is_idle, job_of, jobs_fit,
-    keep_live, least_free, leave, lives, may_close, may_finish, names_of, operate_at, standing_to,
-    steps_of, targets_of,
+    keep_live, least_free, leave, lives, may_close, may_finish, name_at, names_of, operate_at,
+    standing_to, steps_of, targets_of,
 };
 use crate::log::{Log, Receipt, RoomFault};
 use board::{Board, Keeper, Spent, Weighed};
@@ -337,6 +337,7 @@ impl<N: Name, J: Errand> Desk<N, J> {
     pub fn close(&mut self, held: bool) -> Result<(u64, Vec<J>, Receipt<N>), CloseFault>
         ensures ok { IfOk result (λ r. Enters self.old self.new (Entry.Close r.0) r.2) }
         ensures reserved { OnOk result ((self.new.book.reserved + needs_of_opened (at self.old).opened ≡ self.old.book.reserved) × (self.new.keeper ≡ self.old.keeper)) }
+        ensures held { OnOk result (held ≡ false) }
         ensures err { IfErr result (λ e. (self.new ≡ self.old) × close_refused (at self.old) held e) }
     {
         if self.opened.is_empty() {
@@ -395,6 +396,7 @@ impl<N: Name, J: Errand> Desk<N, J> {
         requires board { board.now ≡ N.board }
         ensures retired { IfOk result (λ r. IfSome r.1 (λ receipt. Enters self.old self.new (Entry.Retire serial) receipt)) }
         ensures weighed { IfOk result (λ r. (code : CodeOf) × (unfreed (at self.old).table.codes serial ≡ Some code) × KeeperWeighs N.board.places (id_of code) self.old.keeper self.new.keeper r.0) }
+        ensures clear { IfOk result (λ r. IfSome r.1 (λ _. r.0 ≡ Weighed.Clear)) }
         ensures others { IfOk result (λ r. IfNone r.1 ((self.new.book ≡ self.old.book) × (self.new.slots ≡ self.old.slots) × (self.new.methods ≡ self.old.methods) × (r.0 ≢ Weighed.Clear))) }
         ensures err { IfErr result (λ e. (self.new ≡ self.old) × (retire_fault (unfreed (at self.old).table.codes serial) ≡ Some e)) }
     {
@@ -565,5 +567,45 @@ impl<N: Name, J: Errand> Desk<N, J> {
             return None;
         }
         due_after(&self.opened[0], self.live.as_slice(), name)
+    }
+
+    /// The name that is live at the place.
+    pub fn name_at(&self, place: usize) -> Option<u64>
+        ensures { result ≡ name_at place (at self.now).live }
+    {
+        let _ = &self.log;
+        name_at(self.live.as_slice(), place)
+    }
+
+    /// Whether the oldest open request is a census; None where nothing is open.
+    pub fn open_kind(&self) -> Option<bool>
+        ensures { result ≡ open_kind (at self.now) }
+    {
+        let _ = &self.log;
+        if self.opened.is_empty() {
+            return None;
+        }
+        Some(is_census(&self.opened[0].request))
+    }
+
+    /// Why `operate` is refused over these bodies; None where it isn't.
+    pub fn operate_fault(&self, bodies: &[Body<N>]) -> Option<OperateFault>
+        ensures { operate_said (at self.now) bodies.now result }
+    {
+        let _ = &self.log;
+        if self.opened.is_empty() {
+            return Some(OperateFault::NothingOpen);
+        }
+        if !is_census(&self.opened[0].request) {
+            return Some(OperateFault::NotOf);
+        }
+        if self.opened[0].operated {
+            return Some(OperateFault::AlreadyDone);
+        }
+        if are_all(self.live.as_slice(), bodies) {
+            None
+        } else {
+            Some(OperateFault::NotAllHeld)
+        }
     }
 }

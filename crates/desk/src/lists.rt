@@ -5,7 +5,7 @@ ghost use Rattle.operations.specs.Names.{among};
 ghost use Rattle.operations.specs.Requests.{is_census};
 ghost use Rattle.desk.specs.declared.entries.Opened.{Opened as OpenedOf};
 ghost use Rattle.desk.specs.Machine.{names_of, place_of, is_live, is_taken, without, others, live_of, none_live, has_census, may_close, finished, as_operated, is_due, targets_of, steps_of};
-ghost use Rattle.desk.specs.Targets.{is_asked, is_owed, standing_to, is_due_target, due_after};
+ghost use Rattle.desk.specs.Targets.{is_asked, is_owed, standing_to, is_due_target, due_after, name_at};
 ghost use Rattle.desk.specs.Refusals.{has_body, are_all};
 ghost use Rattle.desk.specs.JobsFit.{same_ask, are_for, jobs_fit};
 ghost use Rattle.desk.specs.Fields.{current_of, IsIndex};
@@ -237,6 +237,20 @@ pub fn place_of(live: &[Live], name: u64) -> Option<usize>
     while let Some((one, others)) = rest.split_first() {
         if one.name == name {
             return Some(one.place);
+        }
+        rest = others;
+    }
+    None
+}
+
+/// Who is live at the place.
+pub fn name_at(live: &[Live], place: usize) -> Option<u64>
+    ensures { result ≡ name_at place live.now }
+{
+    let mut rest = live;
+    while let Some((one, others)) = rest.split_first() {
+        if one.place == place {
+            return Some(one.name);
         }
         rest = others;
     }

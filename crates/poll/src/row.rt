@@ -77,6 +77,18 @@ impl PollRow {
         Ok((PollRow { table }, Armer { seat, last }, pollers))
     }
 
+    /// The word of a place as it was a moment ago, 0 past the last place. Nothing is promised of it, and it is no step.
+    pub fn peek(&self, place: usize) -> u64 {
+        if place >= 64 {
+            return 0;
+        }
+        let word = word_at(place);
+        if word >= self.table.word_count() {
+            return 0;
+        }
+        self.table.shared.peek(word)
+    }
+
     /// Ends the row with its armer and all its pollers, in the order of their places, and gives the word that each place was
     /// left with.
     pub fn close(self, armer: Armer, mut pollers: Vec<Poller>) -> Vec<u64>
@@ -151,6 +163,17 @@ impl Armer {
             .shared
             .store::<ArmPlay>(&mut self.seat, word_at(place), n);
         self.last[place] = n;
+    }
+
+    /// How many places the row has that both are of.
+    pub fn places(&self, row: &PollRow) -> usize
+        requires row { self.now.table ≡ row.now }
+        ensures value { result ≡ length self.now.seen.armed }
+        ensures bound { result ≤ 64 }
+    {
+        let _ = &self.seat;
+        let _ = &row.table;
+        self.last.len()
     }
 
     /// The number that the place was last armed with, 0 at first. It makes no step.
