@@ -1,3 +1,4 @@
 pub mod Landings
 pub mod Endings
 pub mod Crosses
+pub mod Lines

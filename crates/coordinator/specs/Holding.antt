@@ -1,0 +1,50 @@
+-- What a coordinator holds.
+use Rattle.std.specs.Prelude.{◌≡◌, ◌≢◌, ◌<◌, ◌==◌, ℕ, Bool, true, false, List, [], ◌∷◌, Some, slice_get}
+use Rattle.std.specs.List.{list_any}
+use Rattle.bodies.specs.Bodies.{BodyView, IsPublished}
+use Rattle.thread_state.specs.declared.poll_rule.Arming.{Arming}
+use Rattle.thread_state.specs.PollRule.{exchanged}
+use Rattle.poll.specs.Rows.{RowId, full_armer}
+
+-- The held bodies in the order in which they were taken, what the armer knows, and whether the open census is operated.
+pub record Holding : Type 0 where
+  pub held : List BodyView
+  pub armer : Arming
+  pub operated : Bool
+
+-- A coordinator as it is made.
+abbrev pub held_nothing : RowId → ℕ → Holding
+held_nothing row places = record { held = []; armer = (full_armer row places).seen; operated = false }
+
+-- A held body is of the place.
+abbrev pub is_held : ℕ → List BodyView → Bool
+is_held place bs = list_any (λ b. b.seat.place == place) bs
+
+-- Held bodies are of places, no two of one, and each has a name and has ended a publication.
+abbrev pub AreHeld : ℕ → List BodyView → Type 0
+AreHeld places [] = Unit {0}
+AreHeld places (b ∷ bs) = (b.seat.place < places) × (0 < b.name) × (b.seat.stored ≢ 0) × (is_held b.seat.place bs ≡ false) × AreHeld places bs
+
+-- The body of the place stands at the index.
+abbrev pub StandsAt : List BodyView → ℕ → ℕ → BodyView → Type 0
+StandsAt bs index place body = (slice_get bs index ≡ Some body) × (body.seat.place ≡ place)
+
+-- Two lists of bodies correspond, one by one.
+abbrev pub AreEach : (BodyView → BodyView → Type 0) → List BodyView → List BodyView → Type 0
+AreEach R [] [] = Unit {0}
+AreEach R [] (b ∷ bs) = false ≡ true
+AreEach R (a ∷ rest) [] = false ≡ true
+AreEach R (a ∷ rest) (b ∷ bs) = R a b × AreEach R rest bs
+
+-- The operation is cleared for a body.
+abbrev pub IsCleared : ℕ → BodyView → BodyView → Type 0
+IsCleared op old new
+    = (op ≢ 0 → (found : ℕ) × (new.poller ≡ exchanged old.poller op found)) × (new.name ≡ old.name) × (new.image ≡ old.image) × (new.seat ≡ old.seat)
+
+-- A body is published, and the operation is cleared for it.
+abbrev pub IsOperated : ℕ → BodyView → BodyView → Type 0
+IsOperated op old new = (published : BodyView) × IsPublished old published × IsCleared op published new
+
+-- The same, where a job was run between.
+abbrev pub IsServed : ℕ → BodyView → BodyView → Type 0
+IsServed op old new = IsOperated op old new

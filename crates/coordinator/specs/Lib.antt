@@ -1,0 +1,4 @@
+pub mod Holding
+pub mod Refused
+pub mod Driving
+pub mod Reclaiming

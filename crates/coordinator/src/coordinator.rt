@@ -1,0 +1,106 @@
+//! The coordinator: what it keeps, and how it opens and closes requests.
+ghost use Rattle.std.specs.Prelude.{◌≡◌, [], false, IfOk, IfErr, OnOk};
+ghost use Rattle.poll.specs.Rows.{full_armer};
+ghost use Rattle.desk.specs.declared.entries.Entry.{Entry};
+ghost use Rattle.desk.specs.Machine.{State as DeskState};
+ghost use Rattle.desk.specs.Refusals.{open_refused};
+ghost use Rattle.coordinator.specs.Holding.{held_nothing};
+ghost use Rattle.coordinator.specs.Refused.{not_closed};
+
+use bodies::{Body, Name};
+use desk::{CloseFault, OpenFault, Receipt};
+use operations::job::Errand;
+use poll::Armer;
+use std::alloc::Global;
+use std::marker::Model;
+use std::sync::Wait;
+use thread_list::Shared;
+
+/// Works on requests. There is one for what threads share, since it has the one armer.
+///
+/// Contracts see the bodies that it holds in the order in which it took them, what the armer knows, and whether the open census is
+/// operated.
+#[derive(Drop)]
+pub struct Coordinator<'a, N: Name, J: Errand> {
+    pub(crate) shared: &'a Shared<N, J>,
+    pub(crate) alloc: Global,
+    pub(crate) armer: Armer,
+    pub(crate) places: usize,
+    pub(crate) bodies: Vec<Body<N>>,
+    pub(crate) operated: bool,
+}
+
+impl<'a, N: Name, J: Errand> Model for Coordinator<'a, N, J> {
+    ghost use Rattle.std.specs.Prelude.{◌≡◌, ◌≤◌, length, vec_capacity};
+    ghost use Rattle.coordinator.specs.Holding.{Holding, AreHeld};
+
+    ghost Value = { Holding };
+
+    ghost view = { λ c. record { held = c.bodies.items; armer = c.armer.seen; operated = c.operated } };
+
+    ghost invariant = { λ c. (c.armer.table ≡ N.poll_row) × (c.places ≡ length c.armer.seen.armed) × (c.places ≡ N.board.places) × (c.places ≤ 64) × (c.places ≤ vec_capacity c.bodies) × AreHeld c.places c.bodies.items };
+}
+
+impl<'a, N: Name, J: Errand> Coordinator<'a, N, J> {
+    /// A coordinator that holds nothing, with the armer that came with what threads share. Where memory is refused the armer comes
+    /// back.
+    pub fn new(
+        shared: &'a Shared<N, J>,
+        armer: Armer,
+        alloc: Global,
+    ) -> Result<Coordinator<'a, N, J>, Armer>
+        requires armer { armer ≡ full_armer N.poll_row N.board.places }
+        ensures made { IfOk result (λ c. c ≡ held_nothing N.poll_row N.board.places) }
+        ensures handed_back { IfErr result (λ a. a ≡ armer) }
+    {
+        let places = armer.places(shared.row());
+        let Ok(bodies) = Vec::with_capacity(alloc, places) else {
+            return Err(armer);
+        };
+        Ok(Coordinator {
+            shared,
+            alloc,
+            armer,
+            places,
+            bodies,
+            operated: false,
+        })
+    }
+
+    /// Opens the oldest request. Answers the number of the operation, with the receipt of its Open.
+    pub fn open<R: Wait>(&mut self, rt: &R) -> Result<(u64, Receipt<N>), OpenFault>
+        ensures opened { IfOk result (λ r. r.1.entry ≡ Entry.Open r.0) }
+        ensures refused { IfErr result (λ e. (s : DeskState) × open_refused s e) }
+        ensures same { self.new ≡ self.old }
+    {
+        let _ = &self.bodies;
+        let mut desk = self.shared.desk().lock(rt);
+        let opened = desk.open()?;
+        Ok(opened)
+    }
+
+    /// Closes the open request, and drops the jobs of targets that are gone. Answers the number of the operation, with the receipt
+    /// of its Close.
+    pub fn close<R: Wait>(&mut self, rt: &R) -> Result<(u64, Receipt<N>), CloseFault>
+        ensures closed { IfOk result (λ r. r.1.entry ≡ Entry.Close r.0) }
+        ensures free { OnOk result ((self.old.held ≡ []) × (self.new ≡ record self.old { operated = false })) }
+        ensures refused { IfErr result (λ e. not_closed self.old e × (self.new ≡ self.old)) }
+    {
+        let closed = self.try_close(rt)?;
+        self.operated = false;
+        Ok(closed)
+    }
+
+    fn try_close<R: Wait>(&self, rt: &R) -> Result<(u64, Receipt<N>), CloseFault>
+        ensures closed { IfOk result (λ r. r.1.entry ≡ Entry.Close r.0) }
+        ensures free { OnOk result (self.now.held ≡ []) }
+        ensures refused { IfErr result (not_closed self.now) }
+    {
+        let held = !self.bodies.is_empty();
+        let mut desk = self.shared.desk().lock(rt);
+        let (number, jobs, receipt) = desk.close(held)?;
+        drop(desk);
+        drop(jobs);
+        Ok((number, receipt))
+    }
+}

@@ -1,0 +1,223 @@
+//! Working one request from its Open to its Close.
+ghost use Rattle.std.specs.Prelude.{◌≡◌, ◌<◌, [], ℕ, Some, None, IfOk, IfErr, OnOk, OnErr, IfSome, IfNone, false, vec_capacity};
+ghost use Rattle.desk.specs.declared.entries.Entry.{Entry};
+ghost use Rattle.desk.specs.Machine.{State as DeskState};
+ghost use Rattle.desk.specs.Fields.{at};
+ghost use Rattle.desk.specs.Targets.{open_kind};
+ghost use Rattle.coordinator.specs.Holding.{AreHeld};
+ghost use Rattle.coordinator.specs.Driving.{number_of, drive_refused};
+
+use crate::coordinator::Coordinator;
+use crate::faults::{DriveFault, Driven, OperateFault};
+use crate::holding::is_held;
+use crate::serving::serve_body;
+use bodies::{Body, Name, census_of};
+use desk::{CloseFault, Desk, Live, Receipt};
+use operations::job::Errand;
+use std::sync::Wait;
+use std::thread;
+use thread_list::Shared;
+
+// Nothing is open and nothing waits.
+#[derive(Drop)]
+struct QueueEmpty;
+
+// Whether the open request is a census. Where nothing is open the oldest request is opened, and None says to look again.
+fn open_or_go_on<N: Name, J: Errand>(desk: &mut Desk<N, J>) -> Result<Option<bool>, QueueEmpty>
+    ensures open { IfOk result (λ r. IfSome r (λ kind. (desk.new ≡ desk.old) × (open_kind (at desk.old) ≡ Some kind))) }
+    ensures empty { OnErr result ((desk.new ≡ desk.old) × ((at desk.old).opened ≡ []) × ((at desk.old).waiting ≡ [])) }
+{
+    if let Some(kind) = desk.open_kind() {
+        return Ok(Some(kind));
+    }
+    match desk.open() {
+        Ok(_) => Ok(None),
+        Err(_) => Err(QueueEmpty),
+    }
+}
+
+impl<'a, N: Name, J: Errand> Coordinator<'a, N, J> {
+    /// Works the open request, or where nothing is open the oldest, to its Close: tells all targets before it serves any, and of a
+    /// handshake holds one thread at a time. Answers what it was, with the receipt of its Close; nothing is held then.
+    ///
+    /// A census whose list finds no memory stays open, its threads told and held, and the next `drive` goes on with it. Where the
+    /// caller has operated the census, the list is over the threads that are still held.
+    pub fn drive<R: Wait>(&mut self, rt: &R) -> Result<(Driven, Receipt<N>), DriveFault>
+        ensures closed { IfOk result (λ r. r.1.entry ≡ Entry.Close (number_of r.0)) }
+        ensures free { OnOk result ((self.new.held ≡ []) × (self.new.operated ≡ false)) }
+        ensures refused { IfErr result (drive_refused self.old self.new) }
+    {
+        let Ok(is_census) = self.begin(rt) else {
+            return Err(DriveFault::QueueEmpty);
+        };
+        self.tell_all(rt);
+        if is_census {
+            self.drive_census(rt)
+        } else {
+            Ok(self.drive_handshake(rt))
+        }
+    }
+
+    // Opens the oldest request where nothing is open, and answers whether the open one is a census.
+    fn begin<R: Wait>(&self, rt: &R) -> Result<bool, QueueEmpty>
+        ensures empty { OnErr result ((s : DeskState) × (s.opened ≡ []) × (s.waiting ≡ [])) }
+    {
+        for _ in rt.forever() {
+            if let Some(kind) = self.try_begin(rt)? {
+                return Ok(kind);
+            }
+        }
+        unreachable!()
+    }
+
+    fn try_begin<R: Wait>(&self, rt: &R) -> Result<Option<bool>, QueueEmpty>
+        ensures empty { OnErr result ((s : DeskState) × (s.opened ≡ []) × (s.waiting ≡ [])) }
+    {
+        let _ = &self.bodies;
+        let mut desk = self.shared.desk().lock(rt);
+        let begun = open_or_go_on(&mut desk)?;
+        Ok(begun)
+    }
+
+    // The least name above this one that is due, with its place.
+    fn next_due<R: Wait>(&self, rt: &R, name: u64) -> Option<Live> {
+        let _ = &self.bodies;
+        self.shared.desk().lock(rt).next_due(name)
+    }
+
+    // Tells each target.
+    fn tell_all<R: Wait>(&mut self, rt: &R)
+        ensures { (self.new.held ≡ self.old.held) × (self.new.operated ≡ self.old.operated) }
+    {
+        let mut name = 0;
+        for _ in rt.forever() {
+            let Some(due) = self.next_due(rt, name) else {
+                return;
+            };
+            name = due.name;
+            let _ = self.tell(rt, name);
+        }
+    }
+
+    // Serves the targets of the open handshake, one at a time, until it is closed.
+    fn drive_handshake<R: Wait>(&mut self, rt: &R) -> (Driven, Receipt<N>)
+        ensures closed { result.1.entry ≡ Entry.Close (number_of result.0) }
+        ensures free { (self.new.held ≡ []) × (self.new.operated ≡ false) }
+    {
+        self.release_all(rt);
+        for _ in rt.forever() {
+            self.serve_all(rt);
+            if let Ok((number, receipt)) = self.close(rt) {
+                return (Driven::Handshake(number), receipt);
+            }
+            thread::yield_now();
+        }
+        unreachable!()
+    }
+
+    // Serves each target whose body is in its berth.
+    fn serve_all<R: Wait>(&self, rt: &R) {
+        let mut name = 0;
+        for _ in rt.forever() {
+            let Some(due) = self.next_due(rt, name) else {
+                return;
+            };
+            name = due.name;
+            self.serve_at(rt, due);
+        }
+    }
+
+    // Takes the body of a target out of its berth, where it is there, serves it, and brings it back.
+    fn serve_at<R: Wait>(&self, rt: &R, due: Live) {
+        if due.place >= self.places {
+            return;
+        }
+        let berth = self.shared.berth(due.place);
+        let Some(mut body) = berth.take(rt, due.name, due.place) else {
+            return;
+        };
+        if let Some(job) = berth.job(rt, due.name) {
+            let _ = serve_body(rt, self.shared, &mut body, job);
+        }
+        berth.release(rt, body, false);
+    }
+
+    // Holds all live threads, operates the open census over them, brings them back and closes it.
+    fn drive_census<R: Wait>(&mut self, rt: &R) -> Result<(Driven, Receipt<N>), DriveFault>
+        ensures closed { IfOk result (λ r. r.1.entry ≡ Entry.Close (number_of r.0)) }
+        ensures free { OnOk result ((self.new.held ≡ []) × (self.new.operated ≡ false)) }
+        ensures refused { IfErr result (λ e. e ≡ DriveFault.NoMemory) }
+    {
+        let Some(list) = self.counted(rt) else {
+            return Err(DriveFault::NoMemory);
+        };
+        self.release_all(rt);
+        for _ in rt.forever() {
+            if let Ok((number, receipt)) = self.close(rt) {
+                return Ok((Driven::Census(number, list), receipt));
+            }
+            thread::yield_now();
+        }
+        unreachable!()
+    }
+
+    // Holds all live threads and operates the open census over them. None where there is no memory for its list.
+    fn counted<R: Wait>(&mut self, rt: &R) -> Option<Vec<(u64, u32)>> {
+        for _ in rt.forever() {
+            self.hold_all(rt);
+            match self.operate(rt) {
+                Ok((_, list, _)) => return Some(list),
+                Err(OperateFault::NoMemory) => return None,
+                Err(OperateFault::Refused(desk::OperateFault::AlreadyDone)) => {
+                    return census_of(self.alloc, self.bodies.as_slice()).ok();
+                }
+                Err(OperateFault::Refused(_)) => thread::yield_now(),
+            }
+        }
+        unreachable!()
+    }
+
+    // Holds each thread that is due.
+    fn hold_all<R: Wait>(&mut self, rt: &R) {
+        let mut name = 0;
+        for _ in rt.forever() {
+            let Some(due) = self.next_due(rt, name) else {
+                return;
+            };
+            name = due.name;
+            self.hold_at(rt, due);
+        }
+    }
+
+    // Takes the body of a thread out of its berth, where it isn't held.
+    fn hold_at<R: Wait>(&mut self, rt: &R, due: Live) {
+        if due.place >= self.places || is_held(self.bodies.as_slice(), due.place) {
+            return;
+        }
+        let body = self.shared.berth(due.place).wake(rt, due.name, due.place);
+        self.keep(body);
+    }
+
+    // Brings all held bodies back.
+    fn release_all<R: Wait>(&mut self, rt: &R)
+        ensures { self.new ≡ record self.old { held = [] } }
+    {
+        put_back(rt, self.shared, &mut self.bodies, self.operated);
+    }
+}
+
+// Brings the bodies back into their berths.
+fn put_back<N: Name, J: Errand, R: Wait>(
+    rt: &R,
+    shared: &Shared<N, J>,
+    bodies: &mut Vec<Body<N>>,
+    operated: bool,
+)
+    requires held { AreHeld N.board.places bodies.old.items }
+    ensures none { bodies.new.items ≡ [] }
+    ensures room { vec_capacity bodies.new ≡ vec_capacity bodies.old }
+{
+    while let Some(body) = bodies.pop() {
+        shared.berth_of(&body).release(rt, body, operated);
+    }
+}

@@ -1,0 +1,99 @@
+//! What the coordinator's calls answer, and why they are refused. The faults of a call are tested in the order in which they stand
+//! here.
+use bodies::Name;
+use desk::Receipt;
+
+/// What telling a name came to.
+#[derive(Drop, Clone, Copy, PartialEq, Eq, Debug)]
+pub enum Told {
+    /// The thread stops at its next poll.
+    Told,
+    /// No thread of the name was live at the Open and is live; nothing was done.
+    Gone,
+}
+
+/// Why a name isn't told.
+#[derive(Drop, Clone, Copy, PartialEq, Eq, Debug)]
+pub enum TellFault {
+    /// No request is open.
+    NothingOpen,
+    /// The open handshake doesn't list the name, or the name was never given out.
+    NotOf,
+    /// The thread was told.
+    AlreadyTold,
+}
+
+/// Why a thread isn't held.
+#[derive(Drop, Clone, Copy, PartialEq, Eq, Debug)]
+pub enum HoldFault {
+    NoSuchPlace,
+    /// No live thread has the place.
+    Vacant,
+    /// No request is open.
+    NothingOpen,
+    /// The open request isn't of the thread.
+    NotOf,
+    /// The thread wasn't told.
+    NotTold,
+    /// The thread is done with the open request.
+    AlreadyDone,
+    /// The thread is held.
+    Held,
+    /// Its body isn't in its berth.
+    NotSafe,
+}
+
+/// The coordinator doesn't hold the thread of the place.
+#[derive(Drop, Clone, Copy, PartialEq, Eq, Debug)]
+pub struct NotHeld;
+
+/// Why a held thread isn't served.
+#[derive(Drop, Clone, Copy, PartialEq, Eq, Debug)]
+pub enum ServeFault {
+    /// The coordinator doesn't hold the thread of the place.
+    NotHeld,
+    /// No request is open.
+    NothingOpen,
+    /// A census is open, or the open handshake isn't of the thread.
+    NotOf,
+    /// The thread wasn't told.
+    NotTold,
+    /// The thread is done with the open handshake.
+    AlreadyDone,
+}
+
+/// Why the open census isn't operated.
+#[derive(Drop, Clone, Copy, PartialEq, Eq, Debug)]
+pub enum OperateFault {
+    /// The desk refuses it.
+    Refused(desk::OperateFault),
+    /// There is no memory for the list.
+    NoMemory,
+}
+
+/// The request that was worked on: a handshake, or a census with what it counted, a pair of serial and frames for each code.
+#[derive(Drop)]
+pub enum Driven {
+    Handshake(u64),
+    Census(u64, Vec<(u64, u32)>),
+}
+
+/// Why no request was worked on to its Close.
+#[derive(Drop, Clone, Copy, PartialEq, Eq, Debug)]
+pub enum DriveFault {
+    /// Nothing is open and nothing waits.
+    QueueEmpty,
+    /// There is no memory for the list of a census. The request stays open, and the next `drive` goes on with it.
+    NoMemory,
+}
+
+/// What reclaiming a code came to.
+#[derive(Drop)]
+pub enum Reclaimed<N: Name> {
+    /// The code is freed. The receipt is of its Free.
+    Freed(Receipt<N>),
+    /// So many activations stand.
+    Used(u64),
+    /// The least place whose thread may still enter the code, or have entered it without having published that.
+    Late(usize),
+}

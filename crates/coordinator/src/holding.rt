@@ -1,0 +1,116 @@
+//! Holding a thread: the coordinator takes its body out of its berth, and brings it back.
+ghost use Rattle.std.specs.Prelude.{◌≡◌, ◌≢◌, ◌<◌, ◌++◌, ◌∷◌, [], ℕ, false, IfSome, IfNone, OnOk, IfErr, OnErr, length};
+ghost use Rattle.std.specs.List.{remove};
+ghost use Rattle.bodies.specs.Bodies.{BodyView};
+ghost use Rattle.desk.specs.Targets.{standing, name_at};
+ghost use Rattle.desk.specs.Fields.{at};
+ghost use Rattle.coordinator.specs.Holding.{is_held, StandsAt};
+ghost use Rattle.coordinator.specs.Refused.{Holds, hold_fault, hold_refused};
+
+use crate::coordinator::Coordinator;
+use crate::faults::{HoldFault, NotHeld};
+use bodies::{Body, Name};
+use desk::{Desk, Standing};
+use operations::job::Errand;
+use std::sync::Wait;
+
+/// Where the body of the place stands.
+pub fn index_of<N: Name>(bodies: &[Body<N>], place: usize) -> Option<usize>
+    ensures some { IfSome result (λ i. (body : BodyView) × StandsAt bodies.now i place body) }
+    ensures bound { IfSome result (λ i. (i < length bodies.now) × (place < N.board.places)) }
+    ensures none { IfNone result (is_held place bodies.now ≡ false) }
+{
+    for index in 0..bodies.len() {
+        if bodies[index].place() == place {
+            return Some(index);
+        }
+    }
+    None
+}
+
+/// Whether a body is of the place.
+pub fn is_held<N: Name>(bodies: &[Body<N>], place: usize) -> bool
+    ensures { result ≡ is_held place bodies.now }
+{
+    bodies.iter().any(|b| b.place() == place)
+}
+
+// Why a thread that stands to the open request like this isn't held, where its place was last armed with the number.
+fn hold_fault(said: Standing, last: u64) -> Option<HoldFault>
+    ensures { result ≡ hold_fault said last }
+{
+    let target = match said {
+        Standing::NothingOpen => return Some(HoldFault::NothingOpen),
+        Standing::NotOf => return Some(HoldFault::NotOf),
+        Standing::Gone => return Some(HoldFault::NotTold),
+        Standing::Asked(target) => target,
+    };
+    if last < target.number {
+        return Some(HoldFault::NotTold);
+    }
+    if target.is_done {
+        return Some(HoldFault::AlreadyDone);
+    }
+    None
+}
+
+// Who is live at the place, and how the name stands to the open request.
+fn standing_at<N: Name, J: Errand>(desk: &Desk<N, J>, place: usize) -> Option<(u64, Standing)>
+    ensures some { IfSome result (λ r. (name_at place (at desk.now).live ≡ Some r.0) × (standing (at desk.now) r.0 ≡ r.1)) }
+    ensures none { IfNone result (name_at place (at desk.now).live ≡ None) }
+{
+    let name = desk.name_at(place)?;
+    Some((name, desk.standing(name)))
+}
+
+impl<'a, N: Name, J: Errand> Coordinator<'a, N, J> {
+    /// Holds the thread of a place, which was told the open request and isn't done with it: takes its body out of its berth.
+    pub fn hold<R: Wait>(&mut self, rt: &R, place: usize) -> Result<(), HoldFault>
+        ensures held { OnOk result (Holds self.old self.new place) }
+        ensures refused { IfErr result (λ e. hold_refused self.old N.board.places place e × (self.new ≡ self.old)) }
+    {
+        if place >= self.places {
+            return Err(HoldFault::NoSuchPlace);
+        }
+        let desk = self.shared.desk().lock(rt);
+        let found = standing_at(&desk, place);
+        drop(desk);
+        let Some((name, said)) = found else {
+            return Err(HoldFault::Vacant);
+        };
+        if let Some(fault) = hold_fault(said, self.armer.last(place)) {
+            return Err(fault);
+        }
+        if is_held(self.bodies.as_slice(), place) {
+            return Err(HoldFault::Held);
+        }
+        let Some(body) = self.shared.berth(place).take(rt, name, place) else {
+            return Err(HoldFault::NotSafe);
+        };
+        self.keep(body);
+        Ok(())
+    }
+
+    // A body that was taken out of its berth is held.
+    pub(crate) fn keep(&mut self, body: Body<N>)
+        requires apart { is_held body.seat.place self.old.held ≡ false }
+        requires body { (0 < body.name) × (body.seat.stored ≢ 0) }
+        ensures { self.new ≡ record self.old { held = self.old.held ++ body ∷ [] } }
+    {
+        let _ = body.place();
+        self.bodies.push_reserved(body);
+    }
+
+    /// Brings the body of a held thread back into its berth.
+    pub fn release<R: Wait>(&mut self, rt: &R, place: usize) -> Result<(), NotHeld>
+        ensures released { OnOk result ((index : ℕ) × (body : BodyView) × StandsAt self.old.held index place body × (self.new ≡ record self.old { held = remove self.old.held index })) }
+        ensures refused { OnErr result ((is_held place self.old.held ≡ false) × (self.new ≡ self.old)) }
+    {
+        let Some(index) = index_of(self.bodies.as_slice(), place) else {
+            return Err(NotHeld);
+        };
+        let body = self.bodies.remove(index);
+        self.shared.berth_of(&body).release(rt, body, self.operated);
+        Ok(())
+    }
+}

@@ -1,0 +1,24 @@
+//! The coordinator of a running system: it opens requests, tells and holds threads, serves those that it holds, operates censuses,
+//! closes requests, and reclaims codes.
+//!
+//! `open`, `tell`, `hold`, `serve`, `operate`, `release` and `close` are a step of a request each; `drive` works one request from its
+//! Open to its Close; `reclaim` does all that it takes to free a code. `docs/STEPS.md` says which lock each call takes. No call holds
+//! two locks.
+#![tactic(auto)]
+
+mod censuses;
+mod coordinator;
+mod driving;
+mod faults;
+mod holding;
+mod reclaiming;
+mod serving;
+mod telling;
+#[cfg(test)]
+mod tests;
+
+pub use coordinator::Coordinator;
+pub use desk::{NotReclaimed, ReclaimFault};
+pub use faults::{
+    DriveFault, Driven, HoldFault, NotHeld, OperateFault, Reclaimed, ServeFault, TellFault, Told,
+};

@@ -1,0 +1,123 @@
+//! Reclaiming a code that isn't entrant.
+ghost use Rattle.std.specs.Prelude.{◌≡◌, ◌≤◌, IfOk, IfErr, IfSome};
+ghost use Rattle.coordinator.specs.Reclaiming.{IsReclaimed, Frees, request_of};
+
+use crate::coordinator::Coordinator;
+use crate::faults::Reclaimed;
+use board::{Board, Weighed};
+use bodies::Name;
+use desk::{AskFault, Desk, NotReclaimed, ReclaimFault};
+use operations::job::Errand;
+use operations::{Request, Targets};
+use std::alloc::{AllocError, Global};
+use std::sync::Wait;
+use std::thread;
+
+// A handshake of the targets of the jobs, with the ask of the first.
+fn request_of<J: Errand>(alloc: Global, jobs: &[J]) -> Result<Option<Request>, AllocError>
+    ensures { IfOk result (λ r. r ≡ request_of J.whom J.asks jobs.now) }
+{
+    let Some((first, _)) = jobs.split_first() else {
+        return Ok(None);
+    };
+    let ask = first.ask_of();
+    let mut names = Vec::with_capacity(alloc, jobs.len())?;
+    let mut rest = jobs;
+    while let Some((job, others)) = rest.split_first() {
+        names.push(job.target_of()).map_err(|_| AllocError)?;
+        rest = others;
+    }
+    Ok(Some(Request::Handshake {
+        targets: Targets::from_vec(names),
+        ask,
+    }))
+}
+
+// Looks at each place for the code.
+fn look_at_all<N: Name, J: Errand>(desk: &mut Desk<N, J>, board: &Board, serial: u64, places: usize)
+    requires board { board.now ≡ N.board }
+    requires places { places ≤ N.board.places }
+    ensures same { (desk.new.book ≡ desk.old.book) × (desk.new.slots ≡ desk.old.slots) × (desk.new.methods ≡ desk.old.methods) }
+{
+    for place in 0..places {
+        let _ = desk.look(board, serial, place);
+    }
+}
+
+// Weighs a code, and where no activation stands frees it. None where it isn't a code that can be weighed.
+fn weigh_and_free<N: Name, J: Errand>(
+    desk: &mut Desk<N, J>,
+    board: &Board,
+    serial: u64,
+) -> Option<Reclaimed<N>>
+    requires board { board.now ≡ N.board }
+    ensures { IfSome result (Frees N.board.places serial desk.old desk.new) }
+{
+    let Ok((said, _receipt)) = desk.weigh(board, serial) else {
+        return None;
+    };
+    match said {
+        Weighed::NotLooked(place) => Some(Reclaimed::Late(place)),
+        Weighed::Used(count) => Some(Reclaimed::Used(count)),
+        Weighed::Clear => match desk.free(board, serial) {
+            Ok(receipt) => Some(Reclaimed::Freed(receipt)),
+            Err(_) => None,
+        },
+    }
+}
+
+impl<'a, N: Name, J: Errand> Coordinator<'a, N, J> {
+    /// Reclaims a code that isn't entrant: makes a round and a handshake of the jobs' targets with the jobs, where there are any,
+    /// looks at each place, and weighs the code. Where no activation stands it is freed.
+    ///
+    /// It is refused in its first step alone, with the jobs handed back and nothing changed.
+    pub fn reclaim<R: Wait>(
+        &mut self,
+        rt: &R,
+        serial: u64,
+        jobs: Vec<J>,
+    ) -> Result<Reclaimed<N>, NotReclaimed<J>>
+        ensures reclaimed { IfOk result (IsReclaimed serial) }
+        ensures handed_back { IfErr result (λ e. e.jobs ≡ jobs) }
+    {
+        let Ok(request) = request_of(self.alloc, jobs.as_slice()) else {
+            return Err(NotReclaimed {
+                fault: ReclaimFault::Ask(AskFault::NoMemory),
+                jobs,
+            });
+        };
+        if self.ask(rt, serial, request, jobs)? {
+            let _ = self.drive(rt);
+        }
+        for _ in rt.forever() {
+            if let Some(said) = self.try_free(rt, serial) {
+                return Ok(said);
+            }
+            thread::yield_now();
+        }
+        unreachable!()
+    }
+
+    // The first step: the round, and the request waits. Answers whether there is one.
+    fn ask<R: Wait>(
+        &self,
+        rt: &R,
+        serial: u64,
+        request: Option<Request>,
+        jobs: Vec<J>,
+    ) -> Result<bool, NotReclaimed<J>>
+        ensures handed_back { IfErr result (λ e. e.jobs ≡ jobs) }
+    {
+        let mut desk = self.shared.desk().lock(rt);
+        let asked = desk.begin_reclaim(self.shared.board(), serial, request, jobs)?;
+        Ok(asked.is_some())
+    }
+
+    fn try_free<R: Wait>(&self, rt: &R, serial: u64) -> Option<Reclaimed<N>>
+        ensures { IfSome result (IsReclaimed serial) }
+    {
+        let mut desk = self.shared.desk().lock(rt);
+        look_at_all(&mut desk, self.shared.board(), serial, self.places);
+        weigh_and_free(&mut desk, self.shared.board(), serial)
+    }
+}

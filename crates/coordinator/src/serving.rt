@@ -1,0 +1,106 @@
+//! Serving a held thread: its job runs on its body.
+ghost use Rattle.std.specs.Prelude.{◌≡◌, ◌<◌, ℕ, None, length, IfOk, IfErr};
+ghost use Rattle.operations.specs.Asks.{reply};
+ghost use Rattle.bodies.specs.Bodies.{BodyView};
+ghost use Rattle.desk.specs.declared.entries.Entry.{Entry};
+ghost use Rattle.coordinator.specs.Holding.{StandsAt, IsServed};
+ghost use Rattle.coordinator.specs.Refused.{Serves, IsServeFault, serve_fault, serve_refused};
+
+use crate::coordinator::Coordinator;
+use crate::faults::ServeFault;
+use crate::holding::index_of;
+use bodies::{Body, Name};
+use desk::{Receipt, Standing};
+use operations::job::Errand;
+use std::sync::Wait;
+use std::thread;
+use thread_list::{Shared, serve};
+
+// The job that was told to the thread of a held body.
+fn told_job<N: Name, J: Errand, R: Wait>(rt: &R, shared: &Shared<N, J>, body: &Body<N>) -> J
+    ensures { (J.whom result ≡ body.now.name) × (0 < J.number result) }
+{
+    for _ in rt.forever() {
+        if let Some(job) = shared.berth_of(body).job(rt, body.name()) {
+            return job;
+        }
+        thread::yield_now();
+    }
+    unreachable!()
+}
+
+/// Publishes a body, runs its job on it, enters what the job answered, and clears the operation. The receipt is of that entry.
+pub fn serve_body<N: Name, J: Errand, R: Wait>(
+    rt: &R,
+    shared: &Shared<N, J>,
+    body: &mut Body<N>,
+    job: J,
+) -> Receipt<N>
+    requires { (J.whom job ≡ body.old.name) × (0 < J.number job) }
+    ensures entry { result.entry ≡ Entry.Finish (J.number job) body.old.name (reply (J.asks job) body.old.image.frames) }
+    ensures served { IsServed (J.number job) body.old body.new }
+{
+    body.publish(shared.board());
+    serve(rt, shared, body, job)
+}
+
+// Why a held thread that stands to the open request like this isn't served, where its place was last armed with the number.
+fn serve_fault(said: Standing, last: u64) -> Option<ServeFault>
+    ensures { result ≡ serve_fault said last }
+{
+    let target = match said {
+        Standing::NothingOpen => return Some(ServeFault::NothingOpen),
+        Standing::NotOf => return Some(ServeFault::NotOf),
+        Standing::Gone => return Some(ServeFault::NotTold),
+        Standing::Asked(target) => target,
+    };
+    if target.is_census {
+        return Some(ServeFault::NotOf);
+    }
+    if last < target.number {
+        return Some(ServeFault::NotTold);
+    }
+    if target.is_done {
+        return Some(ServeFault::AlreadyDone);
+    }
+    None
+}
+
+impl<'a, N: Name, J: Errand> Coordinator<'a, N, J> {
+    /// Serves the held thread of a place, which was told the open handshake and isn't done with it: publishes its stack, runs its job
+    /// on it, enters what the job answered, and clears the operation. Answers the receipt of the entry.
+    pub fn serve<R: Wait>(&mut self, rt: &R, place: usize) -> Result<Receipt<N>, ServeFault>
+        ensures served { IfOk result (λ r. (index : ℕ) × (body : BodyView) × StandsAt self.old.held index place body × IsServeFault self.old index place None × Serves self.old self.new index r.entry) }
+        ensures refused { IfErr result (λ e. serve_refused self.old place e × (self.new ≡ self.old)) }
+    {
+        let Some(index) = index_of(self.bodies.as_slice(), place) else {
+            return Err(ServeFault::NotHeld);
+        };
+        if let Some(fault) = self.serve_refusal(rt, index, place) {
+            return Err(fault);
+        }
+        Ok(self.serve_index(rt, index))
+    }
+
+    // Why the held thread at the index, of this place, isn't served.
+    fn serve_refusal<R: Wait>(&self, rt: &R, index: usize, place: usize) -> Option<ServeFault>
+        requires index { index < length self.now.held }
+        requires place { place < N.board.places }
+        ensures { IsServeFault self.now index place result }
+    {
+        let name = self.bodies[index].name();
+        let desk = self.shared.desk().lock(rt);
+        let said = desk.standing(name);
+        drop(desk);
+        serve_fault(said, self.armer.last(place))
+    }
+
+    // Serves the held thread at the index.
+    fn serve_index<R: Wait>(&mut self, rt: &R, index: usize) -> Receipt<N>
+        requires index { index < length self.old.held }
+        ensures { Serves self.old self.new index result.entry }
+    {
+        let job = told_job(rt, self.shared, &self.bodies[index]);
+        serve_body(rt, self.shared, &mut self.bodies[index], job)
+    }
+}

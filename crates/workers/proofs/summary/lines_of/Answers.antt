@@ -1,0 +1,22 @@
+use Rattle.std.proofs.Common.{rules, ◌≡◌, ◌∙◌, ◌<◌, ◌+◌, ℕ, subst, sym, ap, arith, length, slice_index_or}
+use Rattle.workers.specs.Ended.{IsReport}
+use Rattle.workers.specs.Summaries.{AreLines}
+use Rattle.workers.proofs.Lines.{line_more}
+use Rattle.workers.proofs.summary.lines_of.Goals as goal
+
+pub line_of-requires : goal.line_of-requires
+line_of-requires g c =
+    let below : c.loop-report.report-index < length c.args.reports.now = search rules in
+    let at : slice_index_or c.args.reports.now c.loop-report.report-index c.report-item.result ≡ c.report-item.result = search rules in
+    subst (λ r. IsReport c.args.code.now r) at (c.requires c.loop-report.report-index c.report-item.result below)
+
+pub loop-report-preserved : goal.loop-report-preserved
+loop-report-preserved g c =
+    let was = c.loop-report.invariant in
+    let one = c.in_ok-line.ensures in
+    let named : c.in_ok-line.line.name ≡ 1 + length c.loop-report.lines.items = search (rules, one) in (
+      subst (λ ls. AreLines c.args.code.now 1 ls) (sym c.push_reserved.ensures.items)
+          (line_more c.args.code.now 1 c.loop-report.lines.items c.in_ok-line.line was.0 named one.1),
+      search rules,
+      search rules,
+    )
