@@ -196,6 +196,7 @@ fn a_board_is_made_after_another(rt: HostRuntime) -> Result<(), Fail> {
 #[test]
 fn a_board_is_made_whole_or_not_at_all(rt: HostRuntime) -> Result<(), Fail> {
     let Ok((board, keeper, seats)) = Board::new(rt.alloc(), 3, 5) else {
+        println!(rt; "refused")?;
         return Ok(());
     };
     assert!(rt; seats.len() == 3);
@@ -203,5 +204,6 @@ fn a_board_is_made_whole_or_not_at_all(rt: HostRuntime) -> Result<(), Fail> {
     let moment = closed.moment();
     closed.free();
     assert!(rt; moment == 1);
+    println!(rt; "no growth was refused")?;
     Ok(())
 }

@@ -157,12 +157,14 @@ fn go_on(
 fn refused_memory_stops_a_run_before_its_event(rt: HostRuntime) -> Result<(), Fail> {
     let alloc = rt.alloc();
     let Ok(wanted) = census_answers(alloc) else {
+        println!(rt; "refused before the run")?;
         return Ok(());
     };
     let mut system = match System::new(alloc, 3, 4, 2) {
         Ok(system) => system,
         Err(fault) => {
             assert!(rt; fault == NewFault::NoMemory);
+            println!(rt; "refused before the run")?;
             return Ok(());
         }
     };
