@@ -188,8 +188,25 @@ impl<N: Name, J: Errand> Berth<N, J> {
             let mut room = self.room.lock(rt);
             if room.place() == place {
                 if let Some(both) = room.serve(name) {
+                    let wanted = room.has_sleepers();
+                    drop(room);
+                    self.ring(wanted);
                     return both;
                 }
+            }
+            room.note_sleeper(true);
+            let mut room = self.bell.wait(rt, room);
+            room.note_sleeper(false);
+        }
+        unreachable!()
+    }
+
+    /// Waits until the thread of the name has brought its body, or has come for what it was told. Answers whether its body is here.
+    pub fn wait_for<R: Wait>(&self, rt: &R, name: u64) -> bool {
+        for _ in rt.forever() {
+            let mut room = self.room.lock(rt);
+            if !room.awaits(name) {
+                return room.has_body(name);
             }
             room.note_sleeper(true);
             let mut room = self.bell.wait(rt, room);

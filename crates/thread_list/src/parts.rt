@@ -18,7 +18,7 @@ use operations::job::Errand;
 use poll::{Armer, PollRow, Poller};
 use std::alloc::{AllocError, Global};
 use std::marker::Model;
-use std::sync::Mutex;
+use std::sync::{Condvar, Mutex};
 
 /// The most places, slots and methods that a system has.
 pub const MOST_PLACES: usize = 64;
@@ -191,6 +191,7 @@ impl<N: Name, J: Errand> Shared<N, J> {
                         berths,
                         desk: Mutex::new(desk),
                         hints,
+                        finished: Condvar::new(),
                     },
                     armer,
                 ))

@@ -81,6 +81,27 @@ impl<N: Name, J: Errand> Room<N, J> {
         self.sleepers != 0
     }
 
+    /// Whether the thread of the name has its body and has still to come for what it was told.
+    pub fn awaits(&self, name: u64) -> bool
+        ensures { result ≡ true → (self.now.holder ≡ IsOut name) × (self.now.jobs ≢ []) }
+    {
+        match &self.holder {
+            Holder::Out(out) => *out == name && !self.jobs.is_empty(),
+            Holder::Home(_) | Holder::Vacant(_) | Holder::Away => false,
+        }
+    }
+
+    /// Whether the body of the name is here.
+    pub fn has_body(&self, name: u64) -> bool
+        ensures { result ≡ true → (b : _) × (self.now.holder ≡ IsAtHome b) × (b.name ≡ name) }
+    {
+        let _ = &self.mark;
+        match &self.holder {
+            Holder::Home(body) => body.name() == name,
+            Holder::Out(_) | Holder::Vacant(_) | Holder::Away => false,
+        }
+    }
+
     /// The seat and the poller come out, where no thread has them.
     pub fn start(&mut self) -> Option<SpareSeat<N>>
         ensures some { IfSome result (λ p. (self.old.holder ≡ IsVacant p) × (p.seat.place ≡ self.old.place) × (self.new ≡ record self.old { holder = IsAway })) }

@@ -24,7 +24,7 @@ use operations::job::{Done, Errand};
 use poll::PollRow;
 use std::alloc::AllocError;
 use std::marker::Model;
-use std::sync::{Mutex, Wait};
+use std::sync::{Condvar, Mutex, Wait};
 use std::thread;
 
 /// The words, the desk under a lock, and a berth for each place, each under a lock of its own. No call holds two locks. Contracts see
@@ -36,6 +36,8 @@ pub struct Shared<N: Name, J: Errand> {
     pub(crate) berths: Vec<Berth<N, J>>,
     pub(crate) desk: Mutex<Desk<N, J>>,
     pub(crate) hints: Hints,
+    /// Rings where a thread is answered for, or exits.
+    pub(crate) finished: Condvar,
 }
 
 impl<N: Name, J: Errand> Model for Shared<N, J> {
@@ -192,7 +194,10 @@ impl<N: Name, J: Errand> Shared<N, J> {
         let mut done = done;
         for _ in rt.forever() {
             match self.try_finish(rt, body, done) {
-                Ok(receipt) => return receipt,
+                Ok(receipt) => {
+                    self.finished.notify_all();
+                    return receipt;
+                }
                 Err(back) => done = back,
             }
             thread::yield_now();
@@ -207,10 +212,36 @@ impl<N: Name, J: Errand> Shared<N, J> {
         for _ in rt.forever() {
             let gone = self.desk.lock(rt).exit(name);
             if let Ok(receipt) = gone {
+                self.finished.notify_all();
                 return receipt;
             }
             thread::yield_now();
         }
         unreachable!()
+    }
+
+    /// Waits until the thread of the name is answered for, or is live no more.
+    pub fn wait_finished<R: Wait>(&self, rt: &R, name: u64) {
+        for _ in rt.forever() {
+            let desk = self.desk.lock(rt);
+            if !is_due(&desk, name) {
+                return;
+            }
+            let _desk = self.finished.wait(rt, desk);
+        }
+    }
+
+    /// Whether a thread has still to be answered for.
+    pub fn has_due<R: Wait>(&self, rt: &R) -> bool {
+        let _ = &self.hints;
+        self.desk.lock(rt).next_due(0).is_some()
+    }
+}
+
+// Whether the thread of the name has still to be answered for.
+fn is_due<N: Name, J: Errand>(desk: &Desk<N, J>, name: u64) -> bool {
+    match desk.next_due(name.saturating_sub(1)) {
+        Some(due) => due.name == name,
+        None => false,
     }
 }
