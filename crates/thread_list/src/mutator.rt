@@ -63,7 +63,8 @@ impl<'a, N: Name, J: Errand> Mutator<'a, N, J> {
 
     /// The place whose words are the thread's.
     pub fn place(&self) -> usize
-        ensures { result ≡ self.now.place }
+        ensures value { result ≡ self.now.place }
+        ensures bound { result < N.board.places }
     {
         let _ = &self.body;
         self.place
