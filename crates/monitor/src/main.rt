@@ -1,22 +1,28 @@
-//! The program: lines of events in, lines of answers out; or a script that is checked.
+//! The program: lines of events in, lines of answers out; or a script that is checked, or run on threads.
 #![tactic(auto)]
 
 mod check;
 mod command_line;
 mod fault;
+mod run;
+#[cfg(test)]
+mod run_tests;
 #[cfg(test)]
 mod tests;
 
-use check::check_script;
+use check::{check_script, read_code};
 use command_line::{Form, read_form, read_words};
 use fault::Fault;
 use replay::device::{FromReader, IntoWriter};
 use replay::stream::replay;
+use run::run_with;
 use std::fs::File;
 use std::process::ExitCode;
+use workers::OpenGate;
 
 /// `monitor replay` answers the lines of standard input on standard output. `monitor check FILE` says on standard output
-/// how many methods the script in the file has. The status is 0 when all is done, 1 for a fault and 2 for bad words, which
+/// how many methods the script in the file has. `monitor run FILE [--threads N]` runs it on N threads, 1 to 64 and by default 4, and
+/// says there what the run came to. The status is 0 when all is done, 1 for a fault and 2 for bad words, which
 /// are all other command lines. A fault is told on standard error, in one line.
 fn main(rt: HostRuntime) -> ExitCode {
     match run(&rt) {
@@ -33,6 +39,7 @@ fn run(rt: &HostRuntime) -> Result<(), Fault> {
     match read_form(&words) {
         Some(Form::Replay) => answer_lines(rt),
         Some(Form::Check(name)) => check_file(rt, name),
+        Some(Form::Run(name, threads)) => run_file(rt, name, threads),
         None => Err(Fault::BadWords),
     }
 }
@@ -50,4 +57,13 @@ fn check_file(rt: &HostRuntime, name: &str) -> Result<(), Fault> {
     let mut source = FromReader::new(file);
     let mut sink = IntoWriter::new(rt.stdout());
     check_script(rt.alloc(), &mut source, &mut sink)
+}
+
+fn run_file(rt: &HostRuntime, name: &str, threads: usize) -> Result<(), Fault> {
+    let Ok(file) = File::open(rt, name) else {
+        return Err(Fault::FileNotRead);
+    };
+    let code = read_code(rt.alloc(), &mut FromReader::new(file))?;
+    let mut sink = IntoWriter::new(rt.stdout());
+    run_with(rt, rt.alloc(), &code, threads, &OpenGate, &mut sink)
 }

@@ -1,3 +1,4 @@
 pub mod Marks
 pub mod Ended
 pub mod Summaries
+pub mod Replacing

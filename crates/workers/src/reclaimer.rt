@@ -1,0 +1,238 @@
+//! The codes of a run: what the thread does that installs and reclaims them.
+ghost use Rattle.std.specs.Prelude.{◌≡◌, ◌≤◌, ◌<◌, ◌+◌, ℕ, IfOk, IfSome, OnOk, length};
+ghost use Rattle.poll.specs.Rows.{full_armer};
+ghost use Rattle.desk.specs.declared.entries.Entry.{Entry};
+ghost use Rattle.workers.specs.Replacing.{InstallsEach, Replaced, ReplacedEach};
+
+use crate::fault::RunFault;
+use bodies::Name;
+use coordinator::{Coordinator, Reclaimed};
+use desk::{AskFault, CodeFault, Receipt, ReclaimFault};
+use method_table::table::InstallFault;
+use operations::job::Errand;
+use poll::Armer;
+use std::alloc::Global;
+use std::marker::Model;
+use std::sync::Wait;
+use thread_list::Shared;
+
+/// Installs codes, takes them out of use and reclaims them. Contracts see how many codes are in use, how many are out of use and
+/// not freed, and how many receipts of codes that were installed and freed there are.
+#[derive(Drop)]
+pub struct Reclaimer<'a, N: Name, J: Errand> {
+    shared: &'a Shared<N, J>,
+    coordinator: Coordinator<'a, N, J>,
+    in_use: Vec<u64>,
+    left: Vec<u64>,
+    installed: Vec<Receipt<N>>,
+    freed: Vec<Receipt<N>>,
+}
+
+impl<'a, N: Name, J: Errand> Model for Reclaimer<'a, N, J> {
+    ghost use Rattle.std.specs.Prelude.{length};
+    ghost use Rattle.workers.specs.Replacing.{Codes};
+
+    ghost Value = { Codes };
+
+    ghost view = { λ r. record { in_use = length r.in_use.items; left = length r.left.items; installed = length r.installed.items; freed = length r.freed.items } };
+}
+
+/// How many codes a run installed and freed, and the sum of all count words at its end.
+#[derive(Clone, Copy, PartialEq, Eq, Debug, Drop)]
+pub struct Tally {
+    pub installed: usize,
+    pub freed: usize,
+    pub counts: u64,
+}
+
+impl<'a, N: Name, J: Errand> Reclaimer<'a, N, J> {
+    /// Installs a code for each of so many methods.
+    pub fn new<R: Wait>(
+        rt: &R,
+        alloc: Global,
+        shared: &'a Shared<N, J>,
+        armer: Armer,
+        methods: usize,
+    ) -> Result<Reclaimer<'a, N, J>, RunFault>
+        requires armer { armer ≡ full_armer N.poll_row N.board.places }
+        ensures { IfOk result (InstallsEach methods) }
+    {
+        let Ok(coordinator) = Coordinator::new(shared, armer, alloc) else {
+            return Err(RunFault::NoMemory);
+        };
+        let mut in_use = Vec::with_capacity(alloc, methods)?;
+        let mut installed = Vec::with_capacity(alloc, methods)?;
+        for method in 0..methods {
+            let (serial, receipt) = install(rt, shared, method)?;
+            in_use.push_reserved(serial);
+            installed.push_reserved(receipt);
+        }
+        Ok(Reclaimer {
+            shared,
+            coordinator,
+            in_use,
+            left: Vec::new(alloc),
+            installed,
+            freed: Vec::new(alloc),
+        })
+    }
+
+    /// For each method in rising order: takes its code out of use, installs another, and tries once to reclaim the old one, with the
+    /// jobs of one list that are for live threads.
+    pub fn replace_each<R: Wait>(&mut self, rt: &R, jobs: Vec<Vec<J>>) -> Result<(), RunFault>
+        requires { length jobs.items ≡ self.old.in_use }
+        ensures { OnOk result (ReplacedEach self.old self.new) }
+    {
+        let mut jobs = jobs;
+        let methods = jobs.len();
+        for method in 0..methods {
+            let Some(all) = jobs.pop() else {
+                unreachable!()
+            };
+            let live = self.shared.live(rt)?;
+            self.replace(rt, method, of_live(all, &live))?;
+        }
+        Ok(())
+    }
+
+    /// Takes all codes out of use, and reclaims all that are left, without jobs.
+    pub fn finish<R: Wait>(self, rt: &R, alloc: Global) -> Result<Tally, RunFault>
+        ensures installed { IfOk result (λ t. t.installed ≡ self.entry.installed) }
+        ensures freed { IfOk result (λ t. t.freed ≤ self.entry.freed + self.entry.left + self.entry.in_use) }
+    {
+        let Reclaimer {
+            shared,
+            mut coordinator,
+            in_use,
+            left,
+            installed,
+            mut freed,
+        } = self;
+        for serial in &in_use {
+            invalidate(rt, shared, *serial)?;
+        }
+        reclaim_all(rt, alloc, &mut coordinator, &left, &mut freed)?;
+        reclaim_all(rt, alloc, &mut coordinator, &in_use, &mut freed)?;
+        Ok(Tally {
+            installed: installed.len(),
+            freed: freed.len(),
+            counts: shared.peek_counts(),
+        })
+    }
+
+    // Takes the code of a method out of use, installs another, and tries once to reclaim the old one.
+    fn replace<R: Wait>(&mut self, rt: &R, method: usize, jobs: Vec<J>) -> Result<(), RunFault>
+        requires { method < self.old.in_use }
+        ensures { OnOk result (Replaced self.old self.new) }
+    {
+        let old = self.in_use[method];
+        invalidate(rt, self.shared, old)?;
+        let (new, receipt) = install(rt, self.shared, method)?;
+        self.in_use[method] = new;
+        if self.installed.push(receipt).is_err() {
+            return Err(RunFault::NoMemory);
+        }
+        let reclaimed = reclaim(rt, &mut self.coordinator, old, jobs)?;
+        self.keep(old, reclaimed)
+    }
+
+    // A code that was taken out of use is freed, or left.
+    fn keep(&mut self, serial: u64, freed: Option<Receipt<N>>) -> Result<(), RunFault>
+        ensures { OnOk result ((self.new.in_use ≡ self.old.in_use) × (self.new.installed ≡ self.old.installed) × (self.new.freed + self.new.left ≡ self.old.freed + self.old.left + 1)) }
+    {
+        match freed {
+            Some(receipt) => {
+                if self.freed.push(receipt).is_err() {
+                    return Err(RunFault::NoMemory);
+                }
+            }
+            None => {
+                if self.left.push(serial).is_err() {
+                    return Err(RunFault::NoMemory);
+                }
+            }
+        }
+        Ok(())
+    }
+}
+
+// The jobs that are for live threads.
+fn of_live<J: Errand>(jobs: Vec<J>, live: &[u64]) -> Vec<J> {
+    let mut jobs = jobs;
+    jobs.retain(|job| live.contains(&job.target_of()));
+    jobs
+}
+
+// Installs a code for a method. Answers its serial, with the receipt of its Install.
+fn install<N: Name, J: Errand, R: Wait>(
+    rt: &R,
+    shared: &Shared<N, J>,
+    method: usize,
+) -> Result<(u64, Receipt<N>), RunFault>
+    ensures { IfOk result (λ r. (slot : ℕ) × (r.1.entry ≡ Entry.Install (record { slot = slot; serial = r.0 }) method)) }
+{
+    let Ok(method) = u32::try_from(method) else {
+        return Err(RunFault::Refused);
+    };
+    match shared.install(rt, method) {
+        Ok(installed) => Ok(installed),
+        Err(CodeFault::NoMemory | CodeFault::Install(InstallFault::NoMemory)) => {
+            Err(RunFault::NoMemory)
+        }
+        Err(_) => Err(RunFault::Refused),
+    }
+}
+
+// Takes a code out of use. Answers the receipt of its Invalidate.
+fn invalidate<N: Name, J: Errand, R: Wait>(
+    rt: &R,
+    shared: &Shared<N, J>,
+    serial: u64,
+) -> Result<Receipt<N>, RunFault>
+    ensures { IfOk result (λ r. r.entry ≡ Entry.Invalidate serial) }
+{
+    match shared.invalidate(rt, serial) {
+        Ok(receipt) => Ok(receipt),
+        Err(_) => Err(RunFault::Refused),
+    }
+}
+
+// Reclaims a code, and answers the receipt of its Free where it is freed.
+fn reclaim<N: Name, J: Errand, R: Wait>(
+    rt: &R,
+    coordinator: &mut Coordinator<'_, N, J>,
+    serial: u64,
+    jobs: Vec<J>,
+) -> Result<Option<Receipt<N>>, RunFault>
+    ensures { IfOk result (λ said. IfSome said (λ r. r.entry ≡ Entry.Free serial)) }
+{
+    match coordinator.reclaim(rt, serial, jobs) {
+        Ok(Reclaimed::Freed(receipt)) => Ok(Some(receipt)),
+        Ok(Reclaimed::Used(_) | Reclaimed::Late(_)) => Ok(None),
+        Err(refused) => match refused.fault {
+            ReclaimFault::Ask(AskFault::NoMemory) => Err(RunFault::NoMemory),
+            _ => Err(RunFault::Refused),
+        },
+    }
+}
+
+// Reclaims codes without jobs, and keeps the receipts of those that are freed.
+fn reclaim_all<N: Name, J: Errand, R: Wait>(
+    rt: &R,
+    alloc: Global,
+    coordinator: &mut Coordinator<'_, N, J>,
+    serials: &[u64],
+    freed: &mut Vec<Receipt<N>>,
+) -> Result<(), RunFault>
+    ensures { OnOk result (length freed.new.items ≤ length freed.old.items + length serials.now) }
+{
+    for serial in serials {
+        let Some(receipt) = reclaim(rt, coordinator, *serial, Vec::new(alloc))? else {
+            continue;
+        };
+        if freed.push(receipt).is_err() {
+            return Err(RunFault::NoMemory);
+        }
+    }
+    Ok(())
+}
