@@ -1,12 +1,14 @@
 //! The program: lines of events in, lines of answers out; or a script that is checked, or run on threads.
 #![tactic(auto)]
 
+ghost use Rattle.std.specs.Prelude.{◌<◌, ◌≤◌};
+
 mod check;
 mod command_line;
 mod fault;
-mod run;
+mod running;
 #[cfg(test)]
-mod run_tests;
+mod running_tests;
 #[cfg(test)]
 mod tests;
 
@@ -15,9 +17,11 @@ use command_line::{Form, read_form, read_words};
 use fault::Fault;
 use replay::device::{FromReader, IntoWriter};
 use replay::stream::replay;
-use run::run_with;
+use running::run_with;
 use std::fs::File;
 use std::process::ExitCode;
+use std::sync::Wait;
+use std::thread::Threads;
 use workers::OpenGate;
 
 /// `monitor replay` answers the lines of standard input on standard output. `monitor check FILE` says on standard output
@@ -25,7 +29,7 @@ use workers::OpenGate;
 /// says there what the run came to. The status is 0 when all is done, 1 for a fault and 2 for bad words, which
 /// are all other command lines. A fault is told on standard error, in one line.
 fn main(rt: HostRuntime) -> ExitCode {
-    match run(&rt) {
+    match run(&rt, &rt) {
         Ok(()) => ExitCode::SUCCESS,
         Err(fault) => {
             let _ = eprintln!(rt; "monitor: {fault}");
@@ -34,12 +38,13 @@ fn main(rt: HostRuntime) -> ExitCode {
     }
 }
 
-fn run(rt: &HostRuntime) -> Result<(), Fault> {
+// `threads` is the runtime's leave to start threads and to wait.
+fn run<R: Threads + Wait + Sync>(rt: &HostRuntime, threads: &R) -> Result<(), Fault> {
     let words = read_words(rt, rt.alloc())?;
     match read_form(&words) {
         Some(Form::Replay) => answer_lines(rt),
         Some(Form::Check(name)) => check_file(rt, name),
-        Some(Form::Run(name, threads)) => run_file(rt, name, threads),
+        Some(Form::Run(name, count)) => run_file(rt, threads, name, count),
         None => Err(Fault::BadWords),
     }
 }
@@ -59,11 +64,18 @@ fn check_file(rt: &HostRuntime, name: &str) -> Result<(), Fault> {
     check_script(rt.alloc(), &mut source, &mut sink)
 }
 
-fn run_file(rt: &HostRuntime, name: &str, threads: usize) -> Result<(), Fault> {
+fn run_file<R: Threads + Wait + Sync>(
+    rt: &HostRuntime,
+    threads: &R,
+    name: &str,
+    count: usize,
+) -> Result<(), Fault>
+    requires { (0 < count) × (count ≤ 64) }
+{
     let Ok(file) = File::open(rt, name) else {
         return Err(Fault::FileNotRead);
     };
     let code = read_code(rt.alloc(), &mut FromReader::new(file))?;
     let mut sink = IntoWriter::new(rt.stdout());
-    run_with(rt, rt.alloc(), &code, threads, &OpenGate, &mut sink)
+    run_with(threads, rt.alloc(), &code, count, &OpenGate, &mut sink)
 }

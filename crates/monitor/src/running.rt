@@ -39,12 +39,15 @@ pub fn run_with<R: Threads + Wait + Sync, G: Gate + Sync, W: Sink>(
     while jobs.len() < code.methods() {
         let mut list = Vec::with_capacity(alloc, threads)?;
         while list.len() < threads {
-            let call: Call = Box::new(
+            let Ok(call) = Box::new(
                 alloc,
                 |image: &Image| -> u64
                     ensures { result ≡ reply Ask.Depth image.now.frames }
                 { image.depth() as u64 },
-            )?;
+            ) else {
+                return Err(Fault::NoMemory);
+            };
+            let call: Call = call;
             list.push_reserved(Job::new(list.len() as u64 + 1, Ask::Depth, call));
         }
         jobs.push_reserved(list);

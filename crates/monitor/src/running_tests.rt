@@ -1,13 +1,16 @@
 // What no clause says of a run: the text of whole runs, that threads run beside each other, and that codes are reclaimed.
+ghost use Rattle.std.specs.Prelude.{◌<◌, ◌≤◌};
+
 use crate::check::check_text;
 use crate::fault::Fault;
-use crate::run::run_with;
+use crate::running::run_with;
 use replay::device::IntoWriter;
 use script::Code;
 use std::alloc::Global;
+use std::sync::Wait;
 use std::sync::atomic::{AtomicU64, Ordering};
 use std::test::Fail;
-use std::thread;
+use std::thread::{self, Threads};
 use workers::{Gate, OpenGate};
 
 const LOOP_OF_CALLS: &[u8] =
@@ -21,13 +24,15 @@ fn code_of(alloc: Global, text: &[u8]) -> Result<Code, Fail> {
 }
 
 /// What a run prints, by a buffered sink.
-fn printed<G: Gate + Sync>(
-    rt: &HostRuntime,
+fn printed<R: Threads + Wait + Sync, G: Gate + Sync>(
+    rt: &R,
+    alloc: Global,
     text: &[u8],
     threads: usize,
     gate: &G,
-) -> Result<Vec<u8>, Fail> {
-    let alloc = rt.alloc();
+) -> Result<Vec<u8>, Fail>
+    requires { (0 < threads) × (threads ≤ 64) }
+{
     let code = code_of(alloc, text)?;
     let mut out = Vec::new(alloc);
     let mut sink = IntoWriter::new(&mut out);
@@ -39,7 +44,7 @@ fn printed<G: Gate + Sync>(
 
 #[test]
 fn four_threads_run_a_loop_of_calls(rt: HostRuntime) -> Result<(), Fail> {
-    let found = printed(&rt, LOOP_OF_CALLS, 4, &OpenGate)?;
+    let found = printed(&rt, rt.alloc(), LOOP_OF_CALLS, 4, &OpenGate)?;
     let wanted =
         b"threads 4\nthread 1 finished 17\nthread 2 finished 17\nthread 3 finished 17\nthread 4 finished 17\ncompiled yes\ncodes 4 freed 4\ncounts 0\n";
     assert_eq!(rt; found.as_slice(), wanted.as_slice());
@@ -48,11 +53,18 @@ fn four_threads_run_a_loop_of_calls(rt: HostRuntime) -> Result<(), Fail> {
 
 #[test]
 fn a_run_overflows_or_runs_out_of_fuel(rt: HostRuntime) -> Result<(), Fail> {
-    let found = printed(&rt, b"{\"methods\":[[{\"call\":0}]]}", 1, &OpenGate)?;
+    let found = printed(
+        &rt,
+        rt.alloc(),
+        b"{\"methods\":[[{\"call\":0}]]}",
+        1,
+        &OpenGate,
+    )?;
     let wanted = b"threads 1\nthread 1 overflow 256\ncompiled yes\ncodes 2 freed 2\ncounts 0\n";
     assert_eq!(rt; found.as_slice(), wanted.as_slice());
     let found = printed(
         &rt,
+        rt.alloc(),
         b"{\"methods\":[[{\"loop\":1000000,\"body\":[]}]]}",
         1,
         &OpenGate,
@@ -94,7 +106,7 @@ fn two_ticks_meet(rt: HostRuntime) -> Result<(), Fail> {
         second: AtomicU64::new(0),
         missed: AtomicU64::new(0),
     };
-    let found = printed(&rt, b"{\"methods\":[[\"tick\"]]}", 2, &gate)?;
+    let found = printed(&rt, rt.alloc(), b"{\"methods\":[[\"tick\"]]}", 2, &gate)?;
     let wanted =
         b"threads 2\nthread 1 finished 3\nthread 2 finished 3\ncompiled yes\ncodes 2 freed 2\ncounts 0\n";
     assert_eq!(rt; found.as_slice(), wanted.as_slice());
