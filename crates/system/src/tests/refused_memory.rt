@@ -1,6 +1,6 @@
-// Memory that is refused in a run: with each growth refused in turn, this shows that a run stops before the event that lacks memory
-// and can be gone on with.
-use super::ran;
+// A census of two threads, with ample memory, and with each growth refused in turn: then the run stops before the event that lacks
+// memory, and can be gone on with.
+use super::{made, ran};
 use crate::answers::{Answer, CodeCount, CountList, Refusal};
 use crate::events::{Act, Event};
 use crate::{NewFault, Stopped, System};
@@ -151,6 +151,15 @@ fn go_on(
     assert!(rt; are_same(answers.as_slice(), &wanted[..at]), "{at}");
     let rest = ran(rt, alloc, system, &events[at..]);
     assert!(rt; are_same(rest.as_slice(), &wanted[at..]), "{at}");
+}
+
+#[test]
+fn a_census_of_two_threads_is_answered(rt: HostRuntime) -> Result<(), Fail> {
+    let wanted = census_answers(rt.alloc())?;
+    let mut system = made(&rt, rt.alloc(), 3, 4, 2);
+    let answers = ran(&rt, rt.alloc(), &mut system, &census_events());
+    assert!(rt; are_same(answers.as_slice(), &wanted));
+    Ok(())
 }
 
 #[test]
