@@ -1,9 +1,9 @@
 #!/usr/bin/env python3
-"""Tests that one run of the gate doesn't show: hostile.py [threads|memory] [--jobs N]
+"""Tests that one run of the gate doesn't show: hostile.py [threads|memory] [--crate NAME] [--jobs N]
 
 threads  Each test that runs several threads, twenty times: it passes each time, within its seconds, and prints the same.
 memory   Each test of refused memory with the first growth of the test refused, with the second, and so on until none is. It passes each time, says
-         what was refused, and comes to an end where nothing was. What refuses a growth is `rt try --test --fail-alloc`, without proofs.
+         what was refused, and the growths come to an end where nothing was. What refuses a growth is `rt try --test --fail-alloc`, without proofs.
 
 Without a word it does both. N runs of `rt try` go side by side, by default half as many as there are processors. The last line is
 `N passed, M failed`; the status is 0 where none failed.
@@ -21,6 +21,9 @@ RUNS = 20
 SECONDS = 60
 BUILD_SECONDS = 3600
 MOST_GROWTHS = 400
+
+# So many growths one after the other that no test met end a sweep: one may be refused without harm, where what asked for it has another way.
+QUIET_GROWTHS = 6
 
 THREADS = {
     "poll": ["tests::no_arming_is_lost_to_a_clear", "tests::the_armer_is_in_another_thread"],
@@ -69,8 +72,8 @@ def ran(words, seconds, **devices):
     return it.returncode, it.stdout.decode(errors="replace")
 
 
-def threads(tally):
-    for crate, tests in THREADS.items():
+def threads(tally, tests_of):
+    for crate, tests in tests_of.items():
         status, said = ran(["rt", "test"], BUILD_SECONDS, cwd=CRATES / crate)
         tally.judge(f"{crate}, rt test", [] if status == 0 else said.splitlines()[-20:])
         for test in tests:
@@ -112,19 +115,21 @@ class Sweep:
         for group in self.groups:
             if len({self.met[test][-1] for test in group}) > 1:
                 self.faults.append(f"growth {growth}: not the same: {[self.met[test][-1] for test in group]}")
-        self.is_over = bool(self.faults) or all(notes[-1] == NONE_REFUSED for notes in self.met.values())
+        quiet = [NONE_REFUSED] * QUIET_GROWTHS
+        self.is_over = bool(self.faults) or all(notes[-QUIET_GROWTHS:] == quiet for notes in self.met.values())
 
     def judge(self, tally, crate):
         if not self.is_over:
             self.faults.append(f"a growth is refused past {MOST_GROWTHS}")
         for test, notes in self.met.items():
-            met = sorted(set(notes) - {NONE_REFUSED})
-            tally.judge(f"{crate}, {test}, {len(notes) - 1} growths: {', '.join(met)}", self.faults or ([] if met else ["nothing was refused"]))
+            met = [note for note in dict.fromkeys(notes) if note != NONE_REFUSED]
+            growths = sum(note != NONE_REFUSED for note in notes)
+            tally.judge(f"{crate}, {test}, {growths} growths refused: {', '.join(met)}", self.faults or ([] if met else ["nothing was refused"]))
 
 
-def memory(tally, jobs):
+def memory(tally, groups_of, jobs):
     with concurrent.futures.ThreadPoolExecutor(jobs) as pool:
-        for crate, groups in MEMORY.items():
+        for crate, groups in groups_of.items():
             sweep = Sweep(groups)
             for first in range(1, MOST_GROWTHS, jobs):
                 growths = range(first, first + jobs)
@@ -139,13 +144,15 @@ def memory(tally, jobs):
 def main():
     words = argparse.ArgumentParser(description=__doc__, formatter_class=argparse.RawDescriptionHelpFormatter)
     words.add_argument("what", nargs="?", choices=["threads", "memory"])
+    words.add_argument("--crate", choices=sorted({*THREADS, *MEMORY}), help="this crate alone")
     words.add_argument("--jobs", type=int, default=max(1, (os.cpu_count() or 1) // 2))
     asked = words.parse_args()
+    chosen = lambda tests: {crate: it for crate, it in tests.items() if asked.crate in (None, crate)}
     tally = Tally()
     if asked.what != "memory":
-        threads(tally)
+        threads(tally, chosen(THREADS))
     if asked.what != "threads":
-        memory(tally, max(1, asked.jobs))
+        memory(tally, chosen(MEMORY), max(1, asked.jobs))
     print(f"{tally.passed} passed, {tally.failed} failed")
     sys.exit(1 if tally.failed else 0)
 
