@@ -61,8 +61,8 @@ fn arm_with_mark<N: Name, J: Errand>(
     if !room.mark(name, number) {
         return false;
     }
-    let place = room.place();
-    armer.arm(row, place, number);
+    let at = room.place();
+    armer.arm(row, at, number);
     true
 }
 

@@ -1,0 +1,119 @@
+//! Targets that exit before they are told and after, and a place that is used again.
+ghost use Rattle.std.specs.Prelude.{◌≡◌};
+ghost use Rattle.operations.specs.Asks.{reply};
+
+use super::{ask_both, started};
+use crate::{Coordinator, TellFault, Told};
+use bodies::Name;
+use frames::image::Image;
+use operations::job::{Call, Errand, Job};
+use operations::{Ask, Request, Targets};
+use std::alloc::{AllocError, Global};
+use std::marker::Brand;
+use std::process::Abort;
+use std::sync::Wait;
+use std::test::*;
+use thread_list::{Parts, Shared};
+
+// Of the names 1 and 2 the first is gone, the second is told, and the name 3, in the place of the first, isn't asked.
+fn tell_all<N: Name, J: Errand, R: Wait + Abort>(rt: &R, coordinator: &mut Coordinator<'_, N, J>) {
+    assert!(rt; matches!(coordinator.open(rt), Ok((1, _))));
+    assert!(rt; matches!(coordinator.tell(rt, 1), Ok(Told::Gone)));
+    assert!(rt; matches!(coordinator.tell(rt, 3), Err(TellFault::NotOf)));
+    assert!(rt; matches!(coordinator.tell(rt, 2), Ok(Told::Told)));
+}
+
+// The next handshake is opened and told to the name 3.
+fn tell_third<N: Name, J: Errand, R: Wait + Abort>(
+    rt: &R,
+    coordinator: &mut Coordinator<'_, N, J>,
+) {
+    assert!(rt; matches!(coordinator.close(rt), Ok((1, _))));
+    assert!(rt; matches!(coordinator.open(rt), Ok((2, _))));
+    assert!(rt; matches!(coordinator.tell(rt, 3), Ok(Told::Told)));
+    assert!(rt; coordinator.close(rt).is_err());
+}
+
+// A handshake of the name 3 waits.
+fn ask_third<N: Name, J: Errand, R: Wait>(
+    rt: &R,
+    alloc: Global,
+    shared: &Shared<N, J>,
+    jobs: Vec<J>,
+) -> Result<(), AllocError> {
+    let mut names = Vec::new(alloc);
+    names.push(3).map_err(|_| AllocError)?;
+    let request = Request::Handshake {
+        targets: Targets::from_vec(names),
+        ask: Ask::Depth,
+    };
+    match shared.submit(rt, request, jobs) {
+        Ok(_) => Ok(()),
+        Err(_) => Err(AllocError),
+    }
+}
+
+// Whether the one reply of the operation is 0, of this name.
+fn is_answered<N: Name, J: Errand, R: Wait>(
+    rt: &R,
+    shared: &Shared<N, J>,
+    op: u64,
+    name: u64,
+) -> Result<bool, AllocError> {
+    let replies = shared.replies(rt, op)?;
+    Ok(replies.len() == 1 && replies[0].0 == name && replies[0].1 == 0)
+}
+
+fn exit_and_tell<N: Name, J: Errand, R: Wait + Abort>(
+    rt: &R,
+    alloc: Global,
+    parts: Parts,
+    pair: Vec<J>,
+    third: Vec<J>,
+) -> Result<(), AllocError>
+    requires tables { (parts.board ≡ N.board) × (parts.row ≡ N.poll_row) }
+{
+    let Ok((shared, armer)) = Shared::<N, J>::new(alloc, parts) else {
+        return Err(AllocError);
+    };
+    let Ok(mut coordinator) = Coordinator::new(&shared, armer, alloc) else {
+        return Err(AllocError);
+    };
+    let first = started(rt, alloc, &shared)?;
+    let mut second = started(rt, alloc, &shared)?;
+    ask_both(rt, alloc, &shared, pair)?;
+    ask_third(rt, alloc, &shared, third)?;
+    assert!(rt; first.exit(rt).is_ok());
+    let third = started(rt, alloc, &shared)?;
+    assert!(rt; third.name() == 3 && third.place() == 0);
+    tell_all(rt, &mut coordinator);
+    assert!(rt; second.to_native(rt).is_ok());
+    assert!(rt; coordinator.hold(rt, 1).is_ok());
+    assert!(rt; coordinator.serve(rt, 1).is_ok() && coordinator.release(rt, 1).is_ok());
+    tell_third(rt, &mut coordinator);
+    assert!(rt; third.exit(rt).is_ok());
+    assert!(rt; matches!(coordinator.close(rt), Ok((2, _))));
+    assert!(rt; is_answered(rt, &shared, 1, 2)? && is_answered(rt, &shared, 2, 3)?);
+    assert!(rt; second.from_native(rt).is_ok() && second.exit(rt).is_ok());
+    Ok(())
+}
+
+#[test]
+fn a_target_exits_before_and_after_it_is_told(rt: HostRuntime) -> Result<(), Fail> {
+    let parts = Parts::new(rt.alloc(), 2, 4, 2).map_err(|_| AllocError)?;
+    let mut pair = Vec::new(rt.alloc());
+    let mut third = Vec::new(rt.alloc());
+    for name in 1..4 {
+        let call: Call = Box::new(
+            rt.alloc(),
+            |image: &Image| -> u64
+                ensures { result ≡ reply Ask.Depth image.now.frames }
+            { image.depth() as u64 },
+        )?;
+        let jobs = if name == 3 { &mut third } else { &mut pair };
+        jobs.push(Job::new(name, Ask::Depth, call))
+            .map_err(|_| AllocError)?;
+    }
+    exit_and_tell::<Brand, Job, HostRuntime>(&rt, rt.alloc(), parts, pair, third)?;
+    Ok(())
+}
