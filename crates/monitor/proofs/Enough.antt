@@ -6,7 +6,7 @@ use Rattle.std.specs.Io.KnownBytes.{Consumes, IsAtEnd}
 use Rattle.script.specs.declared.fault.ScriptFault.{ScriptFault}
 use Rattle.script.specs.declared.fault.ScriptFault.TheVariants.{Refused}
 use Rattle.monitor.specs.declared.fault.Fault.{Fault}
-use Rattle.monitor.specs.declared.fault.Fault.TheVariants.{BadWords, FileNotRead, BadScript, ReadFailed, WriteFailed, NoMemory, NoThread, Refused as NotDone}
+use Rattle.monitor.specs.declared.fault.Fault.TheVariants.{BadWords, FileNotRead, BadScript, ReadFailed, WriteFailed, NoMemory}
 use Rattle.script.specs.Reads.{longest}
 use Rattle.monitor.specs.Check.{IsWrong, IsAnswered, IsFaultOf, Told, TextTold, ReadAndTold, ReadsEnough}
 
@@ -71,8 +71,6 @@ told_of A (Err (BadScript flaw place)) input text got got' part (wrong, same) = 
 told_of A (Err ReadFailed) input text got got' part told = told
 told_of A (Err WriteFailed) input text got got' part (line, is, written) = (line, right_of input text line part is, written)
 told_of A (Err NoMemory) input text got got' part told = told
-told_of A (Err NoThread) input text got got' part told = told
-told_of A (Err NotDone) input text got got' part told = told
 
 told_by : (A : Type 0) (result : Result A Fault) (input : List ℕ) (left' got got' : Option (List ℕ)) → TextTold result (Some input) left' got got' → Told input result got got'
 told_by A result input left' got got' all = told_of A result input all.text got got' (part_of input all.text left' all.enough) all.told
@@ -87,8 +85,6 @@ told_all A (Err (BadScript flaw place)) (Some input) left' got got' h = told_by 
 told_all A (Err ReadFailed) (Some input) left' got got' h = told_by A (Err ReadFailed) input left' got got' h
 told_all A (Err WriteFailed) (Some input) left' got got' h = told_by A (Err WriteFailed) input left' got got' h
 told_all A (Err NoMemory) (Some input) left' got got' h = h
-told_all A (Err NoThread) (Some input) left' got got' h = told_by A (Err NoThread) input left' got got' h
-told_all A (Err NotDone) (Some input) left' got got' h = told_by A (Err NotDone) input left' got got' h
 
 -- of a text that is wrong its fault is told
 pub read_fault : (A : Type 0) (left left' got : Option (List ℕ)) (text : List ℕ) (fault : Fault) → ReadsEnough left left' text → IsFaultOf text fault → ReadAndTold {A = A} (Err fault) left left' got got
@@ -98,5 +94,3 @@ read_fault A left left' got text (BadScript flaw place) enough h = record { text
 read_fault A left left' got text ReadFailed enough h = absurd h
 read_fault A left left' got text WriteFailed enough h = absurd h
 read_fault A left left' got text NoMemory enough h = refl
-read_fault A left left' got text NoThread enough h = absurd h
-read_fault A left left' got text NotDone enough h = absurd h

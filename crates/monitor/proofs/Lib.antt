@@ -1,3 +1,2 @@
 pub mod Enough
 pub mod Texts
-pub mod Spellings

@@ -1,9 +1,0 @@
--- Which number is spelled so, one number at a time.
-use Rattle.std.proofs.Common.{◌≡◌, ◌≢◌, ◌-◌, ℕ, zero, suc, List, Option, Some, refl}
-use Rattle.std.specs.Prelude.{decimal, bytes_eq, if◌then◌else◌}
-use Rattle.monitor.specs.CommandLine.{spelled}
-
-pub spelled_or_below : (n : ℕ) (word : List ℕ) → n ≢ 0 → spelled n word ≡ (if bytes_eq (decimal n) word then Some n else spelled (n - 1) word)
-unfolding spelled
-spelled_or_below zero word some = absurd (some refl)
-spelled_or_below (suc n) word some = refl
