@@ -64,7 +64,7 @@ fn census_answers(alloc: Global) -> Result<[Answer; 44], AllocError> {
         serial: 1,
         count: 3,
     };
-    let counts = CountList::from_vec(vec![in alloc; three]?);
+    let counts = CountList::from_vec(alloc, vec![in alloc; three]?)?;
     Ok([
         Answer::Thread(1, 0),
         Answer::Done,
