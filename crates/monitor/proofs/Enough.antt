@@ -1,5 +1,5 @@
 -- What was read of a file is enough to answer for all of it.
-use Rattle.std.proofs.Common.{◌≡◌, ◌≢◌, ◌∙◌, inl, inr, ℕ, zero, suc, ◌+◌, ◌<◌, ◌≤◌, ◌==◌, cond, false, List, [], ◌∷◌, ◌++◌, length, length-append, take, drop, IfSome, Option, Some, None, Result, Ok, Err, refl, sym, ap, subst, append_assoc, arith}
+use Rattle.std.proofs.Common.{◌≡◌, ◌≢◌, ◌∙◌, inl, inr, ℕ, zero, suc, ◌+◌, ◌<◌, ◌≤◌, ◌==◌, cond, false, List, [], ◌∷◌, ◌++◌, length, length-append, take, drop, IfSome, IfErr, Option, Some, None, Result, Ok, Err, refl, sym, ap, subst, append_assoc, arith}
 use Rattle.std.proofs.Math.Seq.{take-append_seam}
 use Rattle.std.proofs.lemmas.List.{length-take-le}
 use Rattle.std.specs.Io.KnownBytes.{Consumes, IsAtEnd}
@@ -8,7 +8,7 @@ use Rattle.script.specs.declared.fault.ScriptFault.TheVariants.{Refused}
 use Rattle.monitor.specs.declared.fault.Fault.{Fault}
 use Rattle.monitor.specs.declared.fault.Fault.TheVariants.{BadWords, FileNotRead, BadScript, ReadFailed, WriteFailed, NoMemory, NoThread, Refused as NotDone}
 use Rattle.script.specs.Reads.{longest}
-use Rattle.monitor.specs.Check.{IsWrong, IsAnswered, IsFaultOf, Told, TextTold, ReadAndTold, ReadsEnough}
+use Rattle.monitor.specs.Check.{IsWrong, IsAnswered, IsFaultOf, Told, TextTold, ReadAndTold, IsFaultOfSource, ReadsEnough}
 
 append_none : (xs : List ℕ) → xs ++ [] ≡ xs
 append_none [] = refl
@@ -100,3 +100,18 @@ read_fault A left left' got text WriteFailed enough h = absurd h
 read_fault A left left' got text NoMemory enough h = refl
 read_fault A left left' got text NoThread enough h = absurd h
 read_fault A left left' got text NotDone enough h = absurd h
+
+-- a text that was read has the fault of its source
+pub fault_of_source : (left left' : Option (List ℕ)) (reads : ℕ) (text : List ℕ) (fault : Fault) → reads ≡ 0 → ReadsEnough left left' text → IsFaultOf text fault → IsFaultOfSource left left' reads fault
+fault_of_source left left' reads text BadWords none enough h = absurd h
+fault_of_source left left' reads text FileNotRead none enough h = absurd h
+fault_of_source left left' reads text (BadScript flaw place) none enough h = (none, (text, enough, h))
+fault_of_source left left' reads text ReadFailed none enough h = absurd h
+fault_of_source left left' reads text WriteFailed none enough h = absurd h
+fault_of_source left left' reads text NoMemory none enough h = none
+fault_of_source left left' reads text NoThread none enough h = absurd h
+fault_of_source left left' reads text NotDone none enough h = absurd h
+
+pub fault_of_read : {A : Type 0} (result : Result A Fault) (left left' : Option (List ℕ)) (reads : ℕ) (text : List ℕ) → reads ≡ 0 → ReadsEnough left left' text → IfErr result (IsFaultOf text) → IfErr result (IsFaultOfSource left left' reads)
+fault_of_read (Ok x) left left' reads text none enough h = tt
+fault_of_read (Err fault) left left' reads text none enough h = fault_of_source left left' reads text fault none enough h

@@ -57,7 +57,7 @@ pub fn read_form(words: &[String]) -> Option<Form<'_>>
 }
 
 // How many threads a word asks for, None where it isn't one of the numbers that are allowed as they are spelled.
-#[tactic(auto, using(crate::proofs::Spellings::spelled_or_below))]
+#[tactic(auto, using(crate::proofs::Spellings::spelled_or_below, crate::proofs::Spellings::none_spelled))]
 fn thread_count(word: &str) -> Option<usize>
     ensures value { result ≡ spelled most_threads word.now }
     ensures bound { IfSome result (λ n. (0 < n) × (n ≤ most_threads)) }

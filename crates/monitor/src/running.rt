@@ -34,21 +34,20 @@ pub fn run_with<R: Threads + Wait + Sync, G: Gate + Sync, W: Sink>(
     ensures printed { Printed code.now threads result (W.got sink.old) (W.got sink.new) }
     ensures failed { FailedWrites result (W.failures sink.new) }
 {
-    let parts = parts_of(alloc, threads, code.methods())?;
-    let mut jobs = Vec::with_capacity(alloc, code.methods())?;
-    while jobs.len() < code.methods() {
+    let methods = code.methods();
+    let parts = parts_of(alloc, threads, methods)?;
+    let mut jobs = Vec::with_capacity(alloc, methods)?;
+    while jobs.len() < methods {
         let mut list = Vec::with_capacity(alloc, threads)?;
-        while list.len() < threads {
-            let Ok(call) = Box::new(
+        for place in 0..threads {
+            let call: Call = Box::new(
                 alloc,
                 |image: &Image| -> u64
                     ensures { result ≡ reply Ask.Depth image.now.frames }
                 { image.depth() as u64 },
-            ) else {
-                return Err(Fault::NoMemory);
-            };
-            let call: Call = call;
-            list.push_reserved(Job::new(list.len() as u64 + 1, Ask::Depth, call));
+            )
+            .map_err(|_| AllocError)?;
+            list.push_reserved(Job::new(place as u64 + 1, Ask::Depth, call));
         }
         jobs.push_reserved(list);
     }

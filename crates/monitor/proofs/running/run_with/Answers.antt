@@ -1,0 +1,20 @@
+use Rattle.std.proofs.Common.{subst}
+use Rattle.std.specs.Io.KnownBytes.{Appends}
+use Rattle.replay.specs.Known.{AppendsPart}
+use Rattle.monitor.proofs.running.run_with.Goals as goal
+
+pub returns-in-Ok-clause-printed : goal.returns-in-Ok-clause-printed
+returns-in-Ok-clause-printed g c =
+    let done = rw c.into_bytes-text.ensures.value at c.in-Ok.ensures.done.0 in (
+      c.in_ok-summary.summary,
+      c.in_ok-summary.ensures,
+      subst (λ bytes. Appends (g.W.Sink.got c.args.sink.now) (g.W.Sink.got c.flush.new.sink) bytes) c.in_ok-text_of.ensures done,
+    )
+
+pub returns-clause-printed : goal.returns-clause-printed
+returns-clause-printed g c =
+    let part = rw c.into_bytes-text.ensures.value at c.in-Err.ensures.part.0 in (
+      c.in_ok-summary.summary,
+      c.in_ok-summary.ensures,
+      subst (λ bytes. AppendsPart (g.W.Sink.got c.args.sink.now) (g.W.Sink.got c.flush.new.sink) bytes) c.in_ok-text_of.ensures part,
+    )
