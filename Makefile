@@ -1,6 +1,7 @@
 # `make run` builds the proved program and shows its main job on a shipped example; `make test` is the gate, and then the programs
-# that it built, from outside. `make examples` runs the program alone from outside, on all shipped examples too; `make bench` times it.
-.PHONY: run test examples bench
+# that it built, from outside. `make examples` runs the program alone from outside, on all shipped examples too; `make bench` times it;
+# `make hostile` runs the tests of threads twenty times, and those of refused memory with each growth refused in turn.
+.PHONY: run test examples bench hostile
 
 run:
 	@cd crates/monitor && rt run -- replay < ../../examples/one_publication.lines
@@ -13,3 +14,6 @@ examples: run
 
 bench: run
 	@bench/replay.py crates/monitor/out/monitor
+
+hostile:
+	@tests/hostile.py

@@ -1,8 +1,8 @@
-//! The rows of the board: a code's life in one thread, and a publication that is stopped at each of its boundaries.
-ghost use Rattle.std.specs.Prelude.{◌≡◌, ◌≢◌, ◌<◌, [], IfOk};
-ghost use Rattle.frames.specs.declared.board_rule.EntryState.TheVariants.{InUse, NotEntrant};
+//! The rows of the board: a code's life in one thread, and a board of the greatest sizes.
+ghost use Rattle.std.specs.Prelude.{◌≡◌, ◌<◌, IfOk};
+ghost use Rattle.frames.specs.declared.board_rule.EntryState.TheVariants.{NotEntrant};
 ghost use Rattle.frames.specs.BoardRule.{code};
-ghost use Rattle.frames.specs.BoardViews.{slot_of, in_use, IsIn};
+ghost use Rattle.frames.specs.BoardViews.{IsIn};
 ghost use Rattle.board.specs.Boards.{first_seat, first_keeper};
 
 use super::*;
@@ -11,6 +11,8 @@ use frames::board_rule::{Entry, EntryState};
 use std::alloc::{AllocError, Global};
 use std::process::Abort;
 use std::test::*;
+
+mod stopped;
 
 const C: CodeId = CodeId { slot: 0, serial: 1 };
 
@@ -124,127 +126,6 @@ fn a_place_that_was_given_up_lets_every_look_pass(rt: HostRuntime) -> Result<(),
     Ok(())
 }
 
-const D: CodeId = CodeId { slot: 1, serial: 2 };
-
-// A board of two slots with the codes C and D in use, and one place, whose seat has ended a publication.
-fn two_codes(alloc: Global) -> Result<(Board, Keeper, ThreadSeat), AllocError>
-    ensures board { IfOk result (λ t. (t.0.slots ≡ 2) × (t.0.places ≡ 1)) }
-    ensures keeper { IfOk result (λ t. (t.1.board ≡ t.0) × (slot_of t.1.seen 0 ≡ in_use (code 0 1))) }
-    ensures seat { IfOk result (λ t. (t.2.board ≡ t.0) × (t.2.seen.stored ≢ 0) × (t.2.seen.counted ≡ [])) }
-{
-    let (board, mut keeper, mut seats) = Board::new(alloc, 1, 2)?;
-    let mut seat = seats.swap_remove(0);
-    keeper.install(&board, C);
-    keeper.install(&board, D);
-    seat.read_moment(&board);
-    seat.end_publication(&board);
-    Ok((board, keeper, seat))
-}
-
-// Invalidates C, goes round, and looks at place 0: whether it went round, and whether the place is done with C.
-fn invalidated(board: &Board, keeper: &mut Keeper) -> (bool, bool)
-    requires board { keeper.old.board ≡ board.now }
-    requires sizes { (board.now.slots ≡ 2) × (board.now.places ≡ 1) }
-    requires code { IsIn keeper.old.seen (code 0 1) InUse }
-    ensures board { keeper.new.board ≡ keeper.old.board }
-    ensures code { IsIn keeper.new.seen (code 0 1) NotEntrant }
-{
-    keeper.invalidate(board, C);
-    let turned = keeper.round(board).is_ok();
-    (turned, keeper.look(board, C, 0))
-}
-
-#[test]
-fn stopped_before_the_moment_is_read(rt: HostRuntime) -> Result<(), Fail> {
-    let (board, mut keeper, mut seat) = two_codes(rt.alloc())?;
-    assert!(rt; seat.enter(&board, C));
-    assert!(rt; seat.enter(&board, D));
-    assert!(rt; invalidated(&board, &mut keeper) == (true, false));
-    seat.read_moment(&board);
-    seat.count_change(&board, C, 1);
-    seat.count_change(&board, D, 1);
-    seat.end_publication(&board);
-    assert!(rt; keeper.look(&board, C, 0));
-    assert!(rt; matches!(keeper.weigh(&board, C), Weighed::Used(1)));
-    Ok(())
-}
-
-#[test]
-fn stopped_after_the_moment_is_read(rt: HostRuntime) -> Result<(), Fail> {
-    let (board, mut keeper, mut seat) = two_codes(rt.alloc())?;
-    assert!(rt; seat.enter(&board, C));
-    assert!(rt; seat.enter(&board, D));
-    seat.read_moment(&board);
-    assert!(rt; invalidated(&board, &mut keeper) == (true, false));
-    seat.count_change(&board, C, 1);
-    seat.count_change(&board, D, 1);
-    seat.end_publication(&board);
-    assert!(rt; !keeper.look(&board, C, 0));
-    assert!(rt; matches!(keeper.weigh(&board, C), Weighed::NotLooked(0)));
-    seat.read_moment(&board);
-    seat.end_publication(&board);
-    assert!(rt; keeper.look(&board, C, 0));
-    assert!(rt; matches!(keeper.weigh(&board, C), Weighed::Used(1)));
-    Ok(())
-}
-
-#[test]
-fn stopped_after_the_first_change(rt: HostRuntime) -> Result<(), Fail> {
-    let (board, mut keeper, mut seat) = two_codes(rt.alloc())?;
-    assert!(rt; seat.enter(&board, C));
-    assert!(rt; seat.enter(&board, D));
-    seat.read_moment(&board);
-    seat.count_change(&board, C, 1);
-    assert!(rt; invalidated(&board, &mut keeper) == (true, false));
-    seat.count_change(&board, D, 1);
-    seat.end_publication(&board);
-    assert!(rt; !keeper.look(&board, C, 0));
-    assert!(rt; matches!(keeper.weigh(&board, C), Weighed::NotLooked(0)));
-    seat.read_moment(&board);
-    seat.end_publication(&board);
-    assert!(rt; keeper.look(&board, C, 0));
-    assert!(rt; matches!(keeper.weigh(&board, C), Weighed::Used(1)));
-    Ok(())
-}
-
-#[test]
-fn stopped_after_the_last_change(rt: HostRuntime) -> Result<(), Fail> {
-    let (board, mut keeper, mut seat) = two_codes(rt.alloc())?;
-    assert!(rt; seat.enter(&board, C));
-    assert!(rt; seat.enter(&board, D));
-    seat.read_moment(&board);
-    seat.count_change(&board, C, 1);
-    seat.count_change(&board, D, 1);
-    assert!(rt; invalidated(&board, &mut keeper) == (true, false));
-    seat.end_publication(&board);
-    assert!(rt; !keeper.look(&board, C, 0));
-    assert!(rt; matches!(keeper.weigh(&board, C), Weighed::NotLooked(0)));
-    seat.read_moment(&board);
-    seat.end_publication(&board);
-    assert!(rt; keeper.look(&board, C, 0));
-    assert!(rt; matches!(keeper.weigh(&board, C), Weighed::Used(1)));
-    Ok(())
-}
-
-#[test]
-fn stopped_after_the_end(rt: HostRuntime) -> Result<(), Fail> {
-    let (board, mut keeper, mut seat) = two_codes(rt.alloc())?;
-    assert!(rt; seat.enter(&board, C));
-    assert!(rt; seat.enter(&board, D));
-    seat.read_moment(&board);
-    seat.count_change(&board, C, 1);
-    seat.count_change(&board, D, 1);
-    seat.end_publication(&board);
-    assert!(rt; invalidated(&board, &mut keeper) == (true, false));
-    assert!(rt; !keeper.look(&board, C, 0));
-    assert!(rt; matches!(keeper.weigh(&board, C), Weighed::NotLooked(0)));
-    seat.read_moment(&board);
-    seat.end_publication(&board);
-    assert!(rt; keeper.look(&board, C, 0));
-    assert!(rt; matches!(keeper.weigh(&board, C), Weighed::Used(1)));
-    Ok(())
-}
-
 const LAST: CodeId = CodeId {
     slot: 1023,
     serial: 1,
@@ -315,6 +196,7 @@ fn a_board_is_made_after_another(rt: HostRuntime) -> Result<(), Fail> {
 #[test]
 fn a_board_is_made_whole_or_not_at_all(rt: HostRuntime) -> Result<(), Fail> {
     let Ok((board, keeper, seats)) = Board::new(rt.alloc(), 3, 5) else {
+        println!(rt; "refused")?;
         return Ok(());
     };
     assert!(rt; seats.len() == 3);
@@ -322,5 +204,6 @@ fn a_board_is_made_whole_or_not_at_all(rt: HostRuntime) -> Result<(), Fail> {
     let moment = closed.moment();
     closed.free();
     assert!(rt; moment == 1);
+    println!(rt; "no growth was refused")?;
     Ok(())
 }

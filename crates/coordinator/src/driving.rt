@@ -15,8 +15,11 @@ use bodies::{Body, Name, census_of};
 use desk::{CloseFault, Desk, Live, Receipt};
 use operations::job::Errand;
 use std::sync::Wait;
-use std::thread;
+use std::{hint, thread};
 use thread_list::Shared;
+
+// How often a `drive` looks at poll words without a lock before it sleeps: about as long as a thread takes to its next poll.
+const SPINS: u32 = 500;
 
 // Nothing is open and nothing waits.
 #[derive(Drop)]
@@ -105,14 +108,42 @@ impl<'a, N: Name, J: Errand> Coordinator<'a, N, J> {
         ensures free { (self.new.held ≡ []) × (self.new.operated ≡ false) }
     {
         self.release_all(rt);
+        let mut spins = SPINS;
         for _ in rt.forever() {
             self.serve_all(rt);
             if let Ok((number, receipt)) = self.close(rt) {
                 return (Driven::Handshake(number), receipt);
             }
-            thread::yield_now();
+            spins = self.wait(rt, spins);
         }
         unreachable!()
+    }
+
+    // Waits until the first target that is due has brought its body or is answered for: without a lock, as far as the spins that are
+    // left go, and then asleep. Answers how many are left.
+    fn wait<R: Wait>(&self, rt: &R, spins: u32) -> u32 {
+        let Some(due) = self.next_due(rt, 0) else {
+            return spins;
+        };
+        if due.place >= self.places {
+            return spins;
+        }
+        let left = self.spin(due.place, spins);
+        if left == 0 && !self.shared.berth(due.place).wait_for(rt, due.name) {
+            self.shared.wait_finished(rt, due.name);
+        }
+        left
+    }
+
+    // Spins until nothing is armed at the place, so many times at most. Answers how many are left.
+    fn spin(&self, place: usize, spins: u32) -> u32 {
+        let _ = &self.bodies;
+        let mut left = spins;
+        while left > 0 && self.shared.row().peek(place) != 0 {
+            hint::spin_loop();
+            left -= 1;
+        }
+        left
     }
 
     // Serves each target whose body is in its berth.
@@ -153,7 +184,8 @@ impl<'a, N: Name, J: Errand> Coordinator<'a, N, J> {
         };
         self.release_all(rt);
         for _ in rt.forever() {
-            if let Ok((number, receipt)) = self.close(rt) {
+            if let Ok(closed) = self.close(rt) {
+                let (number, receipt) = closed;
                 return Ok((Driven::Census(number, list), receipt));
             }
             thread::yield_now();

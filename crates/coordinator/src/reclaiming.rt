@@ -1,6 +1,7 @@
 //! Reclaiming a code that isn't entrant.
 ghost use Rattle.std.specs.Prelude.{◌≡◌, ◌≤◌, IfOk, IfErr, IfSome};
-ghost use Rattle.coordinator.specs.Reclaiming.{IsReclaimed, Frees, request_of};
+ghost use Rattle.coordinator.specs.Reclaiming.{IsReclaimed, Frees, lacks_memory, not_reclaimed, request_of};
+ghost use Rattle.desk.specs.Fields.{at};
 
 use crate::coordinator::Coordinator;
 use crate::faults::Reclaimed;
@@ -31,6 +32,22 @@ fn request_of<J: Errand>(alloc: Global, jobs: &[J]) -> Result<Option<Request>, A
         targets: Targets::from_vec(names),
         ask,
     }))
+}
+
+// Why a code isn't reclaimed where there is no memory for the handshake's targets.
+fn fault_without_memory<N: Name, J: Errand>(desk: &Desk<N, J>, serial: u64) -> ReclaimFault
+    ensures { lacks_memory (at desk.now) serial desk.now.keeper.moment result }
+{
+    if let Some(fault) = desk.weigh_fault(serial) {
+        return ReclaimFault::Code(fault);
+    }
+    if !desk.is_idle() {
+        return ReclaimFault::AlreadyOpen;
+    }
+    if desk.is_last_moment() {
+        return ReclaimFault::Spent;
+    }
+    ReclaimFault::Ask(AskFault::NoMemory)
 }
 
 // Looks at each place for the code.
@@ -78,14 +95,10 @@ impl<'a, N: Name, J: Errand> Coordinator<'a, N, J> {
         jobs: Vec<J>,
     ) -> Result<Reclaimed<N>, NotReclaimed<J>>
         ensures reclaimed { IfOk result (IsReclaimed serial) }
+        ensures refused { IfErr result (λ e. not_reclaimed J.whom J.asks serial jobs.items e.fault × (self.new ≡ self.old)) }
         ensures handed_back { IfErr result (λ e. e.jobs ≡ jobs) }
     {
-        let Ok(request) = request_of(self.alloc, jobs.as_slice()) else {
-            return Err(NotReclaimed {
-                fault: ReclaimFault::Ask(AskFault::NoMemory),
-                jobs,
-            });
-        };
+        let request = request_of(self.alloc, jobs.as_slice());
         if self.ask(rt, serial, request, jobs)? {
             let _ = self.drive(rt);
         }
@@ -103,13 +116,23 @@ impl<'a, N: Name, J: Errand> Coordinator<'a, N, J> {
         &self,
         rt: &R,
         serial: u64,
-        request: Option<Request>,
+        request: Result<Option<Request>, AllocError>,
         jobs: Vec<J>,
     ) -> Result<bool, NotReclaimed<J>>
+        requires request { IfOk request (λ r. r ≡ request_of J.whom J.asks jobs.items) }
+        ensures refused { IfErr result (λ e. not_reclaimed J.whom J.asks serial jobs.items e.fault) }
         ensures handed_back { IfErr result (λ e. e.jobs ≡ jobs) }
     {
+        let _ = &self.bodies;
         let mut desk = self.shared.desk().lock(rt);
-        let asked = desk.begin_reclaim(self.shared.board(), serial, request, jobs)?;
+        let Ok(request) = request else {
+            let fault = fault_without_memory(&desk, serial);
+            return Err(NotReclaimed { fault, jobs });
+        };
+        let asked = match desk.begin_reclaim(self.shared.board(), serial, request, jobs) {
+            Ok(asked) => asked,
+            Err(refused) => return Err(refused),
+        };
         Ok(asked.is_some())
     }
 

@@ -61,8 +61,8 @@ fn arm_with_mark<N: Name, J: Errand>(
     if !room.mark(name, number) {
         return false;
     }
-    let place = room.place();
-    armer.arm(row, place, number);
+    let at = room.place();
+    armer.arm(row, at, number);
     true
 }
 
@@ -74,7 +74,7 @@ fn look_up<N: Name, J: Errand>(
 ) -> (Standing, Option<J>)
     ensures standing { result.0 ≡ standing (at desk.old) name }
     ensures job { IfSome result.1 (λ j. (J.whom j ≡ name) × (0 < J.number j)) }
-    ensures same { desk.new ≡ desk.old }
+    ensures same { (desk.new.book ≡ desk.old.book) × (desk.new.keeper ≡ desk.old.keeper) }
 {
     let said = desk.standing(name);
     if !wants_job || !is_owed_a_job(said) {

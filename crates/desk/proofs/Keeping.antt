@@ -20,8 +20,8 @@ use Rattle.desk.specs.declared.entries.Entry.TheVariants.{Start, Exit, Ask, Open
 use Rattle.desk.specs.declared.entries.Live.{Live}
 use Rattle.desk.specs.declared.entries.Carried.{Carried}
 use Rattle.desk.specs.declared.entries.Opened.{Opened}
-use Rattle.desk.specs.Machine.{State, step, lawful, start, after_from, legal_from, after, is_legal, needs, is_taken, is_live, without, Asked, Current, needs_of_asked, needs_of_opened, needs_of_codes, states_left, may_open_more, is_first, live_of, open_next, opened_of, rest_of, finished, as_operated, Book, has_census, open_of, passes, is_due, may_operate, may_close, at_number, without_number, targets_of, steps_of, is_free_slot, Stands, stands}
-use Rattle.desk.specs.Fields.{IsKept, AreFit, state_of, asked_of, current_of, due_of, IsIndex, AreCarried, DeskSeen, Enters, at}
+use Rattle.desk.specs.Machine.{State, step, lawful, start, after_from, legal_from, after, is_legal, needs, is_taken, is_live, without, Asked, Current, needs_of_asked, needs_of_opened, needs_of_codes, states_left, may_open_more, is_first, live_of, open_next, opened_of, rest_of, finished, as_operated, Book, has_census, open_of, passes, is_due, may_operate, may_close, at_number, without_number, steps_of, is_free_slot, Stands, stands}
+use Rattle.desk.specs.Fields.{IsKept, AreFit, state_of, asked_of, current_of, due_of, IsIndex, IsCarried, AreCarried, DeskSeen, Enters, at}
 use Rattle.desk.proofs.Fewer.{filter_le, filter_less}
 use Rattle.desk.proofs.Newest.{same_at}
 use Rattle.desk.proofs.CodeEntries.{unfreed_parts}
@@ -99,9 +99,9 @@ ask_keeps slots methods b b' nn num live q q' w os t k same is there kept =
     (let F : List Asked → State = λ l. record { next_name = nn; live = live; next_number = num + 1; waiting = l; opened = map current_of os; table = t } in ap F (sym asked))
     (let m = k.needed in omega arith) k.fit
 
-pub carried_push : {J : Type 0} (q : List (Waiting (Carried J))) (w : Waiting (Carried J)) → AreCarried q → w.load.due.items ≡ targets_of w.request → AreCarried (q ++ w ∷ [])
-carried_push [] w are new = (new, tt)
-carried_push (x ∷ q) w are new = (are.0, carried_push q w are.1 new)
+pub carried_push : {J : Type 0} (whom : J → ℕ) (q : List (Waiting (Carried J))) (w : Waiting (Carried J)) → AreCarried whom q → IsCarried whom w → AreCarried whom (q ++ w ∷ [])
+carried_push whom [] w are new = (new, tt)
+carried_push whom (x ∷ q) w are new = (are.0, carried_push whom q w are.1 new)
 
 more_of : (cs : List Current) → may_open_more cs ≡ true → cs ≡ []
 more_of [] h = refl
@@ -114,15 +114,15 @@ due_opened before ls a = by a.request
     by Census = omega arith
     by (Handshake targets ask) = let l = filter_le (λ (t : ℕ). is_live t ls) targets in omega arith
 
-pub open_keeps : {J : Type 0} (slots methods : ℕ) (b b' : Book) (nn num : ℕ) (live : List Live) (q q' : List (Waiting (Carried J))) (w : Waiting (Carried J)) (os os' : List (Opened J)) (o : Opened J) (t : TableView)
-    → IsKept slots methods b (state_of nn live num q os t) → AreCarried q → may_open_more (map current_of os) ≡ true → q ≡ w ∷ q' → os' ≡ os ++ o ∷ []
+pub open_keeps : {J : Type 0} (whom : J → ℕ) (slots methods : ℕ) (b b' : Book) (nn num : ℕ) (live : List Live) (q q' : List (Waiting (Carried J))) (w : Waiting (Carried J)) (os os' : List (Opened J)) (o : Opened J) (t : TableView)
+    → IsKept slots methods b (state_of nn live num q os t) → AreCarried whom q → may_open_more (map current_of os) ≡ true → q ≡ w ∷ q' → os' ≡ os ++ o ∷ []
     → o.number ≡ w.number → o.request ≡ w.request → o.before ≡ nn → o.left ≡ steps_of w.request → o.due.items ≡ live_of live w.load.due.items → o.operated ≡ false
-    → b'.history ≡ b.history ++ Open w.number ∷ [] → b'.reserved + 1 ≡ b.reserved → IsKept slots methods b' (state_of nn live num q' os' t) × AreCarried q'
-open_keeps slots methods b b' nn num live q q' w os os' o t k are none is there_is number request before left due operated there kept =
-    let carried : (w.load.due.items ≡ targets_of w.request) × AreCarried q' = subst AreCarried is are in
+    → b'.history ≡ b.history ++ Open w.number ∷ [] → b'.reserved + 1 ≡ b.reserved → IsKept slots methods b' (state_of nn live num q' os' t) × AreCarried whom q'
+open_keeps whom slots methods b b' nn num live q q' w os os' o t k are none is there_is number request before left due operated there kept =
+    let carried : IsCarried whom w × AreCarried whom q' = subst (AreCarried whom) is are in
     let asked : map asked_of q ≡ asked_of w ∷ map asked_of q' = ap (map asked_of) is in
     let n : needs_of_asked (map asked_of q) ≡ (2 + steps_of w.request) + needs_of_asked (map asked_of q') = ap needs_of_asked asked in
-    let o_is : current_of o ≡ opened_of nn live (asked_of w) = λ i. record { number = number i; request = request i; before = before i; left = left i; due = (due ∙ ap (live_of live) carried.0) i; operated = operated i } in
+    let o_is : current_of o ≡ opened_of nn live (asked_of w) = λ i. record { number = number i; request = request i; before = before i; left = left i; due = (due ∙ ap (live_of live) carried.0.due) i; operated = operated i } in
     let os_is : map current_of os' ≡ map current_of os ++ opened_of nn live (asked_of w) ∷ [] = ap (map current_of) there_is ∙ map-append current_of os (o ∷ []) ∙ ap (λ (c : Current). map current_of os ++ c ∷ []) o_is in
     let m : needs_of_opened (map current_of os') ≡ needs_of_opened (map current_of os) + (1 + steps_of w.request) = ap needs_of_opened os_is ∙ needs_push (map current_of os) (opened_of nn live (asked_of w)) in (
       keeps slots methods b b' (Open w.number) _ _ k.legal k.state there
@@ -130,7 +130,7 @@ open_keeps slots methods b b' nn num live q q' w os os' o t k are none is there_
           (let F : List Asked → State = λ l. record { next_name = nn; live = live; next_number = num; waiting = rest_of l; opened = open_next nn live l (map current_of os); table = t } in
           ap F asked ∙ ap (λ (cs : List Current). record { next_name = nn; live = live; next_number = num; waiting = map asked_of q'; opened = cs; table = t }) (sym os_is))
           (let z = k.needed in omega arith)
-          (subst AreFit (sym os_is) (fit_push (map current_of os) (opened_of nn live (asked_of w)) k.fit (due_opened nn live (asked_of w)))),
+          (subst AreFit (sym os_is) (fit_push (map current_of os) (opened_of nn live (asked_of w)) k.fit carried.0.number (due_opened nn live (asked_of w)))),
       carried.1,
     )
 
@@ -138,9 +138,9 @@ open_keeps slots methods b b' nn num live q q' w os os' o t k are none is there_
 changes : {J : Type 0} (slots methods : ℕ) (b b' : Book) (e : Entry) (f : Current → Current) (nn num n i : ℕ) (live : List Live) (q : List (Waiting (Carried J))) (os os' : List (Opened J)) (o o' : Opened J) (t : TableView)
     → IsKept slots methods b (state_of nn live num q os t) → IsIndex n os (Some i) → slice_get os i ≡ Some o → os' ≡ slice_set os i o' → current_of o' ≡ f (current_of o)
     → lawful (state_of nn live num q os t) e ≡ true → step (state_of nn live num q os t) e ≡ record { next_name = nn; live = live; next_number = num; waiting = map asked_of q; opened = at_number f n (map current_of os); table = t }
-    → (f (current_of o)).left + 1 ≡ o.left → due_of (f (current_of o)) ≤ (f (current_of o)).left
+    → (f (current_of o)).number ≡ o.number → (f (current_of o)).left + 1 ≡ o.left → due_of (f (current_of o)) ≤ (f (current_of o)).left
     → b'.history ≡ b.history ++ e ∷ [] → b'.reserved + 1 ≡ b.reserved → IsKept slots methods b' (state_of nn live num q os' t)
-changes slots methods b b' e f nn num n i live q os os' o o' t k at here is new may next less fit there kept =
+changes slots methods b b' e f nn num n i live q os os' o o' t k at here is new may next same_number less fit there kept =
     let found = open_at n i os o at here in
     let os_is : map current_of os' ≡ at_number f n (map current_of os) = ap (map current_of) is ∙ set_at f n i os o o' at here new in
     let m = needs_at f n (map current_of os) (current_of o) found in
@@ -148,14 +148,14 @@ changes slots methods b b' e f nn num n i live q os os' o o' t k at here is new 
     keeps slots methods b b' e _ _ k.legal k.state there may
     (next ∙ ap (λ (cs : List Current). record { next_name = nn; live = live; next_number = num; waiting = map asked_of q; opened = cs; table = t }) (sym os_is))
     (let z = k.needed in omega arith)
-    (subst AreFit (sym os_is) (fit_at f n (map current_of os) (current_of o) k.fit found fit))
+    (subst AreFit (sym os_is) (fit_at f n (map current_of os) (current_of o) k.fit found fit same_number))
 
 -- there is room for the entries of an open request
 pub open_room : {J : Type 0} (slots methods : ℕ) (b : Book) (nn num n i : ℕ) (live : List Live) (q : List (Waiting (Carried J))) (os : List (Opened J)) (o : Opened J) (t : TableView)
     → IsKept slots methods b (state_of nn live num q os t) → IsIndex n os (Some i) → slice_get os i ≡ Some o → (due_of (current_of o) ≤ o.left) × (1 + o.left ≤ b.reserved)
 open_room slots methods b nn num n i live q os o t k at here =
     let found = open_at n i os o at here in
-    (fit_of n (map current_of os) (current_of o) k.fit found, (let a = needs_without n (map current_of os) (current_of o) found in let m = k.needed in omega arith))
+    ((fit_of n (map current_of os) (current_of o) k.fit found).1, (let a = needs_without n (map current_of os) (current_of o) found in let m = k.needed in omega arith))
 
 due_left : (name : ℕ) (c : Current) → is_due name c ≡ true → due_of c ≤ c.left → ((finished name c).left + 1 ≡ c.left) × (due_of (finished name c) ≤ (finished name c).left)
 due_left name c h fit =
@@ -168,9 +168,9 @@ pub finish_keeps : {J : Type 0} (slots methods : ℕ) (b b' : Book) (nn num n na
     → b'.history ≡ b.history ++ Finish n name reply ∷ [] → b'.reserved + 1 ≡ b.reserved → IsKept slots methods b' (state_of nn live num q os' t)
 finish_keeps slots methods b b' nn num n name reply i live q os os' o o' t k at here is new due lives there kept =
     let found = open_at n i os o at here in
-    let d = due_left name (current_of o) due (fit_of n (map current_of os) (current_of o) k.fit found) in
+    let d = due_left name (current_of o) due (fit_of n (map current_of os) (current_of o) k.fit found).1 in
     changes slots methods b b' (Finish n name reply) (finished name) nn num n i live q os os' o o' t k at here is new
-    (both_true _ _ (ap (passes (is_due name)) found ∙ due) lives) refl d.0 d.1 there kept
+    (both_true _ _ (ap (passes (is_due name)) found ∙ due) lives) refl refl d.0 d.1 there kept
 
 operate_left : (c : Current) → may_operate c ≡ true → due_of c ≤ c.left → ((as_operated c).left + 1 ≡ c.left) × (due_of (as_operated c) ≤ (as_operated c).left)
 operate_left c h fit =
@@ -188,9 +188,9 @@ pub operate_keeps : {J : Type 0} (slots methods : ℕ) (b b' : Book) (nn num n i
     → b'.history ≡ b.history ++ Operate n ∷ [] → b'.reserved + 1 ≡ b.reserved → IsKept slots methods b' (state_of nn live num q os' t)
 operate_keeps slots methods b b' nn num n i live q os os' o o' t k at here is new may there kept =
     let found = open_at n i os o at here in
-    let d = operate_left (current_of o) may (fit_of n (map current_of os) (current_of o) k.fit found) in
+    let d = operate_left (current_of o) may (fit_of n (map current_of os) (current_of o) k.fit found).1 in
     changes slots methods b b' (Operate n) as_operated nn num n i live q os os' o o' t k at here is new
-    (ap (passes may_operate) found ∙ may) refl d.0 d.1 there kept
+    (ap (passes may_operate) found ∙ may) refl refl d.0 d.1 there kept
 
 pub close_keeps : {J : Type 0} (slots methods : ℕ) (b b' : Book) (nn num : ℕ) (live : List Live) (q : List (Waiting (Carried J))) (os os' : List (Opened J)) (o : Opened J) (t : TableView)
     → IsKept slots methods b (state_of nn live num q os t) → os ≡ o ∷ os' → may_close live (current_of o) ≡ true
@@ -206,7 +206,7 @@ close_keeps slots methods b b' nn num live q os os' o t k is may there kept =
     keeps slots methods b b' (Close o.number) _ _ k.legal k.state there
     (ap (passes (may_close live)) found ∙ may)
     (ap (λ (cs : List Current). record { next_name = nn; live = live; next_number = num; waiting = map asked_of q; opened = cs; table = t }) gone)
-    (let z = k.needed in omega arith) fit.1
+    (let z = k.needed in omega arith) fit.2
 
 -- entries that codes can still make
 needs_of_codes-push : (cs : List Code) (c : Code) → needs_of_codes (cs ++ c ∷ []) ≡ needs_of_codes cs + states_left c.state
@@ -325,11 +325,11 @@ pub may_operate_is : {J : Type 0} (a b o : Opened J) → a ≡ o → b ≡ o →
 may_operate_is a b o p q census fresh =
     both_true _ _ (ap (λ (z : Opened _). is_census z.request) (sym p) ∙ census) (ap not (ap (λ (z : Opened _). z.operated) (sym q) ∙ fresh))
 
-pub new_keeps : {J : Type 0} (b : Book) (nn num : ℕ) (live : List Live) (q : List (Waiting (Carried J))) (os : List (Opened J)) (t : TableView) → b.history ≡ [] → nn ≡ 1 → num ≡ 1 → live ≡ [] → q ≡ [] → os ≡ [] → t.codes ≡ []
-    → IsKept t.slots t.methods b (state_of nn live num q os t) × AreCarried q
-new_keeps {J = J} b nn num live q os t none a c l w o codes = (
+pub new_keeps : {J : Type 0} (whom : J → ℕ) (b : Book) (nn num : ℕ) (live : List Live) (q : List (Waiting (Carried J))) (os : List (Opened J)) (t : TableView) → b.history ≡ [] → nn ≡ 1 → num ≡ 1 → live ≡ [] → q ≡ [] → os ≡ [] → t.codes ≡ []
+    → IsKept t.slots t.methods b (state_of nn live num q os t) × AreCarried whom q
+new_keeps whom b nn num live q os t none a c l w o codes = (
   subst (IsKept t.slots t.methods b)
       (λ i. record { next_name = sym a i; live = sym l i; next_number = sym c i; waiting = map asked_of (sym w i); opened = map current_of (sym o i); table = record { codes = sym codes i; slots = t.slots; methods = t.methods } })
       (empty t.slots t.methods b none),
-  subst (AreCarried {J = J}) (sym w) tt,
+  subst (AreCarried whom) (sym w) tt,
 )

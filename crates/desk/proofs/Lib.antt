@@ -5,3 +5,7 @@ pub mod OpenLists
 pub mod Keeping
 pub mod Once
 pub mod Rising
+pub mod ReplyLists
+pub mod RoomKept
+pub mod RoomSteps
+pub mod JobsLeft

@@ -1,5 +1,5 @@
 -- Open requests, by their numbers.
-use Rattle.std.proofs.Common.{◌≡◌, ◌≢◌, ℕ, zero, suc, ◌+◌, ◌≤◌, Bool, true, false, cond, List, [], ◌∷◌, ◌++◌, map, Option, Some, None, sym, refl, ap, ◌∙◌, subst, arith}
+use Rattle.std.proofs.Common.{◌≡◌, ◌≢◌, ℕ, zero, suc, ◌+◌, ◌<◌, ◌≤◌, Bool, true, false, cond, List, [], ◌∷◌, ◌++◌, map, Option, Some, None, sym, refl, ap, ◌∙◌, subst, arith}
 use Rattle.std.specs.Prelude.{◌||◌, ◌==◌, slice_get, slice_set}
 use Rattle.std.specs.List.{list_any}
 use Rattle.std.proofs.lemmas.Bool.{eq-eqb, ne_eqb}
@@ -66,25 +66,25 @@ needs_without n (x ∷ cs) c h = by (x.number == n) h (needs_without n cs c)
     by true h rest = let same : x ≡ c = cc in let a = ap (λ (z : Current). z.left) same in omega arith
     by false h rest = let r = rest h in omega arith
 
-pub fit_of : (n : ℕ) (cs : List Current) (c : Current) → AreFit cs → open_of n cs ≡ Some c → due_of c ≤ c.left
+pub fit_of : (n : ℕ) (cs : List Current) (c : Current) → AreFit cs → open_of n cs ≡ Some c → (0 < c.number) × (due_of c ≤ c.left)
 fit_of n [] c fit h = cc
-fit_of n (x ∷ cs) c fit h = by (x.number == n) h (fit_of n cs c fit.1)
+fit_of n (x ∷ cs) c fit h = by (x.number == n) h (fit_of n cs c fit.2)
   where
-    by : (b : Bool) → cond b (Some x) (open_of n cs) ≡ Some c → (open_of n cs ≡ Some c → due_of c ≤ c.left) → due_of c ≤ c.left
-    by true h rest = let same : x ≡ c = cc in subst (λ (z : Current). due_of z ≤ z.left) same fit.0
+    by : (b : Bool) → cond b (Some x) (open_of n cs) ≡ Some c → (open_of n cs ≡ Some c → (0 < c.number) × (due_of c ≤ c.left)) → (0 < c.number) × (due_of c ≤ c.left)
+    by true h rest = let same : x ≡ c = cc in subst (λ (z : Current). (0 < z.number) × (due_of z ≤ z.left)) same (fit.0, fit.1)
     by false h rest = rest h
 
-pub fit_at : (f : Current → Current) (n : ℕ) (cs : List Current) (c : Current) → AreFit cs → open_of n cs ≡ Some c → due_of (f c) ≤ (f c).left → AreFit (at_number f n cs)
-fit_at f n [] c fit h new = tt
-fit_at f n (x ∷ cs) c fit h new = by (x.number == n) h (fit_at f n cs c fit.1)
+pub fit_at : (f : Current → Current) (n : ℕ) (cs : List Current) (c : Current) → AreFit cs → open_of n cs ≡ Some c → due_of (f c) ≤ (f c).left → (f c).number ≡ c.number → AreFit (at_number f n cs)
+fit_at f n [] c fit h new same_number = tt
+fit_at f n (x ∷ cs) c fit h new same_number = by (x.number == n) h (λ k l. fit_at f n cs c fit.2 k l same_number)
   where
     by : (b : Bool) → cond b (Some x) (open_of n cs) ≡ Some c → (open_of n cs ≡ Some c → due_of (f c) ≤ (f c).left → AreFit (at_number f n cs)) → AreFit (cond b (f x ∷ cs) (x ∷ at_number f n cs))
-    by true h rest = let same : x ≡ c = cc in (subst (λ (z : Current). due_of (f z) ≤ (f z).left) (sym same) new, fit.1)
-    by false h rest = (fit.0, rest h new)
+    by true h rest = let same : x ≡ c = cc in let low : 0 < (f x).number = (let a = ap (λ (z : Current). (f z).number) same in let b = ap (λ (z : Current). z.number) same in let l = fit.0 in omega arith) in (low, subst (λ (z : Current). due_of (f z) ≤ (f z).left) (sym same) new, fit.2)
+    by false h rest = (fit.0, fit.1, rest h new)
 
-pub fit_push : (cs : List Current) (c : Current) → AreFit cs → due_of c ≤ c.left → AreFit (cs ++ c ∷ [])
-fit_push [] c fit new = (new, tt)
-fit_push (x ∷ cs) c fit new = (fit.0, fit_push cs c fit.1 new)
+pub fit_push : (cs : List Current) (c : Current) → AreFit cs → 0 < c.number → due_of c ≤ c.left → AreFit (cs ++ c ∷ [])
+fit_push [] c fit low new = (low, new, tt)
+fit_push (x ∷ cs) c fit low new = (fit.0, fit.1, fit_push cs c fit.2 low new)
 
 pub needs_push : (cs : List Current) (c : Current) → needs_of_opened (cs ++ c ∷ []) ≡ needs_of_opened cs + (1 + c.left)
 needs_push [] c = omega arith

@@ -19,19 +19,28 @@ abbrev pub state_of : {J : Type 0} → ℕ → List Live → ℕ → List (Waiti
 state_of next_name live next_number waiting opened table =
     record { next_name = next_name; live = live; next_number = next_number; waiting = map asked_of waiting; opened = map current_of opened; table = table }
 
--- a waiting request carries a list of its targets
-abbrev pub AreCarried : {J : Type 0} → List (Waiting (Carried J)) → Type 0
-AreCarried [] = Unit {0}
-AreCarried (w ∷ ws) = (w.load.due.items ≡ targets_of w.request) × AreCarried ws
+-- a waiting request has a number, and carries a list of its targets and a job for each of them
+pub record IsCarried {J : Type 0} (whom : J → ℕ) (w : Waiting (Carried J)) : Type 0 where
+  pub number : 0 < w.number
+  pub due : w.load.due.items ≡ targets_of w.request
+  pub jobs : map whom w.load.jobs.items ≡ targets_of w.request
+
+abbrev pub AreCarried : {J : Type 0} → (J → ℕ) → List (Waiting (Carried J)) → Type 0
+AreCarried whom [] = Unit {0}
+AreCarried whom (w ∷ ws) = IsCarried whom w × AreCarried whom ws
+
+-- the names for which an open request still has jobs, in the order of its targets
+abbrev pub names_left : {J : Type 0} → (J → ℕ) → Opened J → List ℕ
+names_left whom o = map whom o.jobs.items
 
 -- how many entries an open request must still make
 abbrev pub due_of : Current → ℕ
 due_of c = (if may_operate c then 1 else 0) + length c.due
 
--- no more than are kept for it
+-- an open request has a number, and no more entries are due than are kept for it
 abbrev pub AreFit : List Current → Type 0
 AreFit [] = Unit {0}
-AreFit (c ∷ cs) = (due_of c ≤ c.left) × AreFit cs
+AreFit (c ∷ cs) = (0 < c.number) × (due_of c ≤ c.left) × AreFit cs
 
 -- a history is legal, the fields are the state after it, and there is room for all that can still come
 pub record IsKept (slots methods : ℕ) (book : Book) (fields : State) : Type 0 where
@@ -40,12 +49,14 @@ pub record IsKept (slots methods : ℕ) (book : Book) (fields : State) : Type 0 
   pub needed : needs fields ≤ book.reserved
   pub fit : AreFit fields.opened
 
--- what contracts see of a desk: its history with the room that is kept in it, the sizes, and the keeper's view
+-- what contracts see of a desk: its history with the room that is kept in it, the sizes, the keeper's view, and for each open request
+-- the names whose jobs weren't taken
 pub record DeskSeen : Type 0 where
   pub book : Book
   pub slots : ℕ
   pub methods : ℕ
   pub keeper : KeeperView
+  pub jobs : List (List ℕ)
 
 -- the state that its history comes to
 abbrev pub at : DeskSeen → State

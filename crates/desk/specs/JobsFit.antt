@@ -1,5 +1,7 @@
--- Which jobs fit a request.
-use Rattle.std.specs.Prelude.{ℕ, List, [], ◌∷◌, Bool, true, false, ◌&&◌, ◌==◌, length}
+-- Which jobs fit a request, and which are left of it.
+use Rattle.std.specs.Prelude.{ℕ, List, [], ◌∷◌, ◌++◌, Bool, true, false, ◌&&◌, ◌==◌, length, if◌then◌else◌}
+use Rattle.operations.specs.Names.{among}
+use Rattle.desk.specs.Machine.{Asked, targets_of}
 use Rattle.operations.specs.declared.Ask.{Ask}
 use Rattle.operations.specs.declared.Ask.TheVariants.{Depth, CountOf, Top}
 use Rattle.operations.specs.declared.Request.{Request}
@@ -26,3 +28,23 @@ are_for whom asks (t ∷ ts) ask (j ∷ js) = ((whom j == t) && same_ask (asks j
 abbrev pub jobs_fit : {J : Type 0} → (J → ℕ) → (J → Ask) → Request → List J → Bool
 jobs_fit whom asks Census jobs = length jobs == 0
 jobs_fit whom asks (Handshake targets ask) jobs = are_for whom asks targets ask jobs
+
+-- the names without the first that is this one
+abbrev pub without_first : ℕ → List ℕ → List ℕ
+without_first name [] = []
+without_first name (n ∷ ns) = if n == name then ns else n ∷ without_first name ns
+
+-- whether the oldest open request has a job for the name
+abbrev pub has_job : ℕ → List (List ℕ) → Bool
+has_job name [] = false
+has_job name (names ∷ rest) = among name names
+
+-- and what is left once it is taken
+abbrev pub job_taken : ℕ → List (List ℕ) → List (List ℕ)
+job_taken name [] = []
+job_taken name (names ∷ rest) = without_first name names ∷ rest
+
+-- what is left of all open requests once the oldest that waits is opened: it has a job for each target
+abbrev pub jobs_opened : List Asked → List (List ℕ) → List (List ℕ)
+jobs_opened [] left = left
+jobs_opened (a ∷ rest) left = left ++ targets_of a.request ∷ []

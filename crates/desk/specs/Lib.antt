@@ -6,3 +6,4 @@ pub mod Targets
 pub mod Once
 pub mod JobsFit
 pub mod Rising
+pub mod Replies

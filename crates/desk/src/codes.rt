@@ -1,8 +1,8 @@
 //! The method table and the keeper's view, which agree.
 ghost use Rattle.std.specs.Prelude.{◌≡◌, ◌≢◌, ℕ, ◌+◌, ◌<◌, ◌≤◌, ◌^◌, [], true, false, length, Some, None, IfOk, OnOk, OnErr, IfErr, IfSome, IfNone, nat_le};
-ghost use Rattle.frames.specs.BoardViews.{slot_of, entry_stored, in_use, not_entrant, in_state, looked_at, went_round, keeper_view};
+ghost use Rattle.frames.specs.BoardViews.{slot_of, IsIn, entry_stored, in_use, not_entrant, in_state, looked_at, went_round, keeper_view};
 ghost use Rattle.frames.specs.BoardStep.{is_late};
-ghost use Rattle.frames.specs.declared.board_rule.EntryState.TheVariants.{Vacant};
+ghost use Rattle.frames.specs.declared.board_rule.EntryState.TheVariants.{Vacant, Zombie};
 ghost use Rattle.board.specs.Boards.{first_keeper};
 ghost use Rattle.method_table.specs.declared.Code.{Code as CodeOf};
 ghost use Rattle.method_table.specs.declared.CodeState.TheVariants.{NotEntrant, Freed};
@@ -45,6 +45,30 @@ fn id_of(code: Code) -> CodeId
     }
 }
 
+// The entry of a vacant slot says that the code is in use.
+fn store_new(keeper: &mut Keeper, board: &Board, id: CodeId)
+    requires board { keeper.old.board ≡ board.now }
+    requires slot { id.slot < keeper.old.board.slots }
+    requires vacant { (slot_of keeper.old.seen id.slot).state ≡ Vacant }
+    requires later { (slot_of keeper.old.seen id.slot).serial < id.serial }
+    requires small { id.serial < 2 ^ 40 }
+    ensures board { keeper.new.board ≡ keeper.old.board }
+    ensures entry { keeper.new.seen ≡ entry_stored keeper.old.seen id (in_use id) }
+{
+    keeper.install(board, id);
+}
+
+// The entry of a zombie says that its slot is free.
+fn store_vacant(keeper: &mut Keeper, board: &Board, id: CodeId)
+    requires board { keeper.old.board ≡ board.now }
+    requires slot { id.slot < keeper.old.board.slots }
+    requires code { IsIn keeper.old.seen id Zombie }
+    ensures board { keeper.new.board ≡ keeper.old.board }
+    ensures entry { keeper.new.seen ≡ entry_stored keeper.old.seen id (in_state (slot_of keeper.old.seen id.slot) Vacant) }
+{
+    keeper.free(board, id);
+}
+
 impl<N: Name> Codes<N> {
     pub fn new(table: MethodTable, keeper: Keeper, board: &Board) -> Codes<N>
         requires board { board.now ≡ N.board }
@@ -82,7 +106,7 @@ impl<N: Name> Codes<N> {
     {
         let _slots = self.table.slots();
         let id = self.table.install(method)?;
-        self.keeper.install(board, id);
+        store_new(&mut self.keeper, board, id);
         Ok(id)
     }
 
@@ -175,7 +199,7 @@ impl<N: Name> Codes<N> {
         };
         self.table.free(serial)?;
         let id = id_of(code);
-        self.keeper.free(board, id);
+        store_vacant(&mut self.keeper, board, id);
         Ok(id)
     }
 

@@ -1,7 +1,8 @@
 //! The desk: what all threads ask of the coordinator, in one history.
-ghost use Rattle.std.specs.Prelude.{◌≡◌, ◌==◌, ◌&&◌, ℕ, ◌+◌, ◌<◌, ◌≤◌, ◌^◌, List, [], ◌∷◌, ◌++◌, length, true, false, nat_le, Some, None, IfOk, IfErr, IfSome, IfNone, OnOk, OnErr, ◌≢◌, vec_len, vec_capacity};
+ghost use Rattle.std.specs.Prelude.{◌≡◌, ◌==◌, ◌&&◌, ℕ, ◌+◌, ◌<◌, ◌≤◌, ◌^◌, List, [], ◌∷◌, ◌++◌, length, true, false, nat_le, Some, None, IfOk, IfErr, IfSome, IfNone, OnOk, OnSome, map, OnErr, ◌≢◌, vec_len, vec_capacity};
 ghost use Rattle.frames.specs.ImageView.{IsSettled};
-ghost use Rattle.frames.specs.BoardViews.{went_round, looked_at, slot_of, entry_stored, in_use};
+ghost use Rattle.frames.specs.BoardViews.{went_round, looked_at, slot_of, entry_stored, in_use, not_entrant, in_state};
+ghost use Rattle.frames.specs.declared.board_rule.EntryState.TheVariants.{Vacant};
 ghost use Rattle.frames.specs.BoardStep.{is_late};
 ghost use Rattle.method_table.specs.declared.Code.{Code as CodeOf};
 ghost use Rattle.board.specs.Boards.{first_keeper};
@@ -14,7 +15,7 @@ ghost use Rattle.desk.specs.Refusals.{start_refused, ask_refused, open_refused, 
 ghost use Rattle.desk.specs.Fields.{DeskSeen, at, Enters};
 ghost use Rattle.desk.specs.Targets.{standing, next_due, name_at, open_kind};
 ghost use Rattle.desk.specs.Once.{replies_of};
-ghost use Rattle.desk.specs.JobsFit.{jobs_fit};
+ghost use Rattle.desk.specs.JobsFit.{jobs_fit, has_job, job_taken, jobs_opened};
 
 use crate::codes::Codes;
 use crate::entries::{Carried, Entry, Live, Opened, Standing};
@@ -24,8 +25,8 @@ use crate::faults::{
 };
 use crate::lists::{
     are_all, due_after, finish_at, index_of, is_census, is_census_open, is_idle, job_of, jobs_fit,
-    keep_live, least_free, leave, lives, may_close, may_finish, name_at, names_of, operate_at,
-    standing_to, steps_of, targets_of,
+    keep_live, least_free, leave, lives, make_room, may_close, may_finish, name_at, names_of,
+    operate_at, standing_to, steps_of, targets_of,
 };
 use crate::log::{Log, Receipt, RoomFault};
 use board::{Board, Keeper, Spent, Weighed};
@@ -57,13 +58,15 @@ pub struct Desk<N: Name, J: Errand> {
 
 impl<N: Name, J: Errand> Model for Desk<N, J> {
     ghost use Rattle.std.specs.Prelude.{◌≡◌, ◌<◌, ◌≤◌, vec_len, vec_capacity};
-    ghost use Rattle.desk.specs.Fields.{DeskSeen, state_of, IsKept, AreCarried};
+    ghost use Rattle.std.specs.Prelude.{map};
+    ghost use Rattle.desk.specs.Fields.{DeskSeen, state_of, IsKept, AreCarried, asked_of, current_of, names_left};
+    ghost use Rattle.desk.specs.Replies.{HaveRoom};
 
     ghost Value = { DeskSeen };
 
-    ghost view = { λ d. record { book = d.log; slots = d.codes.table.slots; methods = d.codes.table.methods; keeper = d.codes.keeper } };
+    ghost view = { λ d. record { book = d.log.book; slots = d.codes.table.slots; methods = d.codes.table.methods; keeper = d.codes.keeper; jobs = map (names_left J.whom) d.opened.items } };
 
-    ghost invariant = { λ d. IsKept d.codes.table.slots d.codes.table.methods d.log (state_of d.next_name d.live.items d.next_number d.queue d.opened.items d.codes.table) × AreCarried d.queue × (vec_len d.opened ≤ 1) × (1 ≤ vec_capacity d.opened) × (d.places ≡ N.board.places) × (0 < d.next_name) };
+    ghost invariant = { λ d. IsKept d.codes.table.slots d.codes.table.methods d.log.book (state_of d.next_name d.live.items d.next_number d.queue d.opened.items d.codes.table) × AreCarried J.whom d.queue × (vec_len d.opened ≤ 1) × (1 ≤ vec_capacity d.opened) × (d.places ≡ N.board.places) × (0 < d.next_name) × HaveRoom d.next_number (map asked_of d.queue) (map current_of d.opened.items) d.log.lists };
 }
 
 impl<N: Name, J: Errand> Desk<N, J> {
@@ -81,6 +84,7 @@ impl<N: Name, J: Errand> Desk<N, J> {
         requires places { places ≡ N.board.places }
         ensures book { IfOk result (λ d. (d.book.history ≡ []) × (d.book.reserved ≡ 0)) }
         ensures sizes { IfOk result (λ d. (d.slots ≡ table.slots) × (d.methods ≡ table.methods)) }
+        ensures jobs { IfOk result (λ d. d.jobs ≡ []) }
         ensures handed_back { IfErr result (λ k. k ≡ keeper) }
     {
         let Ok(opened) = Vec::with_capacity(alloc, 1) else {
@@ -105,6 +109,7 @@ impl<N: Name, J: Errand> Desk<N, J> {
         ensures image { OnOk result (has_image ≡ true) }
         ensures least { IfOk result (λ r. (k : ℕ) → k < r.1 → is_taken k (at self.old).live ≡ true) }
         ensures reserved { IfOk result (λ r. (self.new.book.reserved ≡ self.old.book.reserved + 1) × (self.new.keeper ≡ self.old.keeper)) }
+        ensures jobs { self.new.jobs ≡ self.old.jobs }
         ensures err { IfErr result (λ e. (self.new ≡ self.old) × start_refused (at self.old) N.board.places self.old.book e) }
     {
         if is_census_open(self.opened.as_slice()) {
@@ -119,7 +124,7 @@ impl<N: Name, J: Errand> Desk<N, J> {
         if let Err(fault) = self.log.keep(2) {
             return Err(start_fault(fault));
         }
-        if !has_image || self.live.reserve(1).is_err() {
+        if !make_room(&mut self.live, has_image) {
             self.log.give_back(2);
             return Err(StartFault::NoMemory);
         }
@@ -133,6 +138,7 @@ impl<N: Name, J: Errand> Desk<N, J> {
     pub fn exit(&mut self, name: u64) -> Result<Receipt<N>, NotLive>
         ensures ok { IfOk result (λ r. Enters self.old self.new (Entry.Exit name) r) }
         ensures reserved { OnOk result ((self.new.book.reserved + 1 ≡ self.old.book.reserved) × (self.new.keeper ≡ self.old.keeper)) }
+        ensures jobs { self.new.jobs ≡ self.old.jobs }
         ensures err { OnErr result ((self.new ≡ self.old) × (lawful (at self.old) (Entry.Exit name) ≡ false)) }
     {
         if !lives(self.live.as_slice(), name) {
@@ -149,6 +155,7 @@ impl<N: Name, J: Errand> Desk<N, J> {
         ensures slot { IfOk result (λ r. r.0.slot < N.board.slots) }
         ensures stored { IfOk result (λ r. self.new.keeper ≡ entry_stored self.old.keeper r.0 (in_use r.0)) }
         ensures reserved { OnOk result (self.new.book.reserved ≡ self.old.book.reserved + 3) }
+        ensures jobs { self.new.jobs ≡ self.old.jobs }
         ensures err { IfErr result (λ e. (self.new ≡ self.old) × install_refused (at self.old) method self.old.book e) }
     {
         if let Some(fault) = self.codes.refusal(method) {
@@ -172,7 +179,9 @@ impl<N: Name, J: Errand> Desk<N, J> {
     pub fn invalidate(&mut self, board: &Board, serial: u64) -> Result<Receipt<N>, InvalidateFault>
         requires board { board.now ≡ N.board }
         ensures ok { IfOk result (λ r. Enters self.old self.new (Entry.Invalidate serial) r) }
+        ensures stored { OnOk result ((code : CodeOf) × (unfreed (at self.old).table.codes serial ≡ Some code) × (self.new.keeper ≡ entry_stored self.old.keeper (id_of code) (not_entrant (id_of code) self.old.keeper.moment))) }
         ensures reserved { OnOk result (self.new.book.reserved + 1 ≡ self.old.book.reserved) }
+        ensures jobs { self.new.jobs ≡ self.old.jobs }
         ensures err { IfErr result (λ e. (self.new ≡ self.old) × (invalidate_fault (unfreed (at self.old).table.codes serial) ≡ Some e)) }
     {
         self.codes.invalidate(board, serial)?;
@@ -183,7 +192,9 @@ impl<N: Name, J: Errand> Desk<N, J> {
     pub fn free(&mut self, board: &Board, serial: u64) -> Result<Receipt<N>, FreeFault>
         requires board { board.now ≡ N.board }
         ensures ok { IfOk result (λ r. Enters self.old self.new (Entry.Free serial) r) }
+        ensures stored { OnOk result ((code : CodeOf) × (unfreed (at self.old).table.codes serial ≡ Some code) × (self.new.keeper ≡ entry_stored self.old.keeper (id_of code) (in_state (slot_of self.old.keeper code.slot) Vacant))) }
         ensures reserved { OnOk result (self.new.book.reserved + 1 ≡ self.old.book.reserved) }
+        ensures jobs { self.new.jobs ≡ self.old.jobs }
         ensures err { IfErr result (λ e. (self.new ≡ self.old) × (free_fault (unfreed (at self.old).table.codes serial) ≡ Some e)) }
     {
         self.codes.free(board, serial)?;
@@ -206,6 +217,7 @@ impl<N: Name, J: Errand> Desk<N, J> {
     ) -> Result<(u64, Receipt<N>), Refused<J>>
         ensures ok { IfOk result (λ r. Enters self.old self.new (Entry.Ask r.0 request) r.1) }
         ensures reserved { OnOk result ((self.new.book.reserved ≡ self.old.book.reserved + (2 + steps_of request)) × (self.new.keeper ≡ self.old.keeper)) }
+        ensures jobs { self.new.jobs ≡ self.old.jobs }
         ensures err { IfErr result (λ e. (self.new ≡ self.old) × ask_refused (at self.old) request (jobs_fit J.whom J.asks request jobs.items) self.old.book e.fault) }
         ensures handed_back { IfErr result (λ e. e.jobs ≡ jobs) }
     {
@@ -260,6 +272,13 @@ impl<N: Name, J: Errand> Desk<N, J> {
                 jobs,
             });
         };
+        let Ok(list) = self.log.new_list(self.alloc, due.len()) else {
+            self.log.give_back(3 + steps);
+            return Err(Refused {
+                fault: AskFault::NoMemory,
+                jobs,
+            });
+        };
         let number = self.next_number;
         if let Err(back) = self.queue.push(number, request, Carried { due, jobs }) {
             self.log.give_back(3 + steps);
@@ -275,13 +294,14 @@ impl<N: Name, J: Errand> Desk<N, J> {
             });
         }
         self.next_number += 1;
-        Ok((number, self.log.enter(Entry::Ask(number, copy))))
+        Ok((number, self.log.enter_ask(number, copy, list)))
     }
 
     /// Opens the oldest request.
     pub fn open(&mut self) -> Result<(u64, Receipt<N>), OpenFault>
         ensures ok { IfOk result (λ r. Enters self.old self.new (Entry.Open r.0) r.1) }
         ensures reserved { OnOk result ((self.new.book.reserved + 1 ≡ self.old.book.reserved) × (self.new.keeper ≡ self.old.keeper)) }
+        ensures jobs { OnOk result (self.new.jobs ≡ jobs_opened (at self.old).waiting self.old.jobs) }
         ensures err { IfErr result (λ e. (self.new ≡ self.old) × open_refused (at self.old) e) }
     {
         if !self.opened.is_empty() {
@@ -317,6 +337,7 @@ impl<N: Name, J: Errand> Desk<N, J> {
         requires reply { done.reply ≡ reply done.ask body.now.image.frames }
         ensures ok { IfOk result (λ r. Enters self.old self.new (Entry.Finish done.op done.target done.reply) r) }
         ensures reserved { OnOk result ((self.new.book.reserved + 1 ≡ self.old.book.reserved) × (self.new.keeper ≡ self.old.keeper)) }
+        ensures jobs { self.new.jobs ≡ self.old.jobs }
         ensures err { IfErr result (λ d. (d ≡ done) × (lawful (at self.old) (Entry.Finish done.op done.target done.reply) ≡ false) × (self.new ≡ self.old)) }
     {
         let _ = body;
@@ -329,7 +350,7 @@ impl<N: Name, J: Errand> Desk<N, J> {
         finish_at(&mut self.opened, place, done.target());
         Ok(
             self.log
-                .enter(Entry::Finish(done.op(), done.target(), done.reply())),
+                .enter_finish(done.op(), done.target(), done.reply()),
         )
     }
 
@@ -337,6 +358,7 @@ impl<N: Name, J: Errand> Desk<N, J> {
     pub fn close(&mut self, held: bool) -> Result<(u64, Vec<J>, Receipt<N>), CloseFault>
         ensures ok { IfOk result (λ r. Enters self.old self.new (Entry.Close r.0) r.2) }
         ensures reserved { OnOk result ((self.new.book.reserved + needs_of_opened (at self.old).opened ≡ self.old.book.reserved) × (self.new.keeper ≡ self.old.keeper)) }
+        ensures jobs { IfOk result (λ r. self.old.jobs ≡ map J.whom r.1.items ∷ self.new.jobs) }
         ensures held { OnOk result (held ≡ false) }
         ensures err { IfErr result (λ e. (self.new ≡ self.old) × close_refused (at self.old) held e) }
     {
@@ -368,6 +390,7 @@ impl<N: Name, J: Errand> Desk<N, J> {
         ensures ok { IfOk result (λ r. Enters self.old self.new (Entry.Operate r.0) r.1) }
         ensures all { OnOk result (are_all (at self.old).live bodies.now ≡ true) }
         ensures reserved { OnOk result ((self.new.book.reserved + 1 ≡ self.old.book.reserved) × (self.new.keeper ≡ self.old.keeper)) }
+        ensures jobs { self.new.jobs ≡ self.old.jobs }
         ensures err { IfErr result (λ e. (self.new ≡ self.old) × operate_refused (at self.old) bodies.now e) }
     {
         if self.opened.is_empty() {
@@ -398,6 +421,7 @@ impl<N: Name, J: Errand> Desk<N, J> {
         ensures weighed { IfOk result (λ r. (code : CodeOf) × (unfreed (at self.old).table.codes serial ≡ Some code) × KeeperWeighs N.board.places (id_of code) self.old.keeper self.new.keeper r.0) }
         ensures clear { IfOk result (λ r. IfSome r.1 (λ _. r.0 ≡ Weighed.Clear)) }
         ensures others { IfOk result (λ r. IfNone r.1 ((self.new.book ≡ self.old.book) × (self.new.slots ≡ self.old.slots) × (self.new.methods ≡ self.old.methods) × (r.0 ≢ Weighed.Clear))) }
+        ensures jobs { self.new.jobs ≡ self.old.jobs }
         ensures err { IfErr result (λ e. (self.new ≡ self.old) × (retire_fault (unfreed (at self.old).table.codes serial) ≡ Some e)) }
     {
         let said = self.codes.weigh(board, serial)?;
@@ -412,6 +436,7 @@ impl<N: Name, J: Errand> Desk<N, J> {
         requires board { board.now ≡ N.board }
         ensures ok { OnOk result (self.new.keeper ≡ went_round self.old.keeper self.old.keeper.moment) }
         ensures spent { OnErr result ((self.new ≡ self.old) × (2 ^ 40 ≤ self.old.keeper.moment + 1)) }
+        ensures jobs { self.new.jobs ≡ self.old.jobs }
         ensures book { (self.new.book ≡ self.old.book) × (self.new.slots ≡ self.old.slots) × (self.new.methods ≡ self.old.methods) }
     {
         self.codes.round(board)
@@ -454,6 +479,7 @@ impl<N: Name, J: Errand> Desk<N, J> {
         ensures quiet { IfOk result (λ r. IfNone r ((request ≡ None) × (self.new.book ≡ self.old.book))) }
         ensures sizes { OnOk result ((self.new.slots ≡ self.old.slots) × (self.new.methods ≡ self.old.methods)) }
         ensures round { OnOk result (self.new.keeper ≡ went_round self.old.keeper self.old.keeper.moment) }
+        ensures jobs { self.new.jobs ≡ self.old.jobs }
         ensures err { IfErr result (λ e. (self.new ≡ self.old) × reclaim_refused (at self.old) serial request (λ asked. jobs_fit J.whom J.asks asked jobs.items) self.old.book self.old.keeper.moment e.fault) }
         ensures handed_back { IfErr result (λ e. e.jobs ≡ jobs) }
     {
@@ -500,23 +526,24 @@ impl<N: Name, J: Errand> Desk<N, J> {
         requires place { place < N.board.places }
         ensures step { IfOk result (λ late. (code : CodeOf) × (unfreed (at self.old).table.codes serial ≡ Some code) × (found : ℕ) × (self.new.keeper ≡ looked_at self.old.keeper (id_of code) place found) × (late ≡ is_late (slot_of self.old.keeper code.slot).left found)) }
         ensures book { (self.new.book ≡ self.old.book) × (self.new.slots ≡ self.old.slots) × (self.new.methods ≡ self.old.methods) }
+        ensures jobs { self.new.jobs ≡ self.old.jobs }
         ensures err { IfErr result (λ e. (self.new ≡ self.old) × (retire_fault (unfreed (at self.old).table.codes serial) ≡ Some e)) }
     {
         self.codes.look(board, serial, place)
     }
 
-    /// The job of a target of the oldest open request, with the number of the operation.
+    /// The job of a target of the oldest open request, with the number of the operation, where it wasn't taken.
     pub fn take_job(&mut self, name: u64) -> Option<J>
         ensures some { IfSome result (λ j. (J.whom j ≡ name) × (0 < J.number j) × front_is (λ c. c.number == J.number j) (at self.old).opened true) }
-        ensures same { self.new ≡ self.old }
+        ensures there { OnSome result (has_job name self.old.jobs ≡ true) }
+        ensures none { IfNone result (has_job name self.old.jobs ≡ false) }
+        ensures left { self.new.jobs ≡ job_taken name self.old.jobs }
+        ensures same { (self.new.book ≡ self.old.book) × (self.new.slots ≡ self.old.slots) × (self.new.methods ≡ self.old.methods) × (self.new.keeper ≡ self.old.keeper) }
     {
         if self.opened.is_empty() {
             return None;
         }
         let number = self.opened[0].number;
-        if number == 0 {
-            return None;
-        }
         match job_of(&mut self.opened, name) {
             Some(job) => Some(job.numbered(number)),
             None => None,

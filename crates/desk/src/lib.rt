@@ -11,6 +11,7 @@ mod faults;
 mod law;
 mod lists;
 mod log;
+mod replies;
 #[cfg(test)]
 mod tests;
 

@@ -1,5 +1,5 @@
 // Steps on the desk's lists.
-ghost use Rattle.std.specs.Prelude.{◌≡◌, ◌&&◌, ◌==◌, ◌<◌, ◌≤◌, ◌+◌, ℕ, length, true, false, not, map, Some, IfOk, vec_capacity, vec_len, IfSome, IfNone, slice_get, slice_set};
+ghost use Rattle.std.specs.Prelude.{◌≡◌, ◌&&◌, ◌==◌, ◌<◌, ◌≤◌, ◌+◌, ℕ, length, true, false, not, map, Some, IfOk, vec_capacity, vec_len, IfSome, IfNone, OnSome, slice_get, slice_set};
 ghost use Rattle.std.specs.List.{list_any, list_all};
 ghost use Rattle.operations.specs.Names.{among};
 ghost use Rattle.operations.specs.Requests.{is_census};
@@ -7,8 +7,8 @@ ghost use Rattle.desk.specs.declared.entries.Opened.{Opened as OpenedOf};
 ghost use Rattle.desk.specs.Machine.{names_of, place_of, is_live, is_taken, without, others, live_of, none_live, has_census, may_close, finished, as_operated, is_due, targets_of, steps_of};
 ghost use Rattle.desk.specs.Targets.{is_asked, is_owed, standing_to, is_due_target, due_after, name_at};
 ghost use Rattle.desk.specs.Refusals.{has_body, are_all};
-ghost use Rattle.desk.specs.JobsFit.{same_ask, are_for, jobs_fit};
-ghost use Rattle.desk.specs.Fields.{current_of, IsIndex};
+ghost use Rattle.desk.specs.JobsFit.{same_ask, are_for, jobs_fit, without_first, has_job, job_taken};
+ghost use Rattle.desk.specs.Fields.{current_of, names_left, IsIndex};
 
 use crate::entries::{Carried, Live, Opened, Standing, Target};
 use bodies::{Body, Name};
@@ -36,6 +36,14 @@ pub fn is_among(names: &[u64], name: u64) -> bool
     ensures { result ≡ among name names.now }
 {
     names.iter().any(|x| *x == name)
+}
+
+/// Whether there is memory for one name more, where there is for its image.
+pub fn make_room(live: &mut Vec<Live>, has_image: bool) -> bool
+    ensures items { live.new.items ≡ live.old.items }
+    ensures room { result ≡ true → (has_image ≡ true) × (vec_len live.new < vec_capacity live.new) }
+{
+    has_image && live.reserve(1).is_ok()
 }
 
 /// Takes a name off.
@@ -157,7 +165,8 @@ pub fn may_finish<J>(request: &Opened<J>, live: &[Live], name: u64) -> bool
 
 fn finish<J>(request: &mut Opened<J>, name: u64)
     requires { 0 < request.old.left }
-    ensures { current_of request.new ≡ finished name (current_of request.old) }
+    ensures step { current_of request.new ≡ finished name (current_of request.old) }
+    ensures jobs { request.new.jobs ≡ request.old.jobs }
 {
     answered(&mut request.due, name);
     request.left -= 1;
@@ -165,7 +174,8 @@ fn finish<J>(request: &mut Opened<J>, name: u64)
 
 fn operate<J>(request: &mut Opened<J>)
     requires { 0 < request.old.left }
-    ensures { current_of request.new ≡ as_operated (current_of request.old) }
+    ensures step { current_of request.new ≡ as_operated (current_of request.old) }
+    ensures jobs { request.new.jobs ≡ request.old.jobs }
 {
     request.operated = true;
     request.left -= 1;
@@ -174,7 +184,7 @@ fn operate<J>(request: &mut Opened<J>)
 /// A Finish of the name.
 pub fn finish_at<J>(opened: &mut Vec<Opened<J>>, place: usize, name: u64)
     requires { (place < length opened.old.items) × ((o : OpenedOf J) → slice_get opened.old.items place ≡ Some o → 0 < o.left) }
-    ensures step { (o : OpenedOf J) → slice_get opened.old.items place ≡ Some o → (after : OpenedOf J) × (current_of after ≡ finished name (current_of o)) × (opened.new.items ≡ slice_set opened.old.items place after) }
+    ensures step { (o : OpenedOf J) → slice_get opened.old.items place ≡ Some o → (after : OpenedOf J) × (current_of after ≡ finished name (current_of o)) × (opened.new.items ≡ slice_set opened.old.items place after) × (after.jobs ≡ o.jobs) }
     ensures capacity { (vec_capacity opened.new ≡ vec_capacity opened.old) × (length opened.new.items ≡ length opened.old.items) }
 {
     finish(&mut opened[place], name);
@@ -183,7 +193,7 @@ pub fn finish_at<J>(opened: &mut Vec<Opened<J>>, place: usize, name: u64)
 /// The census is operated.
 pub fn operate_at<J>(opened: &mut Vec<Opened<J>>, place: usize)
     requires { (place < length opened.old.items) × ((o : OpenedOf J) → slice_get opened.old.items place ≡ Some o → 0 < o.left) }
-    ensures step { (o : OpenedOf J) → slice_get opened.old.items place ≡ Some o → (after : OpenedOf J) × (current_of after ≡ as_operated (current_of o)) × (opened.new.items ≡ slice_set opened.old.items place after) }
+    ensures step { (o : OpenedOf J) → slice_get opened.old.items place ≡ Some o → (after : OpenedOf J) × (current_of after ≡ as_operated (current_of o)) × (opened.new.items ≡ slice_set opened.old.items place after) × (after.jobs ≡ o.jobs) }
     ensures capacity { (vec_capacity opened.new ≡ vec_capacity opened.old) × (length opened.new.items ≡ length opened.old.items) }
 {
     operate(&mut opened[place]);
@@ -322,7 +332,10 @@ pub fn due_after<J>(request: &Opened<J>, live: &[Live], name: u64) -> Option<Liv
 
 // Takes a job out of the list.
 fn take_of<J: Errand>(jobs: &mut Vec<J>, name: u64) -> Option<J>
-    ensures { IfSome result (λ j. J.whom j ≡ name) }
+    ensures job { IfSome result (λ j. J.whom j ≡ name) }
+    ensures some { OnSome result (among name (map J.whom jobs.old.items) ≡ true) }
+    ensures none { IfNone result (among name (map J.whom jobs.old.items) ≡ false) }
+    ensures left { map J.whom jobs.new.items ≡ without_first name (map J.whom jobs.old.items) }
 {
     for place in 0..jobs.len() {
         if jobs[place].target_of() == name {
@@ -334,6 +347,9 @@ fn take_of<J: Errand>(jobs: &mut Vec<J>, name: u64) -> Option<J>
 
 fn job_in<J: Errand>(request: &mut Opened<J>, name: u64) -> Option<J>
     ensures job { IfSome result (λ j. J.whom j ≡ name) }
+    ensures some { OnSome result (among name (names_left J.whom request.old) ≡ true) }
+    ensures none { IfNone result (among name (names_left J.whom request.old) ≡ false) }
+    ensures left { names_left J.whom request.new ≡ without_first name (names_left J.whom request.old) }
     ensures same { current_of request.new ≡ current_of request.old }
 {
     take_of(&mut request.jobs, name)
@@ -386,6 +402,9 @@ pub fn jobs_fit<J: Errand>(request: &Request, jobs: &[J]) -> bool
 pub fn job_of<J: Errand>(opened: &mut Vec<Opened<J>>, name: u64) -> Option<J>
     requires { 0 < length opened.old.items }
     ensures job { IfSome result (λ j. J.whom j ≡ name) }
+    ensures some { OnSome result (has_job name (map (names_left J.whom) opened.old.items) ≡ true) }
+    ensures none { IfNone result (has_job name (map (names_left J.whom) opened.old.items) ≡ false) }
+    ensures left { map (names_left J.whom) opened.new.items ≡ job_taken name (map (names_left J.whom) opened.old.items) }
     ensures same { map current_of opened.new.items ≡ map current_of opened.old.items }
     ensures room { (length opened.new.items ≡ length opened.old.items) × (vec_capacity opened.new ≡ vec_capacity opened.old) }
 {

@@ -1,4 +1,7 @@
 //! The desk in one thread: requests up to their limits, a handshake with a job, a code's life, and a history that is full.
+//!
+//! Each call that may want memory is made again where it is refused for that. So with any one allocation refused, by
+//! `rt try --test --fail-alloc N`, a test passes or ends with an `AllocError` of what it was given, and no answer is another.
 ghost use Rattle.std.specs.Prelude.{◌≡◌, [], IfOk};
 ghost use Rattle.board.specs.Boards.{first_keeper, first_seat};
 ghost use Rattle.poll.specs.Rows.{first_poller};
@@ -9,6 +12,7 @@ use super::*;
 use crate::desk::Desk;
 use board::{Board, Keeper, ThreadSeat, Weighed};
 use bodies::{Body, Name, SpareSeat};
+use frames::CodeId;
 use frames::image::Image;
 use method_table::table::{InstallFault, MethodTable};
 use operations::job::{Call, Errand, Job};
@@ -49,7 +53,70 @@ fn small_desk<N: Name, J: Errand>(
     requires sizes { (N.board.slots ≡ 1) × (N.board.places ≡ 1) }
 {
     let table = MethodTable::new(alloc, 1, 2)?;
-    Desk::new(alloc, table, keeper, board, 1).map_err(|_| AllocError)
+    match Desk::new(alloc, table, keeper, board, 1) {
+        Ok(desk) => Ok(desk),
+        Err(keeper) => {
+            let table = MethodTable::new(alloc, 1, 2)?;
+            Desk::new(alloc, table, keeper, board, 1).map_err(|_| AllocError)
+        }
+    }
+}
+
+// A start, with memory at the second try.
+fn start<N: Name, J: Errand>(
+    desk: &mut Desk<N, J>,
+) -> Result<(u64, usize, Receipt<N>), StartFault> {
+    match desk.start(true) {
+        Err(StartFault::NoMemory) => desk.start(true),
+        answer => answer,
+    }
+}
+
+// A census that waits, with memory at the second try.
+fn ask<N: Name, J: Errand>(
+    desk: &mut Desk<N, J>,
+    alloc: Global,
+) -> Result<(u64, Receipt<N>), Refused<J>> {
+    match desk.submit(Request::Census, Vec::new(alloc)) {
+        Err(
+            Refused {
+                fault: AskFault::NoMemory,
+                jobs,
+            },
+        ) => desk.submit(Request::Census, jobs),
+        answer => answer,
+    }
+}
+
+// A handshake of thread 1 that waits, with memory at the second try.
+fn ask_one<N: Name, J: Errand>(
+    desk: &mut Desk<N, J>,
+    alloc: Global,
+    jobs: Vec<J>,
+) -> Result<Result<(u64, Receipt<N>), Refused<J>>, AllocError> {
+    match desk.submit(handshake(alloc, 1)?, jobs) {
+        Err(
+            Refused {
+                fault: AskFault::NoMemory,
+                jobs,
+            },
+        ) => Ok(desk.submit(handshake(alloc, 1)?, jobs)),
+        answer => Ok(answer),
+    }
+}
+
+// A code of the method, with memory at the second try.
+fn install<N: Name, J: Errand>(
+    desk: &mut Desk<N, J>,
+    board: &Board,
+    method: u64,
+) -> Result<(CodeId, Receipt<N>), CodeFault>
+    requires { board.now ≡ N.board }
+{
+    match desk.install(board, method) {
+        Err(CodeFault::NoMemory) => desk.install(board, method),
+        answer => answer,
+    }
 }
 
 fn handshake(alloc: Global, name: u64) -> Result<Request, AllocError> {
@@ -74,11 +141,9 @@ fn ask_census<N: Name, J: Errand, R: Abort>(
 {
     let mut desk = small_desk::<N, J>(alloc, &board, keeper)?;
     for number in 1..65 {
-        assert!(rt;
-            matches!(desk.submit(Request::Census, Vec::new(alloc)), Ok((n, _)) if n == number)
-        );
+        assert!(rt; matches!(ask(&mut desk, alloc), Ok((n, _)) if n == number));
     }
-    let refused = desk.submit(Request::Census, Vec::new(alloc));
+    let refused = ask(&mut desk, alloc);
     assert!(rt;
         matches!(
             refused,
@@ -102,7 +167,7 @@ fn ask_census<N: Name, J: Errand, R: Abort>(
     );
     assert!(rt; matches!(desk.close(true), Err(CloseFault::Held)));
     assert!(rt; matches!(desk.close(false), Ok((1, _, _))));
-    assert!(rt; matches!(desk.submit(Request::Census, Vec::new(alloc)), Ok((65, _))));
+    assert!(rt; matches!(ask(&mut desk, alloc), Ok((65, _))));
     Ok(())
 }
 
@@ -133,6 +198,7 @@ fn answer<N: Name, J: Errand, R: Abort>(rt: &R, desk: &mut Desk<N, J>, body: &Bo
     let Some(job) = desk.take_job(1) else {
         panic!(rt; "no job")
     };
+    assert!(rt; desk.take_job(1).is_none());
     let done = body.run(job);
     assert!(rt; desk.finish(body, done).is_ok());
 }
@@ -150,7 +216,7 @@ fn asked_desk<N: Name, J: Errand, R: Abort>(
     requires sizes { (N.board.slots ≡ 1) × (N.board.places ≡ 1) }
 {
     let mut desk = small_desk::<N, J>(alloc, board, keeper)?;
-    assert!(rt; matches!(desk.start(true), Ok((1, 0, _))));
+    assert!(rt; matches!(start(&mut desk), Ok((1, 0, _))));
     assert!(rt; matches!(desk.start(true), Err(StartFault::PlacesFull)));
     let without = desk.submit(handshake(alloc, 1)?, Vec::new(alloc));
     assert!(rt;
@@ -162,7 +228,7 @@ fn asked_desk<N: Name, J: Errand, R: Abort>(
             })
         )
     );
-    assert!(rt; matches!(desk.submit(handshake(alloc, 1)?, jobs), Ok((1, _))));
+    assert!(rt; matches!(ask_one(&mut desk, alloc, jobs)?, Ok((1, _))));
     assert!(rt; desk.standing(1) == Standing::NothingOpen);
     assert!(rt; matches!(desk.open(), Ok((1, _))));
     Ok(desk)
@@ -177,8 +243,17 @@ fn look_up<N: Name, J: Errand, R: Abort>(rt: &R, desk: &Desk<N, J>) -> Result<()
         is_done: true,
     };
     assert!(rt; desk.standing(1) == Standing::Asked(answered));
-    assert!(rt; desk.replies(1)?.as_slice() == [(1, 0)].as_slice());
-    assert!(rt; desk.live()?.as_slice() == [1].as_slice());
+    let replies = match desk.replies(1) {
+        Ok(replies) => replies,
+        Err(_) => desk.replies(1)?,
+    };
+    assert!(rt; replies.as_slice() == [(1, 0)].as_slice());
+    assert!(rt; desk.replies(0)?.is_empty() && desk.replies(2)?.is_empty());
+    let names = match desk.live() {
+        Ok(names) => names,
+        Err(_) => desk.live()?,
+    };
+    assert!(rt; names.as_slice() == [1].as_slice());
     Ok(())
 }
 
@@ -223,7 +298,9 @@ fn reclaim_code<N: Name, J: Errand, R: Abort>(
     requires sizes { (N.board.slots ≡ 1) × (N.board.places ≡ 1) }
 {
     let mut desk = small_desk::<N, J>(alloc, &board, keeper)?;
-    assert!(rt; desk.install(&board, 0).is_ok());
+    assert!(rt;
+        matches!(install(&mut desk, &board, 0), Ok((id, _)) if id.slot == 0 && id.serial == 1)
+    );
     assert!(rt;
         matches!(
             desk.install(&board, 0),
@@ -232,13 +309,32 @@ fn reclaim_code<N: Name, J: Errand, R: Abort>(
     );
     assert!(rt; desk.invalidate(&board, 1).is_ok());
     assert!(rt; matches!(desk.weigh(&board, 1), Ok((Weighed::NotLooked(0), None))));
-    let begun = desk.begin_reclaim(&board, 1, None, Vec::new(alloc));
-    assert!(rt; matches!(begun, Ok(None)));
+    let begun = match desk.begin_reclaim(&board, 1, Some(Request::Census), Vec::new(alloc)) {
+        Err(
+            NotReclaimed {
+                fault: ReclaimFault::Ask(AskFault::NoMemory),
+                jobs,
+            },
+        ) => desk.begin_reclaim(&board, 1, Some(Request::Census), jobs),
+        answer => answer,
+    };
+    assert!(rt; matches!(begun, Ok(Some((1, _)))));
+    assert!(rt;
+        matches!(
+            desk.begin_reclaim(&board, 1, None, Vec::new(alloc)),
+            Err(NotReclaimed {
+                fault: ReclaimFault::AlreadyOpen,
+                ..
+            })
+        )
+    );
     assert!(rt; matches!(desk.look(&board, 1, 0), Ok(true)));
     assert!(rt; matches!(desk.weigh(&board, 1), Ok((Weighed::Clear, Some(_)))));
     assert!(rt; desk.free(&board, 1).is_ok());
     assert!(rt; desk.free(&board, 1).is_err());
-    assert!(rt; matches!(desk.install(&board, 0), Ok((id, _)) if id.slot == 0 && id.serial == 2));
+    assert!(rt;
+        matches!(install(&mut desk, &board, 0), Ok((id, _)) if id.slot == 0 && id.serial == 2)
+    );
     Ok(())
 }
 
@@ -255,11 +351,11 @@ fn fill<N: Name, J: Errand, R: Abort>(
 {
     let mut desk = small_desk::<N, J>(alloc, &board, keeper)?;
     for name in 1..500_001 {
-        assert!(rt; desk.start(true).is_ok() && desk.exit(name).is_ok());
+        assert!(rt; start(&mut desk).is_ok() && desk.exit(name).is_ok());
     }
     assert!(rt; matches!(desk.start(true), Err(StartFault::HistoryFull)));
     assert!(rt; matches!(desk.install(&board, 0), Err(CodeFault::HistoryFull)));
-    let refused = desk.submit(Request::Census, Vec::new(alloc));
+    let refused = ask(&mut desk, alloc);
     assert!(rt;
         matches!(
             refused,

@@ -4,7 +4,7 @@
 
 ghost use Rattle.std.specs.Prelude.{◌≡◌, ◌≤◌, ◌<◌};
 
-use frames::image::Image;
+use frames::image::{DEPTH, Image};
 use frames::{CodeId, Frame};
 use std::time::{Duration, Instant};
 
@@ -31,11 +31,43 @@ fn frame(serial: u64) -> Frame {
     }
 }
 
+// Calls and returns are functions of their own, as they are in a runtime: else the compiler would see that a return undoes a call.
+#[inline(never)]
+fn call(image: &mut Image, serial: u64) -> bool {
+    image.push(frame(serial)).is_ok()
+}
+
+#[inline(never)]
+fn ret(image: &mut Image) -> bool {
+    image.pop().is_ok()
+}
+
 /// Calls the code and returns from it, and counts how often both went well.
 fn calls(image: &mut Image, serial: u64, turns: u64) -> u64 {
     let mut done = 0u64;
     for turn in 0..turns {
-        if image.push(frame(serial)).is_ok() && image.pop().is_ok() {
+        if call(image, serial) && ret(image) {
+            done = done.wrapping_add(1);
+        }
+    }
+    done
+}
+
+#[inline(never)]
+fn bare_call(frames: &mut Vec<Frame>, serial: u64) -> bool {
+    frames.len() < DEPTH && frames.push(frame(serial)).is_ok()
+}
+
+#[inline(never)]
+fn bare_ret(frames: &mut Vec<Frame>) -> bool {
+    frames.pop().is_some()
+}
+
+/// The same on a bare stack of frames, beside which nothing is kept.
+fn bare_calls(frames: &mut Vec<Frame>, serial: u64, turns: u64) -> u64 {
+    let mut done = 0u64;
+    for turn in 0..turns {
+        if bare_call(frames, serial) && bare_ret(frames) {
             done = done.wrapping_add(1);
         }
     }
@@ -129,6 +161,21 @@ fn time_calls(
     Ok(done)
 }
 
+/// Times calls on a bare stack of so many frames.
+fn time_bare(rt: &HostRuntime, shown: bool, depth: u64, turns: u64) -> anyhow::Result<u64>
+    requires { 10 ≤ turns }
+{
+    let mut frames = Vec::with_capacity(rt.alloc(), DEPTH)?;
+    for turn in 0..depth {
+        frames.push(frame(BELOW ^ turn))?;
+    }
+    let start = Instant::now(rt)?;
+    let done = bare_calls(&mut frames, LEAST, turns);
+    let name = "call and return where nothing is kept";
+    report(rt, shown, name, start.elapsed(rt)?, turns)?;
+    Ok(done)
+}
+
 /// The same over so many other codes, first before they are published, then after.
 fn time_depth(rt: &HostRuntime, shown: bool, depth: u64, turns: u64) -> anyhow::Result<u64>
     requires { 10 ≤ turns }
@@ -167,10 +214,11 @@ fn main(rt: HostRuntime) -> anyhow::Result<()> {
     let turns = if shown { MANY } else { FEW };
     let climbs = if shown { CLIMBS } else { FEW };
     let mut sum = 0u64;
-    for depth in [0, 15, 255] {
+    for depth in [0, 15, 254] {
         if shown {
             println!(rt; "codes below: {depth}")?;
         }
+        sum = sum.wrapping_add(time_bare(&rt, shown, depth, turns)?);
         sum = sum.wrapping_add(time_depth(&rt, shown, depth, turns)?);
     }
     for codes in [1, 64, 256] {

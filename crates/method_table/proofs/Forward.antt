@@ -1,5 +1,5 @@
 -- States go forward, edit by edit.
-use Rattle.std.proofs.Common.{◌≡◌, ◌⊎◌, ℕ, zero, suc, ◌+◌, ◌≤◌, ◌∙◌, sym, ap, refl, inl, inr, List, [], ◌∷◌, length, Option, Some, None, arith}
+use Rattle.std.proofs.Common.{◌≡◌, ◌⊎◌, ℕ, suc, ◌+◌, ◌≤◌, ◌∙◌, sym, ap, refl, inl, inr, List, [], ◌∷◌, length, Option, Some, None, arith}
 use Rattle.std.specs.Prelude.{slice_get}
 use Rattle.std.proofs.lemmas.Bool.{cases_eq}
 use Rattle.std.proofs.lemmas.Option.{same_Some}
@@ -11,7 +11,7 @@ use Rattle.method_table.specs.declared.history.Edit.TheVariants.{Install, Become
 use Rattle.method_table.specs.Codes.{code_of, unfreed, with_code, with_state}
 use Rattle.method_table.specs.Edited.{edited}
 use Rattle.method_table.specs.Kept.{Puts, IsNumberedFrom}
-use Rattle.method_table.specs.TableView.{TableView, IsTable, invalidate_fault, retire_fault, free_fault}
+use Rattle.method_table.specs.TableView.{TableView, invalidate_fault, retire_fault, free_fault}
 use Rattle.method_table.specs.Forward.{rank, IsMade, AreMade, GoForward, StatesGoForward, table_after, table_after_all}
 use Rattle.method_table.proofs.Serials.{not_past, is_unfreed, numbered_push, numbered_state}
 use Rattle.method_table.proofs.KeptLemmas.{put_code, put_state}

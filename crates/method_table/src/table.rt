@@ -311,6 +311,21 @@ impl MethodTable {
         ensures sound { IsTable self.now }
         ensures value { result ≡ unfreed self.now.codes serial }
     {
+        // The last slot of those that are taken from the first on: mostly that of the newest code.
+        if 0 < self.taken {
+            let newest = self.records[self.taken - 1];
+            if newest.serial == serial {
+                return Some(newest);
+            }
+        }
+        self.noted(serial)
+    }
+
+    // The same, by the index.
+    fn noted(&self, serial: u64) -> Option<Code>
+        ensures sound { IsTable self.now }
+        ensures value { result ≡ unfreed self.now.codes serial }
+    {
         match slot_of(&self.index, serial) {
             Some(slot) => Some(self.records[slot as usize]),
             None => None,

@@ -1,5 +1,5 @@
 -- Lists of names.
-use Rattle.std.specs.Prelude.{ℕ, Bool, true, false, not, ◌&&◌, ◌==◌, List, [], ◌∷◌}
+use Rattle.std.specs.Prelude.{ℕ, Bool, true, false, not, ◌&&◌, ◌==◌, nat_lt, List, [], ◌∷◌}
 use Rattle.std.specs.List.{list_any}
 
 -- The number stands in the list.
@@ -10,6 +10,16 @@ among n ns = list_any (λ other. other == n) ns
 abbrev pub is_distinct : List ℕ → Bool
 is_distinct [] = true
 is_distinct (n ∷ ns) = not (among n ns) && is_distinct ns
+
+-- The number is less than the first of the list, if any.
+abbrev pub is_below_first : ℕ → List ℕ → Bool
+is_below_first n [] = true
+is_below_first n (m ∷ ms) = nat_lt n m
+
+-- Each number is greater than the one before.
+abbrev pub is_rising : List ℕ → Bool
+is_rising [] = true
+is_rising (n ∷ ns) = is_below_first n ns && is_rising ns
 
 -- The list has no element.
 abbrev pub is_empty : {A : Type 0} → List A → Bool

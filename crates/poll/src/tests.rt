@@ -91,6 +91,19 @@ fn a_row_is_made_after_another(rt: HostRuntime) -> Result<(), Fail> {
     Ok(())
 }
 
+// It passes whichever allocation is refused: the row is made whole, or not at all.
+#[test]
+fn a_row_is_made_whole_or_not_at_all(rt: HostRuntime) -> Result<(), Fail> {
+    let Ok((row, armer, pollers)) = PollRow::new(rt.alloc(), 3) else {
+        println!(rt; "refused")?;
+        return Ok(());
+    };
+    let words = row.close(armer, pollers);
+    assert_eq!(rt; words.as_slice(), [0, 0, 0].as_slice());
+    println!(rt; "no growth was refused")?;
+    Ok(())
+}
+
 fn armed_elsewhere<R: Threads + Sync>(rt: &R, row: &PollRow, armer: Armer, n: u64) -> Armer
     requires { (armer.table ≡ row.now) × (length armer.seen.armed ≡ 1) × (slice_index armer.seen.armed 0 < n) × (n < 2 ^ 40) }
     ensures row { result.table ≡ row.now }

@@ -1,5 +1,6 @@
 pub mod Lists
 pub mod Cuts
+pub mod Ends
 pub mod Numbers
 pub mod Lookup
 pub mod Replies

@@ -222,11 +222,26 @@ fn among(keywords: &[Keyword], text: &[u8]) -> Option<Word>
     ensures { result ≡ find (λ word. bytes_eq text.now (word_text word)) (map (λ k. k.word) keywords.now) }
 {
     for keyword in keywords {
-        if text == keyword.text {
+        if is_same(text, keyword.text) {
             return Some(keyword.word);
         }
     }
     None
+}
+
+// Two spellings. They are short, and mostly differ at the first byte.
+fn is_same(one: &[u8], other: &[u8]) -> bool
+    ensures { result ≡ bytes_eq one.now other.now }
+{
+    if one.len() != other.len() {
+        return false;
+    }
+    for i in 0..one.len() {
+        if one[i] != other[i] {
+            return false;
+        }
+    }
+    true
 }
 
 /// What the word behind `ask` asks for.

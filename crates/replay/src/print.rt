@@ -275,6 +275,23 @@ fn put_answer(text: &mut Vec<u8>, answer: &Answer) -> Result<(), AllocError>
     }
 }
 
+/// Whether an answer is no list.
+fn is_short(answer: &Answer) -> bool
+    ensures { result ≡ is_short answer.now }
+{
+    !matches!(answer, Answer::Frames(_) | Answer::Census(_))
+}
+
+/// Whether a reply is no list.
+pub(crate) fn is_short_reply(reply: &Reply) -> bool
+    ensures { result ≡ is_short_reply reply.now }
+{
+    match reply {
+        Reply::BadLine | Reply::BadSize => true,
+        Reply::Answered(answer) => is_short(answer),
+    }
+}
+
 /// Puts the line of text for a reply behind the text.
 pub(crate) fn put_reply(text: &mut Vec<u8>, reply: &Reply) -> Result<(), AllocError>
     ensures text { OnOk result (text.new.items ≡ text.old.items ++ (reply_text reply.now ++ 10 ∷ [])) }

@@ -1,19 +1,20 @@
 // Bytes in, text out.
-ghost use Rattle.std.specs.Prelude.{◌≡◌, ◌++◌, ◌^◌, ◌<◌, ◌≤◌, [], ℕ, List, Option, None, OnOk, OnErr, IfOk, IfSome, MatchResult, length, vec_len, vec_capacity};
+ghost use Rattle.std.specs.Prelude.{◌≡◌, ◌++◌, ◌∷◌, true, ◌^◌, ◌<◌, ◌≤◌, [], ℕ, List, Option, None, OnOk, OnErr, IfOk, IfSome, MatchResult, length, vec_len, vec_capacity};
 ghost use Rattle.std.specs.Io.KnownBytes.{Appends};
 ghost use Rattle.system.specs.World.{World};
 ghost use Rattle.replay.specs.Known.{AppendsPart, Grows};
-ghost use Rattle.replay.specs.Room.{LineTakes};
+ghost use Rattle.replay.specs.Printed.{reply_text};
+ghost use Rattle.replay.specs.Room.{LineTakes, is_short_reply};
 ghost use Rattle.replay.specs.Streams.{Turned, FedBy, Ended, Finished, GaveUp, failed_writes};
 ghost use Rattle.replay.specs.Outcome.{Wrote, FailedCalls};
 ghost use Rattle.replay.specs.Text.{IsAt, text};
 
 use crate::device::{Failed, Sink, Source};
-use crate::engine::obey;
+use crate::engine::{Reply, obey};
 use crate::grammar::parse;
 use crate::held::Held;
-use crate::print::put_reply;
-use crate::words::find;
+use crate::print::{is_short_reply, put_reply};
+use crate::words::find_end;
 use std::alloc::{AllocError, Global};
 use system::System;
 
@@ -73,7 +74,34 @@ fn relieve<W: Sink>(waits: &mut Vec<u8>, sink: &mut W) -> Result<(), Failed>
     }
 }
 
-/// Answers a line. The answer joins what waits once it is whole.
+/// Puts a reply that is no list behind what waits, for which there is room.
+fn put_short(waits: &mut Vec<u8>, said: &Reply)
+    requires short { is_short_reply said.now ≡ true }
+    requires waits_room { 2 ^ 17 ≤ vec_capacity waits.old }
+    requires few_wait { vec_len waits.old < 2 ^ 16 }
+    ensures text { waits.new.items ≡ waits.old.items ++ (reply_text said.now ++ 10 ∷ []) }
+    ensures kept { vec_capacity waits.old ≤ vec_capacity waits.new }
+{
+    match put_reply(waits, said) {
+        Ok(()) => {}
+        Err(_) => unreachable!(),
+    }
+}
+
+/// The same of a list, which joins what waits once it is whole.
+#[cold]
+fn put_long(text: &mut Vec<u8>, waits: &mut Vec<u8>, said: &Reply) -> Result<(), AllocError>
+    ensures text { OnOk result (waits.new.items ≡ waits.old.items ++ (reply_text said.now ++ 10 ∷ [])) }
+    ensures none { OnErr result (waits.new.items ≡ waits.old.items) }
+    ensures text_kept { vec_capacity text.old ≤ vec_capacity text.new }
+    ensures waits_kept { vec_capacity waits.old ≤ vec_capacity waits.new }
+{
+    text.clear();
+    put_reply(text, said)?;
+    waits.extend_from_slice(text)
+}
+
+/// Answers a line.
 fn turn(
     system: &mut Option<System>,
     text: &mut Vec<u8>,
@@ -90,11 +118,14 @@ fn turn(
     ensures text_room { 2 ^ 16 ≤ vec_capacity text.new }
     ensures waits_room { 2 ^ 17 ≤ vec_capacity waits.new }
 {
-    text.clear();
     let command = parse(alloc, line)?;
     let said = obey(system, alloc, command)?;
-    put_reply(text, &said)?;
-    waits.extend_from_slice(text)
+    if is_short_reply(&said) {
+        put_short(waits, &said);
+        Ok(())
+    } else {
+        put_long(text, waits, &said)
+    }
 }
 
 /// Ends the line that was held.
@@ -147,7 +178,7 @@ fn feed<W: Sink>(
     let mut at = 0;
     while at < bytes.len() {
         let piece = &bytes[at..];
-        let n = find(b'\n', piece);
+        let n = find_end(piece);
         if n >= piece.len() {
             held.add(piece);
             return Ok(());

@@ -1,14 +1,17 @@
-// Whole inputs with their answers, through the public call; and devices that give and take little, or fail.
+// Whole inputs with their answers, through the public call, over devices that give and take little.
 use crate::device::{FromReader, IntoWriter};
 use crate::stream::{ReplayFault, replay};
-use std::alloc::Global;
+use std::alloc::{AllocError, Global};
 use std::io::{self, Read, Write};
 use std::test::Fail;
 
 mod bad_lines;
+mod cut_inputs;
+mod failing_devices;
 mod full_size;
 mod operation_runs;
 mod publication_runs;
+mod refused_memory;
 mod trap_runs;
 
 // A whole input with its answers: what a test calls it, and its lines, each `LINE => ANSWER`.
@@ -97,20 +100,27 @@ fn run(alloc: Global, source: &mut Drip<'_>, sink: &mut Basin) -> Result<(), Rep
     )
 }
 
-// The lines of a run, and their answers.
-fn sides(alloc: Global, run: &Transcript) -> Result<(Vec<u8>, Vec<u8>), Fail> {
-    let mut input = Vec::new(alloc);
-    let mut output = Vec::new(alloc);
+// The lines of a run, and their answers, if each line has one.
+fn split_sides(alloc: Global, run: &Transcript) -> Result<Option<(Vec<u8>, Vec<u8>)>, AllocError> {
+    let mut input = Vec::with_capacity(alloc, run.lines.len())?;
+    let mut output = Vec::with_capacity(alloc, run.lines.len())?;
     for line in run.lines.split_terminator('\n') {
         let Some((command, answer)) = line.split_once(" => ") else {
-            return Err(Fail::from("a line without an answer"));
+            return Ok(None);
         };
         input.extend_from_slice(command.as_bytes())?;
         input.push(b'\n')?;
         output.extend_from_slice(answer.as_bytes())?;
         output.push(b'\n')?;
     }
-    Ok((input, output))
+    Ok(Some((input, output)))
+}
+
+fn sides(alloc: Global, run: &Transcript) -> Result<(Vec<u8>, Vec<u8>), Fail> {
+    match split_sides(alloc, run)? {
+        Some(sides) => Ok(sides),
+        None => Err(Fail::from("a line without an answer")),
+    }
 }
 
 fn is_answered(alloc: Global, input: &[u8], output: &[u8]) -> bool {
@@ -237,32 +247,6 @@ fn an_empty_input_is_answered_with_nothing(rt: HostRuntime) -> Result<(), Fail> 
     Ok(())
 }
 
-#[test]
-fn a_cut_input_is_answered_up_to_the_cut(rt: HostRuntime) -> Result<(), Fail> {
-    let (input, output) = sides(rt.alloc(), &operation_runs::RECLAIMED_AFTER_ALL_PUBLISHED)?;
-    for cut in 0..input.len() {
-        let mut source = from_bytes(&input[..cut], 1_000_000, 0);
-        let mut sink = new_basin(rt.alloc(), 1_000_000, 0, false);
-        assert_eq!(rt; run(rt.alloc(), &mut source, &mut sink), Ok(()), "{cut}");
-        let mut ended = input[..cut].to_vec(rt.alloc())?;
-        if !ended.is_empty() && !ended.ends_with(b"\n") {
-            ended.push(b'\n')?;
-        }
-        let mut whole = from_bytes(&ended, 1_000_000, 0);
-        let mut twin = new_basin(rt.alloc(), 1_000_000, 0, false);
-        assert_eq!(rt; run(rt.alloc(), &mut whole, &mut twin), Ok(()), "{cut}");
-        assert_eq!(rt; sink.got.as_slice(), twin.got.as_slice(), "{cut}");
-        let newlines = input[..cut].iter().filter(|b| **b == b'\n').count();
-        let answers = sink.got.iter().filter(|b| **b == b'\n').count();
-        let partial = cut > 0 && input[cut - 1] != b'\n';
-        assert_eq!(rt; answers, newlines + usize::from(partial), "{cut}");
-        if !partial {
-            assert!(rt; are_answers(&sink.got, &output), "{cut}");
-        }
-    }
-    Ok(())
-}
-
 // A size, and then a line of so many bytes without an end.
 fn endless_line(alloc: Global, len: usize) -> Result<Vec<u8>, Fail> {
     let mut input = b"size 1 1 1\n".to_vec(alloc)?;
@@ -275,83 +259,6 @@ fn endless_line(alloc: Global, len: usize) -> Result<Vec<u8>, Fail> {
 #[test]
 fn a_line_without_end_is_one_bad_line(rt: HostRuntime) -> Result<(), Fail> {
     let input = endless_line(rt.alloc(), 1_000_000)?;
-    let mut source = from_bytes(&input, 1_000_000, 0);
-    let mut sink = new_basin(rt.alloc(), 1_000_000, 0, false);
-    assert_eq!(rt; run(rt.alloc(), &mut source, &mut sink), Ok(()));
-    assert_eq!(rt; sink.got.as_slice(), b"ok\nbad line\n".as_slice());
-    Ok(())
-}
-
-#[test]
-fn a_read_that_fails_in_a_line_leaves_the_whole_lines(rt: HostRuntime) -> Result<(), Fail> {
-    let mut source = from_bytes(b"size 1 1 1\nsta", 14, 2);
-    let mut sink = new_basin(rt.alloc(), 100, 0, false);
-    assert_eq!(rt;
-        run(rt.alloc(), &mut source, &mut sink),
-        Err(ReplayFault::ReadFailed)
-    );
-    assert_eq!(rt; sink.got.as_slice(), b"ok\n".as_slice());
-    assert_eq!(rt; source.calls, 2);
-    Ok(())
-}
-
-#[test]
-fn each_read_may_fail(rt: HostRuntime) -> Result<(), Fail> {
-    let (input, output) = sides(rt.alloc(), &operation_runs::HELD_IN_NATIVE)?;
-    for bad_call in 1..40 {
-        let mut source = from_bytes(&input, 10, bad_call);
-        let mut sink = new_basin(rt.alloc(), 3, 0, false);
-        let outcome = run(rt.alloc(), &mut source, &mut sink);
-        if source.calls < bad_call {
-            assert_eq!(rt; outcome, Ok(()));
-            assert_eq!(rt; sink.got.as_slice(), output.as_slice());
-            return Ok(());
-        }
-        assert_eq!(rt; outcome, Err(ReplayFault::ReadFailed));
-        assert_eq!(rt; source.calls, bad_call);
-        let read = input.len().saturating_sub(source.rest.len());
-        let lines = input[..read].iter().filter(|b| **b == b'\n').count();
-        assert!(rt; are_answers(&sink.got, &output));
-        assert_eq!(rt; sink.got.iter().filter(|b| **b == b'\n').count(), lines);
-    }
-    Err(Fail::from("no run without a fault"))
-}
-
-#[test]
-fn each_write_may_fail_or_take_nothing(rt: HostRuntime) -> Result<(), Fail> {
-    let (input, output) = sides(rt.alloc(), &operation_runs::HELD_IN_NATIVE)?;
-    for takes_nothing in [false, true] {
-        let mut faults = 0usize;
-        for bad_call in 1..40 {
-            let mut source = from_bytes(&input, 1_000_000, 0);
-            let mut sink = new_basin(rt.alloc(), 10, bad_call, takes_nothing);
-            let outcome = run(rt.alloc(), &mut source, &mut sink);
-            if sink.calls < bad_call {
-                assert_eq!(rt; outcome, Ok(()));
-                continue;
-            }
-            faults = faults.saturating_add(1);
-            assert_eq!(rt; outcome, Err(ReplayFault::WriteFailed));
-            assert_eq!(rt; sink.calls, bad_call);
-            assert_eq!(rt; sink.got.len(), 10 * (bad_call - 1));
-            assert!(rt; output.starts_with(&sink.got));
-        }
-        assert_eq!(rt; faults, output.len().div_ceil(10));
-    }
-    Ok(())
-}
-
-// Run with each allocation failing in turn, this shows that what was written is whole answers.
-#[test]
-fn refused_memory_leaves_whole_answers(rt: HostRuntime) -> Result<(), Fail> {
-    let (input, output) = sides(rt.alloc(), &operation_runs::SAFEPOINT_OF_TWO_THREADS)?;
-    let mut sink = new_basin(rt.alloc(), 1_000_000, 0, false);
-    sink.got.reserve(output.len())?;
-    let outcome = run(rt.alloc(), &mut from_bytes(&input, 1_000_000, 0), &mut sink);
-    assert!(rt; are_answers(&sink.got, &output));
-    match outcome {
-        Ok(()) => assert_eq!(rt; sink.got.as_slice(), output.as_slice()),
-        Err(fault) => assert_eq!(rt; fault, ReplayFault::NoMemory),
-    }
+    assert!(rt; is_answered(rt.alloc(), &input, b"ok\nbad line\n"));
     Ok(())
 }

@@ -4,6 +4,8 @@ ghost use Rattle.replay.specs.Words.{words, words_after, is_nil};
 ghost use Rattle.replay.specs.Scanned.{first_at, digits_from, begins_well};
 ghost use Rattle.replay.specs.Grammar.{took, last_number};
 
+use memchr::memchr;
+
 /// The greatest number of a line.
 const GREATEST: u64 = 1_099_511_627_775;
 
@@ -18,6 +20,17 @@ pub(crate) fn find(byte: u8, bytes: &[u8]) -> usize
         }
     }
     bytes.len()
+}
+
+/// Where the line that begins the bytes ends, or the length.
+pub(crate) fn find_end(bytes: &[u8]) -> usize
+    ensures at { result ≡ first_at 10 bytes.now }
+    ensures bound { result ≤ length bytes.now }
+{
+    match memchr(b'\n', bytes) {
+        Some(at) => at,
+        None => bytes.len(),
+    }
 }
 
 /// The first word, and what stands after it: nothing, or a space and more words.

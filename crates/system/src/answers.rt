@@ -1,9 +1,10 @@
 // Answers to events, and why an event is refused.
-ghost use Rattle.std.specs.Prelude.{◌≡◌};
+ghost use Rattle.std.specs.Prelude.{◌≡◌, IfOk};
 
 use frames::Frame;
 use method_table::CodeState;
 use operations::Kind;
+use std::alloc::{AllocError, Global};
 use std::marker::Model;
 use thread_state::State;
 
@@ -58,7 +59,7 @@ pub struct CodeCount {
 /// What a census counted, in rising serial.
 #[derive(Debug, Drop)]
 pub struct CountList {
-    counts: Vec<CodeCount>,
+    counts: Box<Vec<CodeCount>>,
 }
 
 impl Model for CountList {
@@ -67,14 +68,15 @@ impl Model for CountList {
 
     ghost Value = { List CodeCount };
 
-    ghost view = { λ l. l.counts.items };
+    ghost view = { λ l. l.counts.value.items };
 }
 
 impl CountList {
-    pub fn from_vec(counts: Vec<CodeCount>) -> CountList
-        ensures { result ≡ counts.items }
+    pub fn from_vec(alloc: Global, counts: Vec<CodeCount>) -> Result<CountList, AllocError>
+        ensures { IfOk result (λ list. list ≡ counts.items) }
     {
-        CountList { counts }
+        let counts = Box::new(alloc, counts)?;
+        Ok(CountList { counts })
     }
 
     pub fn as_slice(&self) -> &[CodeCount]
@@ -118,7 +120,7 @@ pub enum Answer {
 /// Frames, bottom first.
 #[derive(Debug, Drop)]
 pub struct FrameList {
-    frames: Vec<Frame>,
+    frames: Box<Vec<Frame>>,
 }
 
 impl Model for FrameList {
@@ -127,14 +129,15 @@ impl Model for FrameList {
 
     ghost Value = { List Frame };
 
-    ghost view = { λ l. l.frames.items };
+    ghost view = { λ l. l.frames.value.items };
 }
 
 impl FrameList {
-    pub fn from_vec(frames: Vec<Frame>) -> FrameList
-        ensures { result ≡ frames.items }
+    pub fn from_vec(alloc: Global, frames: Vec<Frame>) -> Result<FrameList, AllocError>
+        ensures { IfOk result (λ list. list ≡ frames.items) }
     {
-        FrameList { frames }
+        let frames = Box::new(alloc, frames)?;
+        Ok(FrameList { frames })
     }
 
     pub fn as_slice(&self) -> &[Frame]

@@ -64,7 +64,8 @@ impl Core {
         ensures { IfOk result (λ counts. IsCensus self.now.index counts) }
     {
         let counts = self.index.census(alloc)?;
-        Ok(CountList::from_vec(code_counts(alloc, &counts)?))
+        let list = CountList::from_vec(alloc, code_counts(alloc, &counts)?)?;
+        Ok(list)
     }
 
     /// The frames of each code over all stacks, which are all held and published: the census is operated.

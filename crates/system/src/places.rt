@@ -90,10 +90,10 @@ pub fn stack_at(
     }
     match &places[place] {
         None => Ok(Answer::Refused(Refusal::Illegal(State::Vacant))),
-        Some(thread) => Ok(Answer::Frames(FrameList::from_vec(Vec::from_slice(
-            alloc,
-            thread.image.frames(),
-        )?))),
+        Some(thread) => {
+            let frames = Vec::from_slice(alloc, thread.image.frames())?;
+            Ok(Answer::Frames(FrameList::from_vec(alloc, frames)?))
+        }
     }
 }
 

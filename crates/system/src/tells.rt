@@ -25,11 +25,18 @@ fn is_named_at(name: u64, place: &Option<Thread>) -> bool
     }
 }
 
-/// The first place of the thread of this name.
+/// A place of the thread of this name. While no thread has left, a name stands one place before its number: there it is looked for
+/// first.
 pub fn place_of(places: &[Option<Thread>], name: u64) -> Option<usize>
     ensures some { IfSome result (λ place. (kept : TheThread) × (slice_get places.now place ≡ Some (Some kept)) × (kept.name ≡ name)) }
     ensures none { IfNone result (list_any (is_named_at name) places.now ≡ false) }
 {
+    if 0 < name && name <= places.len() as u64 {
+        let usual = (name - 1) as usize;
+        if is_named_at(name, &places[usual]) {
+            return Some(usual);
+        }
+    }
     for (place, thread) in places.iter().enumerate() {
         if is_named_at(name, thread) {
             return Some(place);

@@ -6,6 +6,8 @@ use std::alloc::{AllocError, Global};
 use std::process::Abort;
 use std::test::*;
 
+mod refused_memory;
+
 // A thread that has published nothing but its empty stack, and runs Java code, at place 0.
 const RUNNING: [Act; 4] = [Act::Begin, Act::End, Act::Wake, Act::Cross];
 

@@ -16,25 +16,28 @@ for_push name [] t are whom some number = (whom, some, number, tt)
 for_push name (x ∷ ts) t are whom some number = (are.0, are.1, are.2, for_push name ts t are.3 whom some number)
 
 -- a berth without a name has no job and no mark, so any holder may come
-pub settles : {N : Type 0} (place : ℕ) (h : Holder N) (ts : List Told) (mark : ℕ) → IsBerth {N = N} place Away ts mark → IsHolder place h → IsBerth place h ts mark
-settles place h ts mark is here = record {
+pub settles : {N : Type 0} (place : ℕ) (h : Holder N) (ts : List Told) (mark room : ℕ) → IsBerth {N = N} place Away ts mark room → IsHolder place h → IsBerth place h ts mark room
+settles place h ts mark room is here = record {
   holder_is = here;
   jobs_are = subst (AreFor (name_of h)) (sym (none_for ts is.jobs_are)) tt;
   mark_is = λ e. absurd (let a = is.mark_is e in omega arith);
+  roomy = is.roomy;
 }
 
 -- the seat may go where nothing is told
-pub empties : {N : Type 0} (place : ℕ) (h h' : Holder N) (ts : List Told) (mark : ℕ) → IsHolder place h' → ts ≡ [] → mark ≡ 0 → IsBerth place h' ts mark
-empties place h h' ts mark here none unmarked = record {
+pub empties : {N : Type 0} (place : ℕ) (h h' : Holder N) (ts : List Told) (mark room : ℕ) → IsHolder place h' → ts ≡ [] → mark ≡ 0 → 0 < room → IsBerth place h' ts mark room
+empties place h h' ts mark room here none unmarked some = record {
   holder_is = here;
   jobs_are = subst (AreFor (name_of h')) (sym none) tt;
   mark_is = λ e. absurd (e unmarked);
+  roomy = some;
 }
 
-pub tells : {N J : Type 0} (number whom : J → ℕ) (place : ℕ) (h : Holder N) (js js' : List J) (j : J) (mark : ℕ) → IsBerth place h (map (told_of number whom) js) mark → js' ≡ js ++ j ∷ [] → whom j ≡ name_of h → 0 < name_of h → 0 < number j
-    → IsBerth place h (map (told_of number whom) js') mark
-tells number whom place h js js' j mark is new for_it some numbered = record {
+pub tells : {N J : Type 0} (number whom : J → ℕ) (place : ℕ) (h : Holder N) (js js' : List J) (j : J) (mark room room' : ℕ) → IsBerth place h (map (told_of number whom) js) mark room → js' ≡ js ++ j ∷ [] → whom j ≡ name_of h → 0 < name_of h → 0 < number j → room' ≡ room
+    → IsBerth place h (map (told_of number whom) js') mark room'
+tells number whom place h js js' j mark room room' is new for_it some numbered same = record {
   holder_is = is.holder_is;
   jobs_are = subst (AreFor (name_of h)) (sym (ap (map (told_of number whom)) new ∙ map-append (told_of number whom) js (j ∷ []))) (for_push (name_of h) (map (told_of number whom) js) (told_of number whom j) is.jobs_are for_it some numbered);
   mark_is = is.mark_is;
+  roomy = subst (λ (n : ℕ). 0 < n) (sym same) is.roomy;
 }

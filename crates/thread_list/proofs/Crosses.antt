@@ -48,12 +48,12 @@ module _ (N J : RattleType) (n : name.Ghosts N.Denot) (j : errand.Ghosts J.Denot
   desk_send : IsSend (Desk.the_row N J n j)
   desk_send = search (sendable, crosses, codes_send, log.the_send, queue.the_send, carried.the_field_send, opened.the_field_send) depth 40
 
-  berth_sync : IsSync (Berth.the_field N J n j).row
+  berth_sync : IsSync (Berth.the_row N J n j)
   berth_sync = search (sendable, crosses, room_send) depth 40
 
-  shared_sync : IsSync (Shared.the_field N J n j).row
+  shared_sync : IsSync (Shared.the_row N J n j)
   shared_sync = search (sendable, crosses, board.the_sync, row.the_sync, hints_sync, desk_send, berth_sync) depth 40
 
 -- the same as a function sees it whose first two type parameters are N and J
-pub shared_crosses : (N J : RattleType) (n : name.Ghosts N.Denot) (j : errand.Ghosts J.Denot) → IsSend (param 0 N) → IsSend (param 1 J) → IsSync (Shared.the_field (param 0 N) (param 1 J) n j).row
+pub shared_crosses : (N J : RattleType) (n : name.Ghosts N.Denot) (j : errand.Ghosts J.Denot) → IsSend (param 0 N) → IsSend (param 1 J) → IsSync (Shared.the_row (param 0 N) (param 1 J) n j)
 shared_crosses N J n j sn sj = shared_sync (param 0 N) (param 1 J) n j sn sj

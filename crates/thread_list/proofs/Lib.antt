@@ -2,3 +2,4 @@ pub mod Berthed
 pub mod Popped
 pub mod Made
 pub mod Crosses
+pub mod InOrder

@@ -1,5 +1,5 @@
 -- Berths.
-use Rattle.std.specs.Prelude.{◌≡◌, ◌≢◌, ◌<◌, ℕ, Bool, true, false, List, [], ◌∷◌, map, Option, Some, None}
+use Rattle.std.specs.Prelude.{◌≡◌, ◌≢◌, ◌<◌, ◌+◌, ◌-◌, ◌^◌, ℕ, Bool, true, false, List, [], ◌∷◌, map, min, length, slice_index_or, Option, Some, None, Vec, vec_capacity}
 use Rattle.bodies.specs.Bodies.{BodyView, SpareView}
 use Rattle.thread_list.specs.declared.room.Holder.{Holder}
 use Rattle.thread_list.specs.declared.room.Holder.TheVariants.{Vacant, Away, Out, Home}
@@ -9,12 +9,15 @@ pub record Told : Type 0 where
   pub number : ℕ
   pub whom : ℕ
 
--- a berth: its place, who has its seat, its jobs in order, and the census that it was told and that isn't operated (0 for none)
+-- a berth: its place, who has its seat, its jobs in order, the census that it was told and that isn't operated (0 for none), for how many
+-- jobs it has room, and how many threads wait for a change of it
 pub record Berthing (N : Type 0) : Type 0 where
   pub place : ℕ
   pub holder : Holder N
   pub jobs : List Told
   pub mark : ℕ
+  pub room : ℕ
+  pub sleepers : ℕ
 
 abbrev pub told_of : {J : Type 0} → (J → ℕ) → (J → ℕ) → J → Told
 told_of number whom j = record { number = number j; whom = whom j }
@@ -42,7 +45,21 @@ AreFor name (t ∷ ts) = (t.whom ≡ name) × (0 < name) × (0 < t.number) × Ar
 abbrev pub IsMark : ℕ → ℕ → Type 0
 IsMark name mark = mark ≢ 0 → 0 < name
 
-pub record IsBerth {N : Type 0} (place : ℕ) (holder : Holder N) (jobs : List Told) (mark : ℕ) : Type 0 where
+pub record IsBerth {N : Type 0} (place : ℕ) (holder : Holder N) (jobs : List Told) (mark room : ℕ) : Type 0 where
   pub holder_is : IsHolder place holder
   pub jobs_are : AreFor (name_of holder) jobs
   pub mark_is : IsMark (name_of holder) mark
+  pub roomy : 0 < room
+
+-- how many threads wait after one more does, or one does no more
+abbrev pub slept : ℕ → Bool → ℕ
+slept n true = min (n + 1) (2 ^ 64 - 1)
+slept n false = n - 1
+
+-- no job, and room for one
+abbrev pub IsRoom : {J Z : Type 0} → Vec J Z → Type 0
+IsRoom v = (v.items ≡ []) × (0 < vec_capacity v)
+
+-- berths, seen as their places, are each that of its index
+abbrev pub AreInOrder : List ℕ → Type 0
+AreInOrder berths = (k : ℕ) (d : ℕ) → k < length berths → slice_index_or berths k d ≡ k

@@ -3,3 +3,4 @@ pub mod Hinted
 pub mod Moves
 pub mod Refused
 pub mod Sized
+pub mod Sharing

@@ -6,20 +6,34 @@ use crate::room::Room;
 use board::Board;
 use bodies::{Body, Name, SpareSeat};
 use operations::job::Errand;
+use std::marker::Model;
 use std::sync::{Condvar, Mutex, Wait};
 use std::thread;
 
 /// A room under a lock, and a bell that rings for those that wait for a change of it. Each call takes this lock, and no other.
+/// Contracts see the place that it was made for.
 #[derive(Drop)]
 pub struct Berth<N: Name, J: Errand> {
+    place: usize,
     room: Mutex<Room<N, J>>,
     bell: Condvar,
 }
 
+impl<N: Name, J: Errand> Model for Berth<N, J> {
+    ghost use Rattle.std.specs.Prelude.{ℕ};
+
+    ghost Value = { ℕ };
+
+    ghost view = { λ b. b.place };
+}
+
 impl<N: Name, J: Errand> Berth<N, J> {
     /// The berth of this room.
-    pub fn new(room: Room<N, J>) -> Berth<N, J> {
+    pub fn new(room: Room<N, J>) -> Berth<N, J>
+        ensures { result ≡ room.place }
+    {
         Berth {
+            place: room.place(),
             room: Mutex::new(room),
             bell: Condvar::new(),
         }
@@ -174,8 +188,25 @@ impl<N: Name, J: Errand> Berth<N, J> {
             let mut room = self.room.lock(rt);
             if room.place() == place {
                 if let Some(both) = room.serve(name) {
+                    let wanted = room.has_sleepers();
+                    drop(room);
+                    self.ring(wanted);
                     return both;
                 }
+            }
+            room.note_sleeper(true);
+            let mut room = self.bell.wait(rt, room);
+            room.note_sleeper(false);
+        }
+        unreachable!()
+    }
+
+    /// Waits until the thread of the name has brought its body, or has come for what it was told. Answers whether its body is here.
+    pub fn wait_for<R: Wait>(&self, rt: &R, name: u64) -> bool {
+        for _ in rt.forever() {
+            let mut room = self.room.lock(rt);
+            if !room.awaits(name) {
+                return room.has_body(name);
             }
             room.note_sleeper(true);
             let mut room = self.bell.wait(rt, room);

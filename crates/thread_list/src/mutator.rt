@@ -20,7 +20,6 @@ pub struct Mutator<'a, N: Name, J: Errand> {
     pub(crate) shared: &'a Shared<N, J>,
     pub(crate) name: u64,
     pub(crate) place: usize,
-    pub(crate) methods: u32,
     pub(crate) state: State,
     pub(crate) body: Option<Body<N>>,
 }
@@ -30,7 +29,7 @@ impl<'a, N: Name, J: Errand> Model for Mutator<'a, N, J> {
 
     ghost Value = { Running };
 
-    ghost view = { λ m. record { name = m.name; place = m.place; methods = m.methods; state = m.state; body = m.body } };
+    ghost view = { λ m. record { name = m.name; place = m.place; methods = m.shared.now.methods; state = m.state; body = m.body } };
 
     ghost invariant = { λ m. IsRunning N.board.places m.name m.place m.state m.body };
 }
@@ -64,7 +63,8 @@ impl<'a, N: Name, J: Errand> Mutator<'a, N, J> {
 
     /// The place whose words are the thread's.
     pub fn place(&self) -> usize
-        ensures { result ≡ self.now.place }
+        ensures value { result ≡ self.now.place }
+        ensures bound { result < N.board.places }
     {
         let _ = &self.body;
         self.place
@@ -90,7 +90,7 @@ impl<'a, N: Name, J: Errand> Mutator<'a, N, J> {
         let State::InJava = self.state else {
             return Err(CallFault::Illegal(self.state));
         };
-        if method >= self.methods {
+        if method >= self.shared.methods() {
             return Err(CallFault::NoSuchMethod);
         }
         let Some(body) = &mut self.body else {

@@ -1,8 +1,9 @@
 //! What a system of running threads is made of.
-ghost use Rattle.std.specs.Prelude.{◌≡◌, ◌≤◌, ◌<◌, ℕ, [], ◌∷◌, Some, length, slice_get, vec_len, vec_capacity, IfOk, IfErr, OnOk};
+ghost use Rattle.std.specs.Prelude.{◌≡◌, ◌≤◌, ◌<◌, ℕ, [], ◌∷◌, Some, length, slice_get, vec_len, vec_capacity, All, IfOk, IfErr, OnOk};
 ghost use Rattle.frames.specs.BoardViews.{seat_view};
 ghost use Rattle.board.specs.Boards.{SeatSeen, first_keeper};
 ghost use Rattle.poll.specs.Rows.{PollerSeen, full_armer};
+ghost use Rattle.thread_list.specs.Berths.{IsRoom, AreInOrder};
 ghost use Rattle.thread_list.specs.Sized.{parts_refused, AreSeatsOf, ArePollersOf};
 
 use crate::berth::Berth;
@@ -17,7 +18,7 @@ use operations::job::Errand;
 use poll::{Armer, PollRow, Poller};
 use std::alloc::{AllocError, Global};
 use std::marker::Model;
-use std::sync::Mutex;
+use std::sync::{Condvar, Mutex};
 
 /// The most places, slots and methods that a system has.
 pub const MOST_PLACES: usize = 64;
@@ -107,15 +108,14 @@ fn job_lists<N: Name, J: Errand>(
     alloc: Global,
     places: usize,
 ) -> Result<(Vec<Vec<J>>, Vec<Berth<N, J>>), AllocError>
-    ensures lists { IfOk result (λ r. vec_len r.0 ≡ places) }
+    ensures lists { IfOk result (λ r. (vec_len r.0 ≡ places) × All IsRoom r.0.items) }
     ensures berths { IfOk result (λ r. (vec_len r.1 ≡ 0) × (places ≤ vec_capacity r.1)) }
 {
     let berths = Vec::with_capacity(alloc, places)?;
     let mut lists = Vec::new(alloc);
     while lists.len() < places {
-        lists
-            .push(Vec::with_capacity(alloc, 1)?)
-            .map_err(|_| AllocError)?;
+        let list = Vec::with_capacity(alloc, 1)?;
+        lists.push(list).map_err(|_| AllocError)?;
     }
     Ok((lists, berths))
 }
@@ -130,8 +130,10 @@ fn berths_of<N: Name, J: Errand>(
     requires seats { AreSeatsOf N.board seats.items }
     requires pollers { ArePollersOf N.poll_row pollers.items }
     requires count { (length seats.items ≡ length pollers.items) × (length seats.items ≡ vec_len lists) }
+    requires lists { All IsRoom lists.items }
     requires room { (vec_len room ≡ 0) × (length seats.items ≤ vec_capacity room) }
-    ensures { length result.items ≡ length seats.items }
+    ensures count { length result.items ≡ length seats.items }
+    ensures order { AreInOrder result.items }
 {
     let mut seats = seats;
     let mut pollers = pollers;
@@ -141,11 +143,10 @@ fn berths_of<N: Name, J: Errand>(
         let Some(poller) = pollers.pop() else {
             unreachable!()
         };
-        let Some(mut jobs) = lists.pop() else {
+        let Some(jobs) = lists.pop() else {
             unreachable!()
         };
         let pair = SpareSeat::new(seat, poller);
-        jobs.clear();
         berths.push_reserved(Berth::new(Room::new(pair.place(), pair, jobs)));
     }
     berths.reverse();
@@ -157,6 +158,7 @@ impl<N: Name, J: Errand> Shared<N, J> {
     pub fn new(alloc: Global, parts: Parts) -> Result<(Shared<N, J>, Armer), Parts>
         requires tables { (parts.board ≡ N.board) × (parts.row ≡ N.poll_row) }
         ensures armer { IfOk result (λ r. r.1 ≡ full_armer N.poll_row N.board.places) }
+        ensures methods { IfOk result (λ r. r.0.methods ≡ parts.methods) }
         ensures handed_back { IfErr result (λ p. p ≡ parts) }
     {
         let places = parts.seats.len();
@@ -189,6 +191,7 @@ impl<N: Name, J: Errand> Shared<N, J> {
                         berths,
                         desk: Mutex::new(desk),
                         hints,
+                        finished: Condvar::new(),
                     },
                     armer,
                 ))

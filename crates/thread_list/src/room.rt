@@ -1,9 +1,9 @@
 //! What a berth keeps under its lock.
 ghost use Rattle.std.specs.Prelude.{◌≡◌, ◌<◌, ◌≢◌, Some, None, [], IfOk, IfErr, OnOk, OnErr, IfSome, IfNone};
-ghost use Rattle.std.specs.Prelude.{◌++◌, ◌∷◌, true, false, if◌then◌else◌};
+ghost use Rattle.std.specs.Prelude.{◌++◌, ◌∷◌, ◌≤◌, ◌==◌, true, false, not, length, vec_capacity, if◌then◌else◌};
 ghost use Rattle.frames.specs.ImageView.{IsCounted};
 ghost use Rattle.frames.specs.BoardViews.{stored_as};
-ghost use Rattle.thread_list.specs.Berths.{told_of, name_of};
+ghost use Rattle.thread_list.specs.Berths.{told_of, name_of, slept, IsRoom};
 ghost use Rattle.thread_list.specs.declared.room.Holder.TheVariants.{Vacant as IsVacant, Away as IsAway, Out as IsOut, Home as IsAtHome};
 
 use board::Board;
@@ -36,21 +36,22 @@ pub struct Room<N: Name, J: Errand> {
 }
 
 impl<N: Name, J: Errand> Model for Room<N, J> {
-    ghost use Rattle.std.specs.Prelude.{map};
+    ghost use Rattle.std.specs.Prelude.{map, vec_capacity};
     ghost use Rattle.thread_list.specs.Berths.{Berthing, IsBerth, told_of};
 
     ghost Value = { Berthing N };
 
-    ghost view = { λ r. record { place = r.place; holder = r.holder; jobs = map (told_of J.number J.whom) r.jobs.items; mark = r.mark } };
+    ghost view = { λ r. record { place = r.place; holder = r.holder; jobs = map (told_of J.number J.whom) r.jobs.items; mark = r.mark; room = vec_capacity r.jobs; sleepers = r.sleepers } };
 
-    ghost invariant = { λ r. IsBerth r.place r.holder (map (told_of J.number J.whom) r.jobs.items) r.mark };
+    ghost invariant = { λ r. IsBerth r.place r.holder (map (told_of J.number J.whom) r.jobs.items) r.mark (vec_capacity r.jobs) };
 }
 
 impl<N: Name, J: Errand> Room<N, J> {
-    /// The berth of a vacant place.
+    /// The berth of a vacant place, with an empty list that has room for a job.
     pub fn new(place: usize, pair: SpareSeat<N>, jobs: Vec<J>) -> Room<N, J>
-        requires { (pair.seat.place ≡ place) × (jobs.items ≡ []) }
-        ensures { (result.place ≡ place) × (result.holder ≡ IsVacant pair) × (result.jobs ≡ []) × (result.mark ≡ 0) }
+        requires pair { pair.seat.place ≡ place }
+        requires jobs { IsRoom jobs }
+        ensures { result ≡ record { place = place; holder = IsVacant pair; jobs = []; mark = 0; room = vec_capacity jobs; sleepers = 0 } }
     {
         Room {
             place,
@@ -63,7 +64,7 @@ impl<N: Name, J: Errand> Room<N, J> {
 
     /// A thread waits for a change from now on, or (`false`) waits no more.
     pub fn note_sleeper(&mut self, sleeps: bool)
-        ensures { self.new ≡ self.old }
+        ensures { self.new ≡ record self.old { sleepers = slept self.old.sleepers sleeps } }
     {
         self.sleepers = if sleeps {
             self.sleepers.saturating_add(1)
@@ -73,9 +74,32 @@ impl<N: Name, J: Errand> Room<N, J> {
     }
 
     /// Whether a thread waits for a change.
-    pub fn has_sleepers(&self) -> bool {
+    pub fn has_sleepers(&self) -> bool
+        ensures { result ≡ not (self.now.sleepers == 0) }
+    {
         let _ = &self.mark;
         self.sleepers != 0
+    }
+
+    /// Whether the thread of the name has its body and has still to come for what it was told.
+    pub fn awaits(&self, name: u64) -> bool
+        ensures { result ≡ true → (self.now.holder ≡ IsOut name) × (self.now.jobs ≢ []) }
+    {
+        match &self.holder {
+            Holder::Out(out) => *out == name && !self.jobs.is_empty(),
+            Holder::Home(_) | Holder::Vacant(_) | Holder::Away => false,
+        }
+    }
+
+    /// Whether the body of the name is here.
+    pub fn has_body(&self, name: u64) -> bool
+        ensures { result ≡ true → (b : _) × (self.now.holder ≡ IsAtHome b) × (b.name ≡ name) }
+    {
+        let _ = &self.mark;
+        match &self.holder {
+            Holder::Home(body) => body.name() == name,
+            Holder::Out(_) | Holder::Vacant(_) | Holder::Away => false,
+        }
     }
 
     /// The seat and the poller come out, where no thread has them.
@@ -157,7 +181,7 @@ impl<N: Name, J: Errand> Room<N, J> {
         ensures body { IfSome result (λ r. (self.old.holder ≡ IsAtHome r.0) × (r.0.name ≡ name) × (0 < r.0.name) × (r.0.seat.place ≡ self.old.place) × (r.0.seat.stored ≢ 0) × (self.old.mark ≡ 0)) }
         ensures job { IfSome result (λ r. IfSome r.1 (λ j. (J.whom j ≡ name) × (0 < J.number j) × (self.old.jobs ≡ told_of J.number J.whom j ∷ self.new.jobs))) }
         ensures no_job { IfSome result (λ r. IfNone r.1 ((self.old.jobs ≡ []) × (self.new.jobs ≡ []))) }
-        ensures left { IfSome result (λ r. (self.new.holder ≡ IsOut name) × (self.new.mark ≡ 0)) }
+        ensures left { IfSome result (λ r. self.new ≡ record self.old { holder = IsOut name; jobs = self.new.jobs }) }
         ensures none { IfNone result ((self.new ≡ self.old) × (self.old.mark ≡ 0 → (b : _) → self.old.holder ≡ IsAtHome b → b.name ≢ name)) }
     {
         if self.mark != 0 {
@@ -174,7 +198,7 @@ impl<N: Name, J: Errand> Room<N, J> {
     /// The oldest job of the name, whose body is out.
     pub fn job(&mut self, name: u64) -> Option<J>
         ensures some { IfSome result (λ j. (J.whom j ≡ name) × (0 < J.number j) × (self.old.jobs ≡ told_of J.number J.whom j ∷ self.new.jobs)) }
-        ensures same { (self.new.holder ≡ self.old.holder) × (self.new.mark ≡ self.old.mark) }
+        ensures same { self.new ≡ record self.old { jobs = self.new.jobs } }
         ensures none { IfNone result ((self.new ≡ self.old) × (self.old.holder ≡ IsOut name → self.old.jobs ≡ [])) }
     {
         let Holder::Out(out) = self.holder else {
@@ -186,11 +210,13 @@ impl<N: Name, J: Errand> Room<N, J> {
         Some(self.jobs.remove(0))
     }
 
-    /// A job goes in for its target, behind those that are there.
+    /// A job goes in for its target, behind those that are there. It comes back where the berth bears another name than its target's, or
+    /// has no room for another job; it has room for one.
     pub fn tell(&mut self, job: J) -> Result<(), J>
         requires number { 0 < J.number job }
         ensures ok { OnOk result ((name_of self.old.holder ≡ J.whom job) × (self.new ≡ record self.old { jobs = self.old.jobs ++ told_of J.number J.whom job ∷ [] })) }
-        ensures err { IfErr result (λ j. (j ≡ job) × (self.new ≡ self.old)) }
+        ensures err { IfErr result (λ j. (j ≡ job) × (self.new ≡ self.old) × (0 < J.whom job → name_of self.old.holder ≡ J.whom job → self.old.room ≤ length self.old.jobs)) }
+        ensures room { 0 < self.old.room }
     {
         let name = self.name();
         if name == 0 || name != job.target_of() || self.jobs.len() >= self.jobs.capacity() {
@@ -218,11 +244,11 @@ impl<N: Name, J: Errand> Room<N, J> {
         }
     }
 
-    /// A census that was told, until it is operated.
+    /// A census that was told, until it is operated, where the berth bears this name.
     pub fn mark(&mut self, name: u64, number: u64) -> bool
         requires number { 0 < number }
         ensures yes { result ≡ true → (name_of self.old.holder ≡ name) × (0 < name) × (self.new ≡ record self.old { mark = number }) }
-        ensures no { result ≡ false → self.new ≡ self.old }
+        ensures no { result ≡ false → (self.new ≡ self.old) × (0 < name → name_of self.old.holder ≢ name) }
     {
         if name == 0 || name != self.name() {
             return false;
@@ -248,7 +274,7 @@ impl<N: Name, J: Errand> Room<N, J> {
     pub fn exit(&mut self, body: Body<N>, board: &Board) -> Result<(), Body<N>>
         requires board { board.now ≡ N.board }
         requires empty { (body.image.frames ≡ []) × IsCounted body.image }
-        ensures ok { OnOk result ((self.old.holder ≡ IsOut body.name) × (self.old.jobs ≡ []) × (self.old.mark ≡ 0) × (self.new.jobs ≡ []) × (self.new.mark ≡ 0) × (self.new.holder ≡ IsVacant (record { seat = stored_as body.seat 0; poller = body.poller }))) }
+        ensures ok { OnOk result ((self.old.holder ≡ IsOut body.name) × (self.old.jobs ≡ []) × (self.old.mark ≡ 0) × (self.new ≡ record self.old { holder = IsVacant (record { seat = stored_as body.seat 0; poller = body.poller }) })) }
         ensures err { IfErr result (λ b. (b ≡ body) × (self.new ≡ self.old) × (self.old.holder ≡ IsOut body.name → self.old.place ≡ body.seat.place → self.old.jobs ≡ [] → self.old.mark ≢ 0)) }
     {
         let Holder::Out(name) = self.holder else {

@@ -11,6 +11,7 @@ use bodies::{Body, Name};
 use desk::Receipt;
 use operations::job::Errand;
 use std::sync::Wait;
+use std::thread;
 
 /// A thread that has stopped gives its body to its berth, takes it back once nobody holds it and no census keeps it, publishes its
 /// stack, serves what it was told, and polls, until a poll goes on.
@@ -30,12 +31,26 @@ pub fn served<N: Name, J: Errand, R: Wait>(rt: &R, shared: &Shared<N, J>, body: 
         body.publish(shared.board());
         if let Some(job) = job {
             serve(rt, shared, &mut body, job);
+            give_way(rt, shared);
         }
         if body.poll(shared.row()) == 0 {
             return body;
         }
     }
     unreachable!()
+}
+
+// How often a thread that has served itself yields while others have still to: where more threads run than there are processors,
+// each of them then comes to its poll within one round of the scheduler.
+const YIELDS: u32 = 16;
+
+// Lets other threads run, where some have still to be answered for.
+fn give_way<N: Name, J: Errand, R: Wait>(rt: &R, shared: &Shared<N, J>) {
+    if shared.has_due(rt) {
+        for _ in 0..YIELDS {
+            thread::yield_now();
+        }
+    }
 }
 
 /// Runs a job on a settled body, enters what it answered, and clears the operation. The receipt is of that entry.

@@ -5,18 +5,18 @@ ghost use Rattle.operations.specs.Asks.{reply};
 ghost use Rattle.method_table.specs.Codes.{unfreed};
 ghost use Rattle.method_table.specs.TableView.{invalidate_fault};
 ghost use Rattle.thread_state.specs.declared.State.TheVariants.{InJava as IsInJava};
-ghost use Rattle.desk.specs.declared.entries.Entry.{Entry, Entry as EntryOf};
+ghost use Rattle.desk.specs.declared.entries.Entry.{Entry};
 ghost use Rattle.desk.specs.Machine.{State as DeskState, Book};
 ghost use Rattle.desk.specs.JobsFit.{jobs_fit};
-ghost use Rattle.desk.specs.Once.{replies_of};
-ghost use Rattle.desk.specs.Machine.{names_of};
+ghost use Rattle.desk.specs.Rising.{AreRising};
+ghost use Rattle.thread_list.specs.Sharing.{AreLive, AreRepliesOf};
 ghost use Rattle.desk.specs.Refusals.{ask_refused, install_refused};
 
 use crate::berth::Berth;
 use crate::hints::Hints;
 use board::Board;
 use bodies::{Body, Name};
-use desk::{CodeFault, Desk, NotLive, Receipt, Refused};
+use desk::{CodeFault, Desk, NotLive, Receipt, Refused, live_names_rise};
 use frames::CodeId;
 use method_table::table::InvalidateFault;
 use operations::Request;
@@ -24,10 +24,11 @@ use operations::job::{Done, Errand};
 use poll::PollRow;
 use std::alloc::AllocError;
 use std::marker::Model;
-use std::sync::{Mutex, Wait};
+use std::sync::{Condvar, Mutex, Wait};
 use std::thread;
 
-/// The words, the desk under a lock, and a berth for each place, each under a lock of its own. No call holds two locks.
+/// The words, the desk under a lock, and a berth for each place, each under a lock of its own. No call holds two locks. Contracts see
+/// how many methods there are.
 #[derive(Drop)]
 pub struct Shared<N: Name, J: Errand> {
     pub(crate) board: Board,
@@ -35,9 +36,20 @@ pub struct Shared<N: Name, J: Errand> {
     pub(crate) berths: Vec<Berth<N, J>>,
     pub(crate) desk: Mutex<Desk<N, J>>,
     pub(crate) hints: Hints,
-    ghost named: { (board ≡ N.board) × (row ≡ N.poll_row) },
-    ghost seated: { length berths.items ≡ N.board.places },
-    ghost hinted: { hints.slots ≡ N.board.slots },
+    /// Rings where a thread is answered for, or exits.
+    pub(crate) finished: Condvar,
+}
+
+impl<N: Name, J: Errand> Model for Shared<N, J> {
+    ghost use Rattle.std.specs.Prelude.{◌≡◌, length};
+    ghost use Rattle.thread_list.specs.Berths.{AreInOrder};
+    ghost use Rattle.thread_list.specs.Sharing.{SharedSeen};
+
+    ghost Value = { SharedSeen };
+
+    ghost view = { λ s. record { methods = s.hints.methods } };
+
+    ghost invariant = { λ s. (s.board ≡ N.board) × (s.row ≡ N.poll_row) × (length s.berths.items ≡ N.board.places) × AreInOrder s.berths.items × (s.hints.slots ≡ N.board.slots) };
 }
 
 impl<N: Name, J: Errand> Shared<N, J> {
@@ -62,7 +74,9 @@ impl<N: Name, J: Errand> Shared<N, J> {
     }
 
     /// How many methods there are.
-    pub fn methods(&self) -> u32 {
+    pub fn methods(&self) -> u32
+        ensures { result ≡ self.now.methods }
+    {
         let _ = &self.desk;
         self.hints.methods()
     }
@@ -70,12 +84,15 @@ impl<N: Name, J: Errand> Shared<N, J> {
     /// The berth of a place.
     pub fn berth(&self, place: usize) -> &Berth<N, J>
         requires { place < N.board.places }
+        ensures { result.now ≡ place }
     {
         &self.berths[place]
     }
 
     /// The berth of a body's place.
-    pub fn berth_of(&self, body: &Body<N>) -> &Berth<N, J> {
+    pub fn berth_of(&self, body: &Body<N>) -> &Berth<N, J>
+        ensures { result.now ≡ body.now.seat.place }
+    {
         &self.berths[body.place()]
     }
 
@@ -137,18 +154,22 @@ impl<N: Name, J: Errand> Shared<N, J> {
 
     /// The names of the threads that are live, rising. Refused only for want of memory.
     pub fn live<R: Wait>(&self, rt: &R) -> Result<Vec<u64>, AllocError>
-        ensures { IfOk result (λ names. (s : DeskState) × (names.items ≡ names_of s.live)) }
+        ensures live { IfOk result (λ names. AreLive names.items) }
+        ensures rising { IfOk result (λ names. AreRising 0 names.items) }
     {
         let desk = self.desk.lock(rt);
+        desk.history_is_legal();
+        live_names_rise();
         let names = desk.live()?;
         Ok(names)
     }
 
     /// The names with their replies of an operation, in the order in which it was finished. Refused only for want of memory.
     pub fn replies<R: Wait>(&self, rt: &R, op: u64) -> Result<Vec<(u64, u64)>, AllocError>
-        ensures { IfOk result (λ list. (history : List EntryOf) × (list.items ≡ replies_of op history)) }
+        ensures { IfOk result (λ list. AreRepliesOf op list.items) }
     {
         let desk = self.desk.lock(rt);
+        desk.history_is_legal();
         let list = desk.replies(op)?;
         Ok(list)
     }
@@ -173,7 +194,10 @@ impl<N: Name, J: Errand> Shared<N, J> {
         let mut done = done;
         for _ in rt.forever() {
             match self.try_finish(rt, body, done) {
-                Ok(receipt) => return receipt,
+                Ok(receipt) => {
+                    self.finished.notify_all();
+                    return receipt;
+                }
                 Err(back) => done = back,
             }
             thread::yield_now();
@@ -188,10 +212,36 @@ impl<N: Name, J: Errand> Shared<N, J> {
         for _ in rt.forever() {
             let gone = self.desk.lock(rt).exit(name);
             if let Ok(receipt) = gone {
+                self.finished.notify_all();
                 return receipt;
             }
             thread::yield_now();
         }
         unreachable!()
+    }
+
+    /// Waits until the thread of the name is answered for, or is live no more.
+    pub fn wait_finished<R: Wait>(&self, rt: &R, name: u64) {
+        for _ in rt.forever() {
+            let desk = self.desk.lock(rt);
+            if !is_due(&desk, name) {
+                return;
+            }
+            let _desk = self.finished.wait(rt, desk);
+        }
+    }
+
+    /// Whether a thread has still to be answered for.
+    pub fn has_due<R: Wait>(&self, rt: &R) -> bool {
+        let _ = &self.hints;
+        self.desk.lock(rt).next_due(0).is_some()
+    }
+}
+
+// Whether the thread of the name has still to be answered for.
+fn is_due<N: Name, J: Errand>(desk: &Desk<N, J>, name: u64) -> bool {
+    match desk.next_due(name.saturating_sub(1)) {
+        Some(due) => due.name == name,
+        None => false,
     }
 }

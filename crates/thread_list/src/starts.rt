@@ -1,9 +1,11 @@
 //! Threads that start.
-ghost use Rattle.std.specs.Prelude.{◌≡◌, IfOk, IfErr, true, ◌<◌, OnOk};
+ghost use Rattle.std.specs.Prelude.{◌≡◌, IfOk, IfErr, true, ◌<◌, OnOk, Some};
 ghost use Rattle.thread_state.specs.declared.State.TheVariants.{InJava as IsInJava};
 ghost use Rattle.desk.specs.declared.entries.Entry.{Entry};
 ghost use Rattle.desk.specs.Machine.{State as DeskState, Book};
 ghost use Rattle.desk.specs.Refusals.{start_refused};
+ghost use Rattle.bodies.specs.Bodies.{BodyView};
+ghost use Rattle.thread_state.specs.declared.poll_rule.Deed.TheVariants.{Load};
 
 use crate::mutator::Mutator;
 use crate::serving::served;
@@ -25,6 +27,8 @@ impl<N: Name, J: Errand> Shared<N, J> {
         alloc: Global,
     ) -> Result<(Mutator<'_, N, J>, Receipt<N>), StartFault>
         ensures started { IfOk result (λ r. (r.0.state ≡ IsInJava) × (r.1.entry ≡ Entry.Start r.0.name r.0.place)) }
+        ensures methods { IfOk result (λ r. r.0.methods ≡ self.now.methods) }
+        ensures goes_on { IfOk result (λ r. (body : BodyView) × (r.0.body ≡ Some body) × (body.poller.last ≡ Load 0)) }
         ensures refused { IfErr result (λ e. (s : DeskState) × (book : Book) × start_refused s N.board.places book e) }
     {
         let image = Image::new(alloc);
@@ -42,7 +46,6 @@ impl<N: Name, J: Errand> Shared<N, J> {
             shared: self,
             name,
             place,
-            methods: self.methods(),
             state: State::InJava,
             body: Some(body),
         };

@@ -1,6 +1,9 @@
 //! Threads that start, call, wait and exit, over what they share.
 ghost use Rattle.std.specs.Prelude.{◌≡◌};
 
+mod places;
+mod threads;
+
 use super::*;
 use bodies::{Called, Name};
 use desk::{AskFault, Refused, StartFault};

@@ -7,7 +7,7 @@ ghost use Rattle.thread_state.specs.States as table;
 ghost use Rattle.desk.specs.declared.entries.Entry.{Entry};
 ghost use Rattle.thread_list.specs.declared.polls.Poll.TheVariants.{Go as GoesOn};
 ghost use Rattle.thread_list.specs.Moves.{SameThread, ComesBack, GoesBack, is_running, owns};
-ghost use Rattle.thread_list.specs.Refused.{exit_refused, HasFrames};
+ghost use Rattle.thread_list.specs.Refused.{exit_refused, HasNoFrame};
 
 use crate::mutator::{Mutator, is_running};
 use crate::polls::{Poll, poll_of};
@@ -151,8 +151,8 @@ impl<'a, N: Name, J: Errand> Mutator<'a, N, J> {
     /// its Exit. It is refused, with the mutator as it was, where it isn't in Java or in the VM, and where its stack isn't empty. A
     /// body that came back from serving may have frames that a holder left there; then it is refused in Java, where it served.
     pub fn exit<R: Wait>(self, rt: &R) -> Result<Receipt<N>, (ExitFault, Mutator<'a, N, J>)>
-        ensures exited { IfOk result (λ r. (r.entry ≡ Entry.Exit self.entry.name) × (is_running self.entry.state ≡ true)) }
-        ensures refused { IfErr result (λ e. ((e.1 ≡ self.entry) × exit_refused self.entry e.0) ⊎ ((e.0 ≡ ExitFault.StackNotEmpty) × (e.1.state ≡ IsInJava) × SameThread self.entry e.1 × exit_refused e.1 e.0)) }
+        ensures exited { IfOk result (λ r. (r.entry ≡ Entry.Exit self.entry.name) × (is_running self.entry.state ≡ true) × HasNoFrame self.entry.body) }
+        ensures refused { IfErr result (λ e. ((e.1 ≡ self.entry) × exit_refused self.entry e.0) ⊎ (HasNoFrame self.entry.body × (e.0 ≡ ExitFault.StackNotEmpty) × (e.1.state ≡ IsInJava) × SameThread self.entry e.1 × exit_refused e.1 e.0)) }
     {
         if !is_running(self.state) {
             return Err((ExitFault::Illegal(self.state), self));
@@ -164,7 +164,6 @@ impl<'a, N: Name, J: Errand> Mutator<'a, N, J> {
             shared,
             name,
             place,
-            methods,
             state: _,
             body,
         } = self;
@@ -174,7 +173,6 @@ impl<'a, N: Name, J: Errand> Mutator<'a, N, J> {
                 shared,
                 name,
                 place,
-                methods,
                 state: State::InJava,
                 body: Some(body),
             };

@@ -1,11 +1,14 @@
-use Rattle.std.proofs.Common.{◌≡◌, ◌∙◌, ap, subst, refl, Some, None, rules, true, false}
+use Rattle.std.proofs.Common.{map, ◌<◌, sym, ◌≡◌, ◌∙◌, ap, subst, refl, Some, None, rules, true, false}
 use Rattle.std.specs.Prelude.{◌&&◌, slice_get}
 use Rattle.std.proofs.lemmas.Option.{slice_get_read}
 use Rattle.std.proofs.lemmas.Bool.{and_parts}
 use Rattle.desk.specs.declared.entries.Entry.TheVariants as entry
 use Rattle.desk.specs.Machine.{State, lawful, is_due, is_live, finished}
-use Rattle.desk.specs.Fields.{DeskSeen, current_of, IsIndex, at, Enters}
+use Rattle.desk.specs.Fields.{DeskSeen, current_of, names_left, IsIndex, at, Enters}
+use Rattle.desk.proofs.JobsLeft.{set_left}
 use Rattle.desk.proofs.Keeping.{finish_keeps, enters_by, finish_is, finish_not}
+use Rattle.desk.specs.Replies.{of_number, HasLess}
+use Rattle.desk.proofs.RoomSteps.{due_has_room, finish_has_room}
 use Rattle.desk.proofs.desk.Desk.finish.Goals as goal
 
 pub returns-in_default-clause-err : goal.returns-in_default-clause-err
@@ -27,13 +30,24 @@ invariant_of-self g c =
     let made = c.finish_at.ensures.step o here in
     let due : (is_due c.args.done.target (current_of o) && is_live c.args.done.target i.live.items) ≡ true = search rules in
     let both = and_parts (is_due c.args.done.target (current_of o)) (is_live c.args.done.target i.live.items) due in (
-      finish_keeps _ _ i.log c.enter.new.self i.next_name i.next_number c.args.done.op c.args.done.target c.args.done.reply c.in-Some.place i.live.items i.queue i.opened.items c.finish_at.new.opened.items o made.0 i.codes.table m.0 where_is here made.2 (made.1 ∙ ap (λ t. finished t (current_of o)) c.target-2.ensures) both.0 both.1 (search rules) c.enter.ensures.reserved,
+      finish_keeps _ _ i.log.book c.enter_finish.new.self.book i.next_name i.next_number c.args.done.op c.args.done.target c.args.done.reply c.in-Some.place i.live.items i.queue i.opened.items c.finish_at.new.opened.items o made.0 i.codes.table m.0 where_is here made.2 (made.1 ∙ ap (λ t. finished t (current_of o)) c.target-2.ensures) both.0 both.1 (search rules) c.enter_finish.ensures.reserved,
       m.1,
       search rules,
       search rules,
       m.4,
       m.5,
+      finish_has_room i.next_number c.args.done.op c.args.done.target c.in-Some.place i.queue i.opened.items c.finish_at.new.opened.items o made.0 i.log.lists c.enter_finish.new.self.lists m.6 where_is here made.2 (made.1 ∙ ap (λ t. finished t (current_of o)) c.target-2.ensures) both.0 c.enter_finish.ensures.count
+          (subst (λ n. HasLess n i.log.lists c.enter_finish.new.self.lists) c.op-2.ensures c.enter_finish.ensures.rooms),
     )
+
+pub enter_finish-requires-clause-room : goal.enter_finish-requires-clause-room
+enter_finish-requires-clause-room g c =
+    let i = c.self.inside in let m = c.self.invariant in let o = c.index.result.now in
+    let where_is : IsIndex {J = g.row.J.Denot} c.args.done.op i.opened.items (Some c.in-Some.place) = search rules in
+    let here : slice_get i.opened.items c.in-Some.place ≡ Some o = slice_get_read i.opened.items _ c.in-Some.place o refl where_is.0 c.index.ensures in
+    let due : (is_due c.args.done.target (current_of o) && is_live c.args.done.target i.live.items) ≡ true = search rules in
+    let both = and_parts (is_due c.args.done.target (current_of o)) (is_live c.args.done.target i.live.items) due in
+    subst (λ n. 0 < (of_number n i.log.lists).room) (sym c.op-2.ensures) (due_has_room i.next_number c.args.done.op c.args.done.target c.in-Some.place i.queue i.opened.items o i.log.lists m.6 where_is here both.0)
 
 pub returns-clause-ok : goal.returns-clause-ok
 returns-clause-ok g c =
@@ -41,8 +55,16 @@ returns-clause-ok g c =
     let where_is : IsIndex {J = g.row.J.Denot} c.args.done.op i.opened.items (Some c.in-Some.place) = search rules in
     let here : slice_get i.opened.items c.in-Some.place ≡ Some o = slice_get_read i.opened.items _ c.in-Some.place o refl where_is.0 c.index.ensures in
     let due : true ≡ (is_due c.args.done.target (current_of o) && is_live c.args.done.target i.live.items) = search rules in
-    let is : record { book = i.log; slots = i.codes.table.slots; methods = i.codes.table.methods; keeper = i.codes.keeper } ≡ c.args.self.now = c.self.view_is in
-    subst (λ (d : DeskSeen). Enters d (record { book = c.enter.new.self; slots = i.codes.table.slots; methods = i.codes.table.methods; keeper = i.codes.keeper }) (entry.Finish c.args.done.op c.args.done.target c.args.done.reply) c.enter.result) is
-    (enters_by (record { book = i.log; slots = i.codes.table.slots; methods = i.codes.table.methods; keeper = i.codes.keeper }) (record { book = c.enter.new.self; slots = i.codes.table.slots; methods = i.codes.table.methods; keeper = i.codes.keeper }) _ (entry.Finish c.args.done.op c.args.done.target c.args.done.reply) c.enter.result m.0.state
+    let is : record { book = i.log.book; slots = i.codes.table.slots; methods = i.codes.table.methods; keeper = i.codes.keeper; jobs = map (names_left g.J.Errand.whom) i.opened.items } ≡ c.args.self.now = c.self.view_is in
+    subst (λ (d : DeskSeen). Enters d (record { book = c.enter_finish.new.self.book; slots = i.codes.table.slots; methods = i.codes.table.methods; keeper = i.codes.keeper; jobs = map (names_left g.J.Errand.whom) c.finish_at.new.opened.items }) (entry.Finish c.args.done.op c.args.done.target c.args.done.reply) c.enter_finish.result) is
+    (enters_by (record { book = i.log.book; slots = i.codes.table.slots; methods = i.codes.table.methods; keeper = i.codes.keeper; jobs = map (names_left g.J.Errand.whom) i.opened.items }) (record { book = c.enter_finish.new.self.book; slots = i.codes.table.slots; methods = i.codes.table.methods; keeper = i.codes.keeper; jobs = map (names_left g.J.Errand.whom) c.finish_at.new.opened.items }) _ (entry.Finish c.args.done.op c.args.done.target c.args.done.reply) c.enter_finish.result m.0.state
     (finish_is c.args.done.op c.args.done.target c.args.done.reply i.next_name i.next_number c.in-Some.place i.live.items i.queue i.opened.items o i.codes.table true where_is here due)
     (search rules) (search rules) refl refl)
+
+pub returns-clause-jobs : goal.returns-clause-jobs
+returns-clause-jobs g c =
+    let i = c.self.inside in let o = c.index.result.now in
+    let where_is : IsIndex {J = g.row.J.Denot} c.args.done.op i.opened.items (Some c.in-Some.place) = search rules in
+    let here : slice_get i.opened.items c.in-Some.place ≡ Some o = slice_get_read i.opened.items _ c.in-Some.place o refl where_is.0 c.index.ensures in
+    let made = c.finish_at.ensures.step o here in
+    ap (map (names_left g.J.Errand.whom)) made.2 ∙ set_left g.J.Errand.whom c.in-Some.place i.opened.items o made.0 here made.3 ∙ ap (λ (d : DeskSeen). d.jobs) c.self.view_is

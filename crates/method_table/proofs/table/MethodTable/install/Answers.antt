@@ -1,6 +1,5 @@
 -- The method has no code in use, and the slot is the least free one.
-use Rattle.std.proofs.Common.{◌≡◌, Some, None, ap, sym, ◌∙◌, refl}
-use Rattle.std.specs.Prelude.{slice_get}
+use Rattle.std.proofs.Common.{◌≡◌, Some, ap, ◌∙◌, refl}
 use Rattle.method_table.specs.Codes.{free_slot}
 use Rattle.method_table.specs.Kept.{least_free}
 use Rattle.method_table.specs.TableView.{TableView, install_fault}

@@ -1,4 +1,4 @@
-use Rattle.std.proofs.Common.{◌≡◌, ◌≢◌, ◌<◌, ◌∙◌, sym, ap, subst, refl, rules, arith, map, [], List}
+use Rattle.std.proofs.Common.{◌≡◌, ◌≢◌, ◌<◌, ◌∙◌, sym, ap, subst, refl, rules, arith, map, [], List, vec_capacity}
 use Rattle.thread_list.specs.declared.room.Holder.{Holder}
 use Rattle.thread_list.specs.declared.room.Holder.TheVariants.{Vacant, Away, Out, Home}
 use Rattle.thread_list.specs.Berths.{Told, told_of, AreFor, IsMark, IsBerth, IsHolder, name_of}
@@ -9,4 +9,4 @@ pub invariant_of-self : goal.invariant_of-self
 invariant_of-self g c =
     let i = c.self.inside in
     let ts : List Told = map (told_of g.J.Errand.number g.J.Errand.whom) i.jobs.items in
-    settles {N = g.row.N.Denot} i.place (Home c.args.body) ts i.mark (subst (λ (h : Holder g.row.N.Denot). IsBerth i.place h ts i.mark) c.in-Away.is c.self.invariant) (search rules)
+    settles {N = g.row.N.Denot} i.place (Home c.args.body) ts i.mark (vec_capacity i.jobs) (subst (λ (h : Holder g.row.N.Denot). IsBerth i.place h ts i.mark (vec_capacity i.jobs)) c.in-Away.is c.self.invariant) (search rules)

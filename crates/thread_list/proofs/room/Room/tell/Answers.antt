@@ -1,4 +1,4 @@
-use Rattle.std.proofs.Common.{◌≡◌, ◌≢◌, ◌<◌, ◌∙◌, sym, ap, subst, refl, rules, arith, map, [], List}
+use Rattle.std.proofs.Common.{◌≡◌, ◌≢◌, ◌<◌, ◌∙◌, sym, ap, subst, refl, rules, arith, map, [], List, vec_capacity}
 use Rattle.thread_list.specs.declared.room.Holder.{Holder}
 use Rattle.thread_list.specs.declared.room.Holder.TheVariants.{Vacant, Away, Out, Home}
 use Rattle.thread_list.specs.Berths.{Told, told_of, AreFor, IsMark, IsBerth, IsHolder, name_of}
@@ -8,4 +8,4 @@ use Rattle.thread_list.proofs.room.Room.tell.Goals as goal
 pub invariant_of-self : goal.invariant_of-self
 invariant_of-self g c =
     let i = c.self.inside in
-    tells {N = g.row.N.Denot} {J = g.row.J.Denot} g.J.Errand.number g.J.Errand.whom i.place i.holder i.jobs.items c.push_reserved.new.self.items c.args.job i.mark c.self.invariant c.push_reserved.ensures.items (search rules) (search rules) c.requires.number
+    tells {N = g.row.N.Denot} {J = g.row.J.Denot} g.J.Errand.number g.J.Errand.whom i.place i.holder i.jobs.items c.push_reserved.new.self.items c.args.job i.mark (vec_capacity i.jobs) (vec_capacity c.push_reserved.new.self) c.self.invariant c.push_reserved.ensures.items (search rules) (search rules) c.requires.number c.push_reserved.ensures.capacity

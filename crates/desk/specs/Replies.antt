@@ -1,0 +1,46 @@
+-- The replies of each operation, and the room that is kept for those that can still come.
+use Rattle.std.specs.Prelude.{◌≡◌, ◌≢◌, ℕ, ◌+◌, ◌-◌, ◌≤◌, ◌==◌, List, [], ◌∷◌, length, get_or, if◌then◌else◌}
+use Rattle.desk.specs.declared.entries.Entry.{Entry}
+use Rattle.desk.specs.Machine.{Asked, Current, Book, targets_of}
+use Rattle.desk.specs.Once.{replies_of}
+
+-- the names with their replies of an operation, and for how many more there is room
+pub record Said : Type 0 where
+  pub said : List (ℕ × ℕ)
+  pub room : ℕ
+
+abbrev pub nothing_said : Said
+nothing_said = record { said = []; room = 0 }
+
+-- what contracts see of a log: its book, what was said to each operation from 1 on, and for how many more operations there is room
+pub record Logged : Type 0 where
+  pub book : Book
+  pub lists : List Said
+  pub spare : ℕ
+
+-- the operation of this number, where there is one
+abbrev pub of_number : ℕ → List Said → Said
+of_number n lists = if n == 0 then nothing_said else get_or lists (n - 1) nothing_said
+
+-- the lists are those of the history, by operation
+abbrev pub AreReplies : List Entry → List Said → Type 0
+AreReplies history lists = (n : ℕ) → (of_number n lists).said ≡ replies_of n history
+
+-- one operation has room for one reply less, the others for as many as before
+pub record HasLess (op : ℕ) (old new : List Said) : Type 0 where
+  pub here : (of_number op new).room + 1 ≡ (of_number op old).room
+  pub others : (n : ℕ) → n ≢ op → (of_number n new).room ≡ (of_number n old).room
+
+-- how many replies of an operation can still come: from its targets while it waits, from those that are due while it is open
+abbrev pub owed_waiting : ℕ → List Asked → ℕ
+owed_waiting n [] = 0
+owed_waiting n (a ∷ rest) = (if a.number == n then length (targets_of a.request) else 0) + owed_waiting n rest
+
+abbrev pub owed_opened : ℕ → List Current → ℕ
+owed_opened n [] = 0
+owed_opened n (c ∷ cs) = (if c.number == n then length c.due else 0) + owed_opened n cs
+
+-- each number that was given out has its list, with room for all replies that can still come
+pub record HaveRoom (next_number : ℕ) (waiting : List Asked) (opened : List Current) (lists : List Said) : Type 0 where
+  pub count : length lists + 1 ≡ next_number
+  pub enough : (n : ℕ) → owed_waiting n waiting + owed_opened n opened ≤ (of_number n lists).room
