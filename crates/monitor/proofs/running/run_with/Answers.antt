@@ -24,5 +24,5 @@ returns-clause-printed g c =
 -- The boxed callback answers what its closure does.
 pub new-requires-in-loop-place-clause-answers : goal.new-requires-in-loop-place-clause-answers
 new-requires-in-loop-place-clause-answers g c = λ i r s w.
-    answered own.own-1 (own.own-1.entry own.at-1-1) own.at-1-1 refl c.into_dyn_box-call.result.vtable c.into_dyn_box-call.result.value _
-    c.into_dyn_box-call.ensures.1 (i, tt) r _ (λ x' k. (let m = k.met in search rules)) w.1.0 w.1.1
+    answered own.own-1 (own.own-1.entry own.at-1-1) own.at-1-1 refl c.into_dyn_box.result.vtable c.into_dyn_box.result.value _
+    c.into_dyn_box.ensures.1 (i, tt) r _ (λ x' k. (let m = k.met in search rules)) w.1.0 w.1.1
