@@ -1,7 +1,8 @@
 # `make run` builds the proved program and shows its main job on a shipped example; `make test` is the gate, and then the programs
 # that it built, from outside. `make examples` runs the program alone from outside, on all shipped examples too; `make bench` times it;
+# `make runs` runs scripts on threads, each a hundred times;
 # `make hostile` runs the tests of threads twenty times, and those of refused memory with each growth refused in turn.
-.PHONY: run test examples bench hostile
+.PHONY: run test examples bench hostile runs
 
 run:
 	@cd crates/monitor && rt run -- replay < ../../examples/one_publication.lines
@@ -17,3 +18,6 @@ bench: run
 
 hostile:
 	@tests/hostile.py
+
+runs: run
+	@tests/runs.py crates/monitor/out/monitor

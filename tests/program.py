@@ -21,6 +21,7 @@ NOT_READ = b"monitor: file not read\n"
 READ_FAILED = b"monitor: read failed\n"
 WRITE_FAILED = b"monitor: write failed\n"
 NO_MEMORY = b"monitor: no memory\n"
+NO_THREAD = b"monitor: no thread\n"
 
 ONE_LINE, ONE_ANSWER = b"size 1 1 1\n", b"ok\n"
 RIGHT, RIGHT_ANSWER = b'{"methods":[[],[]]}', b"ok 2\n"
@@ -86,6 +87,26 @@ def examples(tally):
         wanted = path.with_suffix(".out").read_bytes()
         is_right = wanted.startswith(b"ok ")
         tally.run(path.name, ["check", path], *((wanted, b"", 0) if is_right else (b"", wanted, 1)))
+        if not is_right:
+            tally.run(f"run of {path.name}", ["run", path], b"", wanted, 1)
+    for path in sorted(EXAMPLES.glob("*.run")):
+        tally.run(path.name, ["run", path.with_suffix(".json")], path.read_bytes())
+
+
+def run_text(threads, ending, codes):
+    """What a run says whose threads all end so, and whose codes are all freed."""
+    lines = [f"threads {threads}", *(f"thread {name} {ending}" for name in range(1, threads + 1))]
+    return "\n".join([*lines, "compiled yes", f"codes {codes} freed {codes}", "counts 0", ""]).encode()
+
+
+def runs(tally):
+    for threads in (1, 2, 3, 4, 64):
+        words = ["run", EXAMPLES / "loop.json", "--threads", str(threads)]
+        tally.run(f"a loop on {threads} threads", words, run_text(threads, "finished 17", 4))
+    with tempfile.NamedTemporaryFile(suffix=".json") as script:
+        script.write(b'{"methods":[[{"loop":1000000,"body":[]}]]}')
+        script.flush()
+        tally.run("a run without an end", ["run", script.name, "--threads", "1"], run_text(1, "fuel 1000000", 2))
 
 
 def bad_words(tally, right):
@@ -102,6 +123,21 @@ def bad_words(tally, right):
         ["check", b"\xff.json"],
         ["--help"],
         [right],
+        ["run"],
+        ["run", right, "4"],
+        ["run", right, "--threads"],
+        ["run", right, "--threads", ""],
+        ["run", right, "--threads", "0"],
+        ["run", right, "--threads", "65"],
+        ["run", right, "--threads", "04"],
+        ["run", right, "--threads", "+4"],
+        ["run", right, "--threads", "4 "],
+        ["run", right, "--threads", "18446744073709551620"],
+        ["run", right, "--threads", b"\xff"],
+        ["run", right, "--threads", "4", "4"],
+        ["run", right, "--Threads", "4"],
+        ["run", right, "--threads=4"],
+        ["run", "--threads", "4", right],
     ):
         tally.run(f"words {words}", words, b"", BAD_WORDS, 2, given=ONE_LINE)
 
@@ -121,6 +157,10 @@ def files(tally, folder, right, wrong):
     tally.run("a folder as file", ["check", folder], b"", NOT_READ, 1)
     tally.run("an empty file", ["check", "/dev/null"], b"", b"monitor: NotJson at -\n", 1)
     tally.run("a file without an end", ["check", "/dev/zero"], b"", b"monitor: TooLong at -\n", 1)
+    tally.run("run of a wrong file", ["run", wrong], b"", WRONG_ANSWER, 1)
+    tally.run("run of a file missing", ["run", f"{folder}/none.json", "--threads", "2"], b"", NOT_READ, 1)
+    tally.run("run of a folder", ["run", folder], b"", NOT_READ, 1)
+    tally.run("run of an empty file", ["run", "/dev/null"], b"", b"monitor: NotJson at -\n", 1)
 
 
 def inputs(tally, folder):
@@ -135,7 +175,7 @@ def inputs(tally, folder):
 
 
 def outputs(tally, right, wrong):
-    forms = (["replay"], ["check", right])
+    forms = (["replay"], ["check", right], ["run", right])
     with open("/dev/full", "wb") as full:
         for words in forms:
             tally.run(f"{words[0]}, a full output", words, b"", WRITE_FAILED, 1, given=ONE_LINE, stdout=full)
@@ -205,6 +245,7 @@ def tested(program):
         pathlib.Path(right).write_bytes(RIGHT)
         pathlib.Path(wrong).write_bytes(WRONG)
         examples(tally)
+        runs(tally)
         bad_words(tally, right)
         good_words(tally, right)
         files(tally, folder, right, wrong)

@@ -1,14 +1,14 @@
 -- What was read of a file is enough to answer for all of it.
-use Rattle.std.proofs.Common.{◌≡◌, ◌≢◌, ◌∙◌, inl, inr, ℕ, zero, suc, ◌+◌, ◌<◌, ◌≤◌, ◌==◌, cond, false, List, [], ◌∷◌, ◌++◌, length, length-append, take, drop, IfSome, Option, Some, None, Result, Ok, Err, refl, sym, ap, subst, append_assoc, arith}
+use Rattle.std.proofs.Common.{◌≡◌, ◌≢◌, ◌∙◌, inl, inr, ℕ, zero, suc, ◌+◌, ◌<◌, ◌≤◌, ◌==◌, cond, false, List, [], ◌∷◌, ◌++◌, length, length-append, take, drop, IfSome, IfErr, Option, Some, None, Result, Ok, Err, refl, sym, ap, subst, append_assoc, arith}
 use Rattle.std.proofs.Math.Seq.{take-append_seam}
 use Rattle.std.proofs.lemmas.List.{length-take-le}
 use Rattle.std.specs.Io.KnownBytes.{Consumes, IsAtEnd}
 use Rattle.script.specs.declared.fault.ScriptFault.{ScriptFault}
 use Rattle.script.specs.declared.fault.ScriptFault.TheVariants.{Refused}
 use Rattle.monitor.specs.declared.fault.Fault.{Fault}
-use Rattle.monitor.specs.declared.fault.Fault.TheVariants.{BadWords, FileNotRead, BadScript, ReadFailed, WriteFailed, NoMemory}
+use Rattle.monitor.specs.declared.fault.Fault.TheVariants.{BadWords, FileNotRead, BadScript, ReadFailed, WriteFailed, NoMemory, NoThread, Refused as NotDone}
 use Rattle.script.specs.Reads.{longest}
-use Rattle.monitor.specs.Check.{IsWrong, IsAnswered, IsFaultOf, Told, TextTold, ReadAndTold, ReadsEnough}
+use Rattle.monitor.specs.Check.{IsWrong, IsAnswered, IsFaultOf, Told, TextTold, ReadAndTold, IsFaultOfSource, ReadsEnough}
 
 append_none : (xs : List ℕ) → xs ++ [] ≡ xs
 append_none [] = refl
@@ -71,6 +71,8 @@ told_of A (Err (BadScript flaw place)) input text got got' part (wrong, same) = 
 told_of A (Err ReadFailed) input text got got' part told = told
 told_of A (Err WriteFailed) input text got got' part (line, is, written) = (line, right_of input text line part is, written)
 told_of A (Err NoMemory) input text got got' part told = told
+told_of A (Err NoThread) input text got got' part told = told
+told_of A (Err NotDone) input text got got' part told = told
 
 told_by : (A : Type 0) (result : Result A Fault) (input : List ℕ) (left' got got' : Option (List ℕ)) → TextTold result (Some input) left' got got' → Told input result got got'
 told_by A result input left' got got' all = told_of A result input all.text got got' (part_of input all.text left' all.enough) all.told
@@ -85,6 +87,8 @@ told_all A (Err (BadScript flaw place)) (Some input) left' got got' h = told_by 
 told_all A (Err ReadFailed) (Some input) left' got got' h = told_by A (Err ReadFailed) input left' got got' h
 told_all A (Err WriteFailed) (Some input) left' got got' h = told_by A (Err WriteFailed) input left' got got' h
 told_all A (Err NoMemory) (Some input) left' got got' h = h
+told_all A (Err NoThread) (Some input) left' got got' h = told_by A (Err NoThread) input left' got got' h
+told_all A (Err NotDone) (Some input) left' got got' h = told_by A (Err NotDone) input left' got got' h
 
 -- of a text that is wrong its fault is told
 pub read_fault : (A : Type 0) (left left' got : Option (List ℕ)) (text : List ℕ) (fault : Fault) → ReadsEnough left left' text → IsFaultOf text fault → ReadAndTold {A = A} (Err fault) left left' got got
@@ -94,3 +98,20 @@ read_fault A left left' got text (BadScript flaw place) enough h = record { text
 read_fault A left left' got text ReadFailed enough h = absurd h
 read_fault A left left' got text WriteFailed enough h = absurd h
 read_fault A left left' got text NoMemory enough h = refl
+read_fault A left left' got text NoThread enough h = absurd h
+read_fault A left left' got text NotDone enough h = absurd h
+
+-- a text that was read has the fault of its source
+pub fault_of_source : (left left' : Option (List ℕ)) (reads : ℕ) (text : List ℕ) (fault : Fault) → reads ≡ 0 → ReadsEnough left left' text → IsFaultOf text fault → IsFaultOfSource left left' reads fault
+fault_of_source left left' reads text BadWords none enough h = absurd h
+fault_of_source left left' reads text FileNotRead none enough h = absurd h
+fault_of_source left left' reads text (BadScript flaw place) none enough h = (none, (text, enough, h))
+fault_of_source left left' reads text ReadFailed none enough h = absurd h
+fault_of_source left left' reads text WriteFailed none enough h = absurd h
+fault_of_source left left' reads text NoMemory none enough h = none
+fault_of_source left left' reads text NoThread none enough h = absurd h
+fault_of_source left left' reads text NotDone none enough h = absurd h
+
+pub fault_of_read : {A : Type 0} (result : Result A Fault) (left left' : Option (List ℕ)) (reads : ℕ) (text : List ℕ) → reads ≡ 0 → ReadsEnough left left' text → IfErr result (IsFaultOf text) → IfErr result (IsFaultOfSource left left' reads)
+fault_of_read (Ok x) left left' reads text none enough h = tt
+fault_of_read (Err fault) left left' reads text none enough h = fault_of_source left left' reads text fault none enough h

@@ -14,7 +14,7 @@ use Rattle.script.specs.Checked.{AreChecked}
 use Rattle.script.specs.Layout.{routine}
 use Rattle.script.specs.Faults.{first}
 use Rattle.monitor.specs.declared.fault.Fault.{Fault}
-use Rattle.monitor.specs.declared.fault.Fault.TheVariants.{BadWords, FileNotRead, BadScript, ReadFailed, WriteFailed, NoMemory}
+use Rattle.monitor.specs.declared.fault.Fault.TheVariants.{BadWords, FileNotRead, BadScript, ReadFailed, WriteFailed, NoMemory, NoThread, Refused as NotDone}
 
 -- A text is a script of so many methods, and nothing is wrong with it.
 pub record IsRight (text : List ℕ) (methods : ℕ) : Type 0 where
@@ -61,6 +61,8 @@ IsFaultOf text (BadScript flaw place) = IsWrong text (Refused flaw place)
 IsFaultOf text ReadFailed = ⊥
 IsFaultOf text WriteFailed = ⊥
 IsFaultOf text NoMemory = ⊤
+IsFaultOf text NoThread = ⊥
+IsFaultOf text NotDone = ⊥
 
 -- What a sink got when a file of these bytes was checked: the line of a text that is right, or a beginning of it where a write failed, and nothing else.
 abbrev pub Told : {A : Type 0} → List ℕ → Result A Fault → Option (List ℕ) → Option (List ℕ) → Type 0
@@ -71,6 +73,8 @@ Told text (Err (BadScript flaw place)) got got' = IsWrong text (Refused flaw pla
 Told text (Err ReadFailed) got got' = ⊥
 Told text (Err WriteFailed) got got' = (line : List ℕ) × IsAnswered text line × AppendsPart got got' line
 Told text (Err NoMemory) got got' = got' ≡ got
+Told text (Err NoThread) got got' = ⊥
+Told text (Err NotDone) got got' = ⊥
 
 -- How many calls failed, by what is answered.
 abbrev pub FailedCalls : {A : Type 0} → Result A Fault → ℕ → ℕ → Type 0
@@ -81,6 +85,8 @@ FailedCalls (Err (BadScript flaw place)) reads writes = (reads ≡ 0) × (writes
 FailedCalls (Err ReadFailed) reads writes = ⊥
 FailedCalls (Err WriteFailed) reads writes = (reads ≡ 0) × (writes ≡ 1)
 FailedCalls (Err NoMemory) reads writes = (reads ≡ 0) × (writes ≡ 0)
+FailedCalls (Err NoThread) reads writes = ⊥
+FailedCalls (Err NotDone) reads writes = ⊥
 
 -- Why the text of a file isn't had: one read failed, or a want of memory with no read that failed.
 abbrev pub IsUnread : Fault → ℕ → Type 0
@@ -90,6 +96,8 @@ IsUnread (BadScript flaw place) reads = ⊥
 IsUnread ReadFailed reads = ⊥
 IsUnread WriteFailed reads = ⊥
 IsUnread NoMemory reads = reads ≡ 0
+IsUnread NoThread reads = ⊥
+IsUnread NotDone reads = ⊥
 
 -- All that a source had was read, or more than the longest text of it.
 abbrev pub ReadsEnough : Option (List ℕ) → Option (List ℕ) → List ℕ → Type 0
@@ -106,3 +114,9 @@ abbrev pub ReadAndTold : {A : Type 0} → Result A Fault → Option (List ℕ) �
 ReadAndTold (Err FileNotRead) left left' got got' = got' ≡ got
 ReadAndTold (Err NoMemory) left left' got got' = got' ≡ got
 ReadAndTold result left left' got got' = TextTold result left left' got got'
+
+-- Why a source has no code: one read failed, or the text that was read has that fault, or there was no memory.
+abbrev pub IsFaultOfSource : Option (List ℕ) → Option (List ℕ) → ℕ → Fault → Type 0
+IsFaultOfSource left left' reads FileNotRead = reads ≡ 1
+IsFaultOfSource left left' reads NoMemory = reads ≡ 0
+IsFaultOfSource left left' reads fault = (reads ≡ 0) × ((text : List ℕ) × ReadsEnough left left' text × IsFaultOf text fault)

@@ -1,6 +1,6 @@
 // Checking a script.
-ghost use Rattle.std.specs.Prelude.{◌≡◌, ◌<◌, length, vec_len, IfOk, IfErr, IfSome, MatchResult, string_bytes};
-ghost use Rattle.monitor.specs.Check.{IsCodeOf, IsFaultOf, right_line, Told, ReadAndTold, FailedCalls, IsUnread, ReadsEnough};
+ghost use Rattle.std.specs.Prelude.{◌≡◌, ◌<◌, ℕ, List, length, vec_len, IfOk, IfErr, IfSome, MatchResult, string_bytes};
+ghost use Rattle.monitor.specs.Check.{IsCodeOf, IsFaultOf, right_line, Told, ReadAndTold, FailedCalls, IsUnread, IsFaultOfSource, ReadsEnough};
 
 use crate::fault::Fault;
 use replay::device::{Sink, Source};
@@ -32,6 +32,17 @@ pub fn check_script<R: Source, W: Sink>(
         Ok(()) => Ok(()),
         Err(_) => Err(Fault::WriteFailed),
     }
+}
+
+/// The code of the script that a source has. Of a text that is too long no more is read than tells that.
+pub fn read_code<R: Source>(alloc: Global, source: &mut R) -> Result<Code, Fault>
+    requires source { R.failures source.old ≡ 0 }
+    requires unread { R.reads source.old ≡ 0 }
+    ensures code { IfOk result (λ code. (text : List ℕ) × ReadsEnough (R.left source.old) (R.left source.new) text × IsCodeOf text code) }
+    ensures fault { IfErr result (IsFaultOfSource (R.left source.old) (R.left source.new) (R.failures source.new)) }
+{
+    let text = read_text(alloc, source)?;
+    check_text(alloc, &text)
 }
 
 /// The code of a text that is a script and right, or the text's first fault. `NoMemory` comes only where a growth was refused.

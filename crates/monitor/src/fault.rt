@@ -2,12 +2,13 @@
 ghost use Rattle.std.specs.Prelude.{◌≡◌, Some};
 ghost use Rattle.std.specs.IoError.{error_kind};
 ghost use Rattle.monitor.specs.declared.fault.Fault.TheVariants as faults;
-ghost use Rattle.monitor.specs.Faults.{fault_text, status_of, of_words, of_replay, of_script};
+ghost use Rattle.monitor.specs.Faults.{fault_text, status_of, of_words, of_replay, of_script, of_run};
 
 use replay::stream::ReplayFault;
 use script::{Place, ScriptFault};
 use std::alloc::AllocError;
 use std::{fmt, io};
+use workers::RunFault;
 
 /// A fault, found in this order: the words, the file, the script, then those of the run as they come.
 /// `{}` is what is told on standard error, behind the program's name.
@@ -21,6 +22,11 @@ pub enum Fault {
     ReadFailed,
     WriteFailed,
     NoMemory,
+    /// No thread could be made.
+    NoThread,
+    /// A call of a run was refused that is none where the calls before it did what they do. No clause excludes it, since what
+    /// comes out of a lock isn't known.
+    Refused,
 }
 
 impl Fault {
@@ -34,7 +40,9 @@ impl Fault {
             | Fault::BadScript(..)
             | Fault::ReadFailed
             | Fault::WriteFailed
-            | Fault::NoMemory => 1,
+            | Fault::NoMemory
+            | Fault::NoThread
+            | Fault::Refused => 1,
         }
     }
 
@@ -60,6 +68,8 @@ impl fmt::Display for Fault {
             Fault::ReadFailed => write!(f, "read failed"),
             Fault::WriteFailed => write!(f, "write failed"),
             Fault::NoMemory => write!(f, "no memory"),
+            Fault::NoThread => write!(f, "no thread"),
+            Fault::Refused => write!(f, "refused"),
         }
     }
 }
@@ -83,6 +93,18 @@ impl From<ScriptFault> for Fault {
         match fault {
             ScriptFault::Refused { fault, place } => Fault::BadScript(fault, place),
             ScriptFault::NoMemory => Fault::NoMemory,
+        }
+    }
+}
+
+impl From<RunFault> for Fault {
+    ghost from_gives = { λ fault made. made ≡ of_run fault };
+
+    fn from(fault: RunFault) -> Fault {
+        match fault {
+            RunFault::NoMemory => Fault::NoMemory,
+            RunFault::NoThread => Fault::NoThread,
+            RunFault::Refused => Fault::Refused,
         }
     }
 }

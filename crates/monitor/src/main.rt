@@ -1,25 +1,35 @@
-//! The program: lines of events in, lines of answers out; or a script that is checked.
+//! The program: lines of events in, lines of answers out; or a script that is checked, or run on threads.
 #![tactic(auto)]
+
+ghost use Rattle.std.specs.Prelude.{◌<◌, ◌≤◌};
 
 mod check;
 mod command_line;
 mod fault;
+mod running;
+#[cfg(test)]
+mod running_tests;
 #[cfg(test)]
 mod tests;
 
-use check::check_script;
+use check::{check_script, read_code};
 use command_line::{Form, read_form, read_words};
 use fault::Fault;
 use replay::device::{FromReader, IntoWriter};
 use replay::stream::replay;
+use running::run_with;
 use std::fs::File;
 use std::process::ExitCode;
+use std::sync::Wait;
+use std::thread::Threads;
+use workers::OpenGate;
 
 /// `monitor replay` answers the lines of standard input on standard output. `monitor check FILE` says on standard output
-/// how many methods the script in the file has. The status is 0 when all is done, 1 for a fault and 2 for bad words, which
+/// how many methods the script in the file has. `monitor run FILE [--threads N]` runs it on N threads, 1 to 64 and by default 4, and
+/// says there what the run came to. The status is 0 when all is done, 1 for a fault and 2 for bad words, which
 /// are all other command lines. A fault is told on standard error, in one line.
 fn main(rt: HostRuntime) -> ExitCode {
-    match run(&rt) {
+    match run(&rt, &rt) {
         Ok(()) => ExitCode::SUCCESS,
         Err(fault) => {
             let _ = eprintln!(rt; "monitor: {fault}");
@@ -28,11 +38,13 @@ fn main(rt: HostRuntime) -> ExitCode {
     }
 }
 
-fn run(rt: &HostRuntime) -> Result<(), Fault> {
+// `threads` is the runtime's leave to start threads and to wait.
+fn run<R: Threads + Wait + Sync>(rt: &HostRuntime, threads: &R) -> Result<(), Fault> {
     let words = read_words(rt, rt.alloc())?;
     match read_form(&words) {
         Some(Form::Replay) => answer_lines(rt),
         Some(Form::Check(name)) => check_file(rt, name),
+        Some(Form::Run(name, count)) => run_file(rt, threads, name, count),
         None => Err(Fault::BadWords),
     }
 }
@@ -50,4 +62,20 @@ fn check_file(rt: &HostRuntime, name: &str) -> Result<(), Fault> {
     let mut source = FromReader::new(file);
     let mut sink = IntoWriter::new(rt.stdout());
     check_script(rt.alloc(), &mut source, &mut sink)
+}
+
+fn run_file<R: Threads + Wait + Sync>(
+    rt: &HostRuntime,
+    threads: &R,
+    name: &str,
+    count: usize,
+) -> Result<(), Fault>
+    requires { (0 < count) × (count ≤ 64) }
+{
+    let Ok(file) = File::open(rt, name) else {
+        return Err(Fault::FileNotRead);
+    };
+    let code = read_code(rt.alloc(), &mut FromReader::new(file))?;
+    let mut sink = IntoWriter::new(rt.stdout());
+    run_with(threads, rt.alloc(), &code, count, &OpenGate, &mut sink)
 }

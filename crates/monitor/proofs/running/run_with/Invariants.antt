@@ -1,0 +1,14 @@
+use Rattle.std.proofs.Common.{◌≡◌, ◌≤◌, ◌-◌, vec_len, vec_capacity}
+use Rattle.monitor.proofs.running.run_with.Given as goal
+
+abbrev pub ghosts-run : goal.ghosts-run
+ghosts-run g a = record { board = a.parts.board; poll_row = a.parts.row }
+
+abbrev pub decreases-loop-alloc : goal.decreases-loop-alloc
+decreases-loop-alloc g l = l.methods - vec_len l.jobs
+
+abbrev pub invariant-loop-alloc : goal.invariant-loop-alloc
+invariant-loop-alloc g l = (vec_len l.jobs ≤ l.methods) × (l.methods ≤ vec_capacity l.jobs)
+
+abbrev pub invariant-loop-place : goal.invariant-loop-place
+invariant-loop-place g l = (vec_len l.list ≡ l.place) × (l.threads ≤ vec_capacity l.list)

@@ -1,0 +1,137 @@
+// What no clause says of a run: the text of whole runs, that threads run beside each other, and that codes are reclaimed.
+ghost use Rattle.std.specs.Prelude.{◌<◌, ◌≤◌};
+
+use crate::check::check_text;
+use crate::fault::Fault;
+use crate::running::run_with;
+use replay::device::IntoWriter;
+use script::Code;
+use std::alloc::Global;
+use std::sync::Wait;
+use std::sync::atomic::{AtomicU64, Ordering};
+use std::test::Fail;
+use std::thread::{self, Threads};
+use workers::{Gate, OpenGate};
+
+const LOOP_OF_CALLS: &[u8] =
+    b"{\"methods\":[[{\"loop\":3,\"body\":[{\"call\":1},\"native\"]}],[\"tick\"]]}";
+
+fn code_of(alloc: Global, text: &[u8]) -> Result<Code, Fail> {
+    match check_text(alloc, text) {
+        Ok(code) => Ok(code),
+        Err(_) => Err(Fail::from("the script is wrong")),
+    }
+}
+
+/// What a run prints, by a buffered sink.
+fn printed<R: Threads + Wait + Sync, G: Gate + Sync>(
+    rt: &R,
+    alloc: Global,
+    text: &[u8],
+    threads: usize,
+    gate: &G,
+) -> Result<Vec<u8>, Fail>
+    requires { (0 < threads) × (threads ≤ 64) }
+{
+    let code = code_of(alloc, text)?;
+    let mut out = Vec::new(alloc);
+    let mut sink = IntoWriter::new(&mut out);
+    match run_with(rt, alloc, &code, threads, gate, &mut sink) {
+        Ok(()) => Ok(out),
+        Err(_) => Err(Fail::from("a fault of the run")),
+    }
+}
+
+#[test]
+fn four_threads_run_a_loop_of_calls(rt: HostRuntime) -> Result<(), Fail> {
+    let found = printed(&rt, rt.alloc(), LOOP_OF_CALLS, 4, &OpenGate)?;
+    let wanted =
+        b"threads 4\nthread 1 finished 17\nthread 2 finished 17\nthread 3 finished 17\nthread 4 finished 17\ncompiled yes\ncodes 4 freed 4\ncounts 0\n";
+    assert_eq!(rt; found.as_slice(), wanted.as_slice());
+    Ok(())
+}
+
+#[test]
+fn a_run_overflows_or_runs_out_of_fuel(rt: HostRuntime) -> Result<(), Fail> {
+    let found = printed(
+        &rt,
+        rt.alloc(),
+        b"{\"methods\":[[{\"call\":0}]]}",
+        1,
+        &OpenGate,
+    )?;
+    let wanted = b"threads 1\nthread 1 overflow 256\ncompiled yes\ncodes 2 freed 2\ncounts 0\n";
+    assert_eq!(rt; found.as_slice(), wanted.as_slice());
+    let found = printed(
+        &rt,
+        rt.alloc(),
+        b"{\"methods\":[[{\"loop\":1000000,\"body\":[]}]]}",
+        1,
+        &OpenGate,
+    )?;
+    let wanted = b"threads 1\nthread 1 fuel 1000000\ncompiled yes\ncodes 2 freed 2\ncounts 0\n";
+    assert_eq!(rt; found.as_slice(), wanted.as_slice());
+    Ok(())
+}
+
+// Counts the ticks of each of two threads. The first thread's tick waits until the second has ticked, for so many turns at most.
+#[derive(Drop)]
+struct Meeting {
+    first: AtomicU64,
+    second: AtomicU64,
+    missed: AtomicU64,
+}
+
+impl Gate for Meeting {
+    fn tick(&self, name: u64) {
+        if name == 2 {
+            self.second.fetch_add(1, Ordering::SeqCst);
+            return;
+        }
+        self.first.fetch_add(1, Ordering::SeqCst);
+        for _ in 0..1_000_000 {
+            if self.second.load(Ordering::SeqCst) > 0 {
+                return;
+            }
+            thread::yield_now();
+        }
+        self.missed.fetch_add(1, Ordering::SeqCst);
+    }
+}
+
+#[test]
+fn two_ticks_meet(rt: HostRuntime) -> Result<(), Fail> {
+    let gate = Meeting {
+        first: AtomicU64::new(0),
+        second: AtomicU64::new(0),
+        missed: AtomicU64::new(0),
+    };
+    let found = printed(&rt, rt.alloc(), b"{\"methods\":[[\"tick\"]]}", 2, &gate)?;
+    let wanted =
+        b"threads 2\nthread 1 finished 3\nthread 2 finished 3\ncompiled yes\ncodes 2 freed 2\ncounts 0\n";
+    assert_eq!(rt; found.as_slice(), wanted.as_slice());
+    assert_eq!(rt; gate.first.load(Ordering::SeqCst), 1);
+    assert_eq!(rt; gate.second.load(Ordering::SeqCst), 1);
+    assert_eq!(rt; gate.missed.load(Ordering::SeqCst), 0);
+    Ok(())
+}
+
+// With each allocation failing in turn, this shows that the whole text is written, or nothing.
+#[test]
+fn refused_memory_prints_nothing(rt: HostRuntime) -> Result<(), Fail> {
+    let alloc = rt.alloc();
+    let Ok(code) = check_text(alloc, LOOP_OF_CALLS) else {
+        return Ok(());
+    };
+    let Ok(mut out) = Vec::with_capacity(alloc, 1000) else {
+        return Ok(());
+    };
+    let mut sink = IntoWriter::new(&mut out);
+    let found = run_with(&rt, alloc, &code, 3, &OpenGate, &mut sink);
+    match found {
+        Ok(()) => assert_eq!(rt; out.len(), 111),
+        Err(Fault::NoMemory | Fault::NoThread) => assert!(rt; out.is_empty()),
+        Err(_) => return Err(Fail::from("another fault")),
+    }
+    Ok(())
+}
