@@ -203,20 +203,33 @@ def ending(ran, whole):
     if (ran.stdout, ran.stderr, ran.returncode) == (whole, b"", 0):
         return "all"
     is_front = whole.startswith(ran.stdout) and ran.stdout[-1:] in (b"", b"\n")
-    if is_front and (ran.stderr, ran.returncode) == (NO_MEMORY, 1):
-        return "no memory"
+    for fault, errors in (("no memory", NO_MEMORY), ("no thread", NO_THREAD)):
+        if is_front and (ran.stderr, ran.returncode) == (errors, 1):
+            return fault
     return f"status {ran.returncode}, errors {ran.stderr!r}"
 
 
-def little_memory(tally, words, given, whole):
-    """Under each limit under which the program starts, and both ends are seen."""
-    endings = set()
-    for size in range(1 << 20, 8 << 20, 64 << 10):
+def endings(tally, words, given, whole, sizes):
+    """How runs end under these limits of memory, from the first under which the program starts and both ends are seen."""
+    found = set()
+    for size in sizes:
         ran = subprocess.run([tally.program, *words], input=given, capture_output=True, timeout=SECONDS, preexec_fn=with_memory(size))
         end = ending(ran, whole)
-        if endings or end in ("all", "no memory"):
-            endings.add(end)
-    tally.judge(f"{words[0]}, little memory", (sorted(endings), b"", 0), (["all", "no memory"], b"", 0))
+        if found or end in ("all", "no memory", "no thread"):
+            found.add(end)
+    return found
+
+
+def little_memory(tally, words, given, whole):
+    found = endings(tally, words, given, whole, range(1 << 20, 8 << 20, 64 << 10))
+    tally.judge(f"{words[0]}, little memory", (sorted(found), b"", 0), (["all", "no memory"], b"", 0))
+
+
+def too_few_threads(tally):
+    """Memory for the stacks of no, some or all threads. Below that there may be none for what the run makes first."""
+    words, whole = ["run", EXAMPLES / "loop.json"], (EXAMPLES / "loop.run").read_bytes()
+    found = endings(tally, words, b"", whole, range(2 << 20, 64 << 20, 1 << 20)) - {"no memory"}
+    tally.judge("run, too few threads", (sorted(found), b"", 0), (["all", "no thread"], b"", 0))
 
 
 def line_by_line(tally):
@@ -253,6 +266,7 @@ def tested(program):
         outputs(tally, right, wrong)
         little_memory(tally, ["check", right], b"", RIGHT_ANSWER)
         little_memory(tally, ["replay"], b"size 64 1024 256\n" + b"start\n" * 2, b"ok\nthread 1 place 0\nthread 2 place 1\n")
+        too_few_threads(tally)
         line_by_line(tally)
     return tally
 
