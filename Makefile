@@ -1,6 +1,6 @@
 # `make run` builds the proved program and shows its main job on a shipped example; `make test` is the gate, and then the programs
 # that it built, from outside. `make examples` runs the program alone from outside, on all shipped examples too; `make bench` times it;
-# `make runs` runs scripts on threads, each a hundred times;
+# `make runs` runs scripts on threads, each a hundred times, and then with each thread and each growth of memory refused in turn;
 # `make hostile` runs the tests of threads twenty times, and those of refused memory with each growth refused in turn.
 .PHONY: run test examples bench hostile runs
 
@@ -21,3 +21,4 @@ hostile:
 
 runs: run
 	@tests/runs.py crates/monitor/out/monitor
+	@tests/refused.py crates/monitor/out/monitor

@@ -1,0 +1,52 @@
+/* Refuses one growth of memory, or one thread, of a program that is started with this library: the one whose number is in
+   REFUSE_GROWTH or REFUSE_THREAD, from 1 on. tests/refused.py builds and uses it. */
+#define _GNU_SOURCE
+#include <dlfcn.h>
+#include <errno.h>
+#include <pthread.h>
+#include <stdatomic.h>
+#include <stdlib.h>
+
+extern void *__libc_malloc(size_t size);
+extern void *__libc_realloc(void *block, size_t size);
+extern void *__libc_memalign(size_t alignment, size_t size);
+
+static long refused_growth, refused_thread;
+static atomic_long growths, threads;
+
+static long number_of(const char *name) {
+    const char *said = getenv(name);
+    return said ? atol(said) : 0;
+}
+
+__attribute__((constructor)) static void read_numbers(void) {
+    refused_growth = number_of("REFUSE_GROWTH");
+    refused_thread = number_of("REFUSE_THREAD");
+}
+
+static int is_refused(void) {
+    return refused_growth && atomic_fetch_add(&growths, 1) + 1 == refused_growth;
+}
+
+void *malloc(size_t size) {
+    return is_refused() ? NULL : __libc_malloc(size);
+}
+
+void *realloc(void *block, size_t size) {
+    return is_refused() ? NULL : __libc_realloc(block, size);
+}
+
+void *aligned_alloc(size_t alignment, size_t size) {
+    return is_refused() ? NULL : __libc_memalign(alignment, size);
+}
+
+int posix_memalign(void **block, size_t alignment, size_t size) {
+    *block = is_refused() ? NULL : __libc_memalign(alignment, size);
+    return *block ? 0 : ENOMEM;
+}
+
+int pthread_create(pthread_t *thread, const pthread_attr_t *attributes, void *(*start)(void *), void *argument) {
+    int (*real)(pthread_t *, const pthread_attr_t *, void *(*)(void *), void *) = dlsym(RTLD_NEXT, "pthread_create");
+    if (refused_thread && atomic_fetch_add(&threads, 1) + 1 == refused_thread) return EAGAIN;
+    return real(thread, attributes, start, argument);
+}
