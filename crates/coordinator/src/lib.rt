@@ -14,6 +14,8 @@ mod holding;
 mod reclaiming;
 mod serving;
 mod telling;
+#[cfg(test)]
+mod tests;
 
 pub use coordinator::Coordinator;
 pub use desk::{NotReclaimed, ReclaimFault};
