@@ -83,7 +83,8 @@ impl<N: Name, J: Errand> Room<N, J> {
 
     /// Whether the thread of the name has its body and has still to come for what it was told.
     pub fn awaits(&self, name: u64) -> bool
-        ensures { result ≡ true → (self.now.holder ≡ IsOut name) × (self.now.jobs ≢ []) }
+        ensures yes { result ≡ true → (self.now.holder ≡ IsOut name) × (self.now.jobs ≢ []) }
+        ensures no { result ≡ false → self.now.holder ≡ IsOut name → self.now.jobs ≡ [] }
     {
         match &self.holder {
             Holder::Out(out) => *out == name && !self.jobs.is_empty(),
@@ -93,7 +94,8 @@ impl<N: Name, J: Errand> Room<N, J> {
 
     /// Whether the body of the name is here.
     pub fn has_body(&self, name: u64) -> bool
-        ensures { result ≡ true → (b : _) × (self.now.holder ≡ IsAtHome b) × (b.name ≡ name) }
+        ensures yes { result ≡ true → (b : _) × (self.now.holder ≡ IsAtHome b) × (b.name ≡ name) }
+        ensures no { result ≡ false → (b : _) → self.now.holder ≡ IsAtHome b → b.name ≢ name }
     {
         let _ = &self.mark;
         match &self.holder {
