@@ -1,51 +1,58 @@
 #!/usr/bin/env python3
-"""Tests that one run of the gate doesn't show: hostile.py [threads|memory] [--crate NAME] [--jobs N]
+"""Tests that one run of the gate doesn't show: hostile.py [threads|memory] [--crate NAME]
 
 threads  Each test that runs several threads, twenty times: it passes each time, within its seconds, and prints the same.
-memory   Each test of refused memory with the first growth of the test refused, with the second, and so on until none is. It passes each time, says
-         what was refused, and the growths come to an end where nothing was. What refuses a growth is `rt try --test --fail-alloc`, without proofs.
+memory   Each test of refused memory with its first growth refused, with its second, and so on until none is. It passes each time, says
+         what was refused, and the growths come to an end where nothing was. Of some crates also tests that were not made for this: they
+         pass, or end with the error of refused memory. Needs a C compiler, for the library that refuses the growths.
 
-Without a word it does both. N runs of `rt try` go side by side, by default half as many as there are processors. The last line is
+Without a word it does both. `rt test` proves the tests of each crate first, and builds them. The last line is
 `N passed, M failed`; the status is 0 where none failed.
 """
 import argparse
-import concurrent.futures
-import os
 import pathlib
-import re
 import subprocess
 import sys
+import tempfile
+
+import refusing
 
 CRATES = pathlib.Path(__file__).resolve().parent.parent / "crates"
 RUNS = 20
 SECONDS = 60
 BUILD_SECONDS = 3600
-MOST_GROWTHS = 400
+MOST_GROWTHS = 2000
 
-# So many growths one after the other that no test met end a sweep: one may be refused without harm, where what asked for it has another way.
-QUIET_GROWTHS = 6
+# So many growths one after the other that the test didn't meet end a sweep: one may be refused without harm, where what asked for it has another way.
+QUIET_GROWTHS = 20
 
 THREADS = {
-    "poll": ["tests::no_arming_is_lost_to_a_clear", "tests::the_armer_is_in_another_thread"],
-    "board": ["tests::stopped::a_publication_is_looked_at_from_another_thread_at_each_boundary"],
+    "poll": ["no_arming_is_lost_to_a_clear", "the_armer_is_in_another_thread"],
+    "board": ["stopped::a_publication_is_looked_at_from_another_thread_at_each_boundary"],
 }
 
 # Those of a list meet the same at each growth.
 MEMORY = {
-    "system": [["tests::refused_memory::refused_memory_stops_a_run_before_its_event"]],
+    "system": [["refused_memory::refused_memory_stops_a_run_before_its_event"]],
     "replay": [
         [
-            "tests::refused_memory::refused_memory_leaves_the_answers_before_a_line",
-            "tests::refused_memory::refused_memory_leaves_as_many_answers_of_a_block",
+            "refused_memory::refused_memory_leaves_the_answers_before_a_line",
+            "refused_memory::refused_memory_leaves_as_many_answers_of_a_block",
         ]
     ],
-    "script": [["tests::refused_memory_is_told"]],
-    "poll": [["tests::a_row_is_made_whole_or_not_at_all"]],
-    "board": [["tests::a_board_is_made_whole_or_not_at_all"]],
+    "script": [["refused_memory_is_told"]],
+    "poll": [["a_row_is_made_whole_or_not_at_all"]],
+    "board": [["a_board_is_made_whole_or_not_at_all"]],
 }
 NONE_REFUSED = "no growth was refused"
+PASSED = "test result: ok"
 
-TEST_LINE = re.compile(r"test (\S+) \.\.\. (\S+)$")
+# These pass, or end with one of the errors.
+ENDING = {
+    "desk": ["sixty_four_requests_wait", "a_handshake_is_answered_once", "a_code_is_reclaimed", "a_full_history_takes_no_entry"],
+}
+# What std answers where a block, or the block of a box, isn't given.
+ERRORS = ("error: AllocError\n", "error: AllocFailed { .. }\n")
 
 
 class Tally:
@@ -72,87 +79,88 @@ def ran(words, seconds, **devices):
     return it.returncode, it.stdout.decode(errors="replace")
 
 
-def threads(tally, tests_of):
-    for crate, tests in tests_of.items():
+def test_of(crate, test, **devices):
+    """A run of one test of a crate, as `rt test` built it."""
+    return ran([CRATES / crate / "out" / f"{crate}_tests", f"tests::{test}"], SECONDS, **devices)
+
+
+def build(tally, crates):
+    for crate in crates:
         status, said = ran(["rt", "test"], BUILD_SECONDS, cwd=CRATES / crate)
         tally.judge(f"{crate}, rt test", [] if status == 0 else said.splitlines()[-20:])
+
+
+def threads(tally, tests_of):
+    for crate, tests in tests_of.items():
         for test in tests:
-            runs = [ran([CRATES / crate / "out" / f"{crate}_tests", test], SECONDS) for _ in range(RUNS)]
+            runs = [test_of(crate, test) for _ in range(RUNS)]
             bad = sorted({f"status {status}: {said}" for status, said in runs if status != 0})
             printed = {said for _, said in runs}
             tally.judge(f"{crate}, {test}, {RUNS} times", bad or ([] if len(printed) == 1 else sorted(printed)))
 
 
-def refused(crate, growth):
-    """What each test of the crate came to with this growth refused: its verdict, and the lines that it printed."""
-    _, said = ran(["rt", "try", "--test", "--fail-alloc", str(growth)], BUILD_SECONDS, cwd=CRATES / crate)
-    found, lines = {}, []
-    for line in said.splitlines():
-        is_test = TEST_LINE.match(line)
-        if is_test:
-            lines = []
-            found[is_test[1]] = (is_test[2], lines)
-        elif line.startswith("    "):
-            lines.append(line.strip())
-    return found
+def swept(crate, test, library):
+    """What a test printed at each growth that was refused in turn, until it met none; and what else it came to."""
+    notes, faults = [], []
+    while not faults and notes[-QUIET_GROWTHS:] != [NONE_REFUSED] * QUIET_GROWTHS:
+        growth = len(notes) + 1
+        status, said = test_of(crate, test, env=refusing.asking(library, "REFUSE_GROWTH", growth))
+        lines = [line for line in said.splitlines() if line]
+        if status != 0 or len(lines) != 2 or lines[1] != PASSED:
+            faults.append(f"growth {growth}: status {status}: {said}")
+        elif growth > MOST_GROWTHS:
+            faults.append(f"a growth is refused past {MOST_GROWTHS}")
+        else:
+            notes.append(lines[0])
+    return notes, faults
 
 
-class Sweep:
-    """The growths of a crate's tests that are refused in turn, until all tests meet none."""
-
-    def __init__(self, groups):
-        self.groups = groups
-        self.faults = []
-        self.met = {test: [] for group in groups for test in group}
-        self.is_over = False
-
-    def take(self, growth, found):
-        for test, notes in self.met.items():
-            verdict, lines = found.get(test, ("not run", []))
-            notes.append(" ".join(lines))
-            if verdict != "ok" or len(lines) != 1:
-                self.faults.append(f"growth {growth}: {test}: {verdict}: {lines}")
-        for group in self.groups:
-            if len({self.met[test][-1] for test in group}) > 1:
-                self.faults.append(f"growth {growth}: not the same: {[self.met[test][-1] for test in group]}")
-        quiet = [NONE_REFUSED] * QUIET_GROWTHS
-        self.is_over = bool(self.faults) or all(notes[-QUIET_GROWTHS:] == quiet for notes in self.met.values())
-
-    def judge(self, tally, crate):
-        if not self.is_over:
-            self.faults.append(f"a growth is refused past {MOST_GROWTHS}")
-        for test, notes in self.met.items():
-            met = [note for note in dict.fromkeys(notes) if note != NONE_REFUSED]
-            growths = sum(note != NONE_REFUSED for note in notes)
-            tally.judge(f"{crate}, {test}, {growths} growths refused: {', '.join(met)}", self.faults or ([] if met else ["nothing was refused"]))
+def ended(crate, test, library):
+    """How often a test ended with an error of refused memory, each growth refused in turn, until it passed often enough; and how else it ended."""
+    growth = passes = errors = 0
+    while passes < QUIET_GROWTHS:
+        growth += 1
+        status, said = test_of(crate, test, env=refusing.asking(library, "REFUSE_GROWTH", growth))
+        passes = passes + 1 if status == 0 else 0
+        errors += status == 101
+        if growth > MOST_GROWTHS or status not in (0, 101) or status == 101 and not said.startswith(ERRORS):
+            return errors, [f"growth {growth}: status {status}: {said}"]
+    return errors, [] if errors else ["nothing was refused"]
 
 
-def memory(tally, groups_of, jobs):
-    with concurrent.futures.ThreadPoolExecutor(jobs) as pool:
-        for crate, groups in groups_of.items():
-            sweep = Sweep(groups)
-            for first in range(1, MOST_GROWTHS, jobs):
-                growths = range(first, first + jobs)
-                for growth, found in zip(growths, pool.map(lambda it: refused(crate, it), growths)):
-                    if not sweep.is_over:
-                        sweep.take(growth, found)
-                if sweep.is_over:
-                    break
-            sweep.judge(tally, crate)
+def endings(tally, tests_of, library):
+    for crate, tests in tests_of.items():
+        for test in tests:
+            errors, faults = ended(crate, test, library)
+            tally.judge(f"{crate}, {test}, {errors} times ended for want of memory", faults)
+
+
+def memory(tally, groups_of, library):
+    for crate, groups in groups_of.items():
+        for group in groups:
+            sweeps = {test: swept(crate, test, library) for test in group}
+            unlike = [] if len({tuple(notes) for notes, _ in sweeps.values()}) == 1 else ["the tests of a list don't meet the same"]
+            for test, (notes, faults) in sweeps.items():
+                met = [note for note in notes if note != NONE_REFUSED]
+                name = f"{crate}, {test}, {len(met)} growths refused: {', '.join(dict.fromkeys(met))}"
+                tally.judge(name, faults or unlike or ([] if met else ["nothing was refused"]))
 
 
 def main():
     words = argparse.ArgumentParser(description=__doc__, formatter_class=argparse.RawDescriptionHelpFormatter)
     words.add_argument("what", nargs="?", choices=["threads", "memory"])
-    words.add_argument("--crate", choices=sorted({*THREADS, *MEMORY}), help="this crate alone")
-    words.add_argument("--jobs", type=int, default=max(1, (os.cpu_count() or 1) // 2))
+    words.add_argument("--crate", choices=sorted({*THREADS, *MEMORY, *ENDING}), help="this crate alone")
     asked = words.parse_args()
-    chosen = lambda tests: {crate: it for crate, it in tests.items() if asked.crate in (None, crate)}
+    chosen = lambda tests, what: {crate: it for crate, it in tests.items() if asked.crate in (None, crate) and asked.what in (None, what)}
+    of_threads, of_memory, of_ending = chosen(THREADS, "threads"), chosen(MEMORY, "memory"), chosen(ENDING, "memory")
     tally = Tally()
-    if asked.what != "memory":
-        threads(tally, chosen(THREADS))
-    if asked.what != "threads":
-        memory(tally, chosen(MEMORY), max(1, asked.jobs))
+    build(tally, sorted({*of_threads, *of_memory, *of_ending}))
+    threads(tally, of_threads)
+    if of_memory or of_ending:
+        with tempfile.TemporaryDirectory() as folder:
+            library = refusing.built_in(folder)
+            memory(tally, of_memory, library)
+            endings(tally, of_ending, library)
     print(f"{tally.passed} passed, {tally.failed} failed")
     sys.exit(1 if tally.failed else 0)
 

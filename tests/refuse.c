@@ -1,5 +1,5 @@
 /* Refuses one growth of memory, or one thread, of a program that is started with this library: the one whose number is in
-   REFUSE_GROWTH or REFUSE_THREAD, from 1 on. tests/refused.py builds and uses it. */
+   REFUSE_GROWTH or REFUSE_THREAD, from 1 on. tests/refusing.py builds it. */
 #define _GNU_SOURCE
 #include <dlfcn.h>
 #include <errno.h>

@@ -11,8 +11,9 @@ import subprocess
 import sys
 import tempfile
 
-HERE = pathlib.Path(__file__).resolve().parent
-EXAMPLES = HERE.parent / "examples"
+import refusing
+
+EXAMPLES = pathlib.Path(__file__).resolve().parent.parent / "examples"
 SECONDS = 60
 # More growths than any that can be refused without harm lie between two that can't.
 QUIET = 50
@@ -30,7 +31,7 @@ def swept(program, library, kind, faults):
             [program, "run", EXAMPLES / "loop.json"],
             capture_output=True,
             timeout=SECONDS,
-            env={**os.environ, "LD_PRELOAD": library, kind: str(number)},
+            env=refusing.asking(library, kind, number),
         )
         end = (ran.stdout, ran.stderr, ran.returncode)
         quiet = quiet + 1 if end == WHOLE else 0
@@ -47,8 +48,7 @@ def main():
         sys.exit("refused.py PROGRAM")
     passed = failed = 0
     with tempfile.TemporaryDirectory() as folder:
-        library = f"{folder}/refuse.so"
-        subprocess.run(["cc", "-shared", "-fPIC", "-O1", "-o", library, HERE / "refuse.c", "-ldl", "-lpthread"], check=True)
+        library = refusing.built_in(folder)
         for kind, faults in (("REFUSE_THREAD", (NO_THREAD,)), ("REFUSE_GROWTH", (NO_MEMORY, NO_THREAD))):
             met, wrong = swept(os.path.abspath(sys.argv[1]), library, kind, faults)
             # a sweep that met no refusal shows nothing
