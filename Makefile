@@ -1,8 +1,11 @@
 # `make run` builds the proved program and shows its main job on a shipped example; `make test` is the gate, and then the programs
 # that it built, from outside. `make examples` runs the program alone from outside, on all shipped examples too; `make bench` times it;
 # `make runs` runs scripts on threads, each a hundred times, and then with each thread and each growth of memory refused in turn;
-# `make hostile` runs the tests of threads twenty times, and those of refused memory with each growth refused in turn.
-.PHONY: run test examples bench hostile runs
+# `make hostile` runs the tests of threads twenty times, and those of refused memory with each growth refused in turn;
+# `make soak` runs threads at random over what they share, with one seed after the other, for MINUTES.
+.PHONY: run test examples bench hostile runs soak
+
+MINUTES ?= 10
 
 run:
 	@cd crates/monitor && rt run -- replay < ../../examples/one_publication.lines
@@ -22,3 +25,7 @@ hostile:
 runs: run
 	@tests/runs.py crates/monitor/out/monitor
 	@tests/refused.py crates/monitor/out/monitor
+
+soak:
+	@cd crates/soak && rt run
+	@tests/soak.py crates/soak/out/soak $(MINUTES)

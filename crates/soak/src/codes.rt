@@ -1,0 +1,105 @@
+//! The codes of a run, as the main thread, which alone changes them, knows them.
+use operations::Ask;
+use std::alloc::{AllocError, Global};
+
+/// Which codes there are: those in use, those that are invalidated and not freed, and those that are freed.
+#[derive(Drop)]
+pub struct Codes {
+    in_use: Vec<Option<u64>>,
+    left: Vec<u64>,
+    // Whether it is freed, for each serial from 1 on.
+    freed: Vec<bool>,
+    slots: usize,
+}
+
+impl Codes {
+    /// No code of any method. Refused only for want of memory.
+    pub fn new(alloc: Global, methods: u32, slots: usize) -> Result<Codes, AllocError> {
+        let mut in_use = Vec::new(alloc);
+        for _ in 0..methods {
+            in_use.push(None).map_err(|_| AllocError)?;
+        }
+        Ok(Codes {
+            in_use,
+            left: Vec::new(alloc),
+            freed: Vec::new(alloc),
+            slots,
+        })
+    }
+
+    /// The serial of the method's code that is in use.
+    pub fn current(&self, method: u32) -> Option<u64> {
+        match self.in_use.get(method as usize) {
+            Some(current) => *current,
+            None => None,
+        }
+    }
+
+    /// The serial of the code that was installed last, 0 before the first.
+    pub fn last(&self) -> u64 {
+        let _ = &self.left;
+        self.freed.len() as u64
+    }
+
+    /// Whether no slot is free for another code.
+    pub fn are_full(&self) -> bool {
+        let mut taken = self.left.len();
+        for current in &self.in_use {
+            if current.is_some() {
+                taken = taken.saturating_add(1);
+            }
+        }
+        taken >= self.slots
+    }
+
+    /// Whether the code of the serial was installed, and isn't freed.
+    pub fn stands(&self, serial: u64) -> bool {
+        match self.freed.get(serial.wrapping_sub(1) as usize) {
+            Some(is_freed) => !*is_freed,
+            None => false,
+        }
+    }
+
+    /// A code that is invalidated and not freed: the first from this one on, in a circle. None without one.
+    pub fn left(&self, from: usize) -> Option<u64> {
+        if self.left.is_empty() {
+            return None;
+        }
+        Some(self.left[from % self.left.len()])
+    }
+
+    /// A code was installed, of the next serial.
+    pub fn note_installed(&mut self, method: u32) -> Result<(), AllocError> {
+        self.freed.push(false).map_err(|_| AllocError)?;
+        let serial = self.freed.len() as u64;
+        if let Some(current) = self.in_use.get_mut(method as usize) {
+            *current = Some(serial);
+        }
+        Ok(())
+    }
+
+    /// The code of the method was invalidated.
+    pub fn note_invalidated(&mut self, method: u32, serial: u64) -> Result<(), AllocError> {
+        if let Some(current) = self.in_use.get_mut(method as usize) {
+            *current = None;
+        }
+        self.left.push(serial).map_err(|_| AllocError)
+    }
+
+    /// A code that was left is freed.
+    pub fn note_freed(&mut self, serial: u64) {
+        self.left.retain(|other| *other != serial);
+        if let Some(is_freed) = self.freed.get_mut(serial.wrapping_sub(1) as usize) {
+            *is_freed = true;
+        }
+    }
+
+    /// Whether a stack may answer this: it has at most 256 frames, and none of a code that is freed.
+    pub fn may_answer(&self, ask: Ask, reply: u64) -> bool {
+        match ask {
+            Ask::Depth => reply <= 256,
+            Ask::CountOf(serial) => reply == 0 || (self.stands(serial) && reply <= 256),
+            Ask::Top => reply == 0 || self.stands(reply),
+        }
+    }
+}

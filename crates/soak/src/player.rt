@@ -1,0 +1,313 @@
+//! A thread of the run: it calls, returns, polls, publishes and goes away, at random, and sees whether the answers can be right.
+use crate::rng::Choices;
+use crate::signals::Signals;
+use crate::tally::{Report, Seen};
+use crate::wrong::{Step, Wrong, note};
+use bodies::{Called, Name};
+use desk::StartFault;
+use operations::job::Errand;
+use std::alloc::Global;
+use std::sync::Wait;
+use std::thread;
+use thread_list::{CallFault, Mutator, Poll, ReturnFault, Shared};
+use thread_state::State;
+
+// How many frames a stack has at most.
+const DEEPEST: usize = 256;
+
+// A thread exits for another once in so many acts, where it may.
+const ACTS: u64 = 50;
+
+// How many methods a chain of calls enters at most: some chains come to a full stack.
+const CHAIN: u64 = 300;
+
+// How often a thread yields at most while it is away.
+const YIELDS: u64 = 8;
+
+// One thread of the system, or several one after the other.
+#[derive(Drop)]
+struct Player<'a, N: Name, J: Errand, R> {
+    rt: &'a R,
+    alloc: Global,
+    shared: &'a Shared<N, J>,
+    signals: &'a Signals,
+    choices: Choices,
+    // The serial of each frame's code, 0 where it is interpreted.
+    stack: Vec<u64>,
+    report: Report,
+}
+
+/// Runs threads one after the other, until the run is over.
+pub fn play<N: Name, J: Errand, R: Wait>(
+    rt: &R,
+    alloc: Global,
+    shared: &Shared<N, J>,
+    signals: &Signals,
+    seed: u64,
+) -> Report {
+    let mut player = Player {
+        rt,
+        alloc,
+        shared,
+        signals,
+        choices: Choices::new(seed),
+        stack: Vec::new(alloc),
+        report: Report::new(alloc),
+    };
+    for _ in rt.forever() {
+        let Some(thread) = player.start() else {
+            break;
+        };
+        if !player.live(thread) {
+            break;
+        }
+    }
+    player.report
+}
+
+impl<'a, N: Name, J: Errand, R: Wait> Player<'a, N, J, R> {
+    fn note(&mut self, found: Wrong) {
+        let _ = &self.rt;
+        note(&mut self.report.wrong, found);
+    }
+
+    // Starts a thread, once no census is open. None where the run is over by then, or there is no memory.
+    fn start(&mut self) -> Option<Mutator<'a, N, J>> {
+        let rt = self.rt;
+        let shared = self.shared;
+        for _ in rt.forever() {
+            match shared.start(rt, self.alloc) {
+                Ok((thread, _receipt)) => {
+                    self.report.names = self.report.names.saturating_add(1);
+                    return Some(thread);
+                }
+                Err(StartFault::SafepointOpen) => {}
+                Err(StartFault::NoMemory) => {
+                    self.note(Wrong::NoMemory);
+                    return None;
+                }
+                Err(_) => {
+                    self.note(Wrong::Answer(Step::Start));
+                    return None;
+                }
+            }
+            if self.signals.is_over() {
+                return None;
+            }
+            thread::yield_now();
+        }
+        unreachable!()
+    }
+
+    // Acts until the thread exits. Answers whether another is to start.
+    fn live(&mut self, thread: Mutator<'a, N, J>) -> bool {
+        let rt = self.rt;
+        let mut thread = thread;
+        let mut again = false;
+        for _ in rt.forever() {
+            if self.signals.is_over() {
+                break;
+            }
+            if self.choices.one_in(ACTS) && self.signals.may_renew() {
+                again = true;
+                break;
+            }
+            self.act(&mut thread);
+        }
+        self.exit(thread);
+        again
+    }
+
+    fn act(&mut self, thread: &mut Mutator<'_, N, J>) {
+        match self.choices.below(20) {
+            0 | 1 | 2 | 3 | 4 | 5 => self.call(thread),
+            6 | 7 | 8 | 9 | 10 | 11 => self.leave(thread),
+            12 | 13 => self.turn(thread),
+            14 => self.publish(thread),
+            15 => self.go_native(thread),
+            16 | 17 => self.go_vm(thread),
+            18 => self.unwind(thread),
+            _ => self.go_deep(thread),
+        }
+    }
+
+    // Calls a method by its hint. What was invalidated before isn't entered.
+    fn call(&mut self, thread: &mut Mutator<'_, N, J>) {
+        let methods = self.shared.methods();
+        if methods == 0 {
+            return;
+        }
+        let method = self.choices.below(methods as u64) as u32;
+        let hint = self.shared.hint(method);
+        if self.choices.one_in(64) {
+            thread::yield_now();
+        }
+        let invalidated = self.signals.invalidated(method);
+        match thread.call(method, hint) {
+            Ok(Called::Compiled(serial)) => {
+                if serial <= invalidated {
+                    self.note(Wrong::Entered(serial));
+                }
+                self.report.compiled = self.report.compiled.saturating_add(1);
+                self.push(serial);
+            }
+            Ok(Called::Interpreted) => self.push(0),
+            Err(CallFault::DepthFull) => {
+                if self.stack.len() != DEEPEST {
+                    self.note(Wrong::Answer(Step::Call));
+                }
+            }
+            Err(_) => self.note(Wrong::Answer(Step::Call)),
+        }
+    }
+
+    // A frame was entered.
+    fn push(&mut self, serial: u64) {
+        self.report.calls = self.report.calls.saturating_add(1);
+        if self.stack.len() >= DEEPEST {
+            self.note(Wrong::Answer(Step::Call));
+        }
+        if self.stack.push(serial).is_err() {
+            self.note(Wrong::NoMemory);
+        }
+    }
+
+    // Returns from the method of the top frame.
+    fn leave(&mut self, thread: &mut Mutator<'_, N, J>) {
+        match thread.ret() {
+            Ok(poll) => {
+                if self.stack.pop().is_none() {
+                    self.note(Wrong::Answer(Step::Return));
+                }
+                self.settle(thread, poll);
+            }
+            Err(fault) => {
+                if fault != ReturnFault::EmptyStack || !self.stack.is_empty() {
+                    self.note(Wrong::Answer(Step::Return));
+                }
+                self.stack.clear();
+            }
+        }
+    }
+
+    fn turn(&mut self, thread: &mut Mutator<'_, N, J>) {
+        match thread.back_edge() {
+            Ok(poll) => self.settle(thread, poll),
+            Err(_) => self.note(Wrong::Answer(Step::BackEdge)),
+        }
+    }
+
+    fn publish(&mut self, thread: &mut Mutator<'_, N, J>) {
+        if thread.publish().is_err() {
+            self.note(Wrong::Answer(Step::Publish));
+        }
+    }
+
+    // Stops where the poll says so.
+    fn settle(&mut self, thread: &mut Mutator<'_, N, J>, poll: Poll) {
+        let Poll::Stop(op) = poll else {
+            return;
+        };
+        match Seen::of(thread.name(), op, self.stack.as_slice(), self.alloc) {
+            Ok(seen) => self.keep(seen),
+            Err(_) => self.note(Wrong::NoMemory),
+        }
+        if thread.stop(self.rt).is_err() {
+            self.note(Wrong::Answer(Step::Stop));
+        }
+    }
+
+    fn keep(&mut self, seen: Seen) {
+        let _ = &self.rt;
+        if self.report.seen.push(seen).is_err() {
+            note(&mut self.report.wrong, Wrong::NoMemory);
+        }
+    }
+
+    fn give_way(&mut self) {
+        for _ in 0..self.choices.below(YIELDS) {
+            thread::yield_now();
+        }
+    }
+
+    // Into native code and back.
+    fn go_native(&mut self, thread: &mut Mutator<'_, N, J>) {
+        if thread.to_native(self.rt).is_err() {
+            self.note(Wrong::Answer(Step::ToNative));
+        }
+        self.give_way();
+        match thread.from_native(self.rt) {
+            Ok(poll) => self.settle(thread, poll),
+            Err(_) => self.note(Wrong::Answer(Step::FromNative)),
+        }
+    }
+
+    // Into the VM, there into a wait or into native code or neither, and back.
+    fn go_vm(&mut self, thread: &mut Mutator<'_, N, J>) {
+        if thread.to_vm().is_err() {
+            self.note(Wrong::Answer(Step::ToVm));
+        }
+        match self.choices.below(3) {
+            0 => self.block(thread),
+            1 => self.go_native(thread),
+            _ => {}
+        }
+        if thread.state() != State::InVm {
+            self.note(Wrong::Answer(Step::ToVm));
+        }
+        match thread.from_vm() {
+            Ok(poll) => self.settle(thread, poll),
+            Err(_) => self.note(Wrong::Answer(Step::FromVm)),
+        }
+    }
+
+    // From the VM into a wait and back.
+    fn block(&mut self, thread: &mut Mutator<'_, N, J>) {
+        if thread.block(self.rt).is_err() {
+            self.note(Wrong::Answer(Step::Block));
+        }
+        self.give_way();
+        match thread.unblock(self.rt) {
+            Ok(poll) => self.settle(thread, poll),
+            Err(_) => self.note(Wrong::Answer(Step::Unblock)),
+        }
+    }
+
+    // A chain of calls, and half of the time all the way back.
+    fn go_deep(&mut self, thread: &mut Mutator<'_, N, J>) {
+        for _ in 0..self.choices.below(CHAIN) {
+            self.call(thread);
+        }
+        if self.choices.one_in(2) {
+            self.unwind(thread);
+        }
+    }
+
+    // Returns from all methods.
+    fn unwind(&mut self, thread: &mut Mutator<'_, N, J>) {
+        let rt = self.rt;
+        for _ in rt.forever() {
+            if self.stack.is_empty() {
+                return;
+            }
+            self.leave(thread);
+        }
+        unreachable!()
+    }
+
+    // Returns from all methods, and exits. A thread that may not exit tries again, since the others would wait for it.
+    fn exit(&mut self, thread: Mutator<'_, N, J>) {
+        let rt = self.rt;
+        let mut thread = thread;
+        for _ in rt.forever() {
+            self.unwind(&mut thread);
+            match thread.exit(rt) {
+                Ok(_receipt) => return,
+                Err((_, back)) => thread = back,
+            }
+            self.note(Wrong::Answer(Step::Exit));
+            self.leave(&mut thread);
+        }
+        unreachable!()
+    }
+}

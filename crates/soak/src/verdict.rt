@@ -1,0 +1,115 @@
+//! Whether what a run answered can be right.
+use crate::codes::Codes;
+use crate::tally::{Report, Seen};
+use crate::wrong::Wrong;
+use bodies::Name;
+use operations::Ask;
+use operations::job::Errand;
+use std::sync::Wait;
+use thread_list::Shared;
+
+/// Each reply of a handshake is of a target, no target has two, and each target that is still live has one.
+pub fn check_names(
+    op: u64,
+    targets: &[u64],
+    live: &[u64],
+    replies: &[(u64, u64)],
+) -> Result<(), Wrong> {
+    for reply in replies {
+        if !targets.contains(&reply.0) {
+            return Err(Wrong::NotOf(op));
+        }
+    }
+    for name in targets {
+        let count = replies_of(*name, replies);
+        if count > 1 {
+            return Err(Wrong::Twice(op));
+        }
+        if count == 0 && live.contains(name) {
+            return Err(Wrong::Unanswered(op));
+        }
+    }
+    Ok(())
+}
+
+// How many replies the name has.
+fn replies_of(name: u64, replies: &[(u64, u64)]) -> usize {
+    let mut count: usize = 0;
+    for reply in replies {
+        if reply.0 == name {
+            count = count.saturating_add(1);
+        }
+    }
+    count
+}
+
+/// Each reply is one that a stack may give.
+pub fn check_replies(
+    op: u64,
+    ask: Ask,
+    codes: &Codes,
+    replies: &[(u64, u64)],
+) -> Result<(), Wrong> {
+    for reply in replies {
+        if !codes.may_answer(ask, reply.1) {
+            return Err(Wrong::Reply(op));
+        }
+    }
+    Ok(())
+}
+
+/// A census lists codes that are installed and not freed, in rising serial, each with the frames that it has.
+pub fn check_census(op: u64, list: &[(u64, u32)], codes: &Codes) -> Result<(), Wrong> {
+    let mut last = 0;
+    for entry in list {
+        if entry.0 <= last || entry.1 == 0 || !codes.stands(entry.0) {
+            return Err(Wrong::Census(op));
+        }
+        last = entry.0;
+    }
+    Ok(())
+}
+
+/// How many frames a census has counted.
+pub fn sum_of(list: &[(u64, u32)]) -> u64 {
+    let mut sum: u64 = 0;
+    for entry in list {
+        sum = sum.saturating_add(entry.1 as u64);
+    }
+    sum
+}
+
+/// Each thread that stopped for a handshake has a reply of it, by the stack that it had then. The list has what each operation asked, by
+/// its number from 1 on, None for a census.
+pub fn check_report<N: Name, J: Errand, R: Wait>(
+    rt: &R,
+    shared: &Shared<N, J>,
+    asks: &[Option<Ask>],
+    report: &Report,
+) -> Result<(), Wrong> {
+    for seen in &report.seen {
+        match asks.get(seen.op.wrapping_sub(1) as usize) {
+            Some(Some(ask)) => {
+                let replies = shared.replies(rt, seen.op)?;
+                check_seen(seen, *ask, replies.as_slice())?;
+            }
+            Some(None) => {}
+            None => return Err(Wrong::NotOf(seen.op)),
+        }
+    }
+    Ok(())
+}
+
+// The reply of a thread is by the stack that it saw where it stopped.
+fn check_seen(seen: &Seen, ask: Ask, replies: &[(u64, u64)]) -> Result<(), Wrong> {
+    for reply in replies {
+        if reply.0 == seen.name {
+            return if reply.1 == seen.answer(ask) {
+                Ok(())
+            } else {
+                Err(Wrong::Reply(seen.op))
+            };
+        }
+    }
+    Err(Wrong::Unanswered(seen.op))
+}
