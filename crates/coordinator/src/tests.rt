@@ -5,8 +5,11 @@ use operations::job::Errand;
 use operations::{Ask, Request, Targets};
 use std::alloc::{AllocError, Global};
 use std::sync::Wait;
+use std::sync::atomic::{AtomicU64, Ordering};
+use std::thread;
 use thread_list::{Mutator, Shared};
 
+mod leaving;
 mod refusals;
 mod row;
 
@@ -45,4 +48,18 @@ fn ask_both<N: Name, J: Errand, R: Wait>(
         Ok(_) => Ok(()),
         Err(_) => Err(AllocError),
     }
+}
+
+// How often is looked whether others have come so far.
+const TURNS: u32 = 1_000_000;
+
+// Waits until others have come so far. Answers whether they have.
+fn wait_for(far: u64, turn: &AtomicU64) -> bool {
+    for _ in 0..TURNS {
+        if turn.load(Ordering::SeqCst) >= far {
+            return true;
+        }
+        thread::yield_now();
+    }
+    false
 }
