@@ -29,7 +29,11 @@ QUIET_GROWTHS = 20
 THREADS = {
     "poll": ["no_arming_is_lost_to_a_clear", "the_armer_is_in_another_thread"],
     "board": ["stopped::a_publication_is_looked_at_from_another_thread_at_each_boundary"],
-    "coordinator": ["leaving::a_thread_that_exits_is_gone_or_has_answered"],
+    "coordinator": [
+        "census::a_census_counts_what_the_words_count",
+        "invalidated::no_call_enters_what_is_seen_invalidated",
+        "leaving::a_thread_that_exits_is_gone_or_has_answered",
+    ],
 }
 
 # Those of a list meet the same at each growth.

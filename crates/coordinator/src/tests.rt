@@ -5,10 +5,12 @@ use operations::job::Errand;
 use operations::{Ask, Request, Targets};
 use std::alloc::{AllocError, Global};
 use std::sync::Wait;
-use std::sync::atomic::{AtomicU64, Ordering};
+use std::sync::atomic::{AtomicBool, AtomicU64, Ordering};
 use std::thread;
-use thread_list::{Mutator, Shared};
+use thread_list::{Mutator, Poll, Shared};
 
+mod census;
+mod invalidated;
 mod leaving;
 mod refusals;
 mod row;
@@ -62,4 +64,33 @@ fn wait_for(far: u64, turn: &AtomicU64) -> bool {
         thread::yield_now();
     }
     false
+}
+
+// Stops where the poll says so. Answers whether it could.
+fn heed<N: Name, J: Errand, R: Wait>(rt: &R, thread: &mut Mutator<'_, N, J>, said: Poll) -> bool {
+    match said {
+        Poll::Go => true,
+        Poll::Stop(_) => thread.stop(rt).is_ok(),
+    }
+}
+
+// Makes back edges, and stops where it is told to, until all is done.
+fn run_until<N: Name, J: Errand, R: Wait>(
+    rt: &R,
+    thread: &mut Mutator<'_, N, J>,
+    done: &AtomicBool,
+) -> bool {
+    for _ in rt.forever() {
+        let Ok(said) = thread.back_edge() else {
+            return false;
+        };
+        if !heed(rt, thread, said) {
+            return false;
+        }
+        if done.load(Ordering::SeqCst) {
+            return true;
+        }
+        thread::yield_now();
+    }
+    unreachable!()
 }
