@@ -12,6 +12,7 @@ use thread_list::{Mutator, Poll, Shared};
 mod census;
 mod invalidated;
 mod leaving;
+mod meeting;
 mod refusals;
 mod row;
 
