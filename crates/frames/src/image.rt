@@ -48,7 +48,7 @@ impl Model for Image {
       publishing = i.publishing;
     } };
 
-    ghost invariant = { λ i. (vec_len i.frames ≤ 256) × (256 ≤ vec_capacity i.frames) × (i.publishing ≡ true → i.nets.flushed ≡ true)
+    ghost invariant = { λ i. (vec_len i.frames ≤ 256) × (256 ≤ vec_capacity i.frames) × (i.nets.flushed ≡ i.publishing)
         × (i.given ≤ length i.nets.entries)
         × (i.publishing ≡ false → i.given ≡ 0)
         × IsRising None i.nets.entries
