@@ -1,7 +1,7 @@
 -- Nets by code: what a move of one does, and what is counted by them.
-use Rattle.std.proofs.Common.{◌≡◌, ℕ, zero, suc, ◌+◌, ◌<◌, ◌≤◌, ◌∙◌, sym, Bool, true, false, not, List, [], ◌∷◌, ◌++◌, length, set, get_or, Option, Some, None, refl, ap, ap₂, subst, cond, arith, ℤ, pos, negsuc, ◌+ℤ◌, ◌-ℤ◌, replicate}
+use Rattle.std.proofs.Common.{◌≡◌, ℕ, zero, suc, ◌+◌, ◌∙◌, sym, Bool, true, false, not, List, [], ◌∷◌, ◌++◌, Option, Some, None, refl, ap, ap₂, subst, cond, arith, ℤ, pos, negsuc, ◌+ℤ◌, ◌-ℤ◌, replicate}
 use Rattle.std.proofs.lemmas.Int.{ints}
-use Rattle.std.specs.Prelude.{insert, remove, filter, ◌≤ℤ◌}
+use Rattle.std.specs.Prelude.{filter, ◌≤ℤ◌}
 use Rattle.std.proofs.lemmas.Bool.Decides.{nat_tests}
 use Rattle.frames.specs.declared.CodeId.{CodeId}
 use Rattle.frames.specs.declared.Frame.{Frame}

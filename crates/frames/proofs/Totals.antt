@@ -6,7 +6,7 @@ use Rattle.std.proofs.lemmas.List.Sums.{sum_by-cons}
 use Rattle.std.proofs.lemmas.List.Sorted.{sum_by-IsPermutation, IsPermutation-map, All-permutation}
 use Rattle.std.proofs.lemmas.List.Elements.{All-cons}
 use Rattle.std.proofs.lemmas.List.{get_or-set_same, get_or-set_other, length-set}
-use Rattle.std.specs.Prelude.{filter, count_by, ◌≤ℤ◌}
+use Rattle.std.specs.Prelude.{filter}
 use Rattle.std.specs.List.{sum_by, All}
 use Rattle.std.specs.Ordering.{is_lt, nat_cmp, ordering_then}
 use Rattle.std.specs.List.Sorted.{IsPermutation, IsSortedByKey}
@@ -16,7 +16,7 @@ use Rattle.frames.specs.Stack.{same_code, code_lt, times}
 use Rattle.frames.specs.Kept.{upto}
 use Rattle.frames.specs.Nets.{net_in, is_zero, nat_of, net_of, with_net, add, moved, settled, by_code, total, codes_in, mark_of, IsRising, IsWithin, IsAt, IsPut, AreOnce, AreKept, AreSmall, net_sum}
 use Rattle.frames.proofs.Bags.{same_code-equal, same_code-refl, times-cons}
-use Rattle.frames.proofs.Moves.{net_below, net_here, net_other, zero_not, zero_is, rising_add, apart_sym}
+use Rattle.frames.proofs.Moves.{net_below, net_here, net_other, zero_not, zero_is, rising_add}
 use Rattle.frames.proofs.Settling.{one_more, nets_by, none_behind, itself, times_codes, same_length, length-codes_in}
 
 -- a move by 0 is none

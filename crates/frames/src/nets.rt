@@ -101,6 +101,13 @@ impl Nets {
         }
     }
 
+    /// Whether there are none.
+    pub(crate) fn is_empty(&self) -> bool
+        ensures { result ≡ (length self.now.entries == 0) }
+    {
+        are_zero(&self.list)
+    }
+
     /// The sum of the nets of the serial's codes, from the place on.
     pub(crate) fn sum(&self, from: usize, serial: u64) -> i32
         requires within { from ≤ length self.now.entries }
@@ -259,6 +266,17 @@ fn settle(nets: &mut Vec<Change>)
 {
     nets.retain(|net| has_net(net));
     nets.sort_unstable_by_key(|net| (net.code.serial, net.code.slot));
+}
+
+fn are_zero(nets: &[Change]) -> bool
+    ensures { result ≡ (length (filter (λ net. not (is_zero net.by)) nets.now) == 0) }
+{
+    for net in nets {
+        if has_net(net) {
+            return false;
+        }
+    }
+    true
 }
 
 // How many nets aren't 0.

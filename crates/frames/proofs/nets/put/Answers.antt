@@ -1,6 +1,4 @@
 use Rattle.std.proofs.Common.{arith}
-use Rattle.frames.specs.declared.Change.{Change}
-use Rattle.frames.specs.Nets.{is_zero}
 use Rattle.frames.proofs.Totals.{pushed_put, set_put, length_settled}
 use Rattle.frames.proofs.nets.put.Goals as goal
 

@@ -1,4 +1,4 @@
-use Rattle.std.proofs.Common.{◌≡◌, ◌≢◌, ◌∙◌, sym, ap, ◌+◌, ◌+ℤ◌, to_z, of_z, w32, List, false, arith}
+use Rattle.std.proofs.Common.{◌≡◌, ◌∙◌, sym, ap, ◌+ℤ◌, to_z, of_z, w32, List, false, arith}
 use Rattle.std.proofs.lemmas.Int.{ints}
 use Rattle.frames.specs.declared.Change.{Change}
 use Rattle.frames.specs.Nets.{NetsView}

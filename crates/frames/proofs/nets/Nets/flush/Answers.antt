@@ -1,4 +1,4 @@
-use Rattle.std.proofs.Common.{◌≡◌, ◌∙◌, ap, List, true}
+use Rattle.std.proofs.Common.{ap, List, true}
 use Rattle.frames.specs.declared.Change.{Change}
 use Rattle.frames.specs.Nets.{NetsView}
 use Rattle.frames.proofs.Totals.{flushed_kept, rising_settled, settled_rising}

@@ -1,4 +1,4 @@
-use Rattle.std.proofs.Common.{◌≡◌, ◌∙◌, ap}
+use Rattle.std.proofs.Common.{◌∙◌, ap}
 use Rattle.frames.proofs.Totals.{rising_settled}
 use Rattle.frames.proofs.nets.Nets.get.Goals as goal
 

@@ -1,4 +1,4 @@
-use Rattle.std.proofs.Common.{◌≡◌, ◌∙◌, sym, ap, length, not, true, false, arith, rules}
+use Rattle.std.proofs.Common.{◌∙◌, sym, ap, length, not, arith}
 use Rattle.std.proofs.lemmas.List.Sums.{length-filter}
 use Rattle.frames.specs.declared.Change.{Change}
 use Rattle.frames.specs.Nets.{is_zero}

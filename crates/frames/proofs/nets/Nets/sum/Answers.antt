@@ -1,8 +1,8 @@
-use Rattle.std.proofs.Common.{◌≡◌, ◌≢◌, ◌≤◌, ℕ, zero, suc, ◌∙◌, sym, ap, subst, List, length, drop, true, arith, refl}
+use Rattle.std.proofs.Common.{◌≡◌, ◌≢◌, ◌≤◌, ℕ, zero, suc, ◌∙◌, ap, subst, List, length, drop, arith}
 use Rattle.std.proofs.lemmas.Int.{ints}
 use Rattle.std.proofs.lemmas.List.{take_rest}
 use Rattle.frames.specs.declared.Change.{Change}
-use Rattle.frames.specs.Nets.{settled, IsRising, net_sum}
+use Rattle.frames.specs.Nets.{settled, net_sum}
 use Rattle.frames.proofs.Totals.{rising_settled, sum_settled, small_once, small_drop}
 use Rattle.frames.proofs.nets.Nets.sum.Goals as goal
 
