@@ -50,14 +50,6 @@ zero_is (negsuc n) h = cc
 pub zero_not : (z : ℤ) → is_zero z ≡ false → z ≡ pos 0 → ⊥
 zero_not z h e = let k : is_zero (pos 0) ≡ false = subst (λ y. is_zero y ≡ false) e h in cc
 
-pub is_zero_at : (z : ℤ) → z ≡ pos 0 → is_zero z ≡ true
-is_zero_at z e = rw e refl
-
-pub not_zero : (z : ℤ) → (z ≡ pos 0 → ⊥) → is_zero z ≡ false
-not_zero (pos zero) h = absurd (h refl)
-not_zero (pos (suc n)) h = refl
-not_zero (negsuc n) h = refl
-
 net_with : (es : List Change) (code q : CodeId) (by : ℤ) → net_in (with_net code by es) q ≡ cond (is_zero by) (net_in es q) (cond (same_code code q) by (net_in es q))
 net_with es code q by = elim (is_zero by) as (λ b. net_in (cond b es (net_of code by ∷ es)) q ≡ cond b (net_in es q) (cond (same_code code q) by (net_in es q))) [ true ↦ refl | false ↦ refl ]
 

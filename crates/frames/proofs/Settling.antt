@@ -12,7 +12,7 @@ use Rattle.frames.specs.Stack.{same_code, code_lt, is_of, act, has_serial, seria
 use Rattle.frames.specs.Least.{least}
 use Rattle.frames.specs.Kept.{upto}
 use Rattle.frames.specs.ImageView.{ImageView, SameBag, uncounted, next_code, IsNext, distinct, unsettled, serial_times}
-use Rattle.frames.specs.Nets.{net_in, is_zero, add, IsRising, codes_in, counted_by, first_of, IsWithin, AreSmall, nat_of, net_sum, by_code}
+use Rattle.frames.specs.Nets.{net_in, is_zero, add, IsRising, codes_in, counted_by, first_of, IsWithin, nat_of, net_sum, by_code}
 use Rattle.frames.proofs.Bags.{same_code-equal, same_code-refl, times-cons, times-append, times-codes_of, act-cons, among-times}
 use Rattle.frames.proofs.Ordered.{code_lt-irrefl, IsLeast, least-is_least, least-unique}
 use Rattle.frames.proofs.Fewer.{apart, part_fits}
@@ -392,16 +392,6 @@ unsettled_fewer frames es n x was now publishing r w e =
     let b = unsettled_is frames (drop (n + 1) es) now publishing (rising_drop (n + 1) es r) within in
     let l : length (drop n es) ≡ suc (length (drop (n + 1) es)) = ap length e in
     omega (arith, a, b, l)
-
-pub small_nets : (es : List Change) → IsRising None es → ((c : CodeId) → IsWithin (net_in es c) 256) → AreSmall es
-small_nets [] r w = tt
-small_nets (e ∷ es) r w = (subst (λ z. IsWithin z 256) (itself e es) (w e.code), small_nets es (rising_any es (Some e.code) r.2) (λ c. rest c (same_code e.code c) refl (w c)))
-  where
-    rest : (c : CodeId) (b : Bool) → same_code e.code c ≡ b → IsWithin (cond b e.by (net_in es c)) 256 → IsWithin (net_in es c) 256
-    rest c false h k = k
-    rest c true h k =
-        let none : net_in es c ≡ pos 0 = subst (λ x. net_in es x ≡ pos 0) (same_code-equal e.code c h) (none_behind e es r.2) in
-        record { low = omega (arith, ints); high = omega (arith, ints) }
 
 serial_times-cons : (serial : ℕ) (x : CodeId) (xs : List CodeId) → serial_times serial (x ∷ xs) ≡ cond (eqb x.serial serial) 1 0 + serial_times serial xs
 serial_times-cons serial x xs = sum_by-cons (λ c. cond (eqb c.serial serial) 1 0) x xs
