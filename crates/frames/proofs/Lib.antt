@@ -8,4 +8,4 @@ pub mod BoardLaws
 pub mod Fewer
 pub mod Uncounted
 pub mod Settling
-pub mod Register
+pub mod Totals

@@ -1,86 +1,15 @@
--- Nets by code: where they stand, what a move of one does, and what is counted by them.
-use Rattle.std.proofs.Common.{◌≡◌, ℕ, zero, suc, ◌+◌, ◌<◌, ◌≤◌, ◌∙◌, sym, Bool, true, false, not, List, [], ◌∷◌, ◌++◌, length, set, get_or, Option, Some, None, refl, ap, ap₂, subst, cond, arith, ℤ, pos, negsuc, ◌+ℤ◌, ◌-ℤ◌, replicate}
+-- Nets by code: what a move of one does, and what is counted by them.
+use Rattle.std.proofs.Common.{◌≡◌, ℕ, zero, suc, ◌+◌, ◌∙◌, sym, Bool, true, false, not, List, [], ◌∷◌, ◌++◌, Option, Some, None, refl, ap, ap₂, subst, cond, arith, ℤ, pos, negsuc, ◌+ℤ◌, ◌-ℤ◌, replicate}
 use Rattle.std.proofs.lemmas.Int.{ints}
-use Rattle.std.specs.Prelude.{insert, remove, filter, ◌≤ℤ◌}
+use Rattle.std.specs.Prelude.{filter, ◌≤ℤ◌}
 use Rattle.std.proofs.lemmas.Bool.Decides.{nat_tests}
 use Rattle.frames.specs.declared.CodeId.{CodeId}
 use Rattle.frames.specs.declared.Frame.{Frame}
 use Rattle.frames.specs.declared.Change.{Change}
 use Rattle.frames.specs.Stack.{same_code, code_lt, act, times}
 use Rattle.frames.specs.Kept.{upto}
-use Rattle.frames.specs.Nets.{net_in, is_zero, net_of, with_net, add, IsRising, place_in, IsAt, IsNotAt, nat_of, counted_by}
+use Rattle.frames.specs.Nets.{net_in, is_zero, net_of, with_net, add, IsRising, nat_of, counted_by}
 use Rattle.frames.proofs.Bags.{same_code-equal, same_code-refl, times-cons, times-append, times-filter, times-codes_of}
-
--- places
-pub place_in_le : (es : List Change) (code : CodeId) → place_in es code ≤ length es
-place_in_le [] code = omega arith
-place_in_le (e ∷ es) code = elim (code_lt e.code code) as (λ b. cond b (suc (place_in es code)) 0 ≤ length (e ∷ es)) [ true ↦ omega (arith, place_in_le es code) | false ↦ omega arith ]
-
-pub is_at : (es : List Change) (code : CodeId) (place : ℕ) (d : Change) → place < length es → same_code (get_or es place d).code code ≡ true → IsAt es code place
-is_at [] code place d lt h = absurd (omega arith)
-is_at (e ∷ es) code zero d lt h = h
-is_at (e ∷ es) code (suc place) d lt h = is_at es code place d (omega arith) h
-
-pub is_not_past : (es : List Change) (code : CodeId) (place : ℕ) → length es ≤ place → IsNotAt es code place
-is_not_past [] code place h = tt
-is_not_past (e ∷ es) code zero h = absurd (omega arith)
-is_not_past (e ∷ es) code (suc place) h = is_not_past es code place (omega arith)
-
-pub is_not_here : (es : List Change) (code : CodeId) (place : ℕ) (d : Change) → place < length es → same_code (get_or es place d).code code ≡ false → IsNotAt es code place
-is_not_here [] code place d lt h = tt
-is_not_here (e ∷ es) code zero d lt h = h
-is_not_here (e ∷ es) code (suc place) d lt h = is_not_here es code place d (omega arith) h
-
--- the edits of the list are moves of the net
-removed_step :
-    (e : Change) (es : List Change) (code : CodeId) (by : ℤ) (d : Change) (b : Bool)
-    → (IsAt es code (place_in es code) → is_zero ((get_or es (place_in es code) d).by +ℤ by) ≡ true → remove es (place_in es code) ≡ add es code by)
-    → IsAt (e ∷ es) code (cond b (suc (place_in es code)) 0)
-    → is_zero ((get_or (e ∷ es) (cond b (suc (place_in es code)) 0) d).by +ℤ by) ≡ true
-    → remove (e ∷ es) (cond b (suc (place_in es code)) 0) ≡ cond b (e ∷ add es code by) (cond (same_code e.code code) (with_net code (e.by +ℤ by) es) (net_of code by ∷ e ∷ es))
-removed_step e es code by d true rest h z = ap (λ xs. e ∷ xs) (rest h z)
-removed_step e es code by d false rest h z = rw (h, z) refl
-
-pub removed : (es : List Change) (code : CodeId) (by : ℤ) (d : Change) → IsAt es code (place_in es code) → is_zero ((get_or es (place_in es code) d).by +ℤ by) ≡ true → remove es (place_in es code) ≡ add es code by
-removed [] code by d h z = absurd h
-removed (e ∷ es) code by d h z = removed_step e es code by d (code_lt e.code code) (removed es code by d) h z
-
-setted_step :
-    (e : Change) (es : List Change) (code : CodeId) (by net : ℤ) (d : Change) (b : Bool)
-    → (IsAt es code (place_in es code) → net ≡ (get_or es (place_in es code) d).by +ℤ by → is_zero net ≡ false → set es (place_in es code) (net_of code net) ≡ add es code by)
-    → IsAt (e ∷ es) code (cond b (suc (place_in es code)) 0)
-    → net ≡ (get_or (e ∷ es) (cond b (suc (place_in es code)) 0) d).by +ℤ by → is_zero net ≡ false
-    → set (e ∷ es) (cond b (suc (place_in es code)) 0) (net_of code net) ≡ cond b (e ∷ add es code by) (cond (same_code e.code code) (with_net code (e.by +ℤ by) es) (net_of code by ∷ e ∷ es))
-setted_step e es code by net d true rest h n z = ap (λ xs. e ∷ xs) (rest h n z)
-setted_step e es code by net d false rest h n z = rw (h, ← n, z) refl
-
-pub setted : (es : List Change) (code : CodeId) (by net : ℤ) (d : Change) → IsAt es code (place_in es code) → net ≡ (get_or es (place_in es code) d).by +ℤ by → is_zero net ≡ false → set es (place_in es code) (net_of code net) ≡ add es code by
-setted [] code by net d h n z = absurd h
-setted (e ∷ es) code by net d h n z = setted_step e es code by net d (code_lt e.code code) (setted es code by net d) h n z
-
-inserted_step :
-    (e : Change) (es : List Change) (code : CodeId) (by : ℤ) (b : Bool)
-    → (IsNotAt es code (place_in es code) → insert es (place_in es code) (net_of code by) ≡ add es code by)
-    → IsNotAt (e ∷ es) code (cond b (suc (place_in es code)) 0)
-    → insert (e ∷ es) (cond b (suc (place_in es code)) 0) (net_of code by) ≡ cond b (e ∷ add es code by) (cond (same_code e.code code) (with_net code (e.by +ℤ by) es) (net_of code by ∷ e ∷ es))
-inserted_step e es code by true rest h = ap (λ xs. e ∷ xs) (rest h)
-inserted_step e es code by false rest h = rw h refl
-
-pub inserted : (es : List Change) (code : CodeId) (by : ℤ) → IsNotAt es code (place_in es code) → insert es (place_in es code) (net_of code by) ≡ add es code by
-inserted [] code by h = refl
-inserted (e ∷ es) code by h = inserted_step e es code by (code_lt e.code code) (inserted es code by) h
-
-length_step :
-    (e : Change) (es : List Change) (code : CodeId) (by : ℤ) (b : Bool)
-    → (IsNotAt es code (place_in es code) → length (add es code by) ≡ suc (length es))
-    → IsNotAt (e ∷ es) code (cond b (suc (place_in es code)) 0)
-    → length (cond b (e ∷ add es code by) (cond (same_code e.code code) (with_net code (e.by +ℤ by) es) (net_of code by ∷ e ∷ es))) ≡ suc (length (e ∷ es))
-length_step e es code by true rest h = omega (arith, rest h)
-length_step e es code by false rest h = rw h refl
-
-pub length_inserted : (es : List Change) (code : CodeId) (by : ℤ) → IsNotAt es code (place_in es code) → length (add es code by) ≡ suc (length es)
-length_inserted [] code by h = refl
-length_inserted (e ∷ es) code by h = length_step e es code by (code_lt e.code code) (length_inserted es code by) h
 
 -- order
 pub below_apart : (last : Option CodeId) (a code : CodeId) → upto last a ≡ false → upto last code ≡ true → (same_code a code ≡ false) × (code_lt a code ≡ false)
@@ -106,31 +35,6 @@ above_if a code h k = grind (arith, nat_tests)
 pub apart_sym : (a b : CodeId) → same_code a b ≡ false → same_code b a ≡ false
 apart_sym a b h = grind (arith, nat_tests)
 
-pub above_at : (es : List Change) (last : Option CodeId) (i : ℕ) (d : Change) → IsRising last es → i < length es → upto last (get_or es i d).code ≡ false
-above_at [] last i d r h = absurd (omega arith)
-above_at (e ∷ es) last zero d r h = r.0
-above_at (e ∷ es) last (suc i) d r h = upto_trans last e.code (get_or es i d).code r.0 (above_at es (Some e.code) i d r.2 (omega arith))
-
-lt_trans : (a b c : CodeId) → upto (Some a) b ≡ false → code_lt b c ≡ true → code_lt a c ≡ true
-lt_trans a b c h k = grind (arith, nat_tests)
-
--- a code stands behind each lesser one of a rising list
-pub behind : (es : List Change) (last : Option CodeId) (code : CodeId) (i : ℕ) (d : Change) → IsRising last es → i < length es → code_lt (get_or es i d).code code ≡ true → i + 1 ≤ place_in es code
-behind [] last code i d r h lt = absurd (omega arith)
-behind (e ∷ es) last code zero d r h lt = rw lt (omega arith)
-behind (e ∷ es) last code (suc i) d r h lt =
-    let first : code_lt e.code code ≡ true = lt_trans e.code (get_or es i d).code code (above_at es (Some e.code) i d r.2 (omega arith)) lt in
-    let rest = behind es (Some e.code) code i d r.2 (omega arith) lt in
-    rw first (omega (arith, rest))
-
--- and not behind another
-pub not_behind : (es : List Change) (code : CodeId) (i : ℕ) (d : Change) → i < length es → code_lt (get_or es i d).code code ≡ false → place_in es code ≤ i
-not_behind [] code i d h lt = absurd (omega arith)
-not_behind (e ∷ es) code zero d h lt = rw lt (omega arith)
-not_behind (e ∷ es) code (suc i) d h lt =
-    let rest = not_behind es code i d (omega arith) lt in
-    elim (code_lt e.code code) as (λ b. cond b (suc (place_in es code)) 0 ≤ suc i) [ true ↦ omega (arith, rest) | false ↦ omega arith ]
-
 -- a code that isn't above the last one has no net
 pub net_below : (es : List Change) (last : Option CodeId) (code : CodeId) → IsRising last es → upto last code ≡ true → net_in es code ≡ pos 0
 net_below [] last code r h = refl
@@ -145,14 +49,6 @@ zero_is (negsuc n) h = cc
 
 pub zero_not : (z : ℤ) → is_zero z ≡ false → z ≡ pos 0 → ⊥
 zero_not z h e = let k : is_zero (pos 0) ≡ false = subst (λ y. is_zero y ≡ false) e h in cc
-
-pub is_zero_at : (z : ℤ) → z ≡ pos 0 → is_zero z ≡ true
-is_zero_at z e = rw e refl
-
-pub not_zero : (z : ℤ) → (z ≡ pos 0 → ⊥) → is_zero z ≡ false
-not_zero (pos zero) h = absurd (h refl)
-not_zero (pos (suc n)) h = refl
-not_zero (negsuc n) h = refl
 
 net_with : (es : List Change) (code q : CodeId) (by : ℤ) → net_in (with_net code by es) q ≡ cond (is_zero by) (net_in es q) (cond (same_code code q) by (net_in es q))
 net_with es code q by = elim (is_zero by) as (λ b. net_in (cond b es (net_of code by ∷ es)) q ≡ cond b (net_in es q) (cond (same_code code q) by (net_in es q))) [ true ↦ refl | false ↦ refl ]
@@ -227,15 +123,6 @@ rising_step e es last code by false k z h r rest =
 pub rising_add : (es : List Change) (last : Option CodeId) (code : CodeId) (by : ℤ) → is_zero by ≡ false → upto last code ≡ false → IsRising last es → IsRising last (add es code by)
 rising_add [] last code by z h r = (h, z, tt)
 rising_add (e ∷ es) last code by z h r = rising_step e es last code by (code_lt e.code code) refl z h r (λ k. rising_add es (Some e.code) code by z k r.2)
-
--- the net at a place of a rising list is that of its code
-pub net_at : (es : List Change) (last : Option CodeId) (code : CodeId) (d : Change) → IsRising last es → IsAt es code (place_in es code) → (get_or es (place_in es code) d).by ≡ net_in es code
-net_at [] last code d r h = absurd h
-net_at (e ∷ es) last code d r h = net_at_step (net_at es (Some e.code) code d r.2) (code_lt e.code code) refl h
-  where
-    net_at_step : (IsAt es code (place_in es code) → (get_or es (place_in es code) d).by ≡ net_in es code) → (b : Bool) → code_lt e.code code ≡ b → IsAt (e ∷ es) code (cond b (suc (place_in es code)) 0) → (get_or (e ∷ es) (cond b (suc (place_in es code)) 0) d).by ≡ net_in (e ∷ es) code
-    net_at_step rest true k h = rw (lt_apart e.code code k) (rest h)
-    net_at_step rest false k h = rw h refl
 
 -- what is counted
 times-replicate : (c x : CodeId) (n : ℕ) → times c (replicate n x) ≡ cond (same_code x c) n 0

@@ -12,7 +12,7 @@ use Rattle.frames.specs.Stack.{same_code, code_lt, is_of, act, has_serial, seria
 use Rattle.frames.specs.Least.{least}
 use Rattle.frames.specs.Kept.{upto}
 use Rattle.frames.specs.ImageView.{ImageView, SameBag, uncounted, next_code, IsNext, distinct, unsettled, serial_times}
-use Rattle.frames.specs.Nets.{net_in, is_zero, add, IsRising, codes_in, counted_by, first_of, IsWithin, AreSmall, nat_of, net_sum}
+use Rattle.frames.specs.Nets.{net_in, is_zero, add, IsRising, codes_in, counted_by, first_of, IsWithin, nat_of, net_sum, by_code}
 use Rattle.frames.proofs.Bags.{same_code-equal, same_code-refl, times-cons, times-append, times-codes_of, act-cons, among-times}
 use Rattle.frames.proofs.Ordered.{code_lt-irrefl, IsLeast, least-is_least, least-unique}
 use Rattle.frames.proofs.Fewer.{apart, part_fits}
@@ -79,7 +79,7 @@ is_next_of frames (e ∷ es) changed publishing r w = (
     by_case c false h differs = lt_behind e.code c (λ k. differs (even frames (e ∷ es) c (w c).high (rw h (net_below es (Some e.code) c r.2 k))))
 
 -- a list from a place on
-one_more : (n : ℕ) → suc n ≡ n + 1
+pub one_more : (n : ℕ) → suc n ≡ n + 1
 one_more n = omega arith
 
 drop_suc : (n : ℕ) (es : List Change) (d : Change) → n < length es → drop n es ≡ get_or es n d ∷ drop (suc n) es
@@ -148,7 +148,7 @@ fresh_at (suc n) (e ∷ es) last d r h =
     (ap₂ (λ a b. a || b) (below_differs e.code (get_or es n d).code rest.1) rest.0, upto_trans last e.code (get_or es n d).code r.0 rest.1)
 
 -- how many nets there are
-times_codes : (es : List Change) (last : Option CodeId) (c : CodeId) → IsRising last es → times c (codes_in es) ≡ cond (is_zero (net_in es c)) 0 1
+pub times_codes : (es : List Change) (last : Option CodeId) (c : CodeId) → IsRising last es → times c (codes_in es) ≡ cond (is_zero (net_in es c)) 0 1
 times_codes [] last c r = refl
 times_codes (e ∷ es) last c r = times-cons c e.code (codes_in es) ∙ by_case (times_codes es (Some e.code) c r.2) (same_code e.code c) refl
   where
@@ -159,7 +159,7 @@ times_codes (e ∷ es) last c r = times-cons c e.code (codes_in es) ∙ by_case 
         let zero_ : times c (codes_in es) ≡ 0 = rest ∙ rw none refl in
         rw (zero_, r.1) refl
 
-length-codes_in : (es : List Change) → length (codes_in es) ≡ length es
+pub length-codes_in : (es : List Change) → length (codes_in es) ≡ length es
 length-codes_in [] = refl
 length-codes_in (e ∷ es) = ap suc (length-codes_in es)
 
@@ -223,7 +223,7 @@ times-distinct c (x ∷ xs) = by_case (times-distinct c xs) (is_among x xs) refl
         times-cons c x (distinct xs) ∙ rw (e, rest, none) refl
     by_case rest false h false e = times-cons c x (distinct xs) ∙ rw e (omega (arith, rest))
 
-same_length : (xs ys : List CodeId) → ((c : CodeId) → times c xs ≡ times c ys) → length xs ≡ length ys
+pub same_length : (xs ys : List CodeId) → ((c : CodeId) → times c xs ≡ times c ys) → length xs ≡ length ys
 same_length xs ys h =
     let a = part_fits (length ys) xs ys (omega arith) (λ c. omega (arith, h c)) in
     let b = part_fits (length xs) ys xs (omega arith) (λ c. omega (arith, h c)) in omega arith
@@ -246,9 +246,6 @@ unsettled_is frames es changed publishing r w =
         by_zero false h = let ne : a ≢ t = (λ s. zero_not z h (omega (arith, ints))) in grind (arith, nat_tests)
 
 -- a frame of the code comes or goes, by 1 or -1
-abbrev pub by_code : CodeId → ℤ → CodeId → ℤ
-by_code code by c = cond (same_code code c) by (pos 0)
-
 pub nets_by : (es : List Change) (code : CodeId) (by : ℤ) → IsRising None es → (c : CodeId) → net_in (add es code by) c ≡ net_in es c +ℤ by_code code by c
 nets_by es code by r c = by_case (same_code code c) refl
   where
@@ -395,16 +392,6 @@ unsettled_fewer frames es n x was now publishing r w e =
     let b = unsettled_is frames (drop (n + 1) es) now publishing (rising_drop (n + 1) es r) within in
     let l : length (drop n es) ≡ suc (length (drop (n + 1) es)) = ap length e in
     omega (arith, a, b, l)
-
-pub small_nets : (es : List Change) → IsRising None es → ((c : CodeId) → IsWithin (net_in es c) 256) → AreSmall es
-small_nets [] r w = tt
-small_nets (e ∷ es) r w = (subst (λ z. IsWithin z 256) (itself e es) (w e.code), small_nets es (rising_any es (Some e.code) r.2) (λ c. rest c (same_code e.code c) refl (w c)))
-  where
-    rest : (c : CodeId) (b : Bool) → same_code e.code c ≡ b → IsWithin (cond b e.by (net_in es c)) 256 → IsWithin (net_in es c) 256
-    rest c false h k = k
-    rest c true h k =
-        let none : net_in es c ≡ pos 0 = subst (λ x. net_in es x ≡ pos 0) (same_code-equal e.code c h) (none_behind e es r.2) in
-        record { low = omega (arith, ints); high = omega (arith, ints) }
 
 serial_times-cons : (serial : ℕ) (x : CodeId) (xs : List CodeId) → serial_times serial (x ∷ xs) ≡ cond (eqb x.serial serial) 1 0 + serial_times serial xs
 serial_times-cons serial x xs = sum_by-cons (λ c. cond (eqb c.serial serial) 1 0) x xs

@@ -1,9 +1,9 @@
 -- Nets: codes with how many frames each has more than are counted, rising by serial and then by slot.
-use Rattle.std.specs.Prelude.{◌≡◌, ℕ, zero, suc, ℤ, pos, negsuc, ◌+ℤ◌, ◌-ℤ◌, ◌≤ℤ◌, ◌≤◌, ◌==◌, length, Bool, true, false, not, List, [], ◌∷◌, ◌++◌, map, filter, replicate, Option, Some, None, if◌then◌else◌}
+use Rattle.std.specs.Prelude.{◌≡◌, ℕ, zero, suc, ℤ, pos, negsuc, ◌+ℤ◌, ◌-ℤ◌, ◌≤ℤ◌, ◌≤◌, ◌==◌, ◌+◌, ◌<◌, ◌%◌, slice_index_or, length, Bool, true, false, not, List, [], ◌∷◌, ◌++◌, map, filter, replicate, Option, Some, None, if◌then◌else◌}
 use Rattle.frames.specs.declared.CodeId.{CodeId}
 use Rattle.frames.specs.declared.Frame.{Frame}
 use Rattle.frames.specs.declared.Change.{Change}
-use Rattle.frames.specs.Stack.{same_code, code_lt, act, codes_of}
+use Rattle.frames.specs.Stack.{same_code, code_lt, act, codes_of, times}
 use Rattle.frames.specs.Kept.{upto}
 
 -- the net of a code, 0 where it has none
@@ -35,25 +35,15 @@ add (e ∷ es) code by =
 abbrev pub moved : List Change → CodeId → ℤ → List Change
 moved es code by = if is_zero by then es else add es code by
 
+-- the nets of moves in any order
+abbrev pub settled : List Change → List Change
+settled [] = []
+settled (e ∷ es) = moved (settled es) e.code e.by
+
 -- each code is above the one before, and no net is 0
 abbrev pub IsRising : Option CodeId → List Change → Type 0
 IsRising last [] = Unit {0}
 IsRising last (e ∷ es) = (upto last e.code ≡ false) × (is_zero e.by ≡ false) × IsRising (Some e.code) es
-
--- where the code stands, or would stand
-abbrev pub place_in : List Change → CodeId → ℕ
-place_in [] code = 0
-place_in (e ∷ es) code = if code_lt e.code code then suc (place_in es code) else 0
-
-abbrev pub IsAt : List Change → CodeId → ℕ → Type 0
-IsAt [] code place = ⊥
-IsAt (e ∷ es) code zero = same_code e.code code ≡ true
-IsAt (e ∷ es) code (suc place) = IsAt es code place
-
-abbrev pub IsNotAt : List Change → CodeId → ℕ → Type 0
-IsNotAt [] code place = Unit {0}
-IsNotAt (e ∷ es) code zero = same_code e.code code ≡ false
-IsNotAt (e ∷ es) code (suc place) = IsNotAt es code place
 
 -- the number, 0 below it
 abbrev pub nat_of : ℤ → ℕ
@@ -90,16 +80,46 @@ abbrev pub AreSmall : List Change → Type 0
 AreSmall [] = Unit {0}
 AreSmall (e ∷ es) = IsWithin e.by 256 × AreSmall es
 
--- the nets as they are where the register's move stands among them, and whether the register is empty
+-- the nets, and whether the list that is kept has them as they are here
 pub record NetsView : Type 0 where
   pub entries : List Change
   pub flushed : Bool
 
--- what is true of a list with its register
-pub record AreKept (es : List Change) (capacity : ℕ) (latest : Change) : Type 0 where
-  pub room : 512 ≤ capacity
-  pub rising : IsRising None es
-  pub listed : (code : CodeId) → IsWithin (net_in es code) 256
-  pub all : (code : CodeId) → IsWithin (net_in (moved es latest.code latest.by) code) 256
-  pub few : length (moved es latest.code latest.by) ≤ 512
-  pub few_listed : length es ≤ 512
+-- how the net of one code moves that of another
+abbrev pub by_code : CodeId → ℤ → CodeId → ℤ
+by_code code by c = if same_code code c then by else pos 0
+
+-- the nets of a code in all
+abbrev pub total : List Change → CodeId → ℤ
+total [] code = pos 0
+total (e ∷ es) code = total es code +ℤ by_code e.code e.by code
+
+-- each code stands in the list once
+abbrev pub AreOnce : List Change → Type 0
+AreOnce es = (code : CodeId) → times code (codes_in es) ≤ 1
+
+-- the code stands at the place
+pub record IsAt (es : List Change) (code : CodeId) (place : ℕ) : Type 0 where
+  pub within : place < length es
+  pub is : (d : Change) → (slice_index_or es place d).code ≡ code
+
+-- the list has one net more; one of 0 may have made room for it
+pub record IsPut (net : Change) (old new : List Change) : Type 0 where
+  pub fits : length new ≤ 1024
+  pub totals : (code : CodeId) → total new code ≡ total old code +ℤ by_code net.code net.by code
+  pub codes : (code : CodeId) → times code (codes_in new) ≤ times code (codes_in old) + times code (net.code ∷ [])
+
+-- which mark is that of the code's slot
+abbrev pub mark_of : CodeId → ℕ
+mark_of code = code.slot % 1024
+
+-- what is true of a list with its marks
+pub record AreKept (es : List Change) (capacity : ℕ) (marks : List ℕ) (flushed : Bool) : Type 0 where
+  pub room : 1024 ≤ capacity
+  pub fits : length es ≤ 1024
+  pub marks_are : length marks ≡ 1024
+  pub once : AreOnce es
+  pub marked : flushed ≡ false → (code : CodeId) → slice_index_or marks (mark_of code) 0 ≡ 0 → times code (codes_in es) ≡ 0
+  pub small : (code : CodeId) → IsWithin (net_in (settled es) code) 256
+  pub few : length (settled es) ≤ 512
+  pub rising : flushed ≡ true → IsRising None es

@@ -16,8 +16,8 @@ pub const DEPTH: usize = 256;
 /// A publication is a [`begin`](Image::begin), a [`next_change`](Image::next_change) for each code
 /// whose count differs, and an [`end`](Image::end). While one is open the stack doesn't change.
 ///
-/// What differs is kept as frames come and go, so that a publication costs no more than its
-/// changes, and calls of one code with their returns the same at any depth. Only
+/// What differs is kept as frames come and go, so that calls and returns cost the same at any
+/// depth, and a publication no more than a sort of the codes that moved. Only
 /// [`count_of`](Image::count_of) goes over the frames.
 ///
 /// Contracts see the frames, the bag of counted codes, the codes already changed in the open
@@ -48,7 +48,7 @@ impl Model for Image {
       publishing = i.publishing;
     } };
 
-    ghost invariant = { λ i. (vec_len i.frames ≤ 256) × (256 ≤ vec_capacity i.frames) × (i.publishing ≡ true → i.nets.flushed ≡ true)
+    ghost invariant = { λ i. (vec_len i.frames ≤ 256) × (256 ≤ vec_capacity i.frames) × (i.nets.flushed ≡ i.publishing)
         × (i.given ≤ length i.nets.entries)
         × (i.publishing ≡ false → i.given ≡ 0)
         × IsRising None i.nets.entries
@@ -226,7 +226,7 @@ impl Image {
     pub fn is_settled(&self) -> bool
         ensures { IsTrue result ↔ IsSettled self.now }
     {
-        !self.publishing && self.nets.len() == 0
+        !self.publishing && self.nets.is_empty()
     }
 
     /// How many codes have other numbers of frames than are counted.

@@ -237,3 +237,48 @@ fn an_image_has_room_for_512_nets(rt: HostRuntime) -> Result<(), Fail> {
     assert!(rt; image.is_settled());
     Ok(())
 }
+
+#[test]
+fn slots_that_share_a_mark_are_told_apart(rt: HostRuntime) -> Result<(), Fail> {
+    let mut image = Image::new(rt.alloc())?;
+    for slot in [1027, 3, 2051, 3, 1027, 1027] {
+        assert_eq!(rt; image.push(compiled(0, code(slot, 7))), Ok(()));
+    }
+    assert_eq!(rt; image.pop(), Ok(compiled(0, code(1027, 7))));
+    assert_eq!(rt; image.unsettled(), 3);
+    assert_eq!(rt; image.net(7), 5);
+    assert_eq!(rt; image.begin(), Ok(()));
+    for (slot, by) in [(3, 2), (1027, 2), (2051, 1)] {
+        assert_eq!(rt;
+            image.next_change(),
+            Some(Change {
+                code: code(slot, 7),
+                by
+            })
+        );
+    }
+    assert_eq!(rt; image.end(), Ok(()));
+    Ok(())
+}
+
+#[test]
+fn more_codes_may_move_than_there_is_room_for(rt: HostRuntime) -> Result<(), Fail> {
+    let mut image = Image::new(rt.alloc())?;
+    assert_eq!(rt; image.push(compiled(0, code(9, 5000))), Ok(()));
+    for serial in 1..3000 {
+        let called = code((serial % 2000) as u32, serial);
+        assert_eq!(rt; image.push(compiled(0, called)), Ok(()));
+        assert_eq!(rt; image.pop(), Ok(compiled(0, called)));
+    }
+    assert_eq!(rt; image.unsettled(), 1);
+    assert!(rt; !image.is_settled());
+    assert_eq!(rt; image.push(compiled(0, code(8, 10))), Ok(()));
+    assert_eq!(rt; image.begin(), Ok(()));
+    for code in [code(8, 10), code(9, 5000)] {
+        assert_eq!(rt; image.next_change(), Some(Change { code, by: 1 }));
+    }
+    assert_eq!(rt; image.next_change(), None);
+    assert_eq!(rt; image.end(), Ok(()));
+    assert!(rt; image.is_settled());
+    Ok(())
+}

@@ -23,11 +23,14 @@ const LEAST: u64 = 1;
 
 const GREATEST: u64 = 1 << 30;
 
-/// A frame of the code.
+/// A frame of the code. Codes whose last bits differ have slots of their own.
 fn frame(serial: u64) -> Frame {
     Frame {
         method: 0,
-        code: Some(CodeId { slot: 0, serial }),
+        code: Some(CodeId {
+            slot: (serial % 1024) as u32,
+            serial,
+        }),
     }
 }
 

@@ -7,4 +7,4 @@ abbrev pub invariant-loop-net : goal.invariant-loop-net
 invariant-loop-net l =
     (l.sum +ℤ net_sum l.serial (drop l.net-index l.nets) ≡ net_sum l.serial l.nets)
     × (pos 0 ≤ℤ (l.sum +ℤ pos (256 * l.net-index))) × (l.sum ≤ℤ pos (256 * l.net-index))
-    × AreSmall (drop l.net-index l.nets) × (length l.nets ≤ 512)
+    × AreSmall (drop l.net-index l.nets) × (length l.nets ≤ 1024)

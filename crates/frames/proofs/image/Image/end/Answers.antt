@@ -15,7 +15,7 @@ invariant_of-self c =
     rw c.clear.ensures (
       search rules,
       search rules,
-      λ _. refl,
+      refl,
       omega arith,
       λ _. refl,
       tt,

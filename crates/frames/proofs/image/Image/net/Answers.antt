@@ -1,4 +1,4 @@
-use Rattle.std.proofs.Common.{◌≡◌, Bool, true, false, ℕ, refl, arith, drop}
+use Rattle.std.proofs.Common.{◌≡◌, ◌∙◌, Bool, true, false, ℕ, refl, arith, drop}
 use Rattle.std.proofs.lemmas.Int.{ints}
 use Rattle.frames.proofs.Settling.{serial_balance, rising_drop}
 use Rattle.frames.proofs.image.Image.net.Goals as goal
@@ -8,7 +8,7 @@ open_where true given h k = refl
 open_where false given h k = absurd (k (h refl))
 
 pub sum-requires-clause-flushed : goal.sum-requires-clause-flushed
-sum-requires-clause-flushed c = λ given. c.self.invariant.2 (open_where c.self.inside.publishing c.self.inside.given c.self.invariant.4 given)
+sum-requires-clause-flushed c = λ given. c.self.invariant.2 ∙ (open_where c.self.inside.publishing c.self.inside.given c.self.invariant.4 given)
 
 pub returns : goal.returns
 returns c =

@@ -39,7 +39,7 @@ invariant_of-self c =
     rw (c.add.ensures, none, c.if-self.false) (
       search rules,
       search rules,
-      λ open_. cc,
+      refl,
       omega arith,
       λ _. refl,
       m.rising,

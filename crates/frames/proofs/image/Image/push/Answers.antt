@@ -33,7 +33,7 @@ invariant_of-self c =
     rw (c.add.ensures, c.in-Ok.ensures.items, none, c.if-self.false) (
       search rules,
       search rules,
-      λ open_. cc,
+      refl,
       omega arith,
       λ _. refl,
       m.rising,

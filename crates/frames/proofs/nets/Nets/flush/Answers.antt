@@ -1,22 +1,14 @@
-use Rattle.std.proofs.Common.{◌≡◌, false, to_z, of_z, w32, arith}
-use Rattle.std.proofs.lemmas.Int.{ints}
-use Rattle.frames.specs.Nets.{is_zero}
-use Rattle.frames.proofs.Moves.{not_zero}
-use Rattle.frames.proofs.Register.{by_small, flushed}
+use Rattle.std.proofs.Common.{ap, List, true}
+use Rattle.frames.specs.declared.Change.{Change}
+use Rattle.frames.specs.Nets.{NetsView}
+use Rattle.frames.proofs.Totals.{flushed_kept, rising_settled, settled_rising}
 use Rattle.frames.proofs.nets.Nets.flush.Goals as goal
 
-pub add-self-inside-requires-clause-small : goal.add-self-inside-requires-clause-small
-add-self-inside-requires-clause-small c =
-    let small = by_small c.self.inside.list.items _ c.self.inside.latest c.self.invariant in
-    let low = small.low in
-    let high = small.high in
-    (omega (arith, ints), omega (arith, ints))
-
 pub invariant_of-self : goal.invariant_of-self
-invariant_of-self c =
-    let some : is_zero c.self.inside.latest.by ≡ false = not_zero c.self.inside.latest.by (λ e. omega (arith, ints, e, c.if-self-ne0.true)) in
-    let small = by_small c.self.inside.list.items _ c.self.inside.latest c.self.invariant in
-    let low = small.low in
-    let high = small.high in
-    let by : to_z w32 (of_z w32 c.self.inside.latest.by) ≡ c.self.inside.latest.by = omega (arith, ints) in
-    rw (c.add-self-inside.ensures.items, by) (flushed c.self.inside.list.items _ _ c.self.inside.latest c.self.invariant some c.add-self-inside.ensures.capacity)
+invariant_of-self c = rw c.settle.ensures.items (flushed_kept c.self.inside.list.items _ _ c.self.inside.marks.items _ _ c.self.invariant c.settle.ensures.capacity c.unmark.ensures)
+
+pub returns : goal.returns
+returns c =
+    let es = c.self.inside.list.items in
+    let view : List Change → NetsView = λ entries. record { entries = entries; flushed = true } in
+    rw (← c.self.view_is, c.settle.ensures.items) (ap view (rising_settled _ (settled_rising es)))

@@ -1,44 +1,41 @@
-use Rattle.std.proofs.Common.{◌≡◌, ◌∙◌, ap, eqb, true, false, arith}
+use Rattle.std.proofs.Common.{◌≡◌, ◌≢◌, ◌≤◌, ℕ, zero, suc, ◌∙◌, ap, subst, List, length, drop, arith}
 use Rattle.std.proofs.lemmas.Int.{ints}
 use Rattle.std.proofs.lemmas.List.{take_rest}
-use Rattle.std.proofs.lemmas.Bool.Decides.{nat_tests}
-use Rattle.frames.proofs.Settling.{small_nets}
-use Rattle.frames.proofs.Register.{by_small, sum_from, small_drop}
+use Rattle.frames.specs.declared.Change.{Change}
+use Rattle.frames.specs.Nets.{settled, net_sum}
+use Rattle.frames.proofs.Totals.{rising_settled, sum_settled, small_once, small_drop}
 use Rattle.frames.proofs.nets.Nets.sum.Goals as goal
 
-pub net_sum-listed-requires-clause-small : goal.net_sum-listed-requires-clause-small
-net_sum-listed-requires-clause-small c =
+-- from a place on: the list is settled unless it is the first
+within : (es : List Change) (n : ℕ) → (n ≢ 0 → settled es ≡ es) → n ≤ length (settled es) → n ≤ length es
+within es zero h le = omega arith
+within es (suc n) h le = subst (λ xs. suc n ≤ length xs) (h (λ e. omega (arith, e))) le
+
+sum_from : (serial : ℕ) (es : List Change) (n : ℕ) → (n ≢ 0 → settled es ≡ es) → net_sum serial (drop n (settled es)) ≡ net_sum serial (drop n es)
+sum_from serial es zero h = sum_settled serial es
+sum_from serial es (suc n) h = ap (λ xs. net_sum serial (drop (suc n) xs)) (h (λ e. omega (arith, e)))
+
+pub slice_bounds-net_sum-count : goal.slice_bounds-net_sum-count
+slice_bounds-net_sum-count c =
     let es = c.self.inside.list.items in
-    let small = small_drop c.args.from es (small_nets es c.self.invariant.rising c.self.invariant.listed) in
-    rw (c.deref.ensures.value, take_rest) small
+    let le = rw (← c.self.view_is) at c.requires.within in
+    rw c.deref.ensures.value (within es c.args.from (λ ne. rising_settled es (c.self.invariant.rising (ap (λ v. v.flushed) c.self.view_is ∙ c.requires.flushed ne))) le)
 
-pub overflow_add-result : goal.overflow_add-result
-overflow_add-result c =
-    let small = by_small c.self.inside.list.items _ c.self.inside.latest c.self.invariant in
-    let a = small.low in
-    let b = small.high in
-    let bound = c.net_sum-listed.ensures.bound in
-    omega (arith, ints)
+pub slice_bounds-net_sum-start : goal.slice_bounds-net_sum-start
+slice_bounds-net_sum-start c =
+    let es = c.self.inside.list.items in
+    let le = rw (← c.self.view_is) at c.requires.within in
+    rw c.deref.ensures.value (within es c.args.from (λ ne. rising_settled es (c.self.invariant.rising (ap (λ v. v.flushed) c.self.view_is ∙ c.requires.flushed ne))) le)
 
-pub returns-then-self-serial : goal.returns-then-self-serial
-returns-then-self-serial c =
-    let latest = c.self.inside.latest in
-    let small = by_small c.self.inside.list.items _ latest c.self.invariant in
-    let a = small.low in
-    let b = small.high in
-    let bound = c.net_sum-listed.ensures.bound in
-    let listed = rw (c.deref.ensures.value, take_rest) at c.net_sum-listed.ensures.value in
-    let mine : eqb latest.code.serial c.args.serial ≡ true = grind (arith, nat_tests) in
-    let all = sum_from c.args.serial c.self.inside.list.items latest.code latest.by c.args.from (λ ne. ap (λ v. v.flushed) c.self.view_is ∙ c.requires.flushed ne) in
-    let sum = rw mine at all in
-    rw (← c.self.view_is) (omega (arith, ints, sum, listed))
+pub net_sum-requires-clause-small : goal.net_sum-requires-clause-small
+net_sum-requires-clause-small c =
+    let es = c.self.inside.list.items in
+    rw (c.deref.ensures.value, take_rest) (small_drop c.args.from es (small_once es c.self.invariant.once c.self.invariant.small))
 
-pub returns-else-self-serial : goal.returns-else-self-serial
-returns-else-self-serial c =
-    let latest = c.self.inside.latest in
-    let bound = c.net_sum-listed.ensures.bound in
-    let listed = rw (c.deref.ensures.value, take_rest) at c.net_sum-listed.ensures.value in
-    let other : eqb latest.code.serial c.args.serial ≡ false = grind (arith, nat_tests) in
-    let all = sum_from c.args.serial c.self.inside.list.items latest.code latest.by c.args.from (λ ne. ap (λ v. v.flushed) c.self.view_is ∙ c.requires.flushed ne) in
-    let sum = rw other at all in
-    rw (← c.self.view_is) (omega (arith, ints, sum, listed))
+pub returns : goal.returns
+returns c =
+    let es = c.self.inside.list.items in
+    let listed = rw (c.deref.ensures.value, take_rest) at c.net_sum.ensures.value in
+    let bound = c.net_sum.ensures.bound in
+    let all = sum_from c.args.serial es c.args.from (λ ne. rising_settled es (c.self.invariant.rising (ap (λ v. v.flushed) c.self.view_is ∙ c.requires.flushed ne))) in
+    rw (← c.self.view_is) (omega (arith, ints, listed, all))
