@@ -29,7 +29,7 @@ QUIET_GROWTHS = 20
 THREADS = {
     "poll": ["no_arming_is_lost_to_a_clear", "the_armer_is_in_another_thread"],
     "board": ["stopped::a_publication_is_looked_at_from_another_thread_at_each_boundary"],
-    "coordinator": [
+    "coordinator_tests": [
         "census::a_census_counts_what_the_words_count",
         "invalidated::no_call_enters_what_is_seen_invalidated",
         "leaving::a_thread_that_exits_is_gone_or_has_answered",
@@ -39,8 +39,8 @@ THREADS = {
 
 # Those of a list meet the same at each growth.
 MEMORY = {
-    "system": [["refused_memory::refused_memory_stops_a_run_before_its_event"]],
-    "replay": [
+    "system_tests": [["refused_memory::refused_memory_stops_a_run_before_its_event"]],
+    "replay_tests": [
         [
             "refused_memory::refused_memory_leaves_the_answers_before_a_line",
             "refused_memory::refused_memory_leaves_as_many_answers_of_a_block",
@@ -55,7 +55,7 @@ PASSED = "test result: ok"
 
 # These pass, or end with one of the errors.
 ENDING = {
-    "desk": ["sixty_four_requests_wait", "a_handshake_is_answered_once", "a_code_is_reclaimed", "a_full_history_takes_no_entry"],
+    "desk_tests": ["sixty_four_requests_wait", "a_handshake_is_answered_once", "a_code_is_reclaimed", "a_full_history_takes_no_entry"],
 }
 # What std answers where a block, or the block of a box, isn't given.
 ERRORS = ("error: AllocError\n", "error: AllocFailed { .. }\n")

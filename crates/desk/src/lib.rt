@@ -12,8 +12,6 @@ mod law;
 mod lists;
 mod log;
 mod replies;
-#[cfg(test)]
-mod tests;
 
 pub use desk::Desk;
 pub use entries::{Entry, Live, Standing, Target};

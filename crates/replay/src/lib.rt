@@ -9,6 +9,4 @@ pub(crate) mod keywords;
 pub(crate) mod print;
 pub mod spelling;
 pub mod stream;
-#[cfg(test)]
-mod tests;
 pub(crate) mod words;

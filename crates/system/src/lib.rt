@@ -15,8 +15,6 @@ mod request_events;
 pub mod requests;
 mod safepoints;
 pub mod tells;
-#[cfg(test)]
-mod tests;
 pub mod thread;
 mod thread_events;
 

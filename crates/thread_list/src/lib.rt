@@ -19,8 +19,6 @@ mod room;
 mod serving;
 mod shared;
 mod starts;
-#[cfg(test)]
-mod tests;
 mod waits;
 
 pub use berth::Berth;
