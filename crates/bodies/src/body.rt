@@ -190,6 +190,7 @@ impl<N: Name> Body<N> {
         requires { IsSettled self.now.image }
         ensures same { (result.op ≡ J.number job) × (result.target ≡ J.whom job) × (result.ask ≡ J.asks job) }
         ensures reply { result.reply ≡ reply (J.asks job) self.now.image.frames }
+        ensures called { J.may_answer job self.now.image result.reply }
     {
         job.run_on(&self.image)
     }

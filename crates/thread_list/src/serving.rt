@@ -63,6 +63,7 @@ pub fn serve<N: Name, J: Errand, R: Wait>(
     requires job { (J.whom job ≡ body.old.name) × (0 < J.number job) }
     requires settled { IsSettled body.old.image }
     ensures entry { result.entry ≡ Entry.Finish (J.number job) (J.whom job) (reply (J.asks job) body.old.image.frames) }
+    ensures called { J.may_answer job body.old.image (reply (J.asks job) body.old.image.frames) }
     ensures body { (body.new.name ≡ body.old.name) × (body.new.image ≡ body.old.image) × (body.new.seat ≡ body.old.seat) }
     ensures cleared { (found : ℕ) × (body.new.poller ≡ exchanged body.old.poller (J.number job) found) }
 {
