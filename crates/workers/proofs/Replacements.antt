@@ -1,5 +1,5 @@
 -- Codes that are installed, replaced and freed one after the other.
-use Rattle.std.proofs.Common.{◌≡◌, ◌∙◌, ◌+◌, ℕ, zero, suc, List, [], ◌∷◌, ◌++◌, length, length-append, inl, inr, refl, ap, sym, subst, append_assoc, slice_index, arith}
+use Rattle.std.proofs.Common.{◌≡◌, ◌∙◌, ◌+◌, ℕ, suc, List, [], ◌∷◌, ◌++◌, length, length-append, inl, inr, refl, ap, sym, subst, append_assoc, slice_index, arith}
 use Rattle.std.proofs.lemmas.List.{length-set}
 use Rattle.desk.specs.Machine.{Stands}
 use Rattle.desk.specs.declared.entries.Entry.TheVariants.{Free}

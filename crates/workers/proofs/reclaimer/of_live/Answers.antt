@@ -1,4 +1,4 @@
-use Rattle.std.proofs.Common.{rules, ◌==◌, ℕ}
+use Rattle.std.proofs.Common.{rules, ◌==◌}
 use Rattle.std.specs.List.{list_any}
 use Rattle.std.proofs.lemmas.Fn.{filter_same}
 use Rattle.workers.proofs.reclaimer.of_live.Goals as goal
