@@ -103,6 +103,8 @@ def runs(tally):
     for threads in (1, 2, 3, 4, 64):
         words = ["run", EXAMPLES / "loop.json", "--threads", str(threads)]
         tally.run(f"a loop on {threads} threads", words, run_text(threads, "finished 17", 4))
+    words = ["run", EXAMPLES / "recursion.json", "--threads", "1"]
+    tally.run("a recursion on one thread", words, run_text(1, "overflow 256", 2))
     with tempfile.NamedTemporaryFile(suffix=".json") as script:
         script.write(b'{"methods":[[{"loop":1000000,"body":[]}]]}')
         script.flush()
@@ -155,11 +157,15 @@ def files(tally, folder, right, wrong):
     tally.run("a file without a name", ["check", ""], b"", NOT_READ, 1)
     tally.run("a name that is too long", ["check", f"{folder}/{'a' * 5000}"], b"", NOT_READ, 1)
     tally.run("a folder as file", ["check", folder], b"", NOT_READ, 1)
+    # this file can be opened, and each read of it fails
+    tally.run("an unreadable file", ["check", "/proc/self/mem"], b"", NOT_READ, 1)
     tally.run("an empty file", ["check", "/dev/null"], b"", b"monitor: NotJson at -\n", 1)
     tally.run("a file without an end", ["check", "/dev/zero"], b"", b"monitor: TooLong at -\n", 1)
     tally.run("run of a wrong file", ["run", wrong], b"", WRONG_ANSWER, 1)
     tally.run("run of a file missing", ["run", f"{folder}/none.json", "--threads", "2"], b"", NOT_READ, 1)
     tally.run("run of a folder", ["run", folder], b"", NOT_READ, 1)
+    tally.run("run of an unreadable file", ["run", "/proc/self/mem"], b"", NOT_READ, 1)
+    tally.run("run of a file without an end", ["run", "/dev/zero"], b"", b"monitor: TooLong at -\n", 1)
     tally.run("run of an empty file", ["run", "/dev/null"], b"", b"monitor: NotJson at -\n", 1)
 
 

@@ -2,3 +2,4 @@ pub mod Landings
 pub mod Endings
 pub mod Crosses
 pub mod Lines
+pub mod Replacements

@@ -1,24 +1,62 @@
--- The codes of a run, by their numbers.
-use Rattle.std.specs.Prelude.{◌≡◌, ◌+◌, ℕ}
+-- The codes of a run, by their serials and the receipts of their entries.
+use Rattle.std.specs.Prelude.{◌≡◌, ◌⊎◌, ◌+◌, ◌++◌, ℕ, zero, suc, List, [], ◌∷◌, length, slice_index, slice_set, ⊤}
+use Rattle.desk.specs.Machine.{Stands}
+use Rattle.desk.specs.declared.entries.Entry.TheVariants.{Install, Free}
 
--- How many codes are in use, how many are out of use and not freed, and how many receipts of codes that were installed and freed there are.
+-- The code of each method that is in use, the codes that are out of use and not freed, and the receipts of those that were installed and freed.
 pub record Codes : Type 0 where
-  pub in_use : ℕ
-  pub left : ℕ
-  pub installed : ℕ
-  pub freed : ℕ
+  pub in_use : List ℕ
+  pub left : List ℕ
+  pub installed : List Stands
+  pub freed : List Stands
 
--- Each of so many methods has a code in use, and no other code was installed.
+-- The code was installed for the method.
+abbrev pub IsInstall : ℕ → ℕ → Stands → Type 0
+IsInstall method serial r = (slot : ℕ) × (r.entry ≡ Install (record { slot = slot; serial = serial }) method)
+
+-- Each of these codes was installed, for the methods from that one on.
+abbrev pub AreInstalls : ℕ → List ℕ → List Stands → Type 0
+AreInstalls method [] [] = ⊤
+AreInstalls method [] (r ∷ rs) = ⊥
+AreInstalls method (s ∷ ss) [] = ⊥
+AreInstalls method (s ∷ ss) (r ∷ rs) = IsInstall method s r × AreInstalls (suc method) ss rs
+
+-- Each of so many methods has a code in use that was installed for it, and no other code was installed.
 abbrev pub InstallsEach : ℕ → Codes → Type 0
-InstallsEach methods c = (c.in_use ≡ methods) × (c.installed ≡ methods) × (c.left ≡ 0) × (c.freed ≡ 0)
+InstallsEach methods c =
+    (length c.in_use ≡ methods) × (length c.installed ≡ methods) × AreInstalls 0 c.in_use c.installed × (c.left ≡ []) × (c.freed ≡ [])
 
--- So many codes were replaced: as many more are installed, and as many more are freed or left.
-abbrev pub ReplacedMany : ℕ → Codes → Codes → Type 0
-ReplacedMany n old new = (new.in_use ≡ old.in_use) × (new.installed ≡ old.installed + n) × (new.freed + new.left ≡ old.freed + old.left + n)
+-- A code is freed, or left: by these freed and left before and after.
+abbrev pub IsKept : ℕ → List Stands → List ℕ → List Stands → List ℕ → Type 0
+IsKept serial freed left freed' left' =
+    ((r : Stands) × (r.entry ≡ Free serial) × (freed' ≡ freed ++ r ∷ []) × (left' ≡ left)) ⊎ ((freed' ≡ freed) × (left' ≡ left ++ serial ∷ []))
 
-abbrev pub Replaced : Codes → Codes → Type 0
-Replaced = ReplacedMany 1
+-- Another code was installed for the method, and the one before is freed or left.
+abbrev pub Replaced : ℕ → Codes → Codes → Type 0
+Replaced method old new =
+    (serial : ℕ) × (r : Stands) × IsInstall method serial r × (new.in_use ≡ slice_set old.in_use method serial)
+    × (new.installed ≡ old.installed ++ r ∷ []) × IsKept (slice_index old.in_use method) old.freed old.left new.freed new.left
 
--- The code of each method was.
+-- The code of each of the first methods was replaced, one after the other.
+unfoldable pub ReplacedFirst : ℕ → Codes → Codes → Type 0
+ReplacedFirst zero old new = new ≡ old
+ReplacedFirst (suc method) old new = (mid : Codes) × ReplacedFirst method old mid × Replaced method mid new
+
+-- As many methods have a code, so many more codes are installed, and as many more are freed or left.
+abbrev pub CountsMore : ℕ → Codes → Codes → Type 0
+CountsMore n old new =
+    (length new.in_use ≡ length old.in_use) × (length new.installed ≡ length old.installed + n)
+    × (length new.freed + length new.left ≡ length old.freed + length old.left + n)
+
+-- The code of each method was replaced.
 abbrev pub ReplacedEach : Codes → Codes → Type 0
-ReplacedEach old = ReplacedMany old.in_use old
+ReplacedEach old new = ReplacedFirst (length old.in_use) old new × CountsMore (length old.in_use) old new
+
+-- Some of these codes were freed, each once at most.
+abbrev pub AreFreed : List ℕ → List Stands → Type 0
+AreFreed [] rs = rs ≡ []
+AreFreed (s ∷ ss) rs = AreFreed ss rs ⊎ ((r : Stands) × (more : List Stands) × (rs ≡ r ∷ more) × (r.entry ≡ Free s) × AreFreed ss more)
+
+-- Behind the receipts of codes that were freed are those of some of these.
+abbrev pub FreesSome : List ℕ → List Stands → List Stands → Type 0
+FreesSome serials old new = (more : List Stands) × (new ≡ old ++ more) × AreFreed serials more

@@ -1,8 +1,9 @@
 //! The codes of a run: what the thread does that installs and reclaims them.
-ghost use Rattle.std.specs.Prelude.{◌≡◌, ◌≤◌, ◌<◌, ◌+◌, ℕ, IfOk, IfSome, OnOk, length};
+ghost use Rattle.std.specs.Prelude.{◌≡◌, ◌==◌, ◌≤◌, ◌<◌, ◌+◌, IfOk, IfSome, OnOk, length};
+ghost use Rattle.std.specs.List.{filter, list_any};
 ghost use Rattle.poll.specs.Rows.{full_armer};
 ghost use Rattle.desk.specs.declared.entries.Entry.{Entry};
-ghost use Rattle.workers.specs.Replacing.{InstallsEach, Replaced, ReplacedEach};
+ghost use Rattle.workers.specs.Replacing.{IsInstall, InstallsEach, IsKept, Replaced, ReplacedEach, FreesSome};
 
 use crate::fault::RunFault;
 use bodies::Name;
@@ -16,8 +17,8 @@ use std::marker::Model;
 use std::sync::Wait;
 use thread_list::Shared;
 
-/// Installs codes, takes them out of use and reclaims them. Contracts see how many codes are in use, how many are out of use and
-/// not freed, and how many receipts of codes that were installed and freed there are.
+/// Installs codes, takes them out of use and reclaims them. Contracts see the code of each method that is in use, the codes that are
+/// out of use and not freed, and the receipts of those that were installed and freed.
 #[derive(Drop)]
 pub struct Reclaimer<'a, N: Name, J: Errand> {
     shared: &'a Shared<N, J>,
@@ -29,12 +30,11 @@ pub struct Reclaimer<'a, N: Name, J: Errand> {
 }
 
 impl<'a, N: Name, J: Errand> Model for Reclaimer<'a, N, J> {
-    ghost use Rattle.std.specs.Prelude.{length};
     ghost use Rattle.workers.specs.Replacing.{Codes};
 
     ghost Value = { Codes };
 
-    ghost view = { λ r. record { in_use = length r.in_use.items; left = length r.left.items; installed = length r.installed.items; freed = length r.freed.items } };
+    ghost view = { λ r. record { in_use = r.in_use.items; left = r.left.items; installed = r.installed.items; freed = r.freed.items } };
 }
 
 /// How many codes a run installed and freed, and the sum of all count words at its end.
@@ -80,7 +80,7 @@ impl<'a, N: Name, J: Errand> Reclaimer<'a, N, J> {
     /// For each method in rising order: takes its code out of use, installs another, and tries once to reclaim the old one, with the
     /// jobs of one list that are for live threads.
     pub fn replace_each<R: Wait>(&mut self, rt: &R, jobs: Vec<Vec<J>>) -> Result<(), RunFault>
-        requires { length jobs.items ≡ self.old.in_use }
+        requires { length jobs.items ≡ length self.old.in_use }
         ensures { OnOk result (ReplacedEach self.old self.new) }
     {
         let mut jobs = jobs;
@@ -97,8 +97,8 @@ impl<'a, N: Name, J: Errand> Reclaimer<'a, N, J> {
 
     /// Takes all codes out of use, and reclaims all that are left, without jobs.
     pub fn finish<R: Wait>(self, rt: &R, alloc: Global) -> Result<Tally, RunFault>
-        ensures installed { IfOk result (λ t. t.installed ≡ self.entry.installed) }
-        ensures freed { IfOk result (λ t. t.freed ≤ self.entry.freed + self.entry.left + self.entry.in_use) }
+        ensures installed { IfOk result (λ t. t.installed ≡ length self.entry.installed) }
+        ensures freed { IfOk result (λ t. t.freed ≤ length self.entry.freed + length self.entry.left + length self.entry.in_use) }
     {
         let Reclaimer {
             shared,
@@ -122,8 +122,8 @@ impl<'a, N: Name, J: Errand> Reclaimer<'a, N, J> {
 
     // Takes the code of a method out of use, installs another, and tries once to reclaim the old one.
     fn replace<R: Wait>(&mut self, rt: &R, method: usize, jobs: Vec<J>) -> Result<(), RunFault>
-        requires { method < self.old.in_use }
-        ensures { OnOk result (Replaced self.old self.new) }
+        requires { method < length self.old.in_use }
+        ensures { OnOk result (Replaced method self.old self.new) }
     {
         let old = self.in_use[method];
         invalidate(rt, self.shared, old)?;
@@ -133,12 +133,15 @@ impl<'a, N: Name, J: Errand> Reclaimer<'a, N, J> {
             return Err(RunFault::NoMemory);
         }
         let reclaimed = reclaim(rt, &mut self.coordinator, old, jobs)?;
-        self.keep(old, reclaimed)
+        self.keep(old, reclaimed)?;
+        Ok(())
     }
 
     // A code that was taken out of use is freed, or left.
     fn keep(&mut self, serial: u64, freed: Option<Receipt<N>>) -> Result<(), RunFault>
-        ensures { OnOk result ((self.new.in_use ≡ self.old.in_use) × (self.new.installed ≡ self.old.installed) × (self.new.freed + self.new.left ≡ self.old.freed + self.old.left + 1)) }
+        requires { IfSome freed (λ r. r.entry ≡ Entry.Free serial) }
+        ensures kept { OnOk result (IsKept serial self.old.freed self.old.left self.new.freed self.new.left) }
+        ensures same { (self.new.in_use ≡ self.old.in_use) × (self.new.installed ≡ self.old.installed) }
     {
         match freed {
             Some(receipt) => {
@@ -157,9 +160,15 @@ impl<'a, N: Name, J: Errand> Reclaimer<'a, N, J> {
 }
 
 // The jobs that are for live threads.
-fn of_live<J: Errand>(jobs: Vec<J>, live: &[u64]) -> Vec<J> {
+fn of_live<J: Errand>(jobs: Vec<J>, live: &[u64]) -> Vec<J>
+    ensures { result.items ≡ filter (λ j. list_any (λ n. n == J.whom j) live.now) jobs.items }
+{
     let mut jobs = jobs;
-    jobs.retain(|job| live.contains(&job.target_of()));
+    jobs.retain(
+        |job| -> bool
+            ensures { result ≡ list_any (λ n. n == J.whom job.now) live.entry.now }
+        { live.contains(&job.target_of()) },
+    );
     jobs
 }
 
@@ -169,7 +178,7 @@ fn install<N: Name, J: Errand, R: Wait>(
     shared: &Shared<N, J>,
     method: usize,
 ) -> Result<(u64, Receipt<N>), RunFault>
-    ensures { IfOk result (λ r. (slot : ℕ) × (r.1.entry ≡ Entry.Install (record { slot = slot; serial = r.0 }) method)) }
+    ensures { IfOk result (λ r. IsInstall method r.0 r.1) }
 {
     let Ok(method) = u32::try_from(method) else {
         return Err(RunFault::Refused);
@@ -224,7 +233,8 @@ fn reclaim_all<N: Name, J: Errand, R: Wait>(
     serials: &[u64],
     freed: &mut Vec<Receipt<N>>,
 ) -> Result<(), RunFault>
-    ensures { OnOk result (length freed.new.items ≤ length freed.old.items + length serials.now) }
+    ensures some { OnOk result (FreesSome serials.now freed.old.items freed.new.items) }
+    ensures few { OnOk result (length freed.new.items ≤ length freed.old.items + length serials.now) }
 {
     for serial in serials {
         let Some(receipt) = reclaim(rt, coordinator, *serial, Vec::new(alloc))? else {
