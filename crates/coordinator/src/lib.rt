@@ -14,8 +14,6 @@ mod holding;
 mod reclaiming;
 mod serving;
 mod telling;
-#[cfg(test)]
-mod tests;
 
 pub use coordinator::Coordinator;
 pub use desk::{NotReclaimed, ReclaimFault};

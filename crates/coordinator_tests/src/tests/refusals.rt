@@ -1,0 +1,187 @@
+//! What each call answers and refuses, in the order of its tests.
+ghost use Rattle.std.specs.Prelude.{◌≡◌};
+ghost use Rattle.operations.specs.Asks.{reply};
+
+use super::{ask_both, started};
+use bodies::Name;
+use coordinator::{Coordinator, HoldFault, NotHeld, OperateFault, ServeFault, TellFault, Told};
+use desk::{CloseFault, OpenFault};
+use frames::image::Image;
+use operations::job::{Call, Errand, Job};
+use operations::{Ask, Request};
+use std::alloc::{AllocError, Global};
+use std::marker::Brand;
+use std::process::Abort;
+use std::sync::Wait;
+use std::test::*;
+use thread_list::{Mutator, Parts, Poll, Shared};
+
+// Where nothing is open.
+fn refuse_all<N: Name, J: Errand, R: Wait + Abort>(
+    rt: &R,
+    coordinator: &mut Coordinator<'_, N, J>,
+) {
+    assert!(rt; matches!(coordinator.open(rt), Err(OpenFault::QueueEmpty)));
+    assert!(rt; matches!(coordinator.tell(rt, 1), Err(TellFault::NothingOpen)));
+    assert!(rt; matches!(coordinator.hold(rt, 2), Err(HoldFault::NoSuchPlace)));
+    assert!(rt; matches!(coordinator.hold(rt, 0), Err(HoldFault::NothingOpen)));
+    assert!(rt; matches!(coordinator.serve(rt, 0), Err(ServeFault::NotHeld)));
+    assert!(rt; matches!(coordinator.release(rt, 0), Err(NotHeld)));
+    assert!(rt;
+        matches!(
+            operate_fault(rt, coordinator),
+            Some(desk::OperateFault::NothingOpen)
+        )
+    );
+    assert!(rt; matches!(coordinator.close(rt), Err(CloseFault::NothingOpen)));
+}
+
+// The first thread, in native code, is told, held, served and released.
+fn work_on_first<N: Name, J: Errand, R: Wait + Abort>(
+    rt: &R,
+    coordinator: &mut Coordinator<'_, N, J>,
+) {
+    assert!(rt; matches!(coordinator.open(rt), Ok((1, _))));
+    assert!(rt; matches!(coordinator.open(rt), Err(OpenFault::AlreadyOpen)));
+    assert!(rt; matches!(coordinator.hold(rt, 0), Err(HoldFault::NotTold)));
+    assert!(rt; matches!(coordinator.tell(rt, 3), Err(TellFault::NotOf)));
+    assert!(rt; matches!(coordinator.tell(rt, 1), Ok(Told::Told)));
+    assert!(rt; matches!(coordinator.tell(rt, 1), Err(TellFault::AlreadyTold)));
+    assert!(rt; coordinator.hold(rt, 0).is_ok());
+    assert!(rt; matches!(coordinator.hold(rt, 0), Err(HoldFault::Held)));
+    assert!(rt;
+        matches!(
+            operate_fault(rt, coordinator),
+            Some(desk::OperateFault::NotOf)
+        )
+    );
+    assert!(rt; coordinator.serve(rt, 0).is_ok());
+    assert!(rt; matches!(coordinator.serve(rt, 0), Err(ServeFault::AlreadyDone)));
+    assert!(rt; matches!(coordinator.close(rt), Err(CloseFault::Held)));
+    assert!(rt; coordinator.release(rt, 0).is_ok());
+    assert!(rt; matches!(coordinator.hold(rt, 0), Err(HoldFault::AlreadyDone)));
+    assert!(rt; matches!(coordinator.close(rt), Err(CloseFault::NotDone)));
+}
+
+// The second thread, in Java, is told and isn't safe.
+fn tell_second<N: Name, J: Errand, R: Wait + Abort>(
+    rt: &R,
+    coordinator: &mut Coordinator<'_, N, J>,
+) {
+    assert!(rt; matches!(coordinator.tell(rt, 2), Ok(Told::Told)));
+    assert!(rt; matches!(coordinator.hold(rt, 1), Err(HoldFault::NotSafe)));
+}
+
+// It stops and serves itself.
+fn serve_itself<N: Name, J: Errand, R: Wait + Abort>(rt: &R, thread: &mut Mutator<'_, N, J>) {
+    assert!(rt; matches!(thread.back_edge(), Ok(Poll::Stop(1))));
+    assert!(rt; thread.stop(rt).is_ok());
+}
+
+// The handshake is closed; a census is opened, told to both, and the first thread is held.
+fn begin_count<N: Name, J: Errand, R: Wait + Abort>(
+    rt: &R,
+    coordinator: &mut Coordinator<'_, N, J>,
+) {
+    assert!(rt; matches!(coordinator.close(rt), Ok((1, _))));
+    assert!(rt; matches!(coordinator.open(rt), Ok((2, _))));
+    assert!(rt; matches!(coordinator.tell(rt, 3), Err(TellFault::NotOf)));
+    assert!(rt; matches!(coordinator.tell(rt, 1), Ok(Told::Told)));
+    assert!(rt; matches!(coordinator.tell(rt, 2), Ok(Told::Told)));
+    assert!(rt; coordinator.hold(rt, 0).is_ok());
+    assert!(rt; matches!(coordinator.serve(rt, 0), Err(ServeFault::NotOf)));
+    assert!(rt;
+        matches!(
+            operate_fault(rt, coordinator),
+            Some(desk::OperateFault::NotAllHeld)
+        )
+    );
+}
+
+// Why a census isn't operated.
+fn operate_fault<N: Name, J: Errand, R: Wait>(
+    rt: &R,
+    coordinator: &mut Coordinator<'_, N, J>,
+) -> Option<desk::OperateFault> {
+    match coordinator.operate(rt) {
+        Ok(_) => None,
+        Err(OperateFault::Refused(fault)) => Some(fault),
+        Err(OperateFault::NoMemory) => None,
+    }
+}
+
+// The second thread is held too, and the census is operated and closed.
+fn end_count<N: Name, J: Errand, R: Wait + Abort>(rt: &R, coordinator: &mut Coordinator<'_, N, J>) {
+    assert!(rt; coordinator.hold(rt, 1).is_ok());
+    assert!(rt; matches!(coordinator.close(rt), Err(CloseFault::Held)));
+    let Ok((number, list, _receipt)) = coordinator.operate(rt) else {
+        panic!(rt; "refused");
+    };
+    assert!(rt; number == 2 && list.is_empty());
+    assert!(rt;
+        matches!(
+            operate_fault(rt, coordinator),
+            Some(desk::OperateFault::AlreadyDone)
+        )
+    );
+    assert!(rt; coordinator.release(rt, 0).is_ok());
+    assert!(rt; coordinator.release(rt, 1).is_ok());
+    assert!(rt; matches!(coordinator.close(rt), Ok((2, _))));
+}
+
+fn work_step_by_step<N: Name, J: Errand, R: Wait + Abort>(
+    rt: &R,
+    alloc: Global,
+    parts: Parts,
+    jobs: Vec<J>,
+) -> Result<(), AllocError>
+    requires tables { (parts.board ≡ N.board) × (parts.row ≡ N.poll_row) }
+{
+    let Ok((shared, armer)) = Shared::<N, J>::new(alloc, parts) else {
+        return Err(AllocError);
+    };
+    let Ok(mut coordinator) = Coordinator::new(&shared, armer, alloc) else {
+        return Err(AllocError);
+    };
+    assert!(rt; matches!(coordinator.hold(rt, 0), Err(HoldFault::Vacant)));
+    let mut first = started(rt, alloc, &shared)?;
+    let mut second = started(rt, alloc, &shared)?;
+    refuse_all(rt, &mut coordinator);
+    assert!(rt; first.to_native(rt).is_ok());
+    ask_both(rt, alloc, &shared, jobs)?;
+    work_on_first(rt, &mut coordinator);
+    tell_second(rt, &mut coordinator);
+    serve_itself(rt, &mut second);
+    assert!(rt; shared.submit(rt, Request::Census, Vec::new(alloc)).is_ok());
+    begin_count(rt, &mut coordinator);
+    assert!(rt;
+        matches!(
+            shared.start(rt, alloc),
+            Err(desk::StartFault::SafepointOpen)
+        )
+    );
+    assert!(rt; second.to_native(rt).is_ok());
+    end_count(rt, &mut coordinator);
+    assert!(rt; first.from_native(rt).is_ok() && second.from_native(rt).is_ok());
+    assert!(rt; first.exit(rt).is_ok());
+    assert!(rt; second.exit(rt).is_ok());
+    Ok(())
+}
+
+#[test]
+fn each_call_is_refused_in_its_order(rt: HostRuntime) -> Result<(), Fail> {
+    let parts = Parts::new(rt.alloc(), 2, 4, 2).map_err(|_| AllocError)?;
+    let mut jobs = Vec::new(rt.alloc());
+    for name in 1..3 {
+        let call: Call = Box::new(
+            rt.alloc(),
+            |image: &Image| -> u64
+                ensures { result ≡ reply Ask.Depth image.now.frames }
+            { image.depth() as u64 },
+        )?;
+        jobs.push(Job::new(name, Ask::Depth, call))
+            .map_err(|_| AllocError)?;
+    }
+    work_step_by_step::<Brand, Job, HostRuntime>(&rt, rt.alloc(), parts, jobs)?;
+    Ok(())
+}
