@@ -44,28 +44,45 @@ impl Handshake {
     }
 }
 
+/// What is called of codes. `Round`, `Look`, `Weigh` and `Free` are the desk's own calls, which `Reclaim` makes in a row.
+#[derive(Clone, Copy, PartialEq, Eq, Debug, Drop)]
+pub enum CodeCall {
+    Install(u32),
+    Invalidate(u64),
+    Round,
+    Look(u64, usize),
+    Weigh(u64),
+    Free(u64),
+    Reclaim(u64, Option<Handshake>),
+}
+
+/// What is called of a request as a whole.
+#[derive(Clone, Copy, PartialEq, Eq, Debug, Drop)]
+pub enum RequestCall {
+    SubmitCensus,
+    Submit(Handshake),
+    Open,
+    Close,
+    Drive,
+}
+
+/// A step of the open request, for a name, for a place, or for all.
+#[derive(Clone, Copy, PartialEq, Eq, Debug, Drop)]
+pub enum StepCall {
+    Tell(u64),
+    Hold(usize),
+    Serve(usize),
+    Operate,
+    Release(usize),
+}
+
 /// A call of the running layer. Threads are told by their names, codes by their serials.
 #[derive(Clone, Copy, PartialEq, Eq, Debug, Drop)]
 pub enum Call {
     Start,
     Of(u64, ThreadCall),
     Exit(u64),
-    Install(u32),
-    Invalidate(u64),
-    /// The desk's own calls, which `Reclaim` makes in a row.
-    Round,
-    Look(u64, usize),
-    Weigh(u64),
-    Free(u64),
-    SubmitCensus,
-    Submit(Handshake),
-    Open,
-    Tell(u64),
-    Hold(usize),
-    Serve(usize),
-    Operate,
-    Release(usize),
-    Close,
-    Drive,
-    Reclaim(u64, Option<Handshake>),
+    Code(CodeCall),
+    Request(RequestCall),
+    Step(StepCall),
 }

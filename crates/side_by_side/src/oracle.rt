@@ -113,28 +113,14 @@ impl Oracle {
 
     /// What the call is to answer; None where it would wait, or isn't one that the rules speak of.
     pub fn answer(&mut self, call: &Call) -> Result<Option<Said>, AllocError> {
-        Ok(Some(match *call {
-            Call::Of(name, call) => return self.of_thread(name, call),
-            Call::Exit(name) => return self.exit(name),
-            Call::Drive => return self.drive(),
-            Call::Reclaim(serial, handshake) => return self.reclaim(serial, handshake),
-            Call::Start => self.start()?,
-            Call::Install(method) => self.install(method)?,
-            Call::Invalidate(serial) => self.play(Event::Invalidate(serial))?,
-            Call::Round => self.play(Event::Round)?,
-            Call::Look(serial, place) => self.play(Event::Look(serial, place))?,
-            Call::Weigh(serial) => self.play(Event::Weigh(serial))?,
-            Call::Free(serial) => self.free(serial)?,
-            Call::SubmitCensus => self.ask_census()?,
-            Call::Submit(handshake) => self.submit(handshake)?,
-            Call::Open => self.open_next()?,
-            Call::Tell(name) => self.tell(name)?,
-            Call::Hold(place) => self.hold(place)?,
-            Call::Serve(place) => self.serve(place)?,
-            Call::Operate => self.operate()?,
-            Call::Release(place) => self.release(place)?,
-            Call::Close => self.close()?,
-        }))
+        match *call {
+            Call::Start => Ok(Some(self.start()?)),
+            Call::Of(name, call) => self.of_thread(name, call),
+            Call::Exit(name) => self.exit(name),
+            Call::Code(call) => self.of_code(call),
+            Call::Request(call) => self.of_request(call),
+            Call::Step(call) => Ok(Some(self.step(call)?)),
+        }
     }
 
     /// Plays one event.

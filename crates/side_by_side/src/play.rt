@@ -1,7 +1,7 @@
 //! Both sides, call by call.
 ghost use Rattle.std.specs.Prelude.{◌≡◌, ◌<◌};
 
-use crate::calls::{Call, ThreadCall};
+use crate::calls::{Call, CodeCall, RequestCall, ThreadCall};
 use crate::compare::{Difference, Seen, compare, replies, unlike};
 use crate::draw::Draw;
 use crate::habits::{Habits, Phase};
@@ -231,7 +231,7 @@ impl<'a, N: Name, J: Errand> Pair<'a, N, J> {
             }
         }
         for _request in 0..REQUESTS {
-            match self.make(rt, sizes, Call::Drive)? {
+            match self.make(rt, sizes, Call::Request(RequestCall::Drive))? {
                 Made::Waits => return Ok(false),
                 Made::Refused => break,
                 Made::Done => {}
@@ -286,9 +286,9 @@ impl<'a, N: Name, J: Errand> Pair<'a, N, J> {
         requires sizes { (sizes.places ≡ N.board.places) × (sizes.slots ≡ N.board.slots) }
     {
         for serial in 1..(self.oracle.codes.len() as u64).saturating_add(1) {
-            self.make(rt, sizes, Call::Free(serial))?;
-            self.make(rt, sizes, Call::Invalidate(serial))?;
-            self.make(rt, sizes, Call::Reclaim(serial, None))?;
+            self.make(rt, sizes, Call::Code(CodeCall::Free(serial)))?;
+            self.make(rt, sizes, Call::Code(CodeCall::Invalidate(serial)))?;
+            self.make(rt, sizes, Call::Code(CodeCall::Reclaim(serial, None)))?;
         }
         Ok(())
     }
@@ -306,7 +306,11 @@ impl<'a, N: Name, J: Errand> Pair<'a, N, J> {
             op = reply.op;
             let seen = replies(rt, self.alloc, op, &self.oracle, &self.running)?;
             if let Some(found) = seen {
-                return Err(Stopped::Differ(self.tally.calls, Call::Close, found));
+                return Err(Stopped::Differ(
+                    self.tally.calls,
+                    Call::Request(RequestCall::Close),
+                    found,
+                ));
             }
         }
         Ok(())

@@ -1,7 +1,7 @@
 //! Which call is made next.
 ghost use Rattle.std.specs.Prelude.{◌<◌};
 
-use crate::calls::{Call, Handshake, ThreadCall};
+use crate::calls::{Call, CodeCall, Handshake, RequestCall, StepCall, ThreadCall};
 use crate::draw::Draw;
 use crate::habits::{Habits, Phase, Shares};
 use crate::oracle::{Live, Oracle};
@@ -171,12 +171,12 @@ impl<N: Name, J: Errand> Scene<'_, '_, N, J> {
 
     fn of_code(&self, draw: &mut Draw) -> Result<Call, AllocError> {
         Ok(match draw.below(16) {
-            0..=3 => Call::Install(self.method(draw)),
-            4..=6 => Call::Invalidate(self.serial(draw)),
-            7 => Call::Round,
-            8 | 9 => Call::Look(self.serial(draw), self.place(draw)),
-            10 | 11 => Call::Weigh(self.serial(draw)),
-            12 => Call::Free(self.serial(draw)),
+            0..=3 => Call::Code(CodeCall::Install(self.method(draw))),
+            4..=6 => Call::Code(CodeCall::Invalidate(self.serial(draw))),
+            7 => Call::Code(CodeCall::Round),
+            8 | 9 => Call::Code(CodeCall::Look(self.serial(draw), self.place(draw))),
+            10 | 11 => Call::Code(CodeCall::Weigh(self.serial(draw))),
+            12 => Call::Code(CodeCall::Free(self.serial(draw))),
             _ => self.reclaim(draw)?,
         })
     }
@@ -185,10 +185,10 @@ impl<N: Name, J: Errand> Scene<'_, '_, N, J> {
     fn reclaim(&self, draw: &mut Draw) -> Result<Call, AllocError> {
         let idle = self.oracle.open.is_none() && self.oracle.waiting.is_empty();
         if !idle && !draw.one_in(8) {
-            return Ok(Call::Drive);
+            return Ok(Call::Request(RequestCall::Drive));
         }
         if draw.one_in(2) {
-            return Ok(Call::Reclaim(self.serial(draw), None));
+            return Ok(Call::Code(CodeCall::Reclaim(self.serial(draw), None)));
         }
         self.reclaim_with_jobs(draw)
     }
@@ -198,7 +198,7 @@ impl<N: Name, J: Errand> Scene<'_, '_, N, J> {
         let handshake = self.handshake(draw);
         let fits = self.running.has_jobs(self.alloc, handshake)?;
         let jobs = if fits { Some(handshake) } else { None };
-        Ok(Call::Reclaim(self.serial(draw), jobs))
+        Ok(Call::Code(CodeCall::Reclaim(self.serial(draw), jobs)))
     }
 
     // A place, now and then the one past the last.
@@ -300,15 +300,15 @@ impl<N: Name, J: Errand> Scene<'_, '_, N, J> {
     // A handshake or a census; few where many wait.
     fn submit(&self, draw: &mut Draw) -> Result<Call, AllocError> {
         if self.oracle.waiting.len() > FEW && !self.habits.greedy && !draw.one_in(6) {
-            return Ok(Call::Open);
+            return Ok(Call::Request(RequestCall::Open));
         }
         if draw.one_in(4) {
-            return Ok(Call::SubmitCensus);
+            return Ok(Call::Request(RequestCall::SubmitCensus));
         }
         let handshake = self.handshake(draw);
         let spoiled = draw.one_in(16);
         let fits = !spoiled && self.running.has_jobs(self.alloc, handshake)?;
-        Ok(Call::Submit(Handshake { fits, ..handshake }))
+        Ok(Call::Request(RequestCall::Submit(Handshake { fits, ..handshake })))
     }
 
     fn of_request(&self, draw: &mut Draw) -> Result<Call, AllocError> {
@@ -320,9 +320,9 @@ impl<N: Name, J: Errand> Scene<'_, '_, N, J> {
         }
         match draw.below(12) {
             0..=3 => self.submit(draw),
-            4..=6 => Ok(Call::Drive),
+            4..=6 => Ok(Call::Request(RequestCall::Drive)),
             7 => self.reclaim(draw),
-            _ => Ok(Call::Open),
+            _ => Ok(Call::Request(RequestCall::Open)),
         }
     }
 
@@ -338,40 +338,40 @@ impl<N: Name, J: Errand> Scene<'_, '_, N, J> {
             }
         }
         if self.oracle.held.is_empty() && draw.one_in(2) {
-            return Ok(Call::Close);
+            return Ok(Call::Request(RequestCall::Close));
         }
         self.any_step(draw)
     }
 
     fn lawful_step(&self, draw: &mut Draw, kind: u64) -> Option<Call> {
         match kind {
-            0 => Some(Call::Tell(self.wanted(draw, Want::Untold)?.name)),
-            1 => Some(Call::Hold(self.wanted(draw, Want::Unheld)?.place)),
+            0 => Some(Call::Step(StepCall::Tell(self.wanted(draw, Want::Untold)?.name))),
+            1 => Some(Call::Step(StepCall::Hold(self.wanted(draw, Want::Unheld)?.place))),
             2 => {
                 let live = self.wanted(draw, Want::Unserved)?;
                 if self.oracle.is_census() {
                     if self.oracle.held.len() < self.oracle.live.len() {
                         return None;
                     }
-                    return Some(Call::Operate);
+                    return Some(Call::Step(StepCall::Operate));
                 }
-                Some(Call::Serve(live.place))
+                Some(Call::Step(StepCall::Serve(live.place)))
             }
-            _ => Some(Call::Release(self.wanted(draw, Want::Served)?.place)),
+            _ => Some(Call::Step(StepCall::Release(self.wanted(draw, Want::Served)?.place))),
         }
     }
 
     fn any_step(&self, draw: &mut Draw) -> Result<Call, AllocError> {
         Ok(match draw.below(16) {
-            0 | 1 => Call::Tell(self.name(draw)),
-            2..=4 => Call::Hold(self.place_of_thread(draw)),
-            5 | 6 => Call::Serve(self.place_of_thread(draw)),
-            7 | 8 => Call::Operate,
-            9 => Call::Release(self.place_of_thread(draw)),
-            10 | 11 => Call::Close,
-            12 => Call::Open,
+            0 | 1 => Call::Step(StepCall::Tell(self.name(draw))),
+            2..=4 => Call::Step(StepCall::Hold(self.place_of_thread(draw))),
+            5 | 6 => Call::Step(StepCall::Serve(self.place_of_thread(draw))),
+            7 | 8 => Call::Step(StepCall::Operate),
+            9 => Call::Step(StepCall::Release(self.place_of_thread(draw))),
+            10 | 11 => Call::Request(RequestCall::Close),
+            12 => Call::Request(RequestCall::Open),
             13 => self.submit(draw)?,
-            _ => Call::Drive,
+            _ => Call::Request(RequestCall::Drive),
         })
     }
 }

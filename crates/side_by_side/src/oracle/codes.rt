@@ -1,12 +1,26 @@
 //! What is called of codes, as events.
 use super::{Made, Oracle};
+use crate::calls::CodeCall;
 use crate::said::Said;
 use frames::CodeId;
 use std::alloc::AllocError;
 use system::events::Event;
 
 impl Oracle {
-    pub fn install(&mut self, method: u32) -> Result<Said, AllocError> {
+    /// What the call of a code is to answer.
+    pub(super) fn of_code(&mut self, call: CodeCall) -> Result<Option<Said>, AllocError> {
+        Ok(Some(match call {
+            CodeCall::Reclaim(serial, handshake) => return self.reclaim(serial, handshake),
+            CodeCall::Install(method) => self.install(method)?,
+            CodeCall::Free(serial) => self.free(serial)?,
+            CodeCall::Invalidate(serial) => self.play(Event::Invalidate(serial))?,
+            CodeCall::Round => self.play(Event::Round)?,
+            CodeCall::Look(serial, place) => self.play(Event::Look(serial, place))?,
+            CodeCall::Weigh(serial) => self.play(Event::Weigh(serial))?,
+        }))
+    }
+
+    fn install(&mut self, method: u32) -> Result<Said, AllocError> {
         let said = self.play(Event::Install(method as u64))?;
         if let Said::Code(serial) = &said {
             self.note_code(method, *serial)?;
@@ -42,7 +56,7 @@ impl Oracle {
         None
     }
 
-    pub fn free(&mut self, serial: u64) -> Result<Said, AllocError> {
+    pub(super) fn free(&mut self, serial: u64) -> Result<Said, AllocError> {
         let said = self.play(Event::Free(serial))?;
         if said == Said::Done {
             for stands in self.slots.iter_mut() {

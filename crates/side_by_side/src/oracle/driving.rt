@@ -10,7 +10,7 @@ use thread_state::State;
 
 impl Oracle {
     /// The oldest request, or the open one, from its Open to its Close.
-    pub fn drive(&mut self) -> Result<Option<Said>, AllocError> {
+    pub(super) fn drive(&mut self) -> Result<Option<Said>, AllocError> {
         if !self.may_drive()? {
             return Ok(None);
         }
@@ -183,7 +183,7 @@ impl Oracle {
 
     /// Where the code isn't entrant, and nothing is open or waits: Ask of the jobs' handshake, where there is one; Round; that
     /// handshake from its Open to its Close; a Look at each place; Weigh; and where it is clear, Free.
-    pub fn reclaim(
+    pub(super) fn reclaim(
         &mut self,
         serial: u64,
         handshake: Option<Handshake>,

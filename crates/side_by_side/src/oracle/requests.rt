@@ -1,6 +1,6 @@
 //! What is called of requests, one step each, as events.
 use super::{Opened, Oracle, Waiting};
-use crate::calls::Handshake;
+use crate::calls::{Handshake, RequestCall, StepCall};
 use crate::said::Said;
 use operations::{Request, Targets};
 use std::alloc::AllocError;
@@ -21,7 +21,29 @@ impl Opened {
 }
 
 impl Oracle {
-    pub fn ask_census(&mut self) -> Result<Said, AllocError> {
+    /// What the call of a request is to answer.
+    pub(super) fn of_request(&mut self, call: RequestCall) -> Result<Option<Said>, AllocError> {
+        Ok(Some(match call {
+            RequestCall::Drive => return self.drive(),
+            RequestCall::SubmitCensus => self.ask_census()?,
+            RequestCall::Submit(handshake) => self.submit(handshake)?,
+            RequestCall::Open => self.open_next()?,
+            RequestCall::Close => self.close()?,
+        }))
+    }
+
+    /// What a step of the open request is to answer.
+    pub(super) fn step(&mut self, call: StepCall) -> Result<Said, AllocError> {
+        match call {
+            StepCall::Tell(name) => self.tell(name),
+            StepCall::Hold(place) => self.hold(place),
+            StepCall::Serve(place) => self.serve(place),
+            StepCall::Operate => self.operate(),
+            StepCall::Release(place) => self.release(place),
+        }
+    }
+
+    fn ask_census(&mut self) -> Result<Said, AllocError> {
         let said = self.play(Event::Ask(Request::Census))?;
         if let Said::Asked(number) = &said {
             self.waiting.push(Waiting {
@@ -32,8 +54,8 @@ impl Oracle {
         Ok(said)
     }
 
-    /// Ask. Jobs that don't fit are refused as bad targets are, and of those alone the core knows.
-    pub fn submit(&mut self, handshake: Handshake) -> Result<Said, AllocError> {
+    // Ask. Jobs that don't fit are refused as bad targets are, and of those alone the core knows.
+    fn submit(&mut self, handshake: Handshake) -> Result<Said, AllocError> {
         if handshake.fits || handshake.count == 0 {
             return self.ask(handshake);
         }
@@ -60,7 +82,7 @@ impl Oracle {
         Ok(said)
     }
 
-    pub fn open_next(&mut self) -> Result<Said, AllocError> {
+    pub(super) fn open_next(&mut self) -> Result<Said, AllocError> {
         let said = self.play(Event::Open)?;
         if let Said::Opened(number) = &said {
             if !self.waiting.is_empty() {
@@ -84,7 +106,7 @@ impl Oracle {
         }
     }
 
-    pub fn tell(&mut self, name: u64) -> Result<Said, AllocError> {
+    pub(super) fn tell(&mut self, name: u64) -> Result<Said, AllocError> {
         let said = self.play(Event::Tell(name))?;
         if said == Said::Told {
             if let Some(place) = self.place_of(name) {
@@ -94,8 +116,8 @@ impl Oracle {
         Ok(said)
     }
 
-    /// Hold. A thread that a poll has stopped brings its body with its `stop` alone: until then it isn't safe in a running system.
-    pub fn hold(&mut self, place: usize) -> Result<Said, AllocError> {
+    // Hold. A thread that a poll has stopped brings its body with its `stop` alone: until then it isn't safe in a running system.
+    pub(super) fn hold(&mut self, place: usize) -> Result<Said, AllocError> {
         let state = self.state_at(place)?;
         let said = self.at(place, Act::Hold)?;
         if said != Said::Done {
@@ -109,8 +131,8 @@ impl Oracle {
         Ok(Said::Done)
     }
 
-    /// Release. Where nothing is held there is no need for a thread, or a place.
-    pub fn release(&mut self, place: usize) -> Result<Said, AllocError> {
+    // Release. Where nothing is held there is no need for a thread, or a place.
+    fn release(&mut self, place: usize) -> Result<Said, AllocError> {
         match self.at(place, Act::Release)? {
             Said::Done => {
                 self.held.retain(|held| *held != place);
@@ -123,9 +145,9 @@ impl Oracle {
         }
     }
 
-    /// Of a held thread, a publication, Finish and Clear. Whether it would be refused is asked by a Clear, which isn't lawful before
-    /// its Finish.
-    pub fn serve(&mut self, place: usize) -> Result<Said, AllocError> {
+    // Of a held thread, a publication, Finish and Clear. Whether it would be refused is asked by a Clear, which isn't lawful before
+    // its Finish.
+    fn serve(&mut self, place: usize) -> Result<Said, AllocError> {
         if !self.is_held(place) {
             return self.refused_to_serve(place);
         }
@@ -149,8 +171,8 @@ impl Oracle {
         }
     }
 
-    /// A publication of each held thread, Operate, and a Clear of each. Where it would be refused, Operate alone.
-    pub fn operate(&mut self) -> Result<Said, AllocError> {
+    // A publication of each held thread, Operate, and a Clear of each. Where it would be refused, Operate alone.
+    pub(super) fn operate(&mut self) -> Result<Said, AllocError> {
         if !self.may_operate() {
             return self.play(Event::Operate);
         }
@@ -198,7 +220,7 @@ impl Oracle {
         Ok(Said::Done)
     }
 
-    pub fn close(&mut self) -> Result<Said, AllocError> {
+    pub(super) fn close(&mut self) -> Result<Said, AllocError> {
         let said = self.play(Event::Close)?;
         if let Said::Closed(_) = &said {
             self.open = None;

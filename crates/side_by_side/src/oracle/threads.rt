@@ -10,7 +10,7 @@ use thread_state::State;
 
 impl Oracle {
     /// Start; a first publication; Wake and Cross.
-    pub fn start(&mut self) -> Result<Said, AllocError> {
+    pub(super) fn start(&mut self) -> Result<Said, AllocError> {
         let started = self.play(Event::Start)?;
         let Said::Thread(name, place) = started else {
             return Ok(started);
@@ -32,7 +32,11 @@ impl Oracle {
     }
 
     /// What a thread's call is to answer.
-    pub fn of_thread(&mut self, name: u64, call: ThreadCall) -> Result<Option<Said>, AllocError> {
+    pub(super) fn of_thread(
+        &mut self,
+        name: u64,
+        call: ThreadCall,
+    ) -> Result<Option<Said>, AllocError> {
         let Some(place) = self.place_of(name) else {
             return Ok(None);
         };
@@ -188,7 +192,7 @@ impl Oracle {
     }
 
     /// A publication; where something is told, a stop and another publication; and Exit. It waits where a census keeps the thread.
-    pub fn exit(&mut self, name: u64) -> Result<Option<Said>, AllocError> {
+    pub(super) fn exit(&mut self, name: u64) -> Result<Option<Said>, AllocError> {
         let Some(place) = self.place_of(name) else {
             return Ok(None);
         };

@@ -2,7 +2,7 @@
 ghost use Rattle.std.specs.Prelude.{◌<◌, length, IfSome};
 
 use super::Running;
-use crate::calls::Handshake;
+use crate::calls::{Handshake, RequestCall, StepCall};
 use crate::said::{Said, of_close, of_hold, of_open, of_serve, of_tell};
 use bodies::Name;
 use coordinator::{Driven, NotHeld, NotReclaimed, Reclaimed, Told};
@@ -73,21 +73,45 @@ impl<'a, N: Name, J: Errand> Running<'a, N, J> {
 
     // Jobs that come back are there for other requests.
     fn put_back(&mut self, jobs: Vec<J>) -> Result<(), AllocError> {
-        let mut jobs = jobs;
-        while let Some(job) = jobs.pop() {
+        for job in jobs {
             self.jobs.push(job).map_err(|_| AllocError)?;
         }
         Ok(())
     }
 
-    pub fn submit_census<R: Wait>(&mut self, rt: &R, alloc: Global) -> Result<Said, AllocError> {
+    pub(super) fn of_request<R: Wait>(
+        &mut self,
+        rt: &R,
+        alloc: Global,
+        call: RequestCall,
+    ) -> Result<Said, AllocError> {
+        match call {
+            RequestCall::SubmitCensus => self.submit_census(rt, alloc),
+            RequestCall::Submit(handshake) => self.submit(rt, alloc, handshake),
+            RequestCall::Open => Ok(self.open(rt)),
+            RequestCall::Close => Ok(self.close(rt)),
+            RequestCall::Drive => self.drive(rt),
+        }
+    }
+
+    pub(super) fn step<R: Wait>(&mut self, rt: &R, call: StepCall) -> Result<Said, AllocError> {
+        match call {
+            StepCall::Tell(name) => Ok(self.tell(rt, name)),
+            StepCall::Hold(place) => Ok(self.hold(rt, place)),
+            StepCall::Serve(place) => Ok(self.serve(rt, place)),
+            StepCall::Operate => self.operate(rt),
+            StepCall::Release(place) => Ok(self.release(rt, place)),
+        }
+    }
+
+    fn submit_census<R: Wait>(&mut self, rt: &R, alloc: Global) -> Result<Said, AllocError> {
         match self.shared.submit(rt, Request::Census, Vec::new(alloc)) {
             Ok((number, _receipt)) => Ok(Said::Asked(number)),
             Err(refused) => Said::of_ask(refused.fault),
         }
     }
 
-    pub fn submit<R: Wait>(
+    fn submit<R: Wait>(
         &mut self,
         rt: &R,
         alloc: Global,
@@ -108,14 +132,14 @@ impl<'a, N: Name, J: Errand> Running<'a, N, J> {
         }
     }
 
-    pub fn open<R: Wait>(&mut self, rt: &R) -> Said {
+    fn open<R: Wait>(&mut self, rt: &R) -> Said {
         match self.coordinator.open(rt) {
             Ok((number, _receipt)) => Said::Opened(number),
             Err(fault) => Said::Refused(of_open(fault)),
         }
     }
 
-    pub fn tell<R: Wait>(&mut self, rt: &R, name: u64) -> Said {
+    fn tell<R: Wait>(&mut self, rt: &R, name: u64) -> Said {
         match self.coordinator.tell(rt, name) {
             Ok(Told::Told) => Said::Told,
             Ok(Told::Gone) => Said::Gone,
@@ -123,42 +147,42 @@ impl<'a, N: Name, J: Errand> Running<'a, N, J> {
         }
     }
 
-    pub fn hold<R: Wait>(&mut self, rt: &R, place: usize) -> Said {
+    fn hold<R: Wait>(&mut self, rt: &R, place: usize) -> Said {
         match self.coordinator.hold(rt, place) {
             Ok(()) => Said::Done,
             Err(fault) => Said::Refused(of_hold(fault)),
         }
     }
 
-    pub fn serve<R: Wait>(&mut self, rt: &R, place: usize) -> Said {
+    fn serve<R: Wait>(&mut self, rt: &R, place: usize) -> Said {
         match self.coordinator.serve(rt, place) {
             Ok(_receipt) => Said::Done,
             Err(fault) => Said::Refused(of_serve(fault)),
         }
     }
 
-    pub fn operate<R: Wait>(&mut self, rt: &R) -> Result<Said, AllocError> {
+    fn operate<R: Wait>(&mut self, rt: &R) -> Result<Said, AllocError> {
         match self.coordinator.operate(rt) {
             Ok((number, counts, _receipt)) => Ok(Said::Census(number, counts)),
             Err(fault) => Said::of_operate(fault),
         }
     }
 
-    pub fn release<R: Wait>(&mut self, rt: &R, place: usize) -> Said {
+    fn release<R: Wait>(&mut self, rt: &R, place: usize) -> Said {
         match self.coordinator.release(rt, place) {
             Ok(()) => Said::Done,
             Err(NotHeld) => Said::Refused(Refusal::NotHeld),
         }
     }
 
-    pub fn close<R: Wait>(&mut self, rt: &R) -> Said {
+    fn close<R: Wait>(&mut self, rt: &R) -> Said {
         match self.coordinator.close(rt) {
             Ok((number, _receipt)) => Said::Closed(number),
             Err(fault) => Said::Refused(of_close(fault)),
         }
     }
 
-    pub fn drive<R: Wait>(&mut self, rt: &R) -> Result<Said, AllocError> {
+    fn drive<R: Wait>(&mut self, rt: &R) -> Result<Said, AllocError> {
         let driven = match self.coordinator.drive(rt) {
             Ok((driven, _receipt)) => driven,
             Err(fault) => return Said::of_drive(fault),
@@ -169,7 +193,7 @@ impl<'a, N: Name, J: Errand> Running<'a, N, J> {
         }
     }
 
-    pub fn reclaim<R: Wait>(
+    pub(super) fn reclaim<R: Wait>(
         &mut self,
         rt: &R,
         alloc: Global,

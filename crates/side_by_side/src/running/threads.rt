@@ -90,7 +90,7 @@ fn make<N: Name, J: Errand, R: Wait>(
 }
 
 impl<'a, N: Name, J: Errand> Running<'a, N, J> {
-    pub fn start<R: Wait>(&mut self, rt: &R, alloc: Global) -> Result<Said, AllocError> {
+    pub(super) fn start<R: Wait>(&mut self, rt: &R, alloc: Global) -> Result<Said, AllocError> {
         match self.shared.start(rt, alloc) {
             Ok((thread, _receipt)) => {
                 let said = Said::Thread(thread.name(), thread.place());
@@ -105,7 +105,7 @@ impl<'a, N: Name, J: Errand> Running<'a, N, J> {
         self.threads.push(thread).map_err(|_| AllocError)
     }
 
-    pub fn of_thread<R: Wait>(
+    pub(super) fn of_thread<R: Wait>(
         &mut self,
         rt: &R,
         slots: u32,
@@ -123,7 +123,7 @@ impl<'a, N: Name, J: Errand> Running<'a, N, J> {
         Ok(said)
     }
 
-    pub fn exit<R: Wait>(&mut self, rt: &R, name: u64) -> Result<Said, AllocError> {
+    pub(super) fn exit<R: Wait>(&mut self, rt: &R, name: u64) -> Result<Said, AllocError> {
         let Some(index) = index_of(self.threads.as_slice(), name) else {
             return Ok(Said::Gone);
         };
