@@ -34,4 +34,5 @@ soak:
 	@tests/soak.py crates/soak/out/soak $(MINUTES)
 
 side:
-	@cd crates/side_by_side && rt run -- $(SEEDS) $(FIRST)
+	@cd crates/side_by_side && rt run
+	@crates/side_by_side/out/side_by_side $(SEEDS) $(FIRST)
