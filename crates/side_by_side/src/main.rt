@@ -1,0 +1,41 @@
+//! The running layer beside the core, by a random schedule: `side_by_side` plays 20 schedules of 1,000 calls, those of the seeds from
+//! 1 on; `side_by_side SEEDS` plays as many, and `side_by_side SEEDS FIRST` those from FIRST on. One thread makes all calls of threads
+//! and of the coordinator, and plays the events that each call is on a `System`; after each call all that can be seen of both is
+//! compared. With words it prints what the calls came to. The first difference is printed in one line, and then the status is 1.
+#![tactic(auto)]
+
+mod calls;
+mod compare;
+mod draw;
+mod habits;
+mod oracle;
+mod play;
+mod running;
+mod said;
+mod schedule;
+mod total;
+mod words;
+
+use std::process::ExitCode;
+use total::play_all;
+use words::{Words, read_words};
+
+fn main(rt: HostRuntime) -> ExitCode {
+    let Ok(words) = read_words(&rt, rt.alloc()) else {
+        let _ = eprintln!(rt; "side_by_side: bad words");
+        return ExitCode::from(2);
+    };
+    let Words { seeds, first, told } = words;
+    match play_all(&rt, rt.alloc(), seeds, first) {
+        Ok(total) => {
+            if told {
+                let _ = println!(rt; "{total}");
+            }
+            ExitCode::SUCCESS
+        }
+        Err(found) => {
+            let _ = println!(rt; "{found}");
+            ExitCode::from(1)
+        }
+    }
+}

@@ -1,0 +1,318 @@
+//! Both sides, call by call.
+ghost use Rattle.std.specs.Prelude.{◌≡◌, ◌<◌};
+
+use crate::calls::{Call, CodeCall, RequestCall, ThreadCall};
+use crate::compare::{Difference, Seen, compare, replies, unlike};
+use crate::draw::Draw;
+use crate::habits::{Habits, Phase};
+use crate::oracle::{Live, Oracle};
+use crate::running::{Running, Sizes};
+use crate::said::Said;
+use crate::schedule::Scene;
+use bodies::Name;
+use operations::job::Errand;
+use std::alloc::{AllocError, Global};
+use std::sync::Wait;
+use thread_list::{Parts, Shared};
+use thread_state::State;
+
+/// The schedule of a seed: so many calls on a system of these sizes.
+#[derive(Clone, Copy, PartialEq, Eq, Debug, Drop)]
+pub struct Plan {
+    pub seed: u64,
+    pub calls: u64,
+    pub sizes: Sizes,
+}
+
+/// How many calls were made, and what they came to.
+#[derive(Clone, Copy, PartialEq, Eq, Debug, Drop)]
+pub struct Tally {
+    pub calls: u64,
+    pub refused: u64,
+    pub exits: u64,
+    pub replies: u64,
+    pub censuses: u64,
+    pub freed: u64,
+}
+
+/// Why a schedule isn't played to its end.
+#[derive(Debug, Drop)]
+pub enum Stopped {
+    NoMemory,
+    /// The two sides differ: at the call of the number.
+    Differ(u64, Call, Difference),
+}
+
+impl From<AllocError> for Stopped {
+    fn from(_: AllocError) -> Stopped {
+        Stopped::NoMemory
+    }
+}
+
+// How many draws there are for a call that has nothing to wait for.
+const DRAWS: u32 = 1000;
+
+// How many requests there can be at the end: those that wait, and the open one.
+const REQUESTS: u32 = 66;
+
+// How many returns empty a stack, with the one that is refused.
+const RETURNS: u32 = 257;
+
+#[derive(Drop)]
+struct Pair<'a, N: Name, J: Errand> {
+    alloc: Global,
+    oracle: Oracle,
+    running: Running<'a, N, J>,
+    tally: Tally,
+}
+
+/// Plays the schedule of a seed on both sides, and then brings all threads home and frees all codes. Answers what the calls came to.
+pub fn play<N: Name, J: Errand, R: Wait>(
+    rt: &R,
+    alloc: Global,
+    plan: Plan,
+    parts: Parts,
+    jobs: Vec<J>,
+) -> Result<Tally, Stopped>
+    requires tables { (parts.board ≡ N.board) × (parts.row ≡ N.poll_row) }
+    requires sizes { (plan.sizes.places ≡ N.board.places) × (plan.sizes.slots ≡ N.board.slots) }
+{
+    let Ok((shared, armer)) = Shared::<N, J>::new(alloc, parts) else {
+        return Err(Stopped::NoMemory);
+    };
+    let Sizes {
+        places,
+        slots,
+        methods,
+    } = plan.sizes;
+    let reckless = plan.seed % 16 == 0;
+    let mut pair = Pair {
+        alloc,
+        oracle: Oracle::new(alloc, places, slots, methods, reckless)?,
+        running: Running::new(alloc, &shared, armer, jobs)?,
+        tally: Tally::none(),
+    };
+    pair.play_by(rt, plan)?;
+    if pair.bring_home(rt, plan.sizes)? {
+        pair.free_all(rt, plan.sizes)?;
+    }
+    pair.compare_replies(rt)?;
+    pair.tally.replies = pair.oracle.replies.len() as u64;
+    Ok(pair.tally)
+}
+
+/// What making a call came to.
+#[derive(Clone, Copy, PartialEq, Eq, Debug, Drop)]
+enum Made {
+    /// It wasn't made, since it would wait.
+    Waits,
+    Refused,
+    Done,
+}
+
+impl Tally {
+    /// Of no call.
+    pub fn none() -> Tally {
+        Tally {
+            calls: 0,
+            refused: 0,
+            exits: 0,
+            replies: 0,
+            censuses: 0,
+            freed: 0,
+        }
+    }
+
+    /// Adds another.
+    pub fn add(&mut self, other: Tally) {
+        self.calls = self.calls.saturating_add(other.calls);
+        self.refused = self.refused.saturating_add(other.refused);
+        self.exits = self.exits.saturating_add(other.exits);
+        self.replies = self.replies.saturating_add(other.replies);
+        self.censuses = self.censuses.saturating_add(other.censuses);
+        self.freed = self.freed.saturating_add(other.freed);
+    }
+
+    fn note(&mut self, said: &Said) -> Made {
+        self.calls = self.calls.saturating_add(1);
+        match said {
+            Said::Refused(_) => {
+                self.refused = self.refused.saturating_add(1);
+                return Made::Refused;
+            }
+            Said::Exited(_) => self.exits = self.exits.saturating_add(1),
+            Said::Census(_, _) => self.censuses = self.censuses.saturating_add(1),
+            Said::Freed => self.freed = self.freed.saturating_add(1),
+            _ => {}
+        }
+        Made::Done
+    }
+}
+
+impl<'a, N: Name, J: Errand> Pair<'a, N, J> {
+    // Makes a call on both sides, and compares them.
+    fn make<R: Wait>(&mut self, rt: &R, sizes: Sizes, call: Call) -> Result<Made, Stopped>
+        requires sizes { (sizes.places ≡ N.board.places) × (sizes.slots ≡ N.board.slots) }
+    {
+        let Some(core) = self.oracle.answer(&call)? else {
+            return Ok(Made::Waits);
+        };
+        let said = self.running.answer(rt, self.alloc, sizes, &call)?;
+        let made = self.tally.note(&said);
+        if let Some(found) = unlike(Seen::Answer, core, said) {
+            return Err(Stopped::Differ(self.tally.calls, call, found));
+        }
+        let seen = compare(
+            rt,
+            self.alloc,
+            sizes,
+            self.tally.calls,
+            &mut self.oracle,
+            &self.running,
+        )?;
+        if let Some(found) = seen {
+            return Err(Stopped::Differ(self.tally.calls, call, found));
+        }
+        Ok(made)
+    }
+
+    fn play_by<R: Wait>(&mut self, rt: &R, plan: Plan) -> Result<(), Stopped>
+        requires sizes { (plan.sizes.places ≡ N.board.places) × (plan.sizes.slots ≡ N.board.slots) }
+    {
+        let mut draw = Draw::new(plan.seed);
+        let habits = Habits::of(plan.seed, plan.sizes.places);
+        for number in 0..plan.calls {
+            self.make_next(rt, plan.sizes, habits, habits.phase_at(number), &mut draw)?;
+        }
+        Ok(())
+    }
+
+    // Draws calls until one has nothing to wait for.
+    fn make_next<R: Wait>(
+        &mut self,
+        rt: &R,
+        sizes: Sizes,
+        habits: Habits,
+        phase: Phase,
+        draw: &mut Draw,
+    ) -> Result<(), Stopped>
+        requires sizes { (sizes.places ≡ N.board.places) × (sizes.slots ≡ N.board.slots) }
+    {
+        for _drawn in 0..DRAWS {
+            let scene = Scene {
+                alloc: self.alloc,
+                phase,
+                habits,
+                sizes,
+                oracle: &self.oracle,
+                running: &self.running,
+            };
+            let call = scene.pick(draw)?;
+            if self.make(rt, sizes, call)? != Made::Waits {
+                return Ok(());
+            }
+        }
+        Ok(())
+    }
+
+    fn live(&self) -> Result<Vec<Live>, AllocError> {
+        Vec::from_slice(self.alloc, self.oracle.live.as_slice())
+    }
+
+    // All requests are worked on to their Close, and all threads exit. Not so where a census keeps a thread for good: then nothing is
+    // answered for.
+    fn bring_home<R: Wait>(&mut self, rt: &R, sizes: Sizes) -> Result<bool, Stopped>
+        requires sizes { (sizes.places ≡ N.board.places) × (sizes.slots ≡ N.board.slots) }
+    {
+        let live = self.live()?;
+        for thread in &live {
+            if !self.send_away(rt, sizes, *thread)? {
+                return Ok(false);
+            }
+        }
+        for _request in 0..REQUESTS {
+            match self.make(rt, sizes, Call::Request(RequestCall::Drive))? {
+                Made::Waits => return Ok(false),
+                Made::Refused => break,
+                Made::Done => {}
+            }
+        }
+        for thread in &live {
+            self.take_home(rt, sizes, *thread)?;
+        }
+        Ok(true)
+    }
+
+    // A thread goes into native code, or stays where it waits.
+    fn send_away<R: Wait>(&mut self, rt: &R, sizes: Sizes, thread: Live) -> Result<bool, Stopped>
+        requires sizes { (sizes.places ≡ N.board.places) × (sizes.slots ≡ N.board.slots) }
+    {
+        if let State::AtPoll(_) = self.oracle.state_at(thread.place)? {
+            let stop = Call::Of(thread.name, ThreadCall::Stop);
+            if self.make(rt, sizes, stop)? == Made::Waits {
+                return Ok(false);
+            }
+        }
+        if let State::InJava | State::InVm = self.oracle.state_at(thread.place)? {
+            let away = Call::Of(thread.name, ThreadCall::ToNative);
+            self.make(rt, sizes, away)?;
+        }
+        Ok(true)
+    }
+
+    // A thread comes back into Java, returns from all methods and exits.
+    fn take_home<R: Wait>(&mut self, rt: &R, sizes: Sizes, thread: Live) -> Result<(), Stopped>
+        requires sizes { (sizes.places ≡ N.board.places) × (sizes.slots ≡ N.board.slots) }
+    {
+        let back = match self.oracle.state_at(thread.place)? {
+            State::Blocked => ThreadCall::Unblock,
+            _ => ThreadCall::FromNative,
+        };
+        self.make(rt, sizes, Call::Of(thread.name, back))?;
+        if let State::InVm = self.oracle.state_at(thread.place)? {
+            self.make(rt, sizes, Call::Of(thread.name, ThreadCall::FromVm))?;
+        }
+        for _frame in 0..RETURNS {
+            if self.make(rt, sizes, Call::Of(thread.name, ThreadCall::Ret))? != Made::Done {
+                break;
+            }
+        }
+        self.make(rt, sizes, Call::Exit(thread.name))?;
+        Ok(())
+    }
+
+    // Each code is taken out of use and reclaimed; zombies are freed.
+    fn free_all<R: Wait>(&mut self, rt: &R, sizes: Sizes) -> Result<(), Stopped>
+        requires sizes { (sizes.places ≡ N.board.places) × (sizes.slots ≡ N.board.slots) }
+    {
+        for serial in 1..(self.oracle.codes.len() as u64).saturating_add(1) {
+            self.make(rt, sizes, Call::Code(CodeCall::Free(serial)))?;
+            self.make(rt, sizes, Call::Code(CodeCall::Invalidate(serial)))?;
+            self.make(rt, sizes, Call::Code(CodeCall::Reclaim(serial, None)))?;
+        }
+        Ok(())
+    }
+
+    // The replies of each operation.
+    fn compare_replies<R: Wait>(&mut self, rt: &R) -> Result<(), Stopped> {
+        let mut op = 0;
+        for index in 0..self.oracle.replies.len() {
+            let Some(reply) = self.oracle.replies.get(index).copied() else {
+                break;
+            };
+            if reply.op == op {
+                continue;
+            }
+            op = reply.op;
+            let seen = replies(rt, self.alloc, op, &self.oracle, &self.running)?;
+            if let Some(found) = seen {
+                return Err(Stopped::Differ(
+                    self.tally.calls,
+                    Call::Request(RequestCall::Close),
+                    found,
+                ));
+            }
+        }
+        Ok(())
+    }
+}

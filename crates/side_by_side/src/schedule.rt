@@ -1,0 +1,387 @@
+//! Which call is made next.
+ghost use Rattle.std.specs.Prelude.{◌<◌};
+
+use crate::calls::{Call, CodeCall, Handshake, RequestCall, StepCall, ThreadCall};
+use crate::draw::Draw;
+use crate::habits::{Habits, Phase, Shares};
+use crate::oracle::{Live, Oracle};
+use crate::running::{Running, Sizes};
+use bodies::Name;
+use frames::CodeId;
+use operations::Ask;
+use operations::job::Errand;
+use std::alloc::{AllocError, Global};
+use thread_state::{Back, State};
+
+// Where more requests wait, few more are submitted.
+const FEW: usize = 3;
+
+/// What a schedule looks at.
+#[derive(Drop)]
+pub struct Scene<'s, 'a, N: Name, J: Errand> {
+    pub alloc: Global,
+    pub phase: Phase,
+    pub habits: Habits,
+    pub sizes: Sizes,
+    pub oracle: &'s Oracle,
+    pub running: &'s Running<'a, N, J>,
+}
+
+// Whom a step of a request is for.
+#[derive(Clone, Copy, PartialEq, Eq, Debug, Drop)]
+enum Want {
+    /// Of the open request, and not told.
+    Untold,
+    /// Told and not held.
+    Unheld,
+    /// Held, and told what isn't done.
+    Unserved,
+    /// Held, and done.
+    Served,
+}
+
+impl<N: Name, J: Errand> Scene<'_, '_, N, J> {
+    /// The next call. Most are lawful where they are made, some aren't.
+    pub fn pick(&self, draw: &mut Draw) -> Result<Call, AllocError> {
+        if self.starts(draw) {
+            return Ok(Call::Start);
+        }
+        let Shares { threads, codes } = self.habits.shares(self.phase);
+        let drawn = draw.below(100);
+        if drawn < threads {
+            self.of_thread(draw)
+        } else if drawn < codes {
+            self.of_code(draw)
+        } else {
+            self.of_request(draw)
+        }
+    }
+
+    // While stacks grow vacant places are mostly taken; else one starts now and then, also where no place is vacant.
+    fn starts(&self, draw: &mut Draw) -> bool {
+        if self.running.threads.is_empty() {
+            return draw.one_in(2);
+        }
+        if self.phase == Phase::Grow && self.running.threads.len() < self.sizes.places {
+            return draw.one_in(4);
+        }
+        draw.one_in(40)
+    }
+
+    fn of_thread(&self, draw: &mut Draw) -> Result<Call, AllocError> {
+        if self.running.threads.is_empty() {
+            return Ok(Call::Start);
+        }
+        let index = draw.index(self.running.threads.len());
+        let name = self.running.threads[index].name();
+        let state = if draw.one_in(12) {
+            any_state(draw)
+        } else {
+            self.running.threads[index].state()
+        };
+        match state {
+            State::InJava => Ok(self.in_java(draw, name)),
+            State::InVm => Ok(self.in_vm(draw, name)),
+            State::InNative(_) => self.away(draw, Call::Of(name, ThreadCall::FromNative)),
+            State::Blocked => self.away(draw, Call::Of(name, ThreadCall::Unblock)),
+            _ => Ok(Call::Of(name, ThreadCall::Stop)),
+        }
+    }
+
+    // While threads rest, those that are away mostly stay there.
+    fn away(&self, draw: &mut Draw, back: Call) -> Result<Call, AllocError> {
+        if self.phase == Phase::Rest && !draw.one_in(8) {
+            return self.of_request(draw);
+        }
+        Ok(back)
+    }
+
+    fn in_java(&self, draw: &mut Draw, name: u64) -> Call {
+        let drawn = draw.below(100);
+        let calls = self.habits.calls(self.phase);
+        if drawn < calls {
+            return Call::Of(name, self.call_method(draw));
+        }
+        if drawn < self.habits.returns(self.phase) {
+            return Call::Of(name, ThreadCall::Ret);
+        }
+        if self.phase == Phase::Rest && draw.one_in(2) {
+            return Call::Of(name, ThreadCall::ToNative);
+        }
+        if self.phase == Phase::Shrink && draw.one_in(2) {
+            return Call::Exit(name);
+        }
+        match draw.below(20) {
+            0..=4 => Call::Of(name, ThreadCall::BackEdge),
+            5..=9 => Call::Of(name, ThreadCall::Publish),
+            10..=13 => Call::Of(name, ThreadCall::ToVm),
+            14..=18 => Call::Of(name, ThreadCall::ToNative),
+            _ => Call::Exit(name),
+        }
+    }
+
+    fn in_vm(&self, draw: &mut Draw, name: u64) -> Call {
+        if self.phase == Phase::Rest && draw.one_in(2) {
+            return Call::Of(name, ThreadCall::Block);
+        }
+        match draw.below(12) {
+            0..=4 => Call::Of(name, ThreadCall::FromVm),
+            5..=7 => Call::Of(name, ThreadCall::Block),
+            8 | 9 => Call::Of(name, ThreadCall::ToNative),
+            10 => Call::Of(name, ThreadCall::Publish),
+            _ => Call::Exit(name),
+        }
+    }
+
+    // A call, now and then of a method that isn't there, by its hint, by a hint that may be old, or by none.
+    fn call_method(&self, draw: &mut Draw) -> ThreadCall {
+        let method = self.method(draw);
+        let hint = match draw.below(8) {
+            0 => None,
+            1 => self.any_code(draw),
+            _ => self.running.shared.hint(method),
+        };
+        ThreadCall::Call(method, hint)
+    }
+
+    fn method(&self, draw: &mut Draw) -> u32 {
+        let methods = self.sizes.methods;
+        if methods == 0 || draw.one_in(40) {
+            return methods;
+        }
+        draw.index(methods as usize) as u32
+    }
+
+    fn any_code(&self, draw: &mut Draw) -> Option<CodeId> {
+        if self.oracle.codes.is_empty() {
+            return None;
+        }
+        let index = draw.index(self.oracle.codes.len());
+        Some(self.oracle.codes[index].id)
+    }
+
+    // A serial: mostly one of those that stand in a slot, now and then any.
+    fn serial(&self, draw: &mut Draw) -> u64 {
+        if self.oracle.slots.is_empty() || draw.one_in(10) {
+            return draw.index(self.oracle.codes.len().saturating_add(2)) as u64;
+        }
+        let slot = draw.index(self.oracle.slots.len());
+        self.oracle.slots[slot]
+    }
+
+    fn of_code(&self, draw: &mut Draw) -> Result<Call, AllocError> {
+        Ok(match draw.below(16) {
+            0..=3 => Call::Code(CodeCall::Install(self.method(draw))),
+            4..=6 => Call::Code(CodeCall::Invalidate(self.serial(draw))),
+            7 => Call::Code(CodeCall::Round),
+            8 | 9 => Call::Code(CodeCall::Look(self.serial(draw), self.place(draw))),
+            10 | 11 => Call::Code(CodeCall::Weigh(self.serial(draw))),
+            12 => Call::Code(CodeCall::Free(self.serial(draw))),
+            _ => self.reclaim(draw)?,
+        })
+    }
+
+    // Where a request is open or waits, that is mostly worked on first.
+    fn reclaim(&self, draw: &mut Draw) -> Result<Call, AllocError> {
+        let idle = self.oracle.open.is_none() && self.oracle.waiting.is_empty();
+        if !idle && !draw.one_in(8) {
+            return Ok(Call::Request(RequestCall::Drive));
+        }
+        if draw.one_in(2) {
+            return Ok(Call::Code(CodeCall::Reclaim(self.serial(draw), None)));
+        }
+        self.reclaim_with_jobs(draw)
+    }
+
+    // With jobs, where there are jobs for the handshake.
+    fn reclaim_with_jobs(&self, draw: &mut Draw) -> Result<Call, AllocError> {
+        let handshake = self.handshake(draw);
+        let fits = self.running.has_jobs(self.alloc, handshake)?;
+        let jobs = if fits { Some(handshake) } else { None };
+        Ok(Call::Code(CodeCall::Reclaim(self.serial(draw), jobs)))
+    }
+
+    // A place, now and then the one past the last.
+    fn place(&self, draw: &mut Draw) -> usize {
+        draw.index(self.sizes.places.saturating_add(1))
+    }
+
+    // The place of a live thread, or any.
+    fn place_of_thread(&self, draw: &mut Draw) -> usize {
+        if self.oracle.live.is_empty() || draw.one_in(10) {
+            return self.place(draw);
+        }
+        let index = draw.index(self.oracle.live.len());
+        self.oracle.live[index].place
+    }
+
+    // The name of a live thread, or any.
+    fn name(&self, draw: &mut Draw) -> u64 {
+        if self.oracle.live.is_empty() || draw.one_in(10) {
+            return draw.below(self.oracle.names.saturating_add(3));
+        }
+        let index = draw.index(self.oracle.live.len());
+        self.oracle.live[index].name
+    }
+
+    // A thread that is wanted for a step of a request, from a drawn one on.
+    fn wanted(&self, draw: &mut Draw, want: Want) -> Option<Live> {
+        let count = self.oracle.live.len();
+        if count == 0 || draw.one_in(6) {
+            return None;
+        }
+        let first = draw.index(count);
+        for live in &self.oracle.live[first..] {
+            if self.is_wanted(want, *live) {
+                return Some(*live);
+            }
+        }
+        for live in &self.oracle.live {
+            if self.is_wanted(want, *live) {
+                return Some(*live);
+            }
+        }
+        None
+    }
+
+    fn is_wanted(&self, want: Want, live: Live) -> bool {
+        let Some(open) = &self.oracle.open else {
+            return false;
+        };
+        let told = self.oracle.armed_at(live.place) != 0;
+        let held = self.oracle.held.contains(&live.place);
+        match want {
+            Want::Untold => open.is_due(live.name) && !told,
+            Want::Unheld => told && !held && self.is_away(live.name),
+            Want::Unserved => told && held,
+            Want::Served => held && !told,
+        }
+    }
+
+    // Whether the thread is in native code or waits.
+    fn is_away(&self, name: u64) -> bool {
+        for index in 0..self.running.threads.len() {
+            if self.running.threads[index].name() == name {
+                let state = self.running.threads[index].state();
+                return matches!(state, State::InNative(_) | State::Blocked);
+            }
+        }
+        false
+    }
+
+    fn handshake(&self, draw: &mut Draw) -> Handshake {
+        let count = match draw.below(16) {
+            0 => 0,
+            1..=12 => draw.index(3) as u64 + 1,
+            _ => draw.below(66),
+        };
+        let step = if draw.one_in(16) {
+            0
+        } else {
+            draw.index(2) as u64 + 1
+        };
+        Handshake {
+            first: self.name(draw),
+            step,
+            count,
+            ask: self.ask(draw),
+            fits: true,
+        }
+    }
+
+    fn ask(&self, draw: &mut Draw) -> Ask {
+        match draw.below(4) {
+            0 => Ask::Depth,
+            1 => Ask::Top,
+            _ => Ask::CountOf(self.serial(draw)),
+        }
+    }
+
+    // A handshake or a census; few where many wait.
+    fn submit(&self, draw: &mut Draw) -> Result<Call, AllocError> {
+        if self.oracle.waiting.len() > FEW && !self.habits.greedy && !draw.one_in(6) {
+            return Ok(Call::Request(RequestCall::Open));
+        }
+        if draw.one_in(4) {
+            return Ok(Call::Request(RequestCall::SubmitCensus));
+        }
+        let handshake = self.handshake(draw);
+        let spoiled = draw.one_in(16);
+        let fits = !spoiled && self.running.has_jobs(self.alloc, handshake)?;
+        Ok(Call::Request(RequestCall::Submit(Handshake { fits, ..handshake })))
+    }
+
+    fn of_request(&self, draw: &mut Draw) -> Result<Call, AllocError> {
+        if self.habits.greedy && self.phase == Phase::Stay && !draw.one_in(8) {
+            return self.submit(draw);
+        }
+        if self.oracle.open.is_some() || draw.one_in(8) {
+            return self.step_of_request(draw);
+        }
+        match draw.below(12) {
+            0..=3 => self.submit(draw),
+            4..=6 => Ok(Call::Request(RequestCall::Drive)),
+            7 => self.reclaim(draw),
+            _ => Ok(Call::Request(RequestCall::Open)),
+        }
+    }
+
+    // A step of the open request that is lawful, from a drawn kind on; now and then any, and where there is none any too.
+    fn step_of_request(&self, draw: &mut Draw) -> Result<Call, AllocError> {
+        if draw.one_in(5) {
+            return self.any_step(draw);
+        }
+        let first = draw.below(4);
+        for turn in 0..4 {
+            if let Some(call) = self.lawful_step(draw, (first + turn) % 4) {
+                return Ok(call);
+            }
+        }
+        if self.oracle.held.is_empty() && draw.one_in(2) {
+            return Ok(Call::Request(RequestCall::Close));
+        }
+        self.any_step(draw)
+    }
+
+    fn lawful_step(&self, draw: &mut Draw, kind: u64) -> Option<Call> {
+        match kind {
+            0 => Some(Call::Step(StepCall::Tell(self.wanted(draw, Want::Untold)?.name))),
+            1 => Some(Call::Step(StepCall::Hold(self.wanted(draw, Want::Unheld)?.place))),
+            2 => {
+                let live = self.wanted(draw, Want::Unserved)?;
+                if self.oracle.is_census() {
+                    if self.oracle.held.len() < self.oracle.live.len() {
+                        return None;
+                    }
+                    return Some(Call::Step(StepCall::Operate));
+                }
+                Some(Call::Step(StepCall::Serve(live.place)))
+            }
+            _ => Some(Call::Step(StepCall::Release(self.wanted(draw, Want::Served)?.place))),
+        }
+    }
+
+    fn any_step(&self, draw: &mut Draw) -> Result<Call, AllocError> {
+        Ok(match draw.below(16) {
+            0 | 1 => Call::Step(StepCall::Tell(self.name(draw))),
+            2..=4 => Call::Step(StepCall::Hold(self.place_of_thread(draw))),
+            5 | 6 => Call::Step(StepCall::Serve(self.place_of_thread(draw))),
+            7 | 8 => Call::Step(StepCall::Operate),
+            9 => Call::Step(StepCall::Release(self.place_of_thread(draw))),
+            10 | 11 => Call::Request(RequestCall::Close),
+            12 => Call::Request(RequestCall::Open),
+            13 => self.submit(draw)?,
+            _ => Call::Request(RequestCall::Drive),
+        })
+    }
+}
+
+fn any_state(draw: &mut Draw) -> State {
+    match draw.below(5) {
+        0 => State::InJava,
+        1 => State::InVm,
+        2 => State::InNative(Back::Java),
+        3 => State::Blocked,
+        _ => State::AtPoll(Back::Java),
+    }
+}
