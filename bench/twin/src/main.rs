@@ -1,5 +1,9 @@
 //! `twin KIND THREADS ITERS ARG [packed|sorted|16yields]`: the loops of `running_bench` over the same protocol in plain Rust, without proofs. It
 //! prints times in ns, separated by spaces.
+
+// What only the product answers with is written here and read by nobody.
+#![allow(dead_code)]
+
 mod benches;
 mod image;
 mod proto;

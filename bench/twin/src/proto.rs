@@ -133,7 +133,6 @@ pub struct Berth<I> {
 }
 
 /// An entry of the history, which is only written here.
-#[allow(dead_code)]
 #[derive(Clone, Copy)]
 pub enum Entry {
     Start(u64, u32),
