@@ -21,6 +21,8 @@ examples: run
 
 bench: run
 	@bench/replay.py crates/monitor/out/monitor
+	@cd crates/running_bench && rt run
+	@bench/running.py crates/running_bench/out/running_bench
 
 hostile:
 	@tests/hostile.py

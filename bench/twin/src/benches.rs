@@ -1,0 +1,252 @@
+//! One function for every kind of measurement.
+use crate::image::*;
+use crate::proto::*;
+use std::sync::Barrier;
+use std::sync::atomic::{AtomicBool, Ordering::*};
+use std::time::Instant;
+
+pub const POLL: u32 = 1;
+pub const CALLRET: u32 = 2;
+pub const CALLRET_DEEP: u32 = 3;
+pub const PUBLISH: u32 = 4;
+pub const NATIVE: u32 = 5;
+pub const HANDSHAKE: u32 = 6;
+pub const CENSUS: u32 = 7;
+pub const RECLAIM: u32 = 8;
+pub const SCALE: u32 = 9;
+pub const CALLRET_NOHINT: u32 = 12;
+
+fn ns(t: Instant) -> u64 {
+    t.elapsed().as_nanos() as u64
+}
+
+/// Rows of `out`: of one thread's calls one total in ns, of stops one sample in ns each, of many threads one total each. Returns the rows written.
+pub fn bench<S: Layout, I: Image>(kind: u32, threads: u32, iters: u64, arg: u64, pol: Policy, out: &mut [u64]) -> usize {
+    match kind {
+        POLL | CALLRET | CALLRET_DEEP | PUBLISH | NATIVE | CALLRET_NOHINT => {
+            let methods = 256;
+            let slots = 1024;
+            let sh = Shared::<S, I>::new(4, slots, methods, pol);
+            for m in 0..methods {
+                sh.install(m);
+            }
+            let mut m = sh.start();
+            let mut bad = 0u64;
+            let t = Instant::now();
+            match kind {
+                POLL => {
+                    for _ in 0..iters {
+                        bad |= m.back_edge().unwrap_or(1);
+                    }
+                }
+                CALLRET => {
+                    for _ in 0..iters {
+                        let h = sh.hint(3);
+                        bad |= m.call(3, h).is_none() as u64;
+                        bad |= m.ret().unwrap_or(1);
+                    }
+                }
+                CALLRET_NOHINT => {
+                    for _ in 0..iters {
+                        bad |= m.call(3, None).is_none() as u64;
+                        bad |= m.ret().unwrap_or(1);
+                    }
+                }
+                CALLRET_DEEP => {
+                    // arg deep over methods in turn, never published
+                    let d = arg as usize;
+                    for _ in 0..iters / arg {
+                        for i in 0..d {
+                            let x = i * 7 % methods;
+                            let h = sh.hint(x);
+                            bad |= m.call(x, h).is_none() as u64;
+                        }
+                        for _ in 0..d {
+                            bad |= m.ret().unwrap_or(1);
+                        }
+                    }
+                }
+                PUBLISH => {
+                    // low 32 bits: changed codes k; bit 32: leave the publications out
+                    let k = (arg & 0xffff_ffff) as usize;
+                    let p = arg >> 32 == 0;
+                    for _ in 0..iters {
+                        for i in 0..k {
+                            let h = sh.hint(i);
+                            bad |= m.call(i, h).is_none() as u64;
+                        }
+                        if p {
+                            m.publish();
+                        }
+                        for _ in 0..k {
+                            bad |= m.ret().unwrap_or(1);
+                        }
+                        if p {
+                            m.publish();
+                        }
+                    }
+                    if !p {
+                        m.publish();
+                    }
+                }
+                NATIVE => {
+                    for _ in 0..iters {
+                        m.to_native();
+                        bad |= m.from_native();
+                    }
+                }
+                _ => unreachable!(),
+            }
+            out[0] = ns(t);
+            assert!(bad == 0);
+            m.publish();
+            m.exit();
+            1
+        }
+        HANDSHAKE | CENSUS | RECLAIM => latency::<S, I>(kind, threads as usize, iters as usize, arg, pol, out),
+        SCALE => scale::<S, I>(threads as usize, iters, arg, pol, out),
+        _ => 0,
+    }
+}
+
+/// arg 0: threads make back edges (in batches of calls and returns); 1: threads are in native.
+fn latency<S: Layout, I: Image>(kind: u32, n: usize, iters: usize, arg: u64, pol: Policy, out: &mut [u64]) -> usize {
+    let sh = Shared::<S, I>::new(64, 1024, 256, pol);
+    let base = sh.install(0);
+    let _ = base;
+    let quit = AtomicBool::new(false);
+    let ready = Barrier::new(n + 1);
+    let mut w = 0;
+    std::thread::scope(|sc| {
+        for _ in 0..n {
+            let (sh, quit, ready) = (&sh, &quit, &ready);
+            sc.spawn(move || {
+                let mut m = sh.start();
+                let h = sh.hint(0);
+                m.call(0, h);
+                m.publish();
+                if arg == 1 {
+                    m.to_native();
+                    ready.wait();
+                    while !quit.load(Relaxed) {
+                        std::thread::park_timeout(std::time::Duration::from_millis(200));
+                    }
+                    if m.from_native() != 0 {
+                        m.stop();
+                    }
+                } else {
+                    ready.wait();
+                    while !quit.load(Relaxed) {
+                        for _ in 0..64 {
+                            if m.back_edge() != Some(0) {
+                                m.stop();
+                            }
+                        }
+                    }
+                }
+                if m.ret() != Some(0) {
+                    m.stop();
+                }
+                m.publish();
+                m.exit();
+            });
+        }
+        ready.wait();
+        let mut co = Coordinator::new(&sh);
+        let names = sh.live();
+        let job = |op: u64, t: u64| Job::<I> { op, target: t, call: Box::new(|i: &I| i.depth() as u64) };
+        let limit = Instant::now() + std::time::Duration::from_secs(6);
+        for i in 0..iters + 2 {
+            sh.desk_history_room();
+            let t;
+            match kind {
+                HANDSHAKE => {
+                    let jobs = names.iter().map(|&x| job(0, x)).collect();
+                    let tg = names.clone();
+                    t = Instant::now();
+                    sh.submit(Req::Handshake(tg, jobs));
+                    co.drive();
+                }
+                CENSUS => {
+                    t = Instant::now();
+                    sh.submit(Req::Census);
+                    match co.drive() {
+                        Some(Driven::Census(_, l)) => assert!(l.len() == 1 && l[0].1 as usize == n, "{l:?}"),
+                        _ => panic!(),
+                    }
+                }
+                _ => {
+                    let s = sh.install(1);
+                    let jobs = names.iter().map(|&x| job(0, x)).collect();
+                    t = Instant::now();
+                    sh.invalidate(s);
+                    let r = co.reclaim(s, jobs);
+                    assert!(r == Reclaimed::Freed, "{r:?}");
+                }
+            }
+            let d = ns(t);
+            if i >= 2 && w < out.len() {
+                out[w] = d;
+                w += 1;
+            }
+            if Instant::now() > limit {
+                break;
+            }
+        }
+        quit.store(true, SeqCst);
+    });
+    assert!((0..sh.board.slots).all(|s| sh.board.c(s).load(SeqCst) == 0));
+    w
+}
+
+/// `threads` mutators call and return. arg low 16: publish every so many pairs (0 never); bit 16: all call one method, else each its own; bit 17: small tables (2 slots a method, as `monitor run` has)
+fn scale<S: Layout, I: Image>(threads: usize, iters: u64, arg: u64, pol: Policy, out: &mut [u64]) -> usize {
+    let every = arg & 0xffff;
+    let one = arg >> 16 & 1 == 1;
+    let small = arg >> 17 & 1 == 1;
+    let methods = if small { 4 } else { 256 };
+    let slots = if small { 8 } else { 1024 };
+    let sh = Shared::<S, I>::new(if small { threads.max(1) } else { 64 }, slots, methods, pol);
+    for m in 0..methods {
+        sh.install(m);
+    }
+    let bar = Barrier::new(threads);
+    let mut res = vec![0u64; threads];
+    std::thread::scope(|sc| {
+        for (t, r) in res.iter_mut().enumerate() {
+            let (sh, bar) = (&sh, &bar);
+            sc.spawn(move || {
+                let mut m = sh.start();
+                let me = if one { 0 } else { t };
+                bar.wait();
+                let t0 = Instant::now();
+                if every == 0 {
+                    for _ in 0..iters {
+                        let h = sh.hint(me);
+                        m.call(me, h);
+                        m.ret();
+                    }
+                } else {
+                    for _ in 0..iters / every {
+                        // the code is on the stack at one publication and gone at the next
+                        let h = sh.hint(me);
+                        m.call(me, h);
+                        m.publish();
+                        for _ in 1..every {
+                            let h = sh.hint(me);
+                            m.call(me, h);
+                            m.ret();
+                        }
+                        m.ret();
+                        m.publish();
+                    }
+                }
+                *r = ns(t0);
+                m.publish();
+                m.exit();
+            });
+        }
+    });
+    out[..threads].copy_from_slice(&res);
+    threads
+}

@@ -1,0 +1,187 @@
+//! The calls of one thread, in loops.
+ghost use Rattle.std.specs.Prelude.{◌≡◌};
+
+use crate::plan::{Kind, Plan};
+use crate::stops::nanoseconds;
+use crate::wrong::Wrong;
+use bodies::{Called, Name};
+use operations::job::Errand;
+use std::alloc::Global;
+use std::sync::Wait;
+use std::time::{Clock, Instant};
+use thread_list::{Mutator, Poll, Shared};
+
+// The method that is called again and again.
+const METHOD: u32 = 3;
+
+/// The time of the plan's turns.
+pub fn time_calls<N: Name, J: Errand, R: Wait + Clock>(
+    rt: &R,
+    alloc: Global,
+    plan: Plan,
+    shared: &Shared<N, J>,
+) -> Result<u64, Wrong> {
+    let Ok((mut thread, _receipt)) = shared.start(rt, alloc) else {
+        return Err(Wrong::Answer);
+    };
+    let start = Instant::now(rt)?;
+    let goes_on = turns_of(rt, plan, shared, &mut thread);
+    let took = start.elapsed(rt)?;
+    if !goes_on || thread.publish().is_err() || thread.exit(rt).is_err() {
+        return Err(Wrong::Answer);
+    }
+    Ok(nanoseconds(took))
+}
+
+// Makes the plan's turns. Answers whether each call was taken, and none told the thread to stop.
+fn turns_of<N: Name, J: Errand, R: Wait>(
+    rt: &R,
+    plan: Plan,
+    shared: &Shared<N, J>,
+    thread: &mut Mutator<'_, N, J>,
+) -> bool {
+    match plan.kind {
+        Kind::BackEdge => back_edges(thread, plan.turns),
+        Kind::Call => pairs(shared, thread, METHOD, plan.turns),
+        Kind::Interpreted => interpreted_pairs(thread, plan.turns),
+        Kind::Deep => stacks(shared, thread, plan.turns, plan.arg),
+        Kind::Publish => publications(shared, thread, plan.turns, plan.arg),
+        Kind::Native => crossings(rt, thread, plan.turns),
+        Kind::Handshake | Kind::Census | Kind::Reclaim | Kind::Together => false,
+    }
+}
+
+fn goes_on<E: Drop>(said: Result<Poll, E>) -> bool {
+    matches!(said, Ok(Poll::Go))
+}
+
+fn back_edges<N: Name, J: Errand>(thread: &mut Mutator<'_, N, J>, turns: u64) -> bool {
+    let mut all = true;
+    for _ in 0..turns {
+        all &= goes_on(thread.back_edge());
+    }
+    all
+}
+
+// A call of the method by its hint.
+fn call<N: Name, J: Errand>(
+    shared: &Shared<N, J>,
+    thread: &mut Mutator<'_, N, J>,
+    method: u32,
+) -> bool {
+    thread.call(method, shared.hint(method)).is_ok()
+}
+
+/// Calls the method by its hint and returns, so many times.
+pub fn pairs<N: Name, J: Errand>(
+    shared: &Shared<N, J>,
+    thread: &mut Mutator<'_, N, J>,
+    method: u32,
+    turns: u64,
+) -> bool {
+    let mut all = true;
+    for _ in 0..turns {
+        all &= call(shared, thread, method);
+        all &= goes_on(thread.ret());
+    }
+    all
+}
+
+fn interpreted_pairs<N: Name, J: Errand>(thread: &mut Mutator<'_, N, J>, turns: u64) -> bool {
+    let mut all = true;
+    for _ in 0..turns {
+        all &= thread.call(METHOD, None) == Ok(Called::Interpreted);
+        all &= goes_on(thread.ret());
+    }
+    all
+}
+
+// So many calls, of each method whose number is the step times that of the call.
+fn go_down<N: Name, J: Errand>(
+    shared: &Shared<N, J>,
+    thread: &mut Mutator<'_, N, J>,
+    depth: u64,
+    step: u64,
+) -> bool {
+    let mut all = true;
+    for level in 0..depth {
+        let method = (level.wrapping_mul(step) % 256) as u32;
+        all &= call(shared, thread, method);
+    }
+    all
+}
+
+fn go_up<N: Name, J: Errand>(thread: &mut Mutator<'_, N, J>, depth: u64) -> bool {
+    let mut all = true;
+    for _ in 0..depth {
+        all &= goes_on(thread.ret());
+    }
+    all
+}
+
+// So many calls in all, a stack of this depth at a time.
+fn stacks<N: Name, J: Errand>(
+    shared: &Shared<N, J>,
+    thread: &mut Mutator<'_, N, J>,
+    turns: u64,
+    depth: u64,
+) -> bool {
+    let mut all = true;
+    for _ in 0..turns.checked_div(depth).unwrap_or(0) {
+        all &= go_down(shared, thread, depth, 7);
+        all &= go_up(thread, depth);
+    }
+    all
+}
+
+fn publications<N: Name, J: Errand>(
+    shared: &Shared<N, J>,
+    thread: &mut Mutator<'_, N, J>,
+    turns: u64,
+    codes: u64,
+) -> bool {
+    let mut all = true;
+    for _ in 0..turns {
+        all &= go_down(shared, thread, codes, 1);
+        all &= thread.publish().is_ok();
+        all &= go_up(thread, codes);
+        all &= thread.publish().is_ok();
+    }
+    all
+}
+
+fn crossings<N: Name, J: Errand, R: Wait>(
+    rt: &R,
+    thread: &mut Mutator<'_, N, J>,
+    turns: u64,
+) -> bool {
+    let mut all = true;
+    for _ in 0..turns {
+        all &= thread.to_native(rt).is_ok();
+        all &= goes_on(thread.from_native(rt));
+    }
+    all
+}
+
+/// So many pairs by one of several threads, which publishes after as many pairs as are given with the code on its stack and without it;
+/// never for 0.
+pub fn publishing_pairs<N: Name, J: Errand>(
+    shared: &Shared<N, J>,
+    thread: &mut Mutator<'_, N, J>,
+    method: u32,
+    turns: u64,
+    every: u64,
+) -> bool {
+    if every == 0 {
+        return pairs(shared, thread, method, turns);
+    }
+    let mut all = true;
+    for _ in 0..turns.checked_div(every).unwrap_or(0) {
+        all &= call(shared, thread, method);
+        all &= thread.publish().is_ok();
+        all &= pairs(shared, thread, method, every.saturating_sub(1));
+        all &= goes_on(thread.ret());
+        all &= thread.publish().is_ok();
+    }
+    all
+}

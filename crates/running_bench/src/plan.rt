@@ -1,0 +1,125 @@
+//! What is measured.
+ghost use Rattle.std.specs.Prelude.{◌≤◌, IfSome};
+
+/// What one turn is.
+#[derive(Clone, Copy, PartialEq, Eq, Drop)]
+pub enum Kind {
+    /// A back edge.
+    BackEdge,
+    /// A call of a method by its hint, and the return.
+    Call,
+    /// So many calls of methods in turn by their hints, and their returns. Nothing is published.
+    Deep,
+    /// Calls of so many methods, a publication, their returns, and a publication.
+    Publish,
+    /// Into native code and back.
+    Native,
+    /// A handshake of all threads, which asks how deep their stacks are, from its Ask to its Close.
+    Handshake,
+    /// A census, from its Ask to its Close.
+    Census,
+    /// A code is invalidated and, with such a handshake, reclaimed.
+    Reclaim,
+    /// A call by a hint and the return, by so many threads at once.
+    Together,
+    /// A call without a hint, and the return.
+    Interpreted,
+}
+
+/// All kinds.
+pub const KINDS: [Kind; 10] = [
+    Kind::BackEdge,
+    Kind::Call,
+    Kind::Deep,
+    Kind::Publish,
+    Kind::Native,
+    Kind::Handshake,
+    Kind::Census,
+    Kind::Reclaim,
+    Kind::Together,
+    Kind::Interpreted,
+];
+
+impl Kind {
+    /// The kind that a word of the program's names.
+    pub fn of(number: u64) -> Option<Kind> {
+        match number {
+            1 => Some(Kind::BackEdge),
+            2 => Some(Kind::Call),
+            3 => Some(Kind::Deep),
+            4 => Some(Kind::Publish),
+            5 => Some(Kind::Native),
+            6 => Some(Kind::Handshake),
+            7 => Some(Kind::Census),
+            8 => Some(Kind::Reclaim),
+            9 => Some(Kind::Together),
+            12 => Some(Kind::Interpreted),
+            _ => None,
+        }
+    }
+}
+
+const MOST_THREADS: u64 = 64;
+
+const DEEPEST: u64 = 256;
+
+/// What is measured, how often, and with how many threads.
+#[derive(Clone, Copy, Drop)]
+pub struct Plan {
+    pub kind: Kind,
+    pub threads: usize,
+    pub turns: u64,
+    /// The depth, for calls of methods in turn; how many codes change, for publications; of stops whether the threads make back edges (0)
+    /// or are in native code (1); of many threads after how many pairs each publishes, 0 for never.
+    pub arg: u64,
+}
+
+impl Plan {
+    /// Nothing where there are other threads than 1 to 64, or the stack gets too deep.
+    pub fn new(kind: Kind, threads: u64, turns: u64, arg: u64) -> Option<Plan> {
+        if threads == 0 || threads > MOST_THREADS {
+            return None;
+        }
+        if matches!(kind, Kind::Deep | Kind::Publish) && arg > DEEPEST {
+            return None;
+        }
+        Some(Plan {
+            kind,
+            threads: threads as usize,
+            turns,
+            arg,
+        })
+    }
+
+    /// Whether other threads than the main thread call.
+    pub fn has_threads(&self) -> bool {
+        let _ = &self.arg;
+        matches!(
+            self.kind,
+            Kind::Handshake | Kind::Census | Kind::Reclaim | Kind::Together
+        )
+    }
+
+    /// How many stops need jobs, but for those that come before the measured ones.
+    pub fn stops_with_jobs(&self) -> u64 {
+        let _ = &self.arg;
+        match self.kind {
+            Kind::Handshake | Kind::Reclaim => self.turns,
+            _ => 0,
+        }
+    }
+
+    /// How many methods have a code.
+    pub fn codes(&self) -> u32 {
+        let _ = &self.arg;
+        match self.kind {
+            Kind::Handshake | Kind::Census | Kind::Reclaim => 1,
+            _ => 256,
+        }
+    }
+
+    /// How many places there are.
+    pub fn places(&self) -> usize {
+        if self.has_threads() { 64 } else { 4 }
+    }
+}
