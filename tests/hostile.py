@@ -33,6 +33,7 @@ THREADS = {
         "census::a_census_counts_what_the_words_count",
         "invalidated::no_call_enters_what_is_seen_invalidated",
         "leaving::a_thread_that_exits_is_gone_or_has_answered",
+        "many::sixty_four_threads_shake_hands_a_thousand_times",
         "meeting::one_job_waits_for_the_other",
     ],
 }

@@ -9,8 +9,10 @@ use std::thread;
 use thread_list::{Mutator, Poll, Shared};
 
 mod census;
+mod exits;
 mod invalidated;
 mod leaving;
+mod many;
 mod meeting;
 mod refusals;
 mod row;
@@ -27,12 +29,18 @@ fn started<'a, N: Name, J: Errand, R: Wait>(
     }
 }
 
+// The names from 1 to this one.
+fn names_to(alloc: Global, last: u64) -> Result<Targets, AllocError> {
+    let mut names = Vec::new(alloc);
+    for name in 0..last {
+        names.push(name + 1).map_err(|_| AllocError)?;
+    }
+    Ok(Targets::from_vec(names))
+}
+
 // The names 1 and 2.
 fn both(alloc: Global) -> Result<Targets, AllocError> {
-    let mut names = Vec::new(alloc);
-    names.push(1).map_err(|_| AllocError)?;
-    names.push(2).map_err(|_| AllocError)?;
-    Ok(Targets::from_vec(names))
+    names_to(alloc, 2)
 }
 
 // A handshake of the names 1 and 2 that asks for their depth waits.

@@ -1,8 +1,8 @@
-//! Two threads serve one handshake at once: one's job waits for the other's.
+//! Two threads serve one handshake at once: the job of one waits for that of the other, and each for the other.
 ghost use Rattle.std.specs.Prelude.{◌≡◌};
 ghost use Rattle.operations.specs.Asks.{reply};
 
-use super::{TURNS, ask_both, run_until, started, wait_for};
+use super::{ask_both, run_until, started, wait_for};
 use bodies::Name;
 use coordinator::{Coordinator, Driven};
 use frames::image::Image;
@@ -14,27 +14,21 @@ use std::process::Abort;
 use std::sync::atomic::{AtomicBool, AtomicU64, Ordering};
 use std::sync::{Arc, Wait};
 use std::test::*;
-use std::thread;
 use std::thread::{Threads, join};
 use thread_list::{Parts, Shared};
 
-// Waits until the flag is set; where it never is, notes that.
-fn wait_for_other(flag: &AtomicBool, missed: &AtomicBool) {
-    for _ in 0..TURNS {
-        if flag.load(Ordering::SeqCst) {
-            return;
-        }
-        thread::yield_now();
+// Waits until both jobs have begun; where they never have, notes that.
+fn wait_for_other(begun: &AtomicU64, missed: &AtomicBool) {
+    if !wait_for(2, begun) {
+        missed.store(true, Ordering::SeqCst);
     }
-    missed.store(true, Ordering::SeqCst);
 }
 
-// The part of one job: waits for the other, or sets the flag for it.
-fn run_beside(waits: bool, flag: &AtomicBool, missed: &AtomicBool) {
+// The part of one job: tells the other that it has begun, and may wait for the other.
+fn run_beside(waits: bool, begun: &AtomicU64, missed: &AtomicBool) {
+    begun.fetch_add(1, Ordering::SeqCst);
     if waits {
-        wait_for_other(flag, missed);
-    } else {
-        flag.store(true, Ordering::SeqCst);
+        wait_for_other(begun, missed);
     }
 }
 
@@ -117,22 +111,23 @@ fn meet<N: Name + Send + Sync, J: Errand + Send, R: Threads + Wait + Sync + Abor
     Ok(())
 }
 
+// The job of the name waits, or both where it is 0.
 #[test]
 fn one_job_waits_for_the_other(rt: HostRuntime) -> Result<(), Fail> {
-    for waiting in 1..3 {
+    for waiting in 0..3 {
         let parts = Parts::new(rt.alloc(), 2, 4, 2).map_err(|_| AllocError)?;
-        let flag = Arc::new(rt.alloc(), AtomicBool::new(false))?;
+        let begun = Arc::new(rt.alloc(), AtomicU64::new(0))?;
         let missed = Arc::new(rt.alloc(), AtomicBool::new(false))?;
         let mut jobs = Vec::new(rt.alloc());
         for name in 1..3 {
-            let set = Arc::try_clone(&flag)?;
+            let there = Arc::try_clone(&begun)?;
             let late = Arc::try_clone(&missed)?;
             let call: Call = Box::new(
                 rt.alloc(),
                 move |image: &Image| -> u64
                     ensures { result ≡ reply Ask.Depth image.now.frames }
                 {
-                    run_beside(name == waiting, &set, &late);
+                    run_beside(waiting == 0 || name == waiting, &there, &late);
                     image.depth() as u64
                 },
             )?;
@@ -140,7 +135,7 @@ fn one_job_waits_for_the_other(rt: HostRuntime) -> Result<(), Fail> {
                 .map_err(|_| AllocError)?;
         }
         meet::<Brand, Job, HostRuntime>(&rt, rt.alloc(), parts, jobs)?;
-        assert!(rt; flag.load(Ordering::SeqCst) && !missed.load(Ordering::SeqCst));
+        assert!(rt; begun.load(Ordering::SeqCst) == 2 && !missed.load(Ordering::SeqCst));
     }
     Ok(())
 }
