@@ -2,10 +2,11 @@
 # that it built, from outside. `make examples` runs the program alone from outside, on all shipped examples too; `make bench` times it;
 # `make runs` runs scripts on threads, each a hundred times, and then with each thread and each growth of memory refused in turn;
 # `make hostile` runs the tests of threads twenty times, and those of refused memory with each growth refused in turn;
-# `make soak` runs threads at random over what they share, with one seed after the other, for MINUTES.
-.PHONY: run test examples bench hostile runs soak
+# `make soak` runs threads at random over what they share, with one seed after the other, for MINUTES; `make pictures` draws PICTURES again.
+.PHONY: run test examples bench hostile runs soak pictures
 
 MINUTES ?= 10
+PICTURES = handshake_native safepoint_census reclaiming
 
 run:
 	@cd crates/monitor && rt run -- replay < ../../examples/one_publication.lines
@@ -29,3 +30,7 @@ runs: run
 soak:
 	@cd crates/soak && rt run
 	@tests/soak.py crates/soak/out/soak $(MINUTES)
+
+pictures:
+	@cd crates/timeline && rt run < ../../examples/reclaiming.lines > /dev/null
+	@for name in $(PICTURES); do crates/timeline/out/timeline < examples/$$name.lines > examples/$$name.svg; done
