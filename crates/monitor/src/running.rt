@@ -1,5 +1,5 @@
 // Running a script on threads.
-ghost use Rattle.std.specs.Prelude.{◌≡◌, ◌≤◌, ◌<◌, IfOk, IfErr, string_bytes};
+ghost use Rattle.std.specs.Prelude.{◌≡◌, ◌≤◌, ◌<◌, ◌*◌, ◌-◌, ◌^◌, min, IfOk, IfErr, string_bytes};
 ghost use Rattle.operations.specs.Asks.{reply};
 ghost use Rattle.workers.specs.Summaries.{summary_text};
 ghost use Rattle.monitor.specs.Run.{IsNotRun, Printed, FailedWrites};
@@ -61,7 +61,8 @@ pub fn run_with<R: Threads + Wait + Sync, G: Gate + Sync, W: Sink>(
 
 // The parts of a system of so many places, with two slots a method.
 fn parts_of(alloc: Global, threads: usize, methods: usize) -> Result<Parts, Fault>
-    ensures { IfErr result IsNotRun }
+    ensures sizes { IfOk result (λ p. (p.board.places ≡ threads) × (p.board.slots ≡ min (methods * 2) (2 ^ 64 - 1)) × (p.methods ≡ methods)) }
+    ensures refused { IfErr result IsNotRun }
 {
     match Parts::new(alloc, threads, methods.saturating_mul(2), methods) {
         Ok(parts) => Ok(parts),

@@ -4,9 +4,11 @@ ghost use Rattle.std.specs.Prelude.{◌<◌, ◌≤◌};
 use crate::check::check_text;
 use crate::fault::Fault;
 use crate::running::run_with;
+use crate::tests::new_basin;
 use replay::device::IntoWriter;
 use script::Code;
 use std::alloc::Global;
+use std::io::{BufWriter, Write};
 use std::sync::Wait;
 use std::sync::atomic::{AtomicU64, Ordering};
 use std::test::Fail;
@@ -23,7 +25,7 @@ fn code_of(alloc: Global, text: &[u8]) -> Result<Code, Fail> {
     }
 }
 
-/// What a run prints, by a buffered sink.
+/// What a run prints.
 fn printed<R: Threads + Wait + Sync, G: Gate + Sync>(
     rt: &R,
     alloc: Global,
@@ -132,6 +134,56 @@ fn refused_memory_prints_nothing(rt: HostRuntime) -> Result<(), Fail> {
         Ok(()) => assert_eq!(rt; out.len(), 111),
         Err(Fault::NoMemory | Fault::NoThread) => assert!(rt; out.is_empty()),
         Err(_) => return Err(Fail::from("another fault")),
+    }
+    Ok(())
+}
+
+const ONE_THREAD: &[u8] =
+    b"threads 1\nthread 1 finished 17\ncompiled yes\ncodes 4 freed 4\ncounts 0\n";
+
+/// Runs the loop of calls on one thread, into a writer.
+fn run_into<R: Threads + Wait + Sync, W: Write>(
+    rt: &R,
+    alloc: Global,
+    writer: &mut W,
+) -> Result<Result<(), Fault>, Fail> {
+    let code = code_of(alloc, LOOP_OF_CALLS)?;
+    let mut sink = IntoWriter::new(writer);
+    Ok(run_with(rt, alloc, &code, 1, &OpenGate, &mut sink))
+}
+
+// The text takes ten writes of seven bytes.
+#[test]
+fn a_failed_write_of_a_run_is_told(rt: HostRuntime) -> Result<(), Fail> {
+    for bad_call in 1..11 {
+        for takes_nothing in [false, true] {
+            let mut basin = new_basin(rt.alloc(), 7, bad_call, takes_nothing);
+            let told = run_into(&rt, rt.alloc(), &mut basin)?;
+            assert!(rt; matches!(told, Err(Fault::WriteFailed)));
+            assert_eq!(rt; basin.calls, bad_call);
+            assert_eq!(rt; basin.got.len(), 7 * (bad_call - 1));
+            assert!(rt; ONE_THREAD.starts_with(basin.got.as_slice()));
+        }
+    }
+    let mut basin = new_basin(rt.alloc(), 7, 11, false);
+    assert!(rt; run_into(&rt, rt.alloc(), &mut basin)?.is_ok());
+    assert_eq!(rt; basin.got.as_slice(), ONE_THREAD);
+    Ok(())
+}
+
+// What a caller's writer keeps back, the caller flushes: six writes of seven bytes are made by the run, and four by the caller.
+#[test]
+fn a_failed_write_under_a_buffer_is_told(rt: HostRuntime) -> Result<(), Fail> {
+    for bad_call in 1..12 {
+        let basin = new_basin(rt.alloc(), 7, bad_call, false);
+        let mut buffered = BufWriter::with_capacity(rt.alloc(), 30, basin)?;
+        let told = run_into(&rt, rt.alloc(), &mut buffered)?;
+        let flushed = buffered.flush();
+        let (basin, _) = buffered.into_parts();
+        assert_eq!(rt; told.is_ok(), bad_call > 6);
+        assert_eq!(rt; told.is_ok() && flushed.is_ok(), bad_call > 10);
+        assert!(rt; ONE_THREAD.starts_with(basin.got.as_slice()));
+        assert_eq!(rt; basin.got.len() == ONE_THREAD.len(), bad_call > 10);
     }
     Ok(())
 }

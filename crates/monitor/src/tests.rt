@@ -241,10 +241,10 @@ impl Read for Endless {
 
 // Keeps what it is given, at most `step` bytes a call. The call of number `bad_call` fails, or takes nothing.
 #[derive(Drop)]
-struct Basin {
-    got: Vec<u8>,
+pub struct Basin {
+    pub got: Vec<u8>,
     step: usize,
-    calls: usize,
+    pub calls: usize,
     bad_call: usize,
     takes_nothing: bool,
 }
@@ -268,7 +268,7 @@ impl Write for Basin {
     }
 }
 
-fn new_basin(alloc: Global, step: usize, bad_call: usize, takes_nothing: bool) -> Basin {
+pub fn new_basin(alloc: Global, step: usize, bad_call: usize, takes_nothing: bool) -> Basin {
     Basin {
         got: Vec::new(alloc),
         step,
