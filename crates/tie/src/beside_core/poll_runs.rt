@@ -44,7 +44,7 @@ fn served(events: &mut Vec<Event>, name: u64) -> Result<(), AllocError> {
         0,
         &[Act::Edge, Act::Take, Act::Finish, Act::Clear, Act::Cross],
     )?;
-    events.push(Event::Close)?;
+    events.push(Event::Close(None))?;
     Ok(())
 }
 
@@ -122,7 +122,7 @@ fn a_place_is_used_again(rt: HostRuntime) -> Result<(), Fail> {
     events.push(Event::Open)?;
     events.push(Event::Tell(1))?;
     acts(&mut events, 0, &[Act::Edge])?;
-    events.push(Event::Close)?;
+    events.push(Event::Close(None))?;
     served(&mut events, 2)?;
     let Ok(mut core) = System::new(rt.alloc(), 1, 4, 2) else {
         panic!(rt; "no system");
@@ -179,7 +179,7 @@ fn census_by_core(alloc: Global) -> Result<Option<Vec<Said>>, AllocError> {
     events.push(Event::Operate)?;
     acts(&mut events, 0, &[Act::Clear, Act::Release])?;
     acts(&mut events, 1, &[Act::Clear, Act::Release])?;
-    events.push(Event::Close)?;
+    events.push(Event::Close(None))?;
     acts(&mut events, 1, &[Act::Take, Act::Cross])?;
     let Ok(mut core) = System::new(alloc, 3, 4, 2) else {
         return Ok(None);
