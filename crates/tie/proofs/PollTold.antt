@@ -208,9 +208,6 @@ pub data Way (w : World) (p : ℕ) (t : Thread) (opened : Opened) : Type 0 where
 pub cleared_way : (w : World) (p : ℕ) (t : Thread) (opened : Opened) → Cleared w p t opened → Way w p t opened
 cleared_way w p t opened h = by (armed_at p w.requests.told w.log == opened.number) refl
   where
-    armed : ℕ
-    armed = armed_at p w.requests.told w.log
-
     has : (m : ℕ) → among m (armed_at p w.requests.told w.log ∷ h.rest) ≡ true → opened.number ≤ m
     has m is = h.least m (subst (λ ns. among m ns ≡ true) (sym h.uncleared_is) is)
 

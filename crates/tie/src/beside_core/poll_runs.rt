@@ -110,6 +110,76 @@ fn two_operations_in_turn(rt: HostRuntime) -> Result<(), Fail> {
     Ok(())
 }
 
+// Two operations are open and told before the thread stops, which serves them in their order.
+fn told_together_by_core(alloc: Global) -> Result<Option<Vec<Said>>, AllocError> {
+    let mut events = Vec::new(alloc);
+    started(&mut events, 0)?;
+    asked(&mut events, alloc, 1)?;
+    asked(&mut events, alloc, 1)?;
+    events.push(Event::Open)?;
+    events.push(Event::Open)?;
+    events.push(Event::Tell(1))?;
+    events.push(Event::Tell(1))?;
+    acts(&mut events, 0, &[Act::Edge])?;
+    acts(
+        &mut events,
+        0,
+        &[Act::Take, Act::Finish, Act::Clear, Act::Cross],
+    )?;
+    acts(
+        &mut events,
+        0,
+        &[Act::Take, Act::Finish, Act::Clear, Act::Cross],
+    )?;
+    events.push(Event::Close(Some(2)))?;
+    events.push(Event::Close(None))?;
+    let Ok(mut core) = System::new(alloc, 1, 4, 2) else {
+        return Ok(None);
+    };
+    Ok(core_says(&mut core, alloc, &events, Of::Row))
+}
+
+// The place is polled, armed with both numbers and polled, and polled after a clear of each. What the polls met, and which of the
+// two was found.
+fn told_together(
+    row: &PollRow,
+    armer: &mut Armer,
+    poller: &mut Poller,
+) -> ([u64; 4], (bool, bool))
+    requires tables { (armer.old.table ≡ row.now) × (poller.old.table ≡ row.now) }
+    requires armed { armer.old.seen.armed ≡ 0 ∷ [] }
+{
+    let before = poller.poll(row);
+    armer.arm(row, 0, 1);
+    armer.arm(row, 0, 2);
+    let told = poller.poll(row);
+    let first = poller.clear(row, 1);
+    let between = poller.poll(row);
+    let second = poller.clear(row, 2);
+    let after = poller.poll(row);
+    ([before, told, between, after], (first, second))
+}
+
+// A clear of the lesser of two numbers leaves the greater one armed.
+#[test]
+fn a_greater_number_stays(rt: HostRuntime) -> Result<(), Fail> {
+    let Some(by_core) = told_together_by_core(rt.alloc())? else {
+        panic!(rt; "refused");
+    };
+    let (row, mut armer, mut poller) = one_place(rt.alloc())?;
+    let (polls, found) = told_together(&row, &mut armer, &mut poller);
+    let said = [
+        Said::Polled(polls[0]),
+        Said::Polled(polls[1]),
+        Said::Polled(polls[2]),
+        Said::Polled(polls[3]),
+    ];
+    assert!(rt; by_core.as_slice() == said.as_slice());
+    assert!(rt; polls == [0, 2, 2, 0]);
+    assert!(rt; !found.0 && found.1);
+    Ok(())
+}
+
 // A name that is gone isn't told, and the next thread at its place isn't armed by it.
 #[test]
 fn a_place_is_used_again(rt: HostRuntime) -> Result<(), Fail> {
