@@ -300,7 +300,6 @@ numbers_left n (x ∷ os) = by (x.number == n) (numbers_left n os)
     by true r = r
     by false r = ap (λ ns. x.number ∷ ns) r
 
-
 log_kept : (w : World) → LogOpen w → Cases w (λ e a v. LogOpen v)
 log_kept w h = record {
   refuses = λ e r. h;

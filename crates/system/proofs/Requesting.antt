@@ -1,5 +1,5 @@
 -- Ask and Open: what they answer, and what the system has after them.
-use Rattle.std.proofs.Common.{None, ◌≡◌, ◌∙◌, ◌+◌, ◌<◌, ◌≤◌, sym, ap, refl, subst, ℕ, Bool, true, false, ◌&&◌, ◌||◌, ◌==◌, eqb, cond, List, [], ◌∷◌, ◌++◌, Some, length, map, arith}
+use Rattle.std.proofs.Common.{None, ◌≡◌, ◌∙◌, ◌+◌, ◌≤◌, sym, ap, refl, ℕ, Bool, true, false, ◌&&◌, ◌||◌, ◌==◌, eqb, cond, List, [], ◌∷◌, ◌++◌, Some, length, map, arith}
 use Rattle.std.specs.Prelude.{filter, nat_lt, nat_le}
 use Rattle.std.specs.List.{list_any}
 use Rattle.std.proofs.lemmas.Bool.Decides.{nat_tests}

@@ -1,5 +1,5 @@
 -- The answer to an event is read off the poll word that its step met.
-use Rattle.std.proofs.Common.{◌≡◌, ℕ, ◌<◌, ◌≤◌, true, false, ◌∷◌, List, Option, Some, None, sym, refl, ap, ◌∙◌, inl, inr, ⊎_elim, subst, arith}
+use Rattle.std.proofs.Common.{◌≡◌, ℕ, ◌<◌, ◌≤◌, true, false, Option, Some, None, sym, refl, ap, ◌∙◌, inl, inr, ⊎_elim, subst, arith}
 use Rattle.std.specs.Prelude.{◌==◌, unwrap_or, if◌then◌else◌}
 use Rattle.std.proofs.lemmas.Bool.{false≢true, eq-eqb, ne_eqb}
 use Rattle.thread_state.specs.declared.State.{State}
@@ -69,40 +69,6 @@ cleared_met w p t opened sound h i =
     let low : opened.number ≤ armed_at p w.requests.told w.log = d.least (armed_at p w.requests.told w.log)
     (subst (λ ns. among (armed_at p w.requests.told w.log) ns ≡ true) (sym d.uncleared_is) (let own = eq-eqb (armed_at p w.requests.told w.log) (armed_at p w.requests.told w.log) refl in rw own refl)) in
     (omega (arith, is, from), omega (arith, is, met, low))
-
-said : (w : World) (p : ℕ) (t : Thread) → RowIn w → Stands w p t → go_or_stop (poll_of w.requests t.name) ≡ said_by (row_of w p).word
-poll_said w p t h s = ap go_or_stop poll ∙ (by (h.last p) ∙ sym (ap said_by (row_word w h p)))
-  where
-    poll : poll_of w.requests t.name ≡ greatest (uncleared_at p w.requests.told w.requests.cleared w.log)
-    poll = ap greatest (sym (ap (λ o. pending_at w.requests (found o)) s.there) ∙ h.waiting p)
-
-    by : IsLast (uncleared_at p w.requests.told w.requests.cleared w.log) (armed_at p w.requests.told w.log) (cleared_at p w.requests.told w.requests.cleared w.log)
-        → go_or_stop (greatest (uncleared_at p w.requests.told w.requests.cleared w.log)) ≡ said_by (unwrap_or (greatest (uncleared_at p w.requests.told w.requests.cleared w.log)) 0)
-    by (inl a) = subst (λ us. go_or_stop (greatest us) ≡ said_by (unwrap_or (greatest us) 0)) (sym a.0) refl
-    by (inr a) =
-        let some : (armed_at p w.requests.told w.log == 0) ≡ false = ne_eqb (armed_at p w.requests.told w.log) 0 (λ is. (let less = a.3 in absurd (omega arith))) in
-        let most : greatest (uncleared_at p w.requests.told w.requests.cleared w.log) ≡ Some (armed_at p w.requests.told w.log) = ap greatest a.1 ∙ greatest_first (armed_at p w.requests.told w.log) a.0 a.2 in
-        subst (λ (o : Option ℕ). go_or_stop o ≡ said_by (unwrap_or o 0)) (sym most) (rw some refl)
-
--- An act that polls comes into another state by the poll.
-polled_said : (w : World) (p : ℕ) (t : Thread) (a : Act) (state : State) (given : Answer) → RowIn w → Moves w p t a state given → move_of a ≡ None → given ≡ said_by (row_of w p).word
-polled_said w p t a state given h i none = ⊎_elim (λ (by : ByMove w a t state given). (let is : None ≡ Some by.by = sym none ∙ by.is in cc))
-    (λ (by : ByPoll w t state given). by.says ∙ poll_said w p t h i.acts.stands) i.way
-
-move_said : (w : World) (p : ℕ) (t : Thread) (a : Act) (state : State) (given : Answer) → RowIn w → Moves w p t a state given → is_move a ≡ true → IsAnswered (step_of w (event.At p a) given) given
-move_said w p t act.Wake state given h i is = tt
-move_said w p t act.Cross state given h i is = polled_said w p t act.Cross state given h i refl
-move_said w p t act.Edge state given h i is = polled_said w p t act.Edge state given h i refl
-move_said w p t act.ToVm state given h i is = tt
-move_said w p t act.FromVm state given h i is = polled_said w p t act.FromVm state given h i refl
-move_said w p t act.ToNative state given h i is = tt
-move_said w p t act.Block state given h i is = tt
-move_said w p t act.Take state given h i is = tt
-move_said w p t a state given h i is = absurd (false≢true is)
-
-cleared_met : (w : World) (p : ℕ) (t : Thread) (opened : Opened) → IsSound w → LogTells w → RowIn w → Clears w p t opened → (row_of w p).word ≡ number_of w.requests.opened
-cleared_met w p t opened sound ran h i = let d : Cleared w p t opened = cleared_is w p t opened ran h i in
-    (row_word w h p ∙ ap (λ ns. unwrap_or (greatest ns) 0) d.uncleared_is) ∙ sym (ap number_of (alone_is w opened sound i.open_is))
 
 said : (w : World) → IsSound w → RowIn w → Cases w (λ e a v. IsAnswered (polls_of w e a) a)
 said w sound h = record {

@@ -16,12 +16,12 @@ use Rattle.system.specs.declared.answers.Answer.TheVariants as answer
 use Rattle.system.specs.Threads.{Thread}
 use Rattle.system.specs.Operations.{Requests, Waiting, Opened, Mark, is_marked, pending, poll_of}
 use Rattle.operations.specs.Names.{among}
-use Rattle.system.specs.Log.{Entry, is_start, names_given, operations_given}
+use Rattle.system.specs.Log.{Entry, names_given, operations_given}
 use Rattle.system.specs.World.{World, thread_at, found, is_live, walk, census}
 use Rattle.system.specs.Places.{popped, go_or_stop}
 use Rattle.system.specs.Step.{new_thread, operated_if, code_or_none}
 use Rattle.system.specs.Facts.{IsSound}
-use Rattle.system.specs.Ran.{name_in, started_or}
+use Rattle.system.specs.Ran.{name_in}
 use Rattle.system.proofs.Outcomes.{difference, Stands, begun, changed_by, ended, entered, moved, held, released, is_move, noted, seated, asked, with_done, with_cleared, with_told, with_request, newly_opened, with_opened, with_operated, without_opened, Starts, Tells, Clears, Opens, Exits}
 use Rattle.system.proofs.Cases.{Cases}
 use Rattle.system.proofs.Seats.{each_some}

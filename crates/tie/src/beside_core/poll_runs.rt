@@ -141,11 +141,7 @@ fn told_together_by_core(alloc: Global) -> Result<Option<Vec<Said>>, AllocError>
 
 // The place is polled, armed with both numbers and polled, and polled after a clear of each. What the polls met, and which of the
 // two was found.
-fn told_together(
-    row: &PollRow,
-    armer: &mut Armer,
-    poller: &mut Poller,
-) -> ([u64; 4], (bool, bool))
+fn told_together(row: &PollRow, armer: &mut Armer, poller: &mut Poller) -> ([u64; 4], (bool, bool))
     requires tables { (armer.old.table ≡ row.now) × (poller.old.table ≡ row.now) }
     requires armed { armer.old.seen.armed ≡ 0 ∷ [] }
 {

@@ -1,4 +1,4 @@
-use Rattle.std.proofs.Common.{◌≡◌, ◌∙◌, sym, ap, true, false, Some, None, refl, rules}
+use Rattle.std.proofs.Common.{◌≡◌, ◌∙◌, sym, ap, true, false, Some, refl, rules}
 use Rattle.std.specs.Prelude.{slice_get, get_or, length, ◌==◌}
 use Rattle.std.specs.List.{list_any}
 use Rattle.operations.specs.Names.{is_empty}
