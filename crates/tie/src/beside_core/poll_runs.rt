@@ -139,21 +139,28 @@ fn told_together_by_core(alloc: Global) -> Result<Option<Vec<Said>>, AllocError>
     Ok(core_says(&mut core, alloc, &events, Of::Row))
 }
 
-// The place is polled, armed with both numbers and polled, and polled after a clear of each. What the polls met, and which of the
-// two was found.
-fn told_together(row: &PollRow, armer: &mut Armer, poller: &mut Poller) -> ([u64; 4], (bool, bool))
-    requires tables { (armer.old.table ≡ row.now) × (poller.old.table ≡ row.now) }
-    requires armed { armer.old.seen.armed ≡ 0 ∷ [] }
+// The place is armed with the number.
+fn armed_with(row: &PollRow, armer: &mut Armer, number: u64)
+    requires table { armer.old.table ≡ row.now }
+    requires place { length armer.old.seen.armed ≡ 1 }
+    requires later { slice_index armer.old.seen.armed 0 < number }
+    requires small { number < 2 ^ 40 }
+    ensures table { armer.new.table ≡ armer.old.table }
+    ensures armed { armer.new.seen.armed ≡ number ∷ [] }
 {
-    let before = poller.poll(row);
-    armer.arm(row, 0, 1);
-    armer.arm(row, 0, 2);
+    armer.arm(row, 0, number);
+}
+
+// The place is polled, and polled after a clear of each of two numbers. What the polls met, and which of the two was found.
+fn cleared_in_turn(row: &PollRow, poller: &mut Poller) -> ([u64; 3], (bool, bool))
+    requires table { poller.old.table ≡ row.now }
+{
     let told = poller.poll(row);
     let first = poller.clear(row, 1);
     let between = poller.poll(row);
     let second = poller.clear(row, 2);
     let after = poller.poll(row);
-    ([before, told, between, after], (first, second))
+    ([told, between, after], (first, second))
 }
 
 // A clear of the lesser of two numbers leaves the greater one armed.
@@ -163,15 +170,18 @@ fn a_greater_number_stays(rt: HostRuntime) -> Result<(), Fail> {
         panic!(rt; "refused");
     };
     let (row, mut armer, mut poller) = one_place(rt.alloc())?;
-    let (polls, found) = told_together(&row, &mut armer, &mut poller);
+    let started = poller.poll(&row);
+    armed_with(&row, &mut armer, 1);
+    armed_with(&row, &mut armer, 2);
+    let (polls, found) = cleared_in_turn(&row, &mut poller);
     let said = [
+        Said::Polled(started),
         Said::Polled(polls[0]),
         Said::Polled(polls[1]),
         Said::Polled(polls[2]),
-        Said::Polled(polls[3]),
     ];
     assert!(rt; by_core.as_slice() == said.as_slice());
-    assert!(rt; polls == [0, 2, 2, 0]);
+    assert!(rt; started == 0 && polls == [2, 2, 0]);
     assert!(rt; !found.0 && found.1);
     Ok(())
 }
