@@ -1,6 +1,6 @@
 -- The jobs that are left of open requests.
 use Rattle.std.proofs.Common.{◌≡◌, ◌≢◌, ℕ, zero, suc, ◌+◌, ◌<◌, List, [], ◌∷◌, true, false, cond, Some, None, length, map, refl, sym, ap, ◌∙◌, subst, arith}
-use Rattle.std.specs.Prelude.{◌&&◌, ◌||◌, ◌==◌, slice_get, slice_set}
+use Rattle.std.specs.Prelude.{◌&&◌, ◌||◌, ◌==◌, Option, IfSome, IfNone, OnSome, slice_get, slice_set}
 use Rattle.std.specs.List.{remove}
 use Rattle.std.proofs.lemmas.Bool.{eq-eqb, ne_eqb, eqb-true, and_parts}
 use mathlib.Core.Logic.{dite}
@@ -119,3 +119,20 @@ closed_at whom n zero (x ∷ os) is = sym (ap (λ b. cond b (map (jobs_left whom
 closed_at whom n (suc i) (x ∷ os) is =
     ap (λ l. jobs_left whom x ∷ l) (closed_at whom n i os (later n i x os is))
     ∙ sym (ap (λ b. cond b (map (jobs_left whom) os) (jobs_left whom x ∷ jobs_closed n (map (jobs_left whom) os))) (ne_eqb x.number n (is.1 0 x (omega arith) refl)))
+
+-- what an answer has, it has by what follows
+pub some_also : {A : Type 0} (P Q : A → Type 0) (r : Option A) → ((a : A) → P a → Q a) → IfSome r P → IfSome r Q
+some_also P Q None f h = tt
+some_also P Q (Some a) f h = f a h
+
+pub some_then : {A P Q : Type 0} (r : Option A) → (P → Q) → OnSome r P → OnSome r Q
+some_then None f h = tt
+some_then (Some a) f h = f h
+
+pub some_has : {A Q : Type 0} (r : Option A) → Q → OnSome r Q
+some_has None q = tt
+some_has (Some a) q = q
+
+pub none_then : {A P Q : Type 0} (r : Option A) → (P → Q) → IfNone r P → IfNone r Q
+none_then None f h = f h
+none_then (Some a) f h = tt

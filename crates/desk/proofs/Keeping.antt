@@ -159,6 +159,10 @@ due_left name c h fit =
     let less = filter_less (λ (x : ℕ). x == name) c.due h in
     (omega arith, omega arith)
 
+-- where one is due, an entry is left
+pub due_entry : (name : ℕ) (c : Current) → is_due name c ≡ true → due_of c ≤ c.left → 0 < c.left
+due_entry name c h fit = let d = due_left name c h fit in omega (arith, d.0)
+
 pub finish_keeps : {J : Type 0} (slots methods : ℕ) (b b' : Book) (nn num n name reply i : ℕ) (live : List Live) (q : List (Waiting (Carried J))) (os os' : List (Opened J)) (o o' : Opened J) (t : TableView)
     → IsKept slots methods b (state_of nn live num q os t) → IsIndex n os (Some i) → slice_get os i ≡ Some o → os' ≡ slice_set os i o' → current_of o' ≡ finished name (current_of o)
     → among name o.due.items ≡ true → is_live name live ≡ true → is_least n name (map current_of os) ≡ true
@@ -202,6 +206,17 @@ close_keeps slots methods b b' nn num i live q os os' o t k at here is may there
     (ap (λ (cs : List Current). record { next_name = nn; live = live; next_number = num; waiting = map asked_of q; opened = cs; table = t }) (sym gone))
     (let z = k.needed in omega arith)
     (subst AreFit (sym gone) (fit_without o.number (map current_of os) k.fit))
+
+-- the Close of one that may be closed is lawful
+pub close_is : {J : Type 0} (nn num i : ℕ) (live : List Live) (q : List (Waiting (Carried J))) (os : List (Opened J)) (o : Opened J) (t : TableView)
+    → IsIndex o.number os (Some i) → slice_get os i ≡ Some o → may_close live (current_of o) ≡ true → lawful (state_of nn live num q os t) (Close o.number) ≡ true
+close_is nn num i live q os o t at here may = ap (passes (may_close live)) (open_at o.number i os o at here) ∙ may
+
+-- what stays is kept
+pub same_keeps : {J : Type 0} (slots methods : ℕ) (b : Book) (nn num : ℕ) (live : List Live) (q : List (Waiting (Carried J))) (os os' : List (Opened J)) (t : TableView)
+    → IsKept slots methods b (state_of nn live num q os t) → map current_of os' ≡ map current_of os → IsKept slots methods b (state_of nn live num q os' t)
+same_keeps slots methods b nn num live q os os' t k same =
+    subst (λ (cs : List Current). IsKept slots methods b (record { next_name = nn; live = live; next_number = num; waiting = map asked_of q; opened = cs; table = t })) (sym same) k
 
 -- entries that codes can still make
 needs_of_codes-push : (cs : List Code) (c : Code) → needs_of_codes (cs ++ c ∷ []) ≡ needs_of_codes cs + states_left c.state

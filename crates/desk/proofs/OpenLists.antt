@@ -1,13 +1,18 @@
 -- Open requests, by their numbers.
 use Rattle.std.proofs.Common.{◌≡◌, ◌≢◌, ℕ, zero, suc, ◌+◌, ◌<◌, ◌≤◌, Bool, true, false, cond, List, [], ◌∷◌, ◌++◌, length, map, Option, Some, None, sym, refl, ap, ◌∙◌, subst, arith}
-use Rattle.std.specs.Prelude.{◌||◌, ◌==◌, slice_get, slice_set}
+use Rattle.std.specs.Prelude.{◌||◌, ◌==◌, nat_lt, IfSome, IfNone, slice_get, slice_set}
 use Rattle.std.specs.List.{list_any, remove}
-use Rattle.std.proofs.lemmas.Bool.{eq-eqb, ne_eqb}
+use Rattle.std.proofs.lemmas.Bool.{eq-eqb, ne_eqb, and_parts}
+use Rattle.std.proofs.lemmas.Bool.Decides.{nat_tests}
+use Rattle.std.proofs.lemmas.List.{length-map}
+use Rattle.operations.specs.declared.queue.Waiting.{Waiting}
+use Rattle.operations.specs.Requests.{is_census}
+use Rattle.desk.specs.declared.entries.Carried.{Carried}
 use Rattle.desk.specs.declared.entries.Opened.{Opened}
-use Rattle.desk.specs.Machine.{Current, is_open, open_of, at_number, without_number, needs_of_opened}
-use Rattle.desk.specs.Refusals.{oldest_of}
+use Rattle.desk.specs.Machine.{Current, awaits_census, may_open_more, is_open, open_of, at_number, without_number, needs_of_opened}
+use Rattle.desk.specs.Refusals.{oldest_of, chosen}
 use Rattle.desk.proofs.Newest.{same_at}
-use Rattle.desk.specs.Fields.{current_of, IsIndex, AreFit, due_of}
+use Rattle.desk.specs.Fields.{asked_of, current_of, IsIndex, AreFit, due_of}
 
 pub any_map : {A B : Type 0} (p : B → Bool) (f : A → B) (xs : List A) → list_any p (map f xs) ≡ list_any (λ x. p (f x)) xs
 any_map p f [] = refl
@@ -121,6 +126,44 @@ open_is n (suc i) (x ∷ os) o is h = or_true (x.number == n) (is_open n (map cu
 pub oldest_is : {J : Type 0} (os : List (Opened J)) (o : Opened J) → slice_get os 0 ≡ Some o → oldest_of (map current_of os) ≡ Some (current_of o)
 oldest_is [] o h = cc
 oldest_is (x ∷ os) o h = let same : x ≡ o = cc in ap (λ (z : Opened _). Some (current_of z)) same
+
+-- the one at the place is chosen
+abbrev pub IsChosen : {J : Type 0} → Option ℕ → List (Opened J) → ℕ → Type 0
+IsChosen number os i = (i < length os) × ((o : Opened _) → slice_get os i ≡ Some o → IsIndex o.number os (Some i) × (chosen number (map current_of os) ≡ Some (current_of o)))
+
+-- which one is chosen by its number
+pub chosen_some : {J : Type 0} (n : ℕ) (os : List (Opened J)) (found : Option ℕ) → IsIndex n os found
+    → IfSome found (λ i. (i < length os) × ((o : Opened J) → slice_get os i ≡ Some o → IsIndex o.number os (Some i) × (chosen (Some n) (map current_of os) ≡ Some (current_of o))))
+chosen_some n os None is = tt
+chosen_some n os (Some i) is = (is.0, λ o h. (own_index n i os o is h, open_at n i os o is h))
+
+pub chosen_none : {J : Type 0} (n : ℕ) (os : List (Opened J)) (found : Option ℕ) → IsIndex n os found → IfNone found (chosen (Some n) (map current_of os) ≡ None)
+chosen_none n os None is = none_at n os is
+chosen_none n os (Some i) is = tt
+
+-- the oldest request that waits
+pub awaits_at : {J : Type 0} (q : List (Waiting (Carried J))) (w : Waiting (Carried J)) → slice_get q 0 ≡ Some w → awaits_census (map asked_of q) ≡ is_census w.request
+awaits_at [] w h = cc
+awaits_at (x ∷ q) w h = let same : x ≡ w = cc in ap (λ (z : Waiting (Carried _)). is_census z.request) same
+
+pub awaits_none : {J : Type 0} (q : List (Waiting (Carried J))) → slice_get q 0 ≡ None → awaits_census (map asked_of q) ≡ false
+awaits_none [] h = refl
+awaits_none (x ∷ q) h = cc
+
+-- where one more may be opened, few are
+pub few_open : {J : Type 0} (q : List (Waiting (Carried J))) (os : List (Opened J)) → may_open_more (map asked_of q) (map current_of os) ≡ true → length os < 4
+few_open q os h =
+    let n : length (map current_of os) ≡ length os = length-map os current_of in
+    let low = lt_is (length (map current_of os)) 4 (and_parts (nat_lt (length (map current_of os)) 4) _ h).0 in omega arith
+  where
+    lt_is : (a b : ℕ) → nat_lt a b ≡ true → a < b
+    lt_is a b e = grind (arith, nat_tests)
+
+-- something stands below the length
+pub there_at : {X : Type 0} (xs : List X) (i : ℕ) → i < length xs → (x : X) × (slice_get xs i ≡ Some x)
+there_at [] i low = absurd (omega arith)
+there_at (x ∷ xs) zero low = (x, refl)
+there_at (x ∷ xs) (suc i) low = there_at xs i (omega arith)
 
 -- one less to fit
 pub fit_without : (n : ℕ) (cs : List Current) → AreFit cs → AreFit (without_number n cs)

@@ -555,11 +555,10 @@ impl<N: Name, J: Errand> Desk<N, J> {
         ensures left { self.new.jobs ≡ job_taken number name self.old.jobs }
         ensures same { (self.new.book ≡ self.old.book) × (self.new.slots ≡ self.old.slots) × (self.new.methods ≡ self.old.methods) × (self.new.keeper ≡ self.old.keeper) }
     {
-        let place = index_of(self.opened.as_slice(), number)?;
-        match job_of(&mut self.opened, place, name) {
-            Some(job) => Some(job.numbered(number)),
-            None => None,
-        }
+        let Some(place) = index_of(self.opened.as_slice(), number) else {
+            return None;
+        };
+        job_of(&mut self.opened, place, name)
     }
 
     /// The live names, in the order in which they started. Refused only for want of memory.

@@ -309,13 +309,16 @@ fn take_of<J: Errand>(jobs: &mut Vec<J>, name: u64) -> Option<J>
 }
 
 fn job_in<J: Errand>(request: &mut Opened<J>, name: u64) -> Option<J>
-    ensures job { IfSome result (λ j. J.whom j ≡ name) }
+    ensures job { IfSome result (λ j. (J.whom j ≡ name) × (J.number j ≡ request.old.number)) }
     ensures some { OnSome result (among name (names_left J.whom request.old) ≡ true) }
     ensures none { IfNone result (among name (names_left J.whom request.old) ≡ false) }
     ensures left { names_left J.whom request.new ≡ without_first name (names_left J.whom request.old) }
     ensures same { current_of request.new ≡ current_of request.old }
 {
-    take_of(&mut request.jobs, name)
+    match take_of(&mut request.jobs, name) {
+        Some(job) => Some(job.numbered(request.number)),
+        None => None,
+    }
 }
 
 // Whether two asks are the same.
@@ -361,10 +364,10 @@ pub fn jobs_fit<J: Errand>(request: &Request, jobs: &[J]) -> bool
     }
 }
 
-/// The job for the name, out of an open request.
+/// The job for the name, out of an open request, with its number.
 pub fn job_of<J: Errand>(opened: &mut Vec<Opened<J>>, place: usize, name: u64) -> Option<J>
     requires { place < length opened.old.items }
-    ensures job { IfSome result (λ j. J.whom j ≡ name) }
+    ensures job { IfSome result (λ j. (J.whom j ≡ name) × ((o : OpenedOf J) → slice_get opened.old.items place ≡ Some o → J.number j ≡ o.number)) }
     ensures some { OnSome result ((o : OpenedOf J) → slice_get opened.old.items place ≡ Some o → among name (names_left J.whom o) ≡ true) }
     ensures none { IfNone result ((o : OpenedOf J) → slice_get opened.old.items place ≡ Some o → among name (names_left J.whom o) ≡ false) }
     ensures step { (o : OpenedOf J) → slice_get opened.old.items place ≡ Some o → (after : OpenedOf J) × (current_of after ≡ current_of o) × (opened.new.items ≡ slice_set opened.old.items place after) × (names_left J.whom after ≡ without_first name (names_left J.whom o)) }

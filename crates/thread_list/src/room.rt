@@ -24,6 +24,9 @@ pub enum Holder<N: Name> {
     Home(Body<N>),
 }
 
+/// How many jobs a berth has room for: one of each operation that can be open.
+pub const JOBS: usize = 4;
+
 /// What a berth keeps: who has the seat and the poller of its place, the jobs that the thread was told, in order, the census
 /// that it was told and that isn't operated (0 for none), and how many threads wait for a change of it.
 #[derive(Drop)]
@@ -47,7 +50,7 @@ impl<N: Name, J: Errand> Model for Room<N, J> {
 }
 
 impl<N: Name, J: Errand> Room<N, J> {
-    /// The berth of a vacant place, with an empty list that has room for a job.
+    /// The berth of a vacant place, with an empty list that has room for its jobs.
     pub fn new(place: usize, pair: SpareSeat<N>, jobs: Vec<J>) -> Room<N, J>
         requires pair { pair.seat.place ≡ place }
         requires jobs { IsRoom jobs }
@@ -213,12 +216,12 @@ impl<N: Name, J: Errand> Room<N, J> {
     }
 
     /// A job goes in for its target, behind those that are there. It comes back where the berth bears another name than its target's, or
-    /// has no room for another job; it has room for one.
+    /// has no room for another job; it has room for four.
     pub fn tell(&mut self, job: J) -> Result<(), J>
         requires number { 0 < J.number job }
         ensures ok { OnOk result ((name_of self.old.holder ≡ J.whom job) × (self.new ≡ record self.old { jobs = self.old.jobs ++ told_of J.number J.whom job ∷ [] })) }
         ensures err { IfErr result (λ j. (j ≡ job) × (self.new ≡ self.old) × (0 < J.whom job → name_of self.old.holder ≡ J.whom job → self.old.room ≤ length self.old.jobs)) }
-        ensures room { 0 < self.old.room }
+        ensures room { 4 ≤ self.old.room }
     {
         let name = self.name();
         if name == 0 || name != job.target_of() || self.jobs.len() >= self.jobs.capacity() {
