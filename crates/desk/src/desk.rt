@@ -589,7 +589,12 @@ impl<N: Name, J: Errand> Desk<N, J> {
         ensures { result ≡ standing (at self.now) name }
     {
         let _ = &self.log;
-        standing_to(self.opened.as_slice(), self.next_name, self.live.as_slice(), name)
+        standing_to(
+            self.opened.as_slice(),
+            self.next_name,
+            self.live.as_slice(),
+            name,
+        )
     }
 
     /// The number of the oldest open request that is of a live thread and wasn't told to it, where `last` is the last number that it

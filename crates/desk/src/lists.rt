@@ -149,9 +149,7 @@ fn awaits_census<J>(queue: &Queue<Carried<J>>) -> bool
 pub fn may_open_more<J>(queue: &Queue<Carried<J>>, opened: &[Opened<J>]) -> bool
     ensures { result ≡ may_open_more (map asked_of queue.now) (map current_of opened.now) }
 {
-    opened.len() < OPEN
-        && !is_census_open(opened)
-        && !(awaits_census(queue) && !opened.is_empty())
+    opened.len() < OPEN && !is_census_open(opened) && !(awaits_census(queue) && !opened.is_empty())
 }
 
 /// Where the open request of the number stands.

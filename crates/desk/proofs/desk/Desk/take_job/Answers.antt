@@ -1,10 +1,9 @@
-use Rattle.std.proofs.Common.{◌≡◌, ◌≤◌, ◌<◌, ◌∙◌, ℕ, List, length, map, true, false, Some, None, sym, ap, subst, refl, rules, arith}
-use Rattle.std.specs.Prelude.{IfSome, slice_get, vec_len}
+use Rattle.std.proofs.Common.{◌≡◌, ◌≤◌, ◌<◌, ◌∙◌, List, length, map, true, false, Some, None, sym, ap, subst, rules, arith}
+use Rattle.std.specs.Prelude.{vec_len}
 use Rattle.operations.specs.Names.{among}
-use Rattle.desk.specs.declared.entries.Opened.{Opened}
 use Rattle.desk.specs.Machine.{Current, State, is_open}
-use Rattle.desk.specs.Fields.{DeskSeen, at, asked_of, current_of, jobs_left, names_left, IsIndex}
-use Rattle.desk.specs.JobsFit.{left_of, has_job, job_taken}
+use Rattle.desk.specs.Fields.{DeskSeen, at, asked_of, current_of, jobs_left, IsIndex}
+use Rattle.desk.specs.JobsFit.{has_job, job_taken}
 use Rattle.desk.specs.Replies.{HaveRoom}
 use Rattle.desk.proofs.OpenLists.{open_at, open_is, fit_of, there_at}
 use Rattle.desk.proofs.JobsLeft.{left_at, left_not, taken_at, taken_not, set_same, some_also, some_then, some_has, none_then}
