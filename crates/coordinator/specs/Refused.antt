@@ -124,11 +124,9 @@ abbrev pub census_refused : State → List BodyView → OperateFault → Type 0
 census_refused s bs (operate.Refused fault) = operate_refused s bs fault
 census_refused s bs operate.NoMemory = MayOperate s bs
 
--- The open request of the number, or without one the oldest, is closed: no held thread is its target. No census is operated then.
-abbrev pub Closes : Holding → Holding → Option ℕ → ℕ → Type 0
-Closes old new number closed
-    = (s : State) × (c : Current) × (chosen number s.opened ≡ Some c) × (closed ≡ c.number) × (holds_target c.request old.held ≡ false)
-    × (new ≡ record old { operated = false })
+-- The open request of the number, or without one the oldest, had this number, and no held thread is its target.
+abbrev pub MayClose : Holding → Option ℕ → ℕ → Type 0
+MayClose c number closed = (s : State) × (o : Current) × (chosen number s.opened ≡ Some o) × (closed ≡ o.number) × (holds_target o.request c.held ≡ false)
 
 -- Why it isn't closed.
 abbrev pub not_closed : Holding → Option ℕ → CloseFault → Type 0

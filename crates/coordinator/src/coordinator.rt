@@ -1,11 +1,11 @@
 //! The coordinator: what it keeps, and how it opens and closes requests.
-ghost use Rattle.std.specs.Prelude.{◌≡◌, false, Some, None, IfOk, IfErr};
+ghost use Rattle.std.specs.Prelude.{◌≡◌, false, Some, None, IfOk, IfErr, OnOk};
 ghost use Rattle.poll.specs.Rows.{full_armer};
 ghost use Rattle.desk.specs.declared.entries.Entry.{Entry};
-ghost use Rattle.desk.specs.Machine.{State as DeskState, Current as CurrentOf};
-ghost use Rattle.desk.specs.Refusals.{open_refused, chosen, holds_target};
+ghost use Rattle.desk.specs.Machine.{State as DeskState};
+ghost use Rattle.desk.specs.Refusals.{open_refused};
 ghost use Rattle.coordinator.specs.Holding.{held_nothing};
-ghost use Rattle.coordinator.specs.Refused.{Closes, not_closed};
+ghost use Rattle.coordinator.specs.Refused.{MayClose, not_closed};
 
 use bodies::{Body, Name};
 use desk::{CloseFault, OpenFault, Receipt};
@@ -82,7 +82,8 @@ impl<'a, N: Name, J: Errand> Coordinator<'a, N, J> {
     /// Closes the oldest open request, and drops the jobs of targets that are gone. Answers the number of the operation, with the
     /// receipt of its Close.
     pub fn close<R: Wait>(&mut self, rt: &R) -> Result<(u64, Receipt<N>), CloseFault>
-        ensures closed { IfOk result (λ r. (r.1.entry ≡ Entry.Close r.0) × Closes self.old self.new None r.0) }
+        ensures closed { IfOk result (λ r. (r.1.entry ≡ Entry.Close r.0) × MayClose self.old None r.0) }
+        ensures same { OnOk result (self.new ≡ record self.old { operated = false }) }
         ensures refused { IfErr result (λ e. not_closed self.old None e × (self.new ≡ self.old)) }
     {
         self.close_chosen(rt, None)
@@ -90,7 +91,8 @@ impl<'a, N: Name, J: Errand> Coordinator<'a, N, J> {
 
     /// The same of the open request of the number.
     pub fn close_of<R: Wait>(&mut self, rt: &R, number: u64) -> Result<Receipt<N>, CloseFault>
-        ensures closed { IfOk result (λ r. (r.entry ≡ Entry.Close number) × Closes self.old self.new (Some number) number) }
+        ensures closed { IfOk result (λ r. (r.entry ≡ Entry.Close number) × MayClose self.old (Some number) number) }
+        ensures same { OnOk result (self.new ≡ record self.old { operated = false }) }
         ensures refused { IfErr result (λ e. not_closed self.old (Some number) e × (self.new ≡ self.old)) }
     {
         let (_, receipt) = self.close_chosen(rt, Some(number))?;
@@ -102,7 +104,8 @@ impl<'a, N: Name, J: Errand> Coordinator<'a, N, J> {
         rt: &R,
         number: Option<u64>,
     ) -> Result<(u64, Receipt<N>), CloseFault>
-        ensures closed { IfOk result (λ r. (r.1.entry ≡ Entry.Close r.0) × Closes self.old self.new number r.0) }
+        ensures closed { IfOk result (λ r. (r.1.entry ≡ Entry.Close r.0) × MayClose self.old number r.0) }
+        ensures same { OnOk result (self.new ≡ record self.old { operated = false }) }
         ensures refused { IfErr result (λ e. not_closed self.old number e × (self.new ≡ self.old)) }
     {
         let closed = self.try_close(rt, number)?;
@@ -115,8 +118,7 @@ impl<'a, N: Name, J: Errand> Coordinator<'a, N, J> {
         rt: &R,
         number: Option<u64>,
     ) -> Result<(u64, Receipt<N>), CloseFault>
-        ensures closed { IfOk result (λ r. r.1.entry ≡ Entry.Close r.0) }
-        ensures chosen { IfOk result (λ r. (s : DeskState) × (c : CurrentOf) × (chosen number s.opened ≡ Some c) × (r.0 ≡ c.number) × (holds_target c.request self.now.held ≡ false)) }
+        ensures closed { IfOk result (λ r. (r.1.entry ≡ Entry.Close r.0) × MayClose self.now number r.0) }
         ensures refused { IfErr result (not_closed self.now number) }
     {
         let mut desk = self.shared.desk().lock(rt);

@@ -8,24 +8,24 @@ ghost use Rattle.coordinator.specs.Holding.{AreHeld};
 ghost use Rattle.coordinator.specs.Driving.{number_of, drive_refused};
 
 use crate::coordinator::Coordinator;
-use crate::faults::{DriveFault, Driven, OperateFault};
+use crate::faults::{DriveFault, Driven, OperateFault, Told};
 use crate::holding::is_held;
-use crate::serving::serve_body;
+use crate::serving::serve_told;
 use bodies::{Body, Name, census_of};
-use desk::{CloseFault, Desk, Live, Receipt};
+use desk::{Desk, Live, Receipt};
 use operations::job::Errand;
 use std::sync::Wait;
 use std::{hint, thread};
 use thread_list::Shared;
 
-// How often a `drive` looks at poll words without a lock before it sleeps: about as long as a thread takes to its next poll.
-const SPINS: u32 = 500;
+/// How often a `drive` looks at poll words without a lock before it sleeps: about as long as a thread takes to its next poll.
+pub const SPINS: u32 = 500;
 
-// Nothing is open and nothing waits.
+/// Nothing is open and nothing waits.
 #[derive(Drop)]
-struct QueueEmpty;
+pub struct QueueEmpty;
 
-// Whether the open request is a census. Where nothing is open the oldest request is opened, and None says to look again.
+// Whether the oldest open request is a census. Where nothing is open the oldest that waits is opened, and None says to look again.
 fn open_or_go_on<N: Name, J: Errand>(desk: &mut Desk<N, J>) -> Result<Option<bool>, QueueEmpty>
     ensures open { IfOk result (λ r. IfSome r (λ kind. (desk.new ≡ desk.old) × (open_kind (at desk.old) ≡ Some kind))) }
     ensures empty { OnErr result ((desk.new ≡ desk.old) × ((at desk.old).opened ≡ []) × ((at desk.old).waiting ≡ [])) }
@@ -40,8 +40,9 @@ fn open_or_go_on<N: Name, J: Errand>(desk: &mut Desk<N, J>) -> Result<Option<boo
 }
 
 impl<'a, N: Name, J: Errand> Coordinator<'a, N, J> {
-    /// Works the open request, or where nothing is open the oldest, to its Close: tells all targets before it serves any, and of a
-    /// handshake holds one thread at a time. Answers what it was, with the receipt of its Close; nothing is held then.
+    /// Works the oldest open request, or where nothing is open the oldest that waits, to its Close: tells all targets before it serves
+    /// any, and of a handshake holds one thread at a time. Answers what it was, with the receipt of its Close; nothing is held then.
+    /// Where several are open, it tells all of them and closes the oldest alone.
     ///
     /// A census whose list finds no memory stays open, its threads told and held, and the next `drive` goes on with it. Where the
     /// caller has operated the census, the list is over the threads that are still held.
@@ -62,7 +63,7 @@ impl<'a, N: Name, J: Errand> Coordinator<'a, N, J> {
     }
 
     // Opens the oldest request where nothing is open, and answers whether the open one is a census.
-    fn begin<R: Wait>(&self, rt: &R) -> Result<bool, QueueEmpty>
+    pub(crate) fn begin<R: Wait>(&self, rt: &R) -> Result<bool, QueueEmpty>
         ensures empty { OnErr result ((s : DeskState) × (s.opened ≡ []) × (s.waiting ≡ [])) }
     {
         for _ in rt.forever() {
@@ -82,14 +83,20 @@ impl<'a, N: Name, J: Errand> Coordinator<'a, N, J> {
         Ok(begun)
     }
 
-    // The least name above this one that is due, with its place.
+    // The least name above this one that is due for an open request, with its place.
     fn next_due<R: Wait>(&self, rt: &R, name: u64) -> Option<Live> {
         let _ = &self.bodies;
         self.shared.desk().lock(rt).next_due(name)
     }
 
-    // Tells each target.
-    fn tell_all<R: Wait>(&mut self, rt: &R)
+    // The first name that is due for the oldest open request, with its place.
+    fn awaited<R: Wait>(&self, rt: &R) -> Option<Live> {
+        let _ = &self.bodies;
+        self.shared.desk().lock(rt).next_awaited(0)
+    }
+
+    // Tells each target of each open request.
+    pub(crate) fn tell_all<R: Wait>(&mut self, rt: &R)
         ensures { (self.new.held ≡ self.old.held) × (self.new.operated ≡ self.old.operated) }
     {
         let mut name = 0;
@@ -98,11 +105,22 @@ impl<'a, N: Name, J: Errand> Coordinator<'a, N, J> {
                 return;
             };
             name = due.name;
-            let _ = self.tell(rt, name);
+            self.tell_whole(rt, name);
         }
     }
 
-    // Serves the targets of the open handshake, one at a time, until it is closed.
+    // Tells a name all that it wasn't told.
+    fn tell_whole<R: Wait>(&mut self, rt: &R, name: u64)
+        ensures { (self.new.held ≡ self.old.held) × (self.new.operated ≡ self.old.operated) }
+    {
+        for _ in rt.forever() {
+            let Ok(Told::Told) = self.tell(rt, name) else {
+                return;
+            };
+        }
+    }
+
+    // Serves the targets, one at a time, until the oldest open handshake is closed.
     fn drive_handshake<R: Wait>(&mut self, rt: &R) -> (Driven, Receipt<N>)
         ensures closed { result.1.entry ≡ Entry.Close (number_of result.0) }
         ensures free { (self.new.held ≡ []) × (self.new.operated ≡ false) }
@@ -119,10 +137,10 @@ impl<'a, N: Name, J: Errand> Coordinator<'a, N, J> {
         unreachable!()
     }
 
-    // Waits until the first target that is due has brought its body or is answered for: without a lock, as far as the spins that are
-    // left go, and then asleep. Answers how many are left.
-    fn wait<R: Wait>(&self, rt: &R, spins: u32) -> u32 {
-        let Some(due) = self.next_due(rt, 0) else {
+    // Waits until the first target that is due for the oldest open request has brought its body or is answered for: without a lock, as
+    // far as the spins that are left go, and then asleep. Answers how many are left.
+    pub(crate) fn wait<R: Wait>(&self, rt: &R, spins: u32) -> u32 {
+        let Some(due) = self.awaited(rt) else {
             return spins;
         };
         if due.place >= self.places {
@@ -147,7 +165,7 @@ impl<'a, N: Name, J: Errand> Coordinator<'a, N, J> {
     }
 
     // Serves each target whose body is in its berth.
-    fn serve_all<R: Wait>(&self, rt: &R) {
+    pub(crate) fn serve_all<R: Wait>(&self, rt: &R) {
         let mut name = 0;
         for _ in rt.forever() {
             let Some(due) = self.next_due(rt, name) else {
@@ -158,7 +176,7 @@ impl<'a, N: Name, J: Errand> Coordinator<'a, N, J> {
         }
     }
 
-    // Takes the body of a target out of its berth, where it is there, serves it, and brings it back.
+    // Takes the body of a target out of its berth, where it is there, serves all its jobs in order, and brings it back.
     fn serve_at<R: Wait>(&self, rt: &R, due: Live) {
         if due.place >= self.places {
             return;
@@ -167,14 +185,12 @@ impl<'a, N: Name, J: Errand> Coordinator<'a, N, J> {
         let Some(mut body) = berth.take(rt, due.name, due.place) else {
             return;
         };
-        if let Some(job) = berth.job(rt, due.name) {
-            let _ = serve_body(rt, self.shared, &mut body, job);
-        }
+        serve_told(rt, self.shared, &mut body);
         berth.release(rt, body, false);
     }
 
     // Holds all live threads, operates the open census over them, brings them back and closes it.
-    fn drive_census<R: Wait>(&mut self, rt: &R) -> Result<(Driven, Receipt<N>), DriveFault>
+    pub(crate) fn drive_census<R: Wait>(&mut self, rt: &R) -> Result<(Driven, Receipt<N>), DriveFault>
         ensures closed { IfOk result (λ r. r.1.entry ≡ Entry.Close (number_of r.0)) }
         ensures free { OnOk result ((self.new.held ≡ []) × (self.new.operated ≡ false)) }
         ensures refused { IfErr result (λ e. e ≡ DriveFault.NoMemory) }
@@ -231,7 +247,7 @@ impl<'a, N: Name, J: Errand> Coordinator<'a, N, J> {
     }
 
     // Brings all held bodies back.
-    fn release_all<R: Wait>(&mut self, rt: &R)
+    pub(crate) fn release_all<R: Wait>(&mut self, rt: &R)
         ensures { self.new ≡ record self.old { held = [] } }
     {
         put_back(rt, self.shared, &mut self.bodies, self.operated);

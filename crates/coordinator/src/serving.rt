@@ -1,5 +1,5 @@
 //! Serving a held thread: its job runs on its body.
-ghost use Rattle.std.specs.Prelude.{◌≡◌, ◌<◌, ℕ, None, length, IfOk, IfErr};
+ghost use Rattle.std.specs.Prelude.{◌≡◌, ◌≢◌, ◌<◌, ℕ, None, length, IfOk, IfErr};
 ghost use Rattle.operations.specs.Asks.{reply};
 ghost use Rattle.bodies.specs.Bodies.{BodyView};
 ghost use Rattle.desk.specs.declared.entries.Entry.{Entry};
@@ -44,6 +44,19 @@ pub fn serve_body<N: Name, J: Errand, R: Wait>(
 {
     body.publish(shared.board());
     serve(rt, shared, body, job)
+}
+
+/// Serves a body that was taken out of its berth, job by job in order, until nothing is told there.
+pub fn serve_told<N: Name, J: Errand, R: Wait>(rt: &R, shared: &Shared<N, J>, body: &mut Body<N>)
+    ensures same { (body.new.name ≡ body.old.name) × (body.new.seat.place ≡ body.old.seat.place) }
+    ensures stored { body.old.seat.stored ≢ 0 → body.new.seat.stored ≢ 0 }
+{
+    for _ in rt.forever() {
+        let Some(job) = shared.berth_of(body).job(rt, body.name()) else {
+            return;
+        };
+        let _ = serve_body(rt, shared, body, job);
+    }
 }
 
 // Why a held thread that stands to the open requests like this, and is so far with what it was told, isn't served.
