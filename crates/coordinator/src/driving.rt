@@ -190,7 +190,10 @@ impl<'a, N: Name, J: Errand> Coordinator<'a, N, J> {
     }
 
     // Holds all live threads, operates the open census over them, brings them back and closes it.
-    pub(crate) fn drive_census<R: Wait>(&mut self, rt: &R) -> Result<(Driven, Receipt<N>), DriveFault>
+    pub(crate) fn drive_census<R: Wait>(
+        &mut self,
+        rt: &R,
+    ) -> Result<(Driven, Receipt<N>), DriveFault>
         ensures closed { IfOk result (λ r. r.1.entry ≡ Entry.Close (number_of r.0)) }
         ensures free { OnOk result ((self.new.held ≡ []) × (self.new.operated ≡ false)) }
         ensures refused { IfErr result (λ e. e ≡ DriveFault.NoMemory) }

@@ -48,7 +48,9 @@ fn four_open<N: Name, J: Errand, R: Abort>(
 fn look_among_four<N: Name, J: Errand, R: Abort>(rt: &R, desk: &Desk<N, J>) {
     assert!(rt; desk.untold(1, 0) == Some(1) && desk.untold(1, 2) == Some(3));
     assert!(rt; desk.untold(1, 4).is_none());
-    assert!(rt; desk.progress(1, 0) == Progress::NotTold && desk.progress(1, 2) == Progress::Undone(1));
+    assert!(rt;
+        desk.progress(1, 0) == Progress::NotTold && desk.progress(1, 2) == Progress::Undone(1)
+    );
     assert!(rt; desk.standing(2) == Standing::NotOf);
 }
 
@@ -67,19 +69,22 @@ fn answer_in_order<N: Name, J: Errand, R: Abort>(rt: &R, desk: &mut Desk<N, J>, 
     answer(rt, desk, body);
     assert!(rt; desk.progress(1, 2) == Progress::Undone(2));
     assert!(rt; desk.finish(body, done).is_ok());
-    assert!(rt; desk.progress(1, 2) == Progress::Done && desk.progress(1, 3) == Progress::Undone(3));
+    assert!(rt;
+        desk.progress(1, 2) == Progress::Done && desk.progress(1, 3) == Progress::Undone(3)
+    );
 }
 
 // They are closed in any order, where they are done or their thread is gone, and the census is opened when it is the only one.
-fn close_in_any_order<N: Name, J: Errand, R: Abort>(
-    rt: &R,
-    alloc: Global,
-    desk: &mut Desk<N, J>,
-) {
+fn close_in_any_order<N: Name, J: Errand, R: Abort>(rt: &R, alloc: Global, desk: &mut Desk<N, J>) {
     let none: Vec<Body<N>> = Vec::new(alloc);
     assert!(rt; matches!(desk.close(Some(5), none.as_slice()), Err(CloseFault::NotOf)));
     assert!(rt; matches!(desk.close(Some(2), none.as_slice()), Ok((2, _, _))));
-    assert!(rt; matches!(desk.close(Some(3), none.as_slice()), Err(CloseFault::NotDone)));
+    assert!(rt;
+        matches!(
+            desk.close(Some(3), none.as_slice()),
+            Err(CloseFault::NotDone)
+        )
+    );
     assert!(rt; matches!(desk.close(None, none.as_slice()), Ok((1, _, _))));
     assert!(rt; matches!(desk.open(), Ok((5, _))));
     assert!(rt; matches!(desk.open(), Err(OpenFault::AlreadyOpen)));
