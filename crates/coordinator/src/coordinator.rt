@@ -95,7 +95,8 @@ impl<'a, N: Name, J: Errand> Coordinator<'a, N, J> {
         ensures same { OnOk result (self.new ≡ record self.old { operated = false }) }
         ensures refused { IfErr result (λ e. not_closed self.old (Some number) e × (self.new ≡ self.old)) }
     {
-        let (_, receipt) = self.close_chosen(rt, Some(number))?;
+        let (closed, receipt) = self.close_chosen(rt, Some(number))?;
+        let _ = closed;
         Ok(receipt)
     }
 
