@@ -123,9 +123,13 @@ impl<'a, N: Name, J: Errand> Coordinator<'a, N, J> {
         ensures refused { IfErr result (not_closed self.now number) }
     {
         let mut desk = self.shared.desk().lock(rt);
-        let (number, jobs, receipt) = desk.close(number, self.bodies.as_slice())?;
+        let closed = match desk.close(number, self.bodies.as_slice()) {
+            Ok(closed) => closed,
+            Err(fault) => return Err(fault),
+        };
+        let (op, jobs, receipt) = closed;
         drop(desk);
         drop(jobs);
-        Ok((number, receipt))
+        Ok((op, receipt))
     }
 }
