@@ -12,7 +12,7 @@ use crate::faults::{DriveFault, Driven, OperateFault, Told};
 use crate::holding::is_held;
 use crate::serving::serve_told;
 use bodies::{Body, Name, census_of};
-use desk::{Desk, Live, Receipt};
+use desk::{Desk, Live, Progress, Receipt};
 use operations::job::Errand;
 use std::sync::Wait;
 use std::{hint, thread};
@@ -36,6 +36,15 @@ fn open_or_go_on<N: Name, J: Errand>(desk: &mut Desk<N, J>) -> Result<Option<boo
     match desk.open() {
         Ok(_) => Ok(None),
         Err(_) => Err(QueueEmpty),
+    }
+}
+
+// The first name that is due for the oldest open request, and the number of that request: the least with which the thread isn't done.
+fn awaited_at<N: Name, J: Errand>(desk: &Desk<N, J>) -> Option<(Live, u64)> {
+    let due = desk.next_awaited(0)?;
+    match desk.progress(due.name, u64::MAX) {
+        Progress::Undone(number) => Some((due, number)),
+        Progress::NotTold | Progress::Done => None,
     }
 }
 
@@ -89,10 +98,11 @@ impl<'a, N: Name, J: Errand> Coordinator<'a, N, J> {
         self.shared.desk().lock(rt).next_due(name)
     }
 
-    // The first name that is due for the oldest open request, with its place.
-    fn awaited<R: Wait>(&self, rt: &R) -> Option<Live> {
+    // The first name that is due for the oldest open request, with its place, and the number of that request.
+    fn awaited<R: Wait>(&self, rt: &R) -> Option<(Live, u64)> {
         let _ = &self.bodies;
-        self.shared.desk().lock(rt).next_awaited(0)
+        let desk = self.shared.desk().lock(rt);
+        awaited_at(&desk)
     }
 
     // Tells each target of each open request.
@@ -140,14 +150,14 @@ impl<'a, N: Name, J: Errand> Coordinator<'a, N, J> {
     // Waits until the first target that is due for the oldest open request has brought its body or is answered for: without a lock, as
     // far as the spins that are left go, and then asleep. Answers how many are left.
     pub(crate) fn wait<R: Wait>(&self, rt: &R, spins: u32) -> u32 {
-        let Some(due) = self.awaited(rt) else {
+        let Some((due, number)) = self.awaited(rt) else {
             return spins;
         };
         if due.place >= self.places {
             return spins;
         }
         let left = self.spin(due.place, spins);
-        if left == 0 && !self.shared.berth(due.place).wait_for(rt, due.name) {
+        if left == 0 && !self.shared.berth(due.place).wait_for(rt, due.name, number) {
             self.shared.wait_finished(rt, due.name);
         }
         left

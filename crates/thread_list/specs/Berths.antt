@@ -1,5 +1,5 @@
 -- Berths.
-use Rattle.std.specs.Prelude.{◌≡◌, ◌≢◌, ◌<◌, ◌≤◌, ◌+◌, ◌-◌, ◌^◌, ℕ, Bool, true, false, List, [], ◌∷◌, map, min, length, slice_index_or, Option, Some, None, Vec, vec_capacity}
+use Rattle.std.specs.Prelude.{◌≡◌, ◌≢◌, ◌<◌, ◌≤◌, ◌+◌, ◌-◌, ◌^◌, ℕ, Bool, true, false, nat_le, List, [], ◌∷◌, map, min, length, slice_index_or, Option, Some, None, Vec, vec_capacity}
 use Rattle.bodies.specs.Bodies.{BodyView, SpareView}
 use Rattle.thread_list.specs.declared.room.Holder.{Holder}
 use Rattle.thread_list.specs.declared.room.Holder.TheVariants.{Vacant, Away, Out, Home}
@@ -50,6 +50,11 @@ pub record IsBerth {N : Type 0} (place : ℕ) (holder : Holder N) (jobs : List T
   pub jobs_are : AreFor (name_of holder) jobs
   pub mark_is : IsMark (name_of holder) mark
   pub roomy : 4 ≤ room
+
+-- the oldest job has at most this number
+abbrev pub awaits_job : ℕ → List Told → Bool
+awaits_job number [] = false
+awaits_job number (t ∷ ts) = nat_le t.number number
 
 -- how many threads wait after one more does, or one does no more
 abbrev pub slept : ℕ → Bool → ℕ

@@ -3,7 +3,7 @@ ghost use Rattle.std.specs.Prelude.{◌≡◌, ◌<◌, ◌≢◌, Some, None, [
 ghost use Rattle.std.specs.Prelude.{◌++◌, ◌∷◌, ◌≤◌, ◌==◌, true, false, not, length, vec_capacity, if◌then◌else◌};
 ghost use Rattle.frames.specs.ImageView.{IsCounted};
 ghost use Rattle.frames.specs.BoardViews.{stored_as};
-ghost use Rattle.thread_list.specs.Berths.{told_of, name_of, slept, IsRoom};
+ghost use Rattle.thread_list.specs.Berths.{told_of, name_of, slept, awaits_job, IsRoom};
 ghost use Rattle.thread_list.specs.declared.room.Holder.TheVariants.{Vacant as IsVacant, Away as IsAway, Out as IsOut, Home as IsAtHome};
 
 use board::Board;
@@ -84,14 +84,25 @@ impl<N: Name, J: Errand> Room<N, J> {
         self.sleepers != 0
     }
 
-    /// Whether the thread of the name has its body and has still to come for what it was told.
-    pub fn awaits(&self, name: u64) -> bool
-        ensures yes { result ≡ true → (self.now.holder ≡ IsOut name) × (self.now.jobs ≢ []) }
-        ensures no { result ≡ false → self.now.holder ≡ IsOut name → self.now.jobs ≡ [] }
+    /// Whether the thread of the name has its body and has still to come for what it was told up to the number.
+    pub fn awaits(&self, name: u64, number: u64) -> bool
+        ensures yes { result ≡ true → (self.now.holder ≡ IsOut name) × (awaits_job number self.now.jobs ≡ true) }
+        ensures no { result ≡ false → self.now.holder ≡ IsOut name → awaits_job number self.now.jobs ≡ false }
     {
         match &self.holder {
-            Holder::Out(out) => *out == name && !self.jobs.is_empty(),
+            Holder::Out(out) => *out == name && self.awaits_job(number),
             Holder::Home(_) | Holder::Vacant(_) | Holder::Away => false,
+        }
+    }
+
+    // Whether the oldest job has at most this number.
+    fn awaits_job(&self, number: u64) -> bool
+        ensures { result ≡ awaits_job number self.now.jobs }
+    {
+        let _ = &self.mark;
+        match self.jobs.as_slice().split_first() {
+            Some((first, _)) => first.op_of() <= number,
+            None => false,
         }
     }
 
