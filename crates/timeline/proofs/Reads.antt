@@ -1,6 +1,7 @@
 -- Bytes after bytes, and block after block.
-use Rattle.std.proofs.Common.{◌≡◌, ◌≢◌, ℕ, ◌+◌, ◌∙◌, sym, Bool, true, false, List, [], ◌∷◌, ◌++◌, length, take, refl, ap, cond, subst, Option, Some, None, append_assoc}
+use Rattle.std.proofs.Common.{◌≡◌, ◌≢◌, ℕ, ◌+◌, ◌∙◌, sym, Bool, true, false, List, [], ◌∷◌, ◌++◌, length, take, get_or, ◌<◌, refl, ap, cond, subst, Option, Some, None, append_assoc}
 use Rattle.std.specs.Prelude.{◌==◌}
+use Rattle.std.proofs.lemmas.List.{take_more}
 use Rattle.std.specs.Io.KnownBytes.{Consumes, IsAtEnd}
 use Rattle.system.specs.World.{World}
 use Rattle.replay.specs.declared.engine.Reply.{Reply}
@@ -55,6 +56,11 @@ read_piece s held h1 told b other longer = λ world at.
       same = λ more. ap (λ is. told ++ cond is (told_line world held ∷ told_from (after_line world held) [] more) (told_from world (take 1025 (held ++ b ∷ [])) more)) other;
     } in
     subst (λ (z : List ℕ). ReadIn world held told (b ∷ []) s z told) (sym longer) more_of
+
+-- One byte more of a block.
+pub read_more : (s s1 s2 : Option SystemView) (held h1 h2 : List ℕ) (told t1 t2 : List Told) (bytes : List ℕ) (i : ℕ) → i < length bytes → Read s held told (take i bytes) s1 h1 t1 → Read s1 h1 t1 (get_or bytes i 0 ∷ []) s2 h2 t2 → Read s held told (take (i + 1) bytes) s2 h2 t2
+read_more s s1 s2 held h1 h2 told t1 t2 bytes i below first second =
+    subst (λ (z : List ℕ). Read s held told z s2 h2 t2) (sym (take_more bytes i 0 below)) (read_on s s1 s2 held h1 h2 told t1 t2 (take i bytes) (get_or bytes i 0 ∷ []) first second)
 
 consumed_on : (a b c : Option (List ℕ)) (x y : List ℕ) → Consumes a b x → Consumes b c y → Consumes a c (x ++ y)
 consumed_on None b c x y h k = tt
