@@ -146,10 +146,11 @@ fn put_number(
     line: u64,
 ) -> Result<(), AllocError> {
     let x = layout.x(line);
-    let y = TOP.saturating_sub(6);
+    let top = TOP;
+    let y = top.saturating_sub(6);
     let bottom = layout.bottom();
     let piece = format!(in alloc;
-        "<path class='grid' d='M{x} {TOP}V{bottom}'/><text class='number' x='{x}' y='{y}'>{line}</text>\n"
+        "<path class='grid' d='M{x} {top}V{bottom}'/><text class='number' x='{x}' y='{y}'>{line}</text>\n"
     )?;
     put(text, piece.as_str())
 }

@@ -8,10 +8,10 @@ mod layout;
 mod legend;
 mod looks;
 mod marks;
-mod operations;
 mod painting;
 mod picture;
 mod reading;
+mod requests;
 mod rows;
 mod run;
 mod subject;
@@ -49,8 +49,8 @@ fn draw(rt: &HostRuntime) -> Result<(), Fault> {
 
 // Whether there is a word behind the program's name.
 fn has_words(rt: &HostRuntime) -> bool {
-    match env::args(&(rt, rt.alloc())) {
-        Ok(words) => words.len() > 1,
+    match env::args(rt) {
+        Ok(words) => words.count() > 1,
         Err(_) => true,
     }
 }

@@ -5,7 +5,7 @@ ghost use Rattle.timeline.specs.Marks.{told_of, told_by};
 use crate::codes::{self, Codes};
 use crate::looks::{LINES, Lane, Shape};
 use crate::marks::{Mark, Spot, outcome_of, title_of};
-use crate::operations::Operations;
+use crate::requests::Operations;
 use crate::rows::Painted;
 use crate::subject::{Subject, Touch};
 use crate::threads::{self, Threads};
@@ -184,22 +184,21 @@ impl Lanes {
     }
 
     fn on_whole(&mut self, subject: Subject, answer: &Answer, at: u64) -> Result<Spot, AllocError> {
-        let painted = &mut self.painted;
         match (subject, answer) {
             (Subject::Start, Answer::Thread(name, place)) => {
-                let lane = self.threads.start(painted, *name, *place, at)?;
+                let lane = self.threads.start(&mut self.painted, *name, *place, at)?;
                 Ok(mark(lane, Shape::Step))
             }
             (Subject::Install, Answer::Code(serial)) => {
-                let lane = self.codes.install(painted, *serial, at)?;
+                let lane = self.codes.install(&mut self.painted, *serial, at)?;
                 Ok(mark(lane, Shape::Step))
             }
             (Subject::Ask, Answer::Asked(number)) => {
-                let lane = self.operations.ask(painted, *number, at)?;
+                let lane = self.operations.ask(&mut self.painted, *number, at)?;
                 Ok(mark(lane, Shape::Step))
             }
             (Subject::Open, Answer::Opened(number, kind)) => {
-                self.operations.open(painted, *number, *kind, at)?;
+                self.operations.open(&mut self.painted, *number, *kind, at)?;
                 Ok(mark(self.lane_of(subject), Shape::Step))
             }
             (Subject::Close, _) => {
