@@ -11,6 +11,7 @@ MINUTES ?= 10
 SEEDS ?= 1000
 FIRST ?= 21
 PICTURES = handshake_native safepoint_census reclaiming
+
 run:
 	@cd crates/monitor && rt run -- replay < ../../examples/one_publication.lines
 

@@ -1,13 +1,18 @@
 -- Marks of bytes as they come are the marks of the lines that the bytes are cut into.
-use Rattle.std.proofs.Common.{◌≡◌, ℕ, ◌∙◌, sym, Bool, true, false, List, [], ◌∷◌, ◌++◌, take, length, map, refl, ap, cond, suc, Option, None}
+use Rattle.std.proofs.Common.{◌≡◌, ℕ, ◌∙◌, sym, Bool, true, false, List, [], ◌∷◌, ◌++◌, take, length, map, refl, ap, cond, zero, suc, Option, None}
 use Rattle.std.specs.Prelude.{◌==◌}
 use Rattle.system.specs.World.{World}
 use Rattle.replay.specs.Words.{lines, onto_first}
 use Rattle.replay.specs.Text.{after_line}
-use Rattle.replay.proofs.Lists.{append_none}
-use Rattle.replay.proofs.Streams.{take_front}
+use Rattle.std.proofs.lemmas.List.{append-nil}
 use Rattle.timeline.specs.Marks.{Told, told_line, told_lines}
 use Rattle.timeline.specs.Reading.{told_from}
+
+-- What is kept of the beginning is enough.
+take_again : (n : ℕ) (begin more : List ℕ) → take n (take n begin ++ more) ≡ take n (begin ++ more)
+take_again zero begin more = refl
+take_again (suc n) [] more = refl
+take_again (suc n) (b ∷ begin) more = ap (λ z. b ∷ z) (take_again n begin more)
 
 -- The first line is longer by these bytes.
 abbrev onto : List ℕ → List (List ℕ) → List (List ℕ)
@@ -44,8 +49,8 @@ told_onto world tail (b ∷ bytes) = by_byte (b == 10) refl (told_onto (after_li
         → told_from world (take 1025 (tail ++ b ∷ [])) bytes ≡ told_lines world (onto (tail ++ b ∷ []) (lines bytes))
         → cond (b == 10) ends goes ≡ told_lines world (cut (b == 10))
     by_byte true e line piece = ap (λ is. cond is ends goes) e ∙ ap (λ z. told_line world (take 1025 tail) ∷ z) line
-        ∙ ap (told_lines world) (sym (onto_line tail [] (lines bytes) ∙ ap (λ z. z ∷ lines bytes) (append_none tail)) ∙ sym (ap cut e))
-    by_byte false e line piece = ap (λ is. cond is ends goes) e ∙ ap (λ z. told_from world z bytes) (take_front tail (b ∷ [])) ∙ piece
+        ∙ ap (told_lines world) (sym (onto_line tail [] (lines bytes) ∙ ap (λ z. z ∷ lines bytes) (append-nil tail)) ∙ sym (ap cut e))
+    by_byte false e line piece = ap (λ is. cond is ends goes) e ∙ ap (λ z. told_from world z bytes) (take_again 1025 tail (b ∷ [])) ∙ piece
         ∙ ap (told_lines world) (onto_byte tail b (lines bytes) ∙ sym (ap cut e))
 
 pub told_all : (bytes : List ℕ) → told_from None [] bytes ≡ told_lines None (lines bytes)

@@ -9,7 +9,7 @@ use Rattle.replay.specs.declared.grammar.Command.{Command}
 use Rattle.replay.specs.Grammar.{command_of}
 use Rattle.replay.specs.Text.{SystemView, IsAt, Replied, reply_to, world_after_command, after_line}
 use Rattle.replay.specs.Words.{lines}
-use Rattle.replay.proofs.Lists.{append_none}
+use Rattle.std.proofs.lemmas.List.{append-nil}
 use Rattle.timeline.specs.Marks.{Told, told_by, told_line, told_lines}
 use Rattle.timeline.specs.Reading.{told_from, ReadIn, Read, Noted, Finished, SoFar, Marked}
 use Rattle.timeline.proofs.Lines.{told_all, one_each}
@@ -91,10 +91,10 @@ so_far_more left0 left left2 s s2 held held2 told told2 bytes so consumed more =
 pub marked_all : (left0 left left2 : Option (List ℕ)) (s : Option SystemView) (held : List ℕ) (told told2 : List Told) → SoFar left0 left s held told → Consumes left left2 [] → IsAtEnd left2 → Finished s held told told2 → Marked left0 left2 told2
 marked_all left0 left left2 s held told told2 so consumed end finished =
     let each : told2 ≡ told_lines None (lines so.read)
-    = finished so.reads.next so.reads.at ∙ sym (so.reads.same []) ∙ ap (told_from None []) (append_none so.read) ∙ told_all so.read in
+    = finished so.reads.next so.reads.at ∙ sym (so.reads.same []) ∙ ap (told_from None []) (append-nil so.read) ∙ told_all so.read in
     record {
       read = so.read;
-      consumed = subst (λ (z : List ℕ). Consumes left0 left2 z) (append_none so.read) (consumed_on left0 left left2 so.read [] so.consumed consumed);
+      consumed = subst (λ (z : List ℕ). Consumes left0 left2 z) (append-nil so.read) (consumed_on left0 left left2 so.read [] so.consumed consumed);
       at_end = end;
       each = each;
       count = ap length each ∙ one_each None (lines so.read);

@@ -37,17 +37,30 @@ pub record IsMark (line : ℕ) (told : Told) (text : List ℕ) : Type 0 where
   pub y : ℕ
   pub spelled : text ≡ mark_head line told.outcome ++ told.title ++ mark_tail shape x y
 
--- The marks, each numbered as its line, the first as this one.
+-- The mark of a line, and what follows it.
+pub record MarkThen (line : ℕ) (told : Told) (Rest : List ℕ → Type 0) (text : List ℕ) : Type 0 where
+  pub mark : List ℕ
+  pub more : List ℕ
+  pub is : IsMark line told mark
+  pub rest : Rest more
+  pub whole : text ≡ mark ++ more
+
+-- The marks, each numbered as its line, the first as this one, and nothing else.
 abbrev pub AreMarks : ℕ → List Told → List ℕ → Type 0
 AreMarks line [] text = text ≡ []
-AreMarks line (told ∷ all) text = (mark : List ℕ) × (more : List ℕ) × IsMark line told mark × AreMarks (line + 1) all more × (text ≡ mark ++ more)
+AreMarks line (told ∷ all) text = MarkThen line told (λ more. AreMarks (line + 1) all more) text
+
+-- The text grows by the mark.
+pub record AddsMark (line : ℕ) (told : Told) (old new : List ℕ) : Type 0 where
+  pub mark : List ℕ
+  pub is : IsMark line told mark
+  pub whole : new ≡ old ++ mark
 
 -- The text grows by these marks.
-abbrev pub AddsMark : ℕ → Told → List ℕ → List ℕ → Type 0
-AddsMark line told old new = (mark : List ℕ) × IsMark line told mark × (new ≡ old ++ mark)
-
-abbrev pub AddsMarks : ℕ → List Told → List ℕ → List ℕ → Type 0
-AddsMarks line all old new = (marks : List ℕ) × AreMarks line all marks × (new ≡ old ++ marks)
+pub record AddsMarks (line : ℕ) (all : List Told) (old new : List ℕ) : Type 0 where
+  pub marks : List ℕ
+  pub are : AreMarks line all marks
+  pub whole : new ≡ old ++ marks
 
 -- A picture: what stands behind the marks, the marks, and the end.
 pub record IsPicture (all : List Told) (text : List ℕ) : Type 0 where

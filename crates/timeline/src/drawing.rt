@@ -41,7 +41,8 @@ fn put_mark(
     let tail = tail_of(alloc, mark.spot.shape, x, y)?;
     text.extend_from_slice(head.as_bytes())?;
     text.extend_from_slice(&mark.title)?;
-    text.extend_from_slice(tail.as_bytes())
+    text.extend_from_slice(tail.as_bytes())?;
+    Ok(())
 }
 
 /// The marks, each numbered as its line.
@@ -61,21 +62,32 @@ fn put_marks(
     Ok(())
 }
 
+// All that is drawn behind the marks.
+fn put_behind(
+    alloc: Global,
+    text: &mut Vec<u8>,
+    layout: &Layout,
+    run: &Run,
+) -> Result<(), AllocError> {
+    put_head(alloc, text, layout, run)?;
+    put_names(alloc, text, layout, run)?;
+    put_names_again(alloc, text, layout, run)?;
+    put_spans(alloc, text, layout, &run.lanes.painted.spans)?;
+    put_labels(alloc, text, layout, &run.lanes.painted.labels)?;
+    put_ties(alloc, text, layout, &run.marks)?;
+    if layout.has_texts() {
+        put_texts(alloc, text, layout, &run.marks)?;
+    }
+    Ok(())
+}
+
 /// The picture of a run.
 pub fn draw(alloc: Global, run: &Run) -> Result<Vec<u8>, AllocError>
     ensures { IfOk result (λ text. IsPicture (map told_of run.now.marks.items) text.items) }
 {
     let layout = Layout::of(run);
     let mut text = Vec::new(alloc);
-    put_head(alloc, &mut text, &layout, run)?;
-    put_names(alloc, &mut text, &layout, run)?;
-    put_names_again(alloc, &mut text, &layout, run)?;
-    put_spans(alloc, &mut text, &layout, &run.lanes.painted.spans)?;
-    put_labels(alloc, &mut text, &layout, &run.lanes.painted.labels)?;
-    put_ties(alloc, &mut text, &layout, &run.marks)?;
-    if layout.has_texts() {
-        put_texts(alloc, &mut text, &layout, &run.marks)?;
-    }
+    put_behind(alloc, &mut text, &layout, run)?;
     put_marks(alloc, &mut text, &layout, &run.marks)?;
     text.extend_from_slice(b"</svg>\n")?;
     Ok(text)
