@@ -1,3 +1,3 @@
-pub mod Lines
-pub mod Reads
-pub mod Draws
+pub mod LinesTold
+pub mod BytesTold
+pub mod MarksAdded

@@ -25,10 +25,10 @@ shape_text shape.Weighing = codes "weighing"
 
 -- What stands before and behind the title of the mark of a line.
 abbrev pub mark_head : ℕ → Outcome → List ℕ
-mark_head line outcome = codes "<g id='line" ++ decimal line ++ codes "' class='" ++ outcome_text outcome ++ codes "'><title>"
+mark_head line outcome = codes "<g id='line" ++ (decimal line ++ (codes "' class='" ++ (outcome_text outcome ++ codes "'><title>")))
 
 abbrev pub mark_tail : Shape → ℕ → ℕ → List ℕ
-mark_tail shape x y = codes "</title><use href='#" ++ shape_text shape ++ codes "' x='" ++ decimal x ++ codes "' y='" ++ decimal y ++ codes "'/></g>\n"
+mark_tail shape x y = codes "</title><use href='#" ++ (shape_text shape ++ (codes "' x='" ++ (decimal x ++ (codes "' y='" ++ (decimal y ++ codes "'/></g>\n")))))
 
 -- The mark of a line, as some shape at some place.
 pub record IsMark (line : ℕ) (told : Told) (text : List ℕ) : Type 0 where

@@ -8,14 +8,24 @@ use Rattle.timeline.specs.Marks.{Told}
 use Rattle.timeline.specs.Reading.{Marked}
 use Rattle.timeline.specs.Drawn.{IsPicture}
 
--- All was read, and the picture of it has a mark for each line.
-pub record DrewAll (left left' : Option (List ℕ)) (text : List ℕ) : Type 0 where
+-- All was read, and the picture of it, which has a mark for each line, was written.
+pub record DrewAll (left left' got got' : Option (List ℕ)) : Type 0 where
   pub told : List Told
+  pub text : List ℕ
   pub marked : Marked left left' told
   pub picture : IsPicture told text
+  pub written : Appends got got' text
+
+-- All was read, and a beginning of the picture of it was written.
+pub record DrewPart (left left' got got' : Option (List ℕ)) : Type 0 where
+  pub told : List Told
+  pub text : List ℕ
+  pub marked : Marked left left' told
+  pub picture : IsPicture told text
+  pub written : AppendsPart got got' text
 
 -- What was written, by what is answered: the picture, a beginning of it, or nothing.
 abbrev pub Drew : {A : Type 0} → Result A ReplayFault → Option (List ℕ) → Option (List ℕ) → Option (List ℕ) → Option (List ℕ) → Type 0
-Drew (Ok x) left left' got got' = (text : List ℕ) × DrewAll left left' text × Appends got got' text
-Drew (Err WriteFailed) left left' got got' = (text : List ℕ) × DrewAll left left' text × AppendsPart got got' text
+Drew (Ok x) left left' got got' = DrewAll left left' got got'
+Drew (Err WriteFailed) left left' got got' = DrewPart left left' got got'
 Drew (Err fault) left left' got got' = got' ≡ got

@@ -6,7 +6,7 @@ use std::alloc::{AllocError, Global};
 use system::answers::Answer;
 
 /// The codes that aren't freed, each on the least lane that was vacant.
-#[derive(Debug, Drop)]
+#[derive(Drop)]
 pub struct Codes {
     rows: Rows,
 }

@@ -6,7 +6,7 @@ use replay::stream::ReplayFault;
 use std::fmt;
 
 /// A fault. `{}` is what is told on standard error, behind the program's name; the texts and the status are those of `monitor`.
-#[derive(Clone, Copy, Debug, PartialEq, Eq, Drop)]
+#[derive(Clone, Copy, Drop)]
 pub enum Fault {
     BadWords,
     ReadFailed,

@@ -34,7 +34,7 @@ pub fn pitch(group: Group) -> u64 {
 }
 
 /// The sizes that say where all else stands.
-#[derive(Clone, Copy, Debug, PartialEq, Eq, Drop)]
+#[derive(Clone, Copy, Drop)]
 pub struct Layout {
     pub lines: u64,
     pub operations: u64,

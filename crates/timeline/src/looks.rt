@@ -6,7 +6,7 @@ use std::fmt;
 use thread_state::State;
 
 /// A group of lanes.
-#[derive(Clone, Copy, Debug, PartialEq, Eq, Drop)]
+#[derive(Clone, Copy, PartialEq, Eq, Drop)]
 pub enum Group {
     /// The one lane of lines that are about no thread, operation or code.
     Lines,
@@ -17,7 +17,7 @@ pub enum Group {
 }
 
 /// A lane, counted from 0 in its group.
-#[derive(Clone, Copy, Debug, PartialEq, Eq, Drop)]
+#[derive(Clone, Copy, Drop)]
 pub struct Lane {
     pub group: Group,
     pub row: usize,
@@ -30,7 +30,7 @@ pub const LINES: Lane = Lane {
 };
 
 /// What a span shows.
-#[derive(Clone, Copy, Debug, PartialEq, Eq, Drop)]
+#[derive(Clone, Copy, PartialEq, Eq, Drop)]
 pub enum Paint {
     New,
     Java,
@@ -92,7 +92,7 @@ impl Paint {
 }
 
 /// What came of a line.
-#[derive(Clone, Copy, Debug, PartialEq, Eq, Drop)]
+#[derive(Clone, Copy, PartialEq, Eq, Drop)]
 pub enum Outcome {
     /// It is no line.
     Bad,
@@ -113,7 +113,7 @@ impl fmt::Display for Outcome {
 }
 
 /// The shape of a mark.
-#[derive(Clone, Copy, Debug, PartialEq, Eq, Drop)]
+#[derive(Clone, Copy, Drop)]
 pub enum Shape {
     BadLine,
     Refusal,

@@ -10,7 +10,7 @@ use std::alloc::{AllocError, Global};
 use system::answers::Answer;
 
 /// Where a mark is drawn, as what, and to which lane a thin line leads from there.
-#[derive(Clone, Copy, Debug, PartialEq, Eq, Drop)]
+#[derive(Clone, Copy, Drop)]
 pub struct Spot {
     pub lane: Lane,
     pub shape: Shape,
@@ -18,7 +18,7 @@ pub struct Spot {
 }
 
 /// The mark of a line. Its title is the line and the line that answers it, as text of XML.
-#[derive(Debug, Drop)]
+#[derive(Drop)]
 pub struct Mark {
     pub outcome: Outcome,
     pub title: Vec<u8>,

@@ -102,10 +102,10 @@ pub fn read_run<R: Source>(alloc: Global, source: &mut R) -> Result<Run, ReplayF
             return Err(ReplayFault::ReadFailed);
         };
         if n == 0 {
-            return match reading.finish(alloc) {
-                Ok(run) => Ok(run),
-                Err(_) => Err(ReplayFault::NoMemory),
+            let Ok(run) = reading.finish(alloc) else {
+                return Err(ReplayFault::NoMemory);
             };
+            return Ok(run);
         }
         match reading.take_all(alloc, &block[..n]) {
             Ok(()) => {}

@@ -5,7 +5,7 @@ use operations::Kind;
 use std::alloc::{AllocError, Global};
 
 /// The operations that wait, and the open one.
-#[derive(Debug, Drop)]
+#[derive(Drop)]
 pub struct Operations {
     rows: Rows,
     open: Option<usize>,

@@ -3,7 +3,7 @@ use crate::looks::{Group, Lane, Paint};
 use std::alloc::{AllocError, Global};
 
 /// A part of a lane in one colour, from a line to a later one.
-#[derive(Clone, Copy, Debug, PartialEq, Eq, Drop)]
+#[derive(Clone, Copy, Drop)]
 pub struct Span {
     pub lane: Lane,
     pub paint: Paint,
@@ -14,7 +14,7 @@ pub struct Span {
 }
 
 /// A name that stands on a lane from a line on.
-#[derive(Clone, Copy, Debug, PartialEq, Eq, Drop)]
+#[derive(Clone, Copy, Drop)]
 pub struct Label {
     pub lane: Lane,
     pub at: u64,
@@ -22,7 +22,7 @@ pub struct Label {
 }
 
 /// What was painted so far.
-#[derive(Debug, Drop)]
+#[derive(Drop)]
 pub struct Painted {
     pub spans: Vec<Span>,
     pub labels: Vec<Label>,
@@ -38,7 +38,7 @@ impl Painted {
 }
 
 /// What a row shows now: of which thread, operation or code, in which colour, from which line on.
-#[derive(Clone, Copy, Debug, PartialEq, Eq, Drop)]
+#[derive(Clone, Copy, Drop)]
 struct Row {
     number: u64,
     paint: Option<Paint>,
@@ -52,7 +52,7 @@ const BLANK: Row = Row {
 };
 
 /// The rows of a group.
-#[derive(Debug, Drop)]
+#[derive(Drop)]
 pub struct Rows {
     group: Group,
     rows: Vec<Row>,

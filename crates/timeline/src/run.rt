@@ -15,7 +15,7 @@ use system::answers::Answer;
 use system::events::Act;
 
 /// The sizes of the system.
-#[derive(Clone, Copy, Debug, PartialEq, Eq, Drop)]
+#[derive(Clone, Copy, Drop)]
 pub struct Sizes {
     pub places: u64,
     pub slots: u64,
@@ -23,7 +23,7 @@ pub struct Sizes {
 }
 
 /// The lanes of a run.
-#[derive(Debug, Drop)]
+#[derive(Drop)]
 pub struct Lanes {
     pub painted: Painted,
     pub threads: Threads,
@@ -34,7 +34,7 @@ pub struct Lanes {
 }
 
 /// The lines of a run so far, a mark for each.
-#[derive(Debug, Drop)]
+#[derive(Drop)]
 pub struct Run {
     pub marks: Vec<Mark>,
     pub lanes: Lanes,

@@ -3,7 +3,7 @@ use replay::grammar::Command;
 use system::events::{Act, Event};
 
 /// What is done to a code.
-#[derive(Clone, Copy, Debug, PartialEq, Eq, Drop)]
+#[derive(Clone, Copy, Drop)]
 pub enum Touch {
     Invalidate,
     /// By place.
@@ -15,7 +15,7 @@ pub enum Touch {
 }
 
 /// What a line is about, without the names of a request.
-#[derive(Clone, Copy, Debug, PartialEq, Eq, Drop)]
+#[derive(Clone, Copy, Drop)]
 pub enum Subject {
     /// No thread, operation or code.
     Whole,

@@ -7,7 +7,7 @@ use system::events::Act;
 use thread_state::{Move, State, cross, step};
 
 /// The places: the states of their threads, their open publications, and which of them are held.
-#[derive(Debug, Drop)]
+#[derive(Drop)]
 pub struct Threads {
     states: Vec<State>,
     threads: Rows,

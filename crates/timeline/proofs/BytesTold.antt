@@ -1,5 +1,5 @@
 -- Bytes after bytes, and block after block.
-use Rattle.std.proofs.Common.{◌≡◌, ◌≢◌, ℕ, ◌+◌, ◌∙◌, sym, Bool, true, false, List, [], ◌∷◌, ◌++◌, length, take, get_or, ◌<◌, refl, ap, cond, subst, Option, Some, None, append_assoc}
+use Rattle.std.proofs.Common.{◌≡◌, ◌≢◌, ℕ, ◌+◌, ◌∙◌, sym, Bool, true, false, List, [], ◌∷◌, ◌++◌, length, map, take, get_or, ◌<◌, refl, ap, cond, subst, Option, Some, None, append_assoc}
 use Rattle.std.specs.Prelude.{◌==◌}
 use Rattle.std.proofs.lemmas.List.{take_more}
 use Rattle.std.specs.Io.KnownBytes.{Consumes, IsAtEnd}
@@ -10,9 +10,10 @@ use Rattle.replay.specs.Grammar.{command_of}
 use Rattle.replay.specs.Text.{SystemView, IsAt, Replied, reply_to, world_after_command, after_line}
 use Rattle.replay.specs.Words.{lines}
 use Rattle.std.proofs.lemmas.List.{append-nil}
-use Rattle.timeline.specs.Marks.{Told, told_by, told_line, told_lines}
+use Rattle.timeline.specs.declared.marks.Mark.{Mark}
+use Rattle.timeline.specs.Marks.{Told, told_of, told_by, told_line, told_lines}
 use Rattle.timeline.specs.Reading.{told_from, ReadIn, Read, Noted, Finished, SoFar, Marked}
-use Rattle.timeline.proofs.Lines.{told_all, one_each}
+use Rattle.timeline.proofs.LinesTold.{told_all, one_each}
 
 pub read_none : (s : Option SystemView) (held : List ℕ) (told : List Told) → Read s held told [] s held told
 read_none s held told = λ world at. record { next = world; at = at; same = λ more. refl }
@@ -68,12 +69,18 @@ consumed_on (Some a) None c x y h k = absurd h
 consumed_on (Some a) (Some b) None x y h k = absurd k
 consumed_on (Some a) (Some b) (Some c) x y h k = h ∙ ap (λ z. x ++ z) k ∙ sym (append_assoc x y c)
 
-pub so_far_none : (left : Option (List ℕ)) → SoFar left left None [] []
+so_far_none : (left : Option (List ℕ)) → SoFar left left None [] []
 so_far_none left = record { read = []; consumed = same left; reads = read_none None [] [] None tt }
   where
     same : (left : Option (List ℕ)) → Consumes left left []
     same None = tt
     same (Some xs) = refl
+
+pub so_far_new : (left : Option (List ℕ)) (s : Option SystemView) (held : List ℕ) (marks : List Mark) → s ≡ None → held ≡ [] → marks ≡ [] → SoFar left left s held (map told_of marks)
+so_far_new left s held marks e f h =
+    subst (λ (z : Option SystemView). SoFar left left z held (map told_of marks)) (sym e)
+    (subst (λ (z : List ℕ). SoFar left left None z (map told_of marks)) (sym f)
+    (subst (λ (z : List Mark). SoFar left left None [] (map told_of z)) (sym h) (so_far_none left)))
 
 -- One block more.
 pub so_far_more : (left0 left left2 : Option (List ℕ)) (s s2 : Option SystemView) (held held2 : List ℕ) (told told2 : List Told) (bytes : List ℕ) → SoFar left0 left s held told → Consumes left left2 bytes → Read s held told bytes s2 held2 told2 → SoFar left0 left2 s2 held2 told2

@@ -58,14 +58,14 @@ next_mark marks i mark old mid new below is before more =
 -- What stands before a title, the title and what stands behind it are a mark.
 pub one_mark : (line : ℕ) (told : Told) (shape : Shape) (x y : ℕ) (head tail old a b new : List ℕ) → head ≡ mark_head line told.outcome → tail ≡ mark_tail shape x y → a ≡ old ++ head → b ≡ a ++ told.title → new ≡ b ++ tail → AddsMark line told old new
 one_mark line told shape x y head tail old a b new h t e f k = record {
-  mark = head ++ (told.title ++ tail);
+  mark = head ++ told.title ++ tail;
   is = record {
     shape = shape;
     x = x;
     y = y;
-    spelled = ap (λ z. z ++ (told.title ++ tail)) h ∙ ap (λ z. mark_head line told.outcome ++ (told.title ++ z)) t;
+    spelled = ap (λ z. z ++ told.title ++ tail) h ∙ ap (λ z. mark_head line told.outcome ++ told.title ++ z) t;
   };
-  whole = k ∙ ap (λ z. z ++ tail) f ∙ ap (λ z. (z ++ told.title) ++ tail) e ∙ append_assoc (old ++ head) told.title tail ∙ append_assoc old head (told.title ++ tail);
+  whole = k ∙ ap (λ z. z ++ tail) f ∙ ap (λ z. z ++ told.title ++ tail) e ∙ ap (λ z. z ++ tail) (append_assoc old head told.title) ∙ append_assoc old (head ++ told.title) tail;
 }
 
 -- All of it, with the end behind it.
@@ -74,5 +74,5 @@ whole_picture all behind marked text added end = record {
   behind = behind;
   marks = added.marks;
   are = added.are;
-  whole = end ∙ ap (λ z. z ++ codes "</svg>\n") added.whole ∙ append_assoc behind added.marks (codes "</svg>\n");
+  whole = end ∙ ap (λ z. z ++ codes "</svg>\n") added.whole;
 }
