@@ -1,5 +1,5 @@
 -- Marks of bytes as they come are the marks of the lines that the bytes are cut into.
-use Rattle.std.proofs.Common.{◌≡◌, ℕ, ◌∙◌, sym, Bool, true, false, List, [], ◌∷◌, ◌++◌, take, length, map, refl, ap, cond, zero, suc, Option, None}
+use Rattle.std.proofs.Common.{◌≡◌, ℕ, ◌∙◌, sym, Bool, true, false, List, [], ◌∷◌, ◌++◌, take, length, refl, ap, cond, zero, suc, Option, None}
 use Rattle.std.specs.Prelude.{◌==◌}
 use Rattle.system.specs.World.{World}
 use Rattle.replay.specs.Words.{lines, onto_first}

@@ -6,7 +6,7 @@ use Rattle.timeline.specs.declared.marks.Mark.{Mark}
 use Rattle.replay.specs.declared.engine.Reply.{Reply}
 use Rattle.timeline.specs.Marks.{Told, told_of, told_by, outcome_of, title_of}
 use Rattle.timeline.specs.declared.looks.Shape.{Shape}
-use Rattle.timeline.specs.Drawn.{mark_head, mark_tail, IsMark, AreMarks, MarkThen, AddsMark, AddsMarks, IsPicture}
+use Rattle.timeline.specs.Drawn.{mark_head, mark_tail, IsMark, AreMarks, AddsMark, AddsMarks, IsPicture}
 
 -- One mark more of a run.
 pub told_more : (old new : List Mark) (mark : Mark) (line : List ℕ) (reply : Reply) → new ≡ old ++ mark ∷ [] → mark.outcome ≡ outcome_of reply → mark.title.items ≡ title_of line reply → map told_of new ≡ map told_of old ++ told_by line reply ∷ []

@@ -2,7 +2,7 @@
 use Rattle.std.specs.Prelude.{◌≡◌, ℕ, List, Option, Result, Ok, Err}
 use Rattle.std.specs.Io.KnownBytes.{Appends}
 use Rattle.replay.specs.declared.stream.ReplayFault.{ReplayFault}
-use Rattle.replay.specs.declared.stream.ReplayFault.TheVariants.{ReadFailed, WriteFailed, NoMemory}
+use Rattle.replay.specs.declared.stream.ReplayFault.TheVariants.{WriteFailed}
 use Rattle.replay.specs.Known.{AppendsPart}
 use Rattle.timeline.specs.Marks.{Told}
 use Rattle.timeline.specs.Reading.{Marked}

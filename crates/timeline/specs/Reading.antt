@@ -1,5 +1,5 @@
 -- A run, as its bytes are read.
-use Rattle.std.specs.Prelude.{◌≡◌, ◌⊎◌, ◌^◌, ◌-◌, ℕ, List, [], ◌∷◌, ◌++◌, map, length, take, ◌==◌, if◌then◌else◌, Option, None, Result, Ok, Err}
+use Rattle.std.specs.Prelude.{◌≡◌, ◌⊎◌, ◌^◌, ◌-◌, ℕ, List, [], ◌∷◌, ◌++◌, length, take, ◌==◌, if◌then◌else◌, Option, None, Result, Ok, Err}
 use Rattle.std.specs.Io.KnownBytes.{Consumes, IsAtEnd}
 use Rattle.system.specs.World.{World}
 use Rattle.replay.specs.declared.stream.ReplayFault.{ReplayFault}

@@ -1,4 +1,4 @@
-use Rattle.std.proofs.Common.{◌+◌, take, map, sym, ap, subst, arith, ◌<◌, length, ℕ}
+use Rattle.std.proofs.Common.{◌+◌, ap, subst, ℕ}
 use Rattle.timeline.specs.Marks.{told_of}
 use Rattle.timeline.specs.Drawn.{AddsMark}
 use Rattle.timeline.proofs.MarksAdded.{next_mark}

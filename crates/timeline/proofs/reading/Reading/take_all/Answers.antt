@@ -1,6 +1,6 @@
-use Rattle.std.proofs.Common.{arith, map}
+use Rattle.std.proofs.Common.{map}
 use Rattle.timeline.specs.Marks.{told_of}
-use Rattle.timeline.proofs.BytesTold.{read_none, read_more}
+use Rattle.timeline.proofs.BytesTold.{read_none}
 use Rattle.timeline.proofs.reading.Reading.take_all.Goals as goal
 
 pub loop-byte-init : goal.loop-byte-init
