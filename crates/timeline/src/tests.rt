@@ -88,7 +88,13 @@ fn has(text: &[u8], part: &[u8]) -> bool {
 
 // How often a part stands in a text.
 fn count(text: &[u8], part: &[u8]) -> usize {
-    text.windows(part.len()).filter(|w| *w == part).count()
+    let mut times = 0usize;
+    for at in 0..text.len() {
+        if text[at..].starts_with(part) {
+            times = times.saturating_add(1);
+        }
+    }
+    times
 }
 
 const HANDSHAKE: &[u8] =
