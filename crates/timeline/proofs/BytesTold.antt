@@ -10,7 +10,7 @@ use Rattle.replay.specs.Grammar.{command_of}
 use Rattle.replay.specs.Text.{SystemView, IsAt, Replied, reply_to, world_after_command, after_line}
 use Rattle.replay.specs.Words.{lines}
 use Rattle.std.proofs.lemmas.List.{append-nil}
-use Rattle.timeline.specs.declared.marks.Mark.{Mark}
+use Rattle.timeline.specs.declared.mark.Mark.{Mark}
 use Rattle.timeline.specs.Marks.{Told, told_of, told_by, told_line, told_lines}
 use Rattle.timeline.specs.Reading.{told_from, ReadIn, Read, Noted, Finished, SoFar, Marked}
 use Rattle.timeline.proofs.LinesTold.{told_all, one_each}

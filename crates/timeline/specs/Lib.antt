@@ -1,4 +1,5 @@
 pub mod Faults
+pub mod Shapes
 pub mod Marks
 pub mod Reading
 pub mod Drawn

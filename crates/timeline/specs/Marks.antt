@@ -10,7 +10,7 @@ use Rattle.replay.specs.Printed.{reply_text}
 use Rattle.replay.specs.Text.{reply_to, after_line}
 use Rattle.timeline.specs.declared.looks.Outcome.{Outcome}
 use Rattle.timeline.specs.declared.looks.Outcome.TheVariants as outcome
-use Rattle.timeline.specs.declared.marks.Mark.{Mark}
+use Rattle.timeline.specs.declared.mark.Mark.{Mark}
 
 -- What came of a line with this reply.
 abbrev pub outcome_of : Reply → Outcome

@@ -1,4 +1,7 @@
 // What the lanes of the codes show.
+ghost use Rattle.std.specs.Prelude.{◌≡◌, true};
+ghost use Rattle.timeline.specs.Shapes.{is_accepted};
+
 use crate::looks::{Group, Lane, Paint, Shape};
 use crate::rows::{Painted, Rows};
 use crate::subject::Touch;
@@ -67,7 +70,9 @@ impl Codes {
 }
 
 /// The shape of the mark of what is done to a code.
-pub fn shape_of(touch: Touch) -> Shape {
+pub fn shape_of(touch: Touch) -> Shape
+    ensures { is_accepted result ≡ true }
+{
     match touch {
         Touch::Look(_) => Shape::Look,
         Touch::Weigh => Shape::Weighing,

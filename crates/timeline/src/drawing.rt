@@ -3,10 +3,11 @@ ghost use Rattle.std.specs.Prelude.{◌≡◌, ◌++◌, ◌∷◌, [], codes, d
 ghost use Rattle.timeline.specs.Marks.{told_of};
 ghost use Rattle.timeline.specs.Drawn.{mark_head, mark_tail, AddsMark, AddsMarks, IsPicture};
 
+use crate::backdrop::Backdrop;
 use crate::layout::Layout;
 use crate::legend::put_head;
 use crate::looks::{Outcome, Shape};
-use crate::marks::Mark;
+use crate::mark::Mark;
 use crate::painting::{put_labels, put_names, put_names_again, put_spans, put_texts, put_ties};
 use crate::run::Run;
 use std::alloc::{AllocError, Global};
@@ -15,7 +16,7 @@ use std::alloc::{AllocError, Global};
 fn head_of(alloc: Global, line: u64, outcome: Outcome) -> Result<String, AllocError>
     ensures { IfOk result (λ head. string_bytes head ≡ mark_head line outcome) }
 {
-    format!(in alloc; "<g id='line{line}' class='{outcome}'><title>")
+    format!(in alloc; "\t<g id='line{line}' class='{outcome}'><title>")
 }
 
 // What stands behind it.
@@ -33,7 +34,7 @@ fn put_mark(
     line: u64,
     mark: &Mark,
 ) -> Result<(), AllocError>
-    ensures { OnOk result (AddsMark line (told_of mark.now) text.old.items text.new.items) }
+    ensures { OnOk result (AddsMark layout.now.lines line (told_of mark.now) text.old.items text.new.items) }
 {
     let head = head_of(alloc, line, mark.outcome)?;
     let x = layout.x(line);
@@ -52,7 +53,7 @@ fn put_marks(
     layout: &Layout,
     marks: &[Mark],
 ) -> Result<(), AllocError>
-    ensures { OnOk result (AddsMarks 1 (map told_of marks.now) text.old.items text.new.items) }
+    ensures { OnOk result (AddsMarks layout.now.lines 1 (map told_of marks.now) text.old.items text.new.items) }
 {
     let mut line = 0u64;
     for mark in marks {
@@ -65,7 +66,7 @@ fn put_marks(
 // All that is drawn behind the marks.
 fn put_behind(
     alloc: Global,
-    text: &mut Vec<u8>,
+    text: &mut Backdrop,
     layout: &Layout,
     run: &Run,
 ) -> Result<(), AllocError> {
@@ -86,8 +87,9 @@ pub fn draw(alloc: Global, run: &Run) -> Result<Vec<u8>, AllocError>
     ensures { IfOk result (λ text. IsPicture (map told_of run.now.marks.items) text.items) }
 {
     let layout = Layout::of(run);
-    let mut text = Vec::new(alloc);
-    put_behind(alloc, &mut text, &layout, run)?;
+    let mut backdrop = Backdrop::new(alloc);
+    put_behind(alloc, &mut backdrop, &layout, run)?;
+    let mut text = backdrop.into_text();
     put_marks(alloc, &mut text, &layout, &run.marks)?;
     text.extend_from_slice(b"</svg>\n")?;
     Ok(text)

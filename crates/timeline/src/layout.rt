@@ -1,5 +1,6 @@
 // Where things stand in a picture, in pixels. It grows sideways with the lines, and downwards with the lanes.
-ghost use Rattle.std.specs.Prelude.{◌<◌};
+ghost use Rattle.std.specs.Prelude.{◌≡◌, ◌<◌, length};
+ghost use Rattle.timeline.specs.Drawn.{step_of, x_of};
 
 use crate::looks::{Group, Lane};
 use crate::run::Run;
@@ -43,7 +44,9 @@ pub struct Layout {
 }
 
 impl Layout {
-    pub fn of(run: &Run) -> Layout {
+    pub fn of(run: &Run) -> Layout
+        ensures { result.lines ≡ length run.now.marks.items }
+    {
         Layout {
             lines: run.marks.len() as u64,
             operations: run.lanes.operations.len() as u64,
@@ -57,7 +60,9 @@ impl Layout {
         self.lines <= FEW
     }
 
-    fn step(&self) -> u64 {
+    fn step(&self) -> u64
+        ensures { result ≡ step_of self.now.lines }
+    {
         if self.lines <= FEW {
             22
         } else if self.lines <= SOME {
@@ -82,7 +87,9 @@ impl Layout {
     }
 
     /// Where a line's mark stands.
-    pub fn x(&self, line: u64) -> u64 {
+    pub fn x(&self, line: u64) -> u64
+        ensures { result ≡ x_of self.now.lines line }
+    {
         line.saturating_mul(self.step()).saturating_add(LEFT)
     }
 

@@ -1,8 +1,8 @@
 // The head of a picture: its style, its title, what colours and shapes mean, and the numbers of the lines.
+use crate::backdrop::Backdrop;
 use crate::layout::{Layout, TOP};
 use crate::looks::Outcome;
-use crate::marks::Mark;
-use crate::painting::put;
+use crate::mark::Mark;
 use crate::run::{Run, Sizes};
 use std::alloc::{AllocError, Global};
 
@@ -77,7 +77,7 @@ const APART: u64 = 106;
 
 fn put_colours(
     alloc: Global,
-    text: &mut Vec<u8>,
+    text: &mut Backdrop,
     colours: &[(&str, &str)],
     y: u64,
 ) -> Result<(), AllocError> {
@@ -88,13 +88,13 @@ fn put_colours(
         let piece = format!(in alloc;
             "<rect class='{class}' x='{x}' y='{y}' width='14' height='11'/><text x='{at}' y='{words}'>{name}</text>\n"
         )?;
-        put(text, piece.as_str())?;
+        text.put(piece.as_str())?;
         x = x.saturating_add(APART);
     }
     Ok(())
 }
 
-fn put_shapes(alloc: Global, text: &mut Vec<u8>, y: u64) -> Result<(), AllocError> {
+fn put_shapes(alloc: Global, text: &mut Backdrop, y: u64) -> Result<(), AllocError> {
     let mut x = 15u64;
     let words = y.saturating_add(4);
     for (shape, name) in &SHAPES {
@@ -108,7 +108,7 @@ fn put_shapes(alloc: Global, text: &mut Vec<u8>, y: u64) -> Result<(), AllocErro
         let piece = format!(in alloc;
             "<use href='#{shape}' x='{x}' y='{up}'/><text x='{at}' y='{words}'>{name}</text>\n"
         )?;
-        put(text, piece.as_str())?;
+        text.put(piece.as_str())?;
         x = x.saturating_add(APART);
     }
     Ok(())
@@ -119,14 +119,14 @@ fn count(marks: &[Mark], outcome: Outcome) -> usize {
     marks.iter().filter(|mark| mark.outcome == outcome).count()
 }
 
-fn put_title(alloc: Global, text: &mut Vec<u8>, run: &Run) -> Result<(), AllocError> {
+fn put_title(alloc: Global, text: &mut Backdrop, run: &Run) -> Result<(), AllocError> {
     let lines = run.marks.len();
     let refused = count(&run.marks, Outcome::Refused);
     let bad = count(&run.marks, Outcome::Bad);
     let piece = format!(in alloc;
         "<text class='title' x='8' y='24'>{lines} lines, {refused} refused, {bad} bad"
     )?;
-    put(text, piece.as_str())?;
+    text.put(piece.as_str())?;
     if let Some(sizes) = run.lanes.sizes {
         let Sizes {
             places,
@@ -134,14 +134,14 @@ fn put_title(alloc: Global, text: &mut Vec<u8>, run: &Run) -> Result<(), AllocEr
             methods,
         } = sizes;
         let piece = format!(in alloc; "; places {places}, slots {slots}, methods {methods}")?;
-        put(text, piece.as_str())?;
+        text.put(piece.as_str())?;
     }
-    put(text, "</text>\n")
+    text.put("</text>\n")
 }
 
 fn put_number(
     alloc: Global,
-    text: &mut Vec<u8>,
+    text: &mut Backdrop,
     layout: &Layout,
     line: u64,
 ) -> Result<(), AllocError> {
@@ -152,10 +152,10 @@ fn put_number(
     let piece = format!(in alloc;
         "<path class='grid' d='M{x} {top}V{bottom}'/><text class='number' x='{x}' y='{y}'>{line}</text>\n"
     )?;
-    put(text, piece.as_str())
+    text.put(piece.as_str())
 }
 
-fn put_numbers(alloc: Global, text: &mut Vec<u8>, layout: &Layout) -> Result<(), AllocError> {
+fn put_numbers(alloc: Global, text: &mut Backdrop, layout: &Layout) -> Result<(), AllocError> {
     for line in 1..=layout.lines {
         if line == 1 || line % layout.numbered() == 0 {
             put_number(alloc, text, layout, line)?;
@@ -167,7 +167,7 @@ fn put_numbers(alloc: Global, text: &mut Vec<u8>, layout: &Layout) -> Result<(),
 /// All that stands above the lanes and behind them.
 pub fn put_head(
     alloc: Global,
-    text: &mut Vec<u8>,
+    text: &mut Backdrop,
     layout: &Layout,
     run: &Run,
 ) -> Result<(), AllocError> {
@@ -176,9 +176,9 @@ pub fn put_head(
     let piece = format!(in alloc;
         "<svg xmlns='http://www.w3.org/2000/svg' width='{width}' height='{height}' viewBox='0 0 {width} {height}'>\n"
     )?;
-    put(text, piece.as_str())?;
-    put(text, STYLE)?;
-    put(text, "<rect width='100%' height='100%' fill='#fff'/>\n")?;
+    text.put(piece.as_str())?;
+    text.put(STYLE)?;
+    text.put("<rect width='100%' height='100%' fill='#fff'/>\n")?;
     put_title(alloc, text, run)?;
     put_colours(alloc, text, &STATES, 38)?;
     put_colours(alloc, text, &OTHERS, 60)?;

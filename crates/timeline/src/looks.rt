@@ -1,6 +1,6 @@
 // What can be seen in a picture: lanes, colours of spans, shapes of marks.
 ghost use Rattle.std.specs.Prelude.{◌≡◌, Some};
-ghost use Rattle.timeline.specs.Drawn.{outcome_text, shape_text};
+ghost use Rattle.timeline.specs.Shapes.{outcome_text, shape_text};
 
 use std::fmt;
 use thread_state::State;

@@ -1,13 +1,14 @@
 //! The program: lines of events in, a picture of the run out.
 #![tactic(auto)]
 
+mod backdrop;
 mod codes;
 mod drawing;
 mod fault;
 mod layout;
 mod legend;
 mod looks;
-mod marks;
+mod mark;
 mod painting;
 mod picture;
 mod reading;
@@ -18,6 +19,7 @@ mod subject;
 #[cfg(test)]
 mod tests;
 mod threads;
+mod titles;
 
 use fault::Fault;
 use picture::draw_run;

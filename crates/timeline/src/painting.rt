@@ -1,15 +1,11 @@
 // The spans, the names and the lines between lanes, as text of SVG.
+use crate::backdrop::Backdrop;
 use crate::layout::Layout;
 use crate::looks::{Group, Lane, Paint};
-use crate::marks::Mark;
+use crate::mark::Mark;
 use crate::rows::{Label, Span};
 use crate::run::Run;
 use std::alloc::{AllocError, Global};
-
-/// Puts a piece behind the text.
-pub fn put(text: &mut Vec<u8>, piece: &str) -> Result<(), AllocError> {
-    text.extend_from_slice(piece.as_bytes())
-}
 
 // How far below the beginning of its lane a span begins, and how high it is.
 fn band(group: Group, paint: Paint) -> (u64, u64) {
@@ -24,7 +20,7 @@ fn band(group: Group, paint: Paint) -> (u64, u64) {
 /// What the lanes show, in colours.
 pub fn put_spans(
     alloc: Global,
-    text: &mut Vec<u8>,
+    text: &mut Backdrop,
     layout: &Layout,
     spans: &[Span],
 ) -> Result<(), AllocError> {
@@ -38,7 +34,7 @@ pub fn put_spans(
         let piece = format!(in alloc;
             "<rect class='{class}' x='{x}' y='{y}' width='{width}' height='{height}'/>\n"
         )?;
-        put(text, piece.as_str())?;
+        text.put(piece.as_str())?;
     }
     Ok(())
 }
@@ -56,7 +52,7 @@ fn word(group: Group) -> &'static str {
 // A code is named again along its lane.
 fn put_numbers_again(
     alloc: Global,
-    text: &mut Vec<u8>,
+    text: &mut Backdrop,
     layout: &Layout,
     span: &Span,
 ) -> Result<(), AllocError> {
@@ -73,7 +69,7 @@ fn put_numbers_again(
 
 fn put_label(
     alloc: Global,
-    text: &mut Vec<u8>,
+    text: &mut Backdrop,
     layout: &Layout,
     lane: Lane,
     line: u64,
@@ -83,13 +79,13 @@ fn put_label(
     let y = layout.y(lane).saturating_add(9);
     let word = word(lane.group);
     let piece = format!(in alloc; "<text class='label' x='{x}' y='{y}'>{word} {number}</text>\n")?;
-    put(text, piece.as_str())
+    text.put(piece.as_str())
 }
 
 /// The threads, operations and codes, named where they begin.
 pub fn put_labels(
     alloc: Global,
-    text: &mut Vec<u8>,
+    text: &mut Backdrop,
     layout: &Layout,
     labels: &[Label],
 ) -> Result<(), AllocError> {
@@ -102,7 +98,7 @@ pub fn put_labels(
 // A thin line from a mark to another lane.
 fn put_tie(
     alloc: Global,
-    text: &mut Vec<u8>,
+    text: &mut Backdrop,
     layout: &Layout,
     line: u64,
     from: Lane,
@@ -112,13 +108,13 @@ fn put_tie(
     let y = layout.mark(from);
     let end = layout.mark(to);
     let piece = format!(in alloc; "<path class='tie' d='M{x} {y}V{end}'/>\n")?;
-    put(text, piece.as_str())
+    text.put(piece.as_str())
 }
 
 /// The thin lines from marks to other lanes.
 pub fn put_ties(
     alloc: Global,
-    text: &mut Vec<u8>,
+    text: &mut Backdrop,
     layout: &Layout,
     marks: &[Mark],
 ) -> Result<(), AllocError> {
@@ -145,7 +141,7 @@ fn line_of(title: &[u8]) -> &[u8] {
 /// The lines themselves, under their marks.
 pub fn put_texts(
     alloc: Global,
-    text: &mut Vec<u8>,
+    text: &mut Backdrop,
     layout: &Layout,
     marks: &[Mark],
 ) -> Result<(), AllocError> {
@@ -156,9 +152,9 @@ pub fn put_texts(
         let piece = format!(in alloc;
             "<text class='line {outcome}' transform='translate({x} {y}) rotate(60)'>"
         )?;
-        put(text, piece.as_str())?;
-        text.extend_from_slice(line_of(&mark.title))?;
-        put(text, "</text>\n")?;
+        text.put(piece.as_str())?;
+        text.put_bytes(line_of(&mark.title))?;
+        text.put("</text>\n")?;
     }
     Ok(())
 }
@@ -166,7 +162,7 @@ pub fn put_texts(
 // The name of a lane: at the left, or on a free strip above it.
 fn put_name(
     alloc: Global,
-    text: &mut Vec<u8>,
+    text: &mut Backdrop,
     lane: Lane,
     x: u64,
     y: u64,
@@ -182,12 +178,12 @@ fn put_name(
         }
         Group::Codes => format!(in alloc; "<text class='name' x='{x}' y='{y}'>codes</text>\n")?,
     };
-    put(text, piece.as_str())
+    text.put(piece.as_str())
 }
 
 fn put_names_of(
     alloc: Global,
-    text: &mut Vec<u8>,
+    text: &mut Backdrop,
     layout: &Layout,
     group: Group,
     lanes: usize,
@@ -203,7 +199,7 @@ fn put_names_of(
 /// The names of the lanes, left of the first line.
 pub fn put_names(
     alloc: Global,
-    text: &mut Vec<u8>,
+    text: &mut Backdrop,
     layout: &Layout,
     run: &Run,
 ) -> Result<(), AllocError> {
@@ -223,7 +219,7 @@ pub fn put_names(
 /// The names of the places again, above their lanes, so that a long picture can be read anywhere.
 pub fn put_names_again(
     alloc: Global,
-    text: &mut Vec<u8>,
+    text: &mut Backdrop,
     layout: &Layout,
     run: &Run,
 ) -> Result<(), AllocError> {

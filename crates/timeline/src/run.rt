@@ -1,14 +1,16 @@
 // A run, line by line: its marks, and what its lanes show.
-ghost use Rattle.std.specs.Prelude.{◌≡◌, ◌++◌, ◌∷◌, [], map, OnOk};
-ghost use Rattle.timeline.specs.Marks.{told_of, told_by};
+ghost use Rattle.std.specs.Prelude.{◌≡◌, ◌++◌, ◌∷◌, [], None, true, map, IfOk, OnOk};
+ghost use Rattle.timeline.specs.Shapes.{FitsOutcome, is_accepted};
+ghost use Rattle.timeline.specs.Marks.{told_of, told_by, outcome_of};
 
 use crate::codes::{self, Codes};
 use crate::looks::{LINES, Lane, Shape};
-use crate::marks::{Mark, Spot, outcome_of, title_of};
+use crate::mark::{Mark, Spot};
 use crate::requests::Operations;
 use crate::rows::Painted;
 use crate::subject::{Subject, Touch};
 use crate::threads::{self, Threads};
+use crate::titles::{outcome_of, title_of};
 use replay::engine::Reply;
 use std::alloc::{AllocError, Global};
 use system::answers::Answer;
@@ -72,7 +74,9 @@ impl Run {
     }
 }
 
-fn mark(lane: Lane, shape: Shape) -> Spot {
+fn mark(lane: Lane, shape: Shape) -> Spot
+    ensures { result ≡ record { lane = lane; shape = shape; tie = None } }
+{
     Spot {
         lane,
         shape,
@@ -100,7 +104,9 @@ impl Lanes {
     }
 
     /// What the line of this number changes in the lanes, and where its mark stands.
-    fn spot(&mut self, subject: Subject, reply: &Reply, at: u64) -> Result<Spot, AllocError> {
+    fn spot(&mut self, subject: Subject, reply: &Reply, at: u64) -> Result<Spot, AllocError>
+        ensures { IfOk result (λ spot. FitsOutcome (outcome_of reply.now) spot.shape) }
+    {
         match reply {
             Reply::BadLine => Ok(mark(LINES, Shape::BadLine)),
             Reply::BadSize => Ok(mark(LINES, Shape::Refusal)),
@@ -125,7 +131,9 @@ impl Lanes {
         }
     }
 
-    fn accepted(&mut self, subject: Subject, answer: &Answer, at: u64) -> Result<Spot, AllocError> {
+    fn accepted(&mut self, subject: Subject, answer: &Answer, at: u64) -> Result<Spot, AllocError>
+        ensures { IfOk result (λ spot. is_accepted spot.shape ≡ true) }
+    {
         match subject {
             Subject::Place(place, act) => self.at_place(place, act, answer, at),
             Subject::Code(serial, touch) => self.on_code(serial, touch, answer, at),
@@ -147,7 +155,9 @@ impl Lanes {
         act: Act,
         answer: &Answer,
         at: u64,
-    ) -> Result<Spot, AllocError> {
+    ) -> Result<Spot, AllocError>
+        ensures { IfOk result (λ spot. is_accepted spot.shape ≡ true) }
+    {
         let tie = match (act, answer) {
             (Act::Finish | Act::Clear | Act::Hold, _) => self.operations.lane(),
             (Act::Change, Answer::Changed(serial, _)) => self.codes.lane(*serial),
@@ -168,7 +178,9 @@ impl Lanes {
         touch: Touch,
         answer: &Answer,
         at: u64,
-    ) -> Result<Spot, AllocError> {
+    ) -> Result<Spot, AllocError>
+        ensures { IfOk result (λ spot. is_accepted spot.shape ≡ true) }
+    {
         let lane = self.lane_of(Subject::Code(serial, touch));
         self.codes
             .follow(&mut self.painted, serial, touch, answer, at)?;
@@ -183,7 +195,9 @@ impl Lanes {
         })
     }
 
-    fn on_whole(&mut self, subject: Subject, answer: &Answer, at: u64) -> Result<Spot, AllocError> {
+    fn on_whole(&mut self, subject: Subject, answer: &Answer, at: u64) -> Result<Spot, AllocError>
+        ensures { IfOk result (λ spot. is_accepted spot.shape ≡ true) }
+    {
         match (subject, answer) {
             (Subject::Start, Answer::Thread(name, place)) => {
                 let lane = self.threads.start(&mut self.painted, *name, *place, at)?;

@@ -105,6 +105,7 @@ fn each_line_has_one_mark(rt: HostRuntime) -> Result<(), Fail> {
     let (outcome, text) = drawn(rt.alloc(), HANDSHAKE, 1_000_000, 0, 0);
     assert_eq!(rt; outcome, Ok(()));
     assert_eq!(rt; count(&text, b"<g id='line"), 24);
+    assert_eq!(rt; count(&text, b"\t"), 24);
     assert_eq!(rt; count(&text, b"class='accepted'><title>"), 22);
     assert!(rt;
         has(

@@ -1,4 +1,7 @@
 // What the lanes of the places show.
+ghost use Rattle.std.specs.Prelude.{◌≡◌, true};
+ghost use Rattle.timeline.specs.Shapes.{is_accepted};
+
 use crate::looks::{Group, Lane, Paint, Shape};
 use crate::rows::{Painted, Rows};
 use std::alloc::{AllocError, Global};
@@ -125,7 +128,9 @@ fn state_after(state: State, act: Act, answer: &Answer) -> State {
 }
 
 /// The shape of the mark of an act with its answer.
-pub fn shape_of(act: Act, answer: &Answer) -> Shape {
+pub fn shape_of(act: Act, answer: &Answer) -> Shape
+    ensures { is_accepted result ≡ true }
+{
     match (act, answer) {
         (_, Answer::Stop(_)) => Shape::Stop,
         (Act::Change, _) => Shape::Change,

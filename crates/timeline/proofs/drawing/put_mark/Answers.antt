@@ -4,7 +4,8 @@ use Rattle.timeline.proofs.MarksAdded.{one_mark}
 use Rattle.timeline.proofs.drawing.put_mark.Goals as goal
 
 pub returns : goal.returns
-returns c = one_mark c.args.line (told_of c.args.mark.now) c.args.mark.now.spot.shape c.x-x.result c.mark-y.result c.as_bytes.result.now c.as_bytes-2.result.now c.args.text.now.items c.extend_from_slice.new.self.items c.extend_from_slice-2.new.self.items c.extend_from_slice-3.new.self.items
+returns c = one_mark c.args.layout.now.lines c.args.line (told_of c.args.mark.now) c.args.mark.now.spot.shape c.x-x.result c.mark-y.result c.as_bytes.result.now c.as_bytes-2.result.now c.args.text.now.items c.extend_from_slice.new.self.items c.extend_from_slice-2.new.self.items c.extend_from_slice-3.new.self.items
+    c.args.mark.now.fits c.x-x.ensures
     (c.as_bytes.ensures.value ∙ c.in_ok-head.ensures)
     (c.as_bytes-2.ensures.value ∙ c.in_ok-tail.ensures)
     c.in_ok-extend_from_slice.ensures.items

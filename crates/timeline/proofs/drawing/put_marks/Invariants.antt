@@ -6,5 +6,5 @@ use Rattle.timeline.proofs.drawing.put_marks.Given as goal
 abbrev pub invariant-loop-mark : goal.invariant-loop-mark
 invariant-loop-mark l = record {
   line : l.line ≡ l.mark-index;
-  added : AddsMarks 1 (map told_of (take l.mark-index l.marks)) l.fn.text.items l.text.items;
+  added : AddsMarks l.layout.lines 1 (map told_of (take l.mark-index l.marks)) l.fn.text.items l.text.items;
 }

@@ -1,29 +1,13 @@
-// A mark for each line: what came of it, its text, and where it is drawn.
+// What the mark of a line tells: what came of the line, and the line with its answer.
 ghost use Rattle.std.specs.Prelude.{◌≡◌, ◌++◌, ◌∷◌, [], OnOk, IfOk};
 ghost use Rattle.replay.specs.Printed.{reply_text};
 ghost use Rattle.timeline.specs.Marks.{outcome_of, escaped_byte, title_of};
 
-use crate::looks::{Lane, Outcome, Shape};
+use crate::looks::Outcome;
 use replay::engine::Reply;
 use replay::print::put_reply;
 use std::alloc::{AllocError, Global};
 use system::answers::Answer;
-
-/// Where a mark is drawn, as what, and to which lane a thin line leads from there.
-#[derive(Clone, Copy, Drop)]
-pub struct Spot {
-    pub lane: Lane,
-    pub shape: Shape,
-    pub tie: Option<Lane>,
-}
-
-/// The mark of a line. Its title is the line and the line that answers it, as text of XML.
-#[derive(Drop)]
-pub struct Mark {
-    pub outcome: Outcome,
-    pub title: Vec<u8>,
-    pub spot: Spot,
-}
 
 /// What came of a line with this reply.
 pub fn outcome_of(reply: &Reply) -> Outcome
