@@ -6,7 +6,7 @@ pub mod engine;
 pub mod grammar;
 pub(crate) mod held;
 pub(crate) mod keywords;
-pub(crate) mod print;
+pub mod print;
 pub mod spelling;
 pub mod stream;
 pub(crate) mod words;
