@@ -7,6 +7,6 @@ use Rattle.system.specs.declared.machine.NewFault.TheVariants as fault
 use Rattle.model.specs.Stepped.{Stepped}
 use Rattle.model.specs.Face.{NewTold, no_memory}
 
-pub still_none : (held : Option Stepped) {places slots methods : ℕ} → is_some held ≡ false → are_sizes places slots methods ≡ true → NewTold no_memory places slots methods held held
-still_none None none sized = (fault.NoMemory, refl, sized)
-still_none (Some model) none sized = absurd (false≢true (sym none))
+pub still_none : (held : Option Stepped) (places slots methods : ℕ) → is_some held ≡ false → are_sizes places slots methods ≡ true → NewTold no_memory places slots methods held held
+still_none None places slots methods none sized = (fault.NoMemory, refl, sized)
+still_none (Some model) places slots methods none sized = absurd (false≢true (sym none))
