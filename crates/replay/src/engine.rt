@@ -18,8 +18,7 @@ pub enum Reply {
     Answered(Answer),
 }
 
-/// Does what a line says, and replies. Before the first size that is accepted there is no system. Where memory is refused, nothing
-/// was done.
+/// Does what a line says, and replies. Before the first size that is accepted there is no system.
 pub fn obey(
     system: &mut Option<System>,
     alloc: Global,
