@@ -87,7 +87,10 @@ impl Place {
         ensures model { Some result.value ≡ self.old.handle.value }
         ensures none { self.new.handle.value ≡ None }
     {
-        replace(self, Place::none(alloc)).handle.into_parts().into_box()
+        replace(self, Place::none(alloc))
+            .handle
+            .into_parts()
+            .into_box()
     }
 
     /// Puts a model there.

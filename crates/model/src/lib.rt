@@ -5,6 +5,6 @@ pub mod face;
 pub mod handle;
 pub mod line_model;
 mod loose;
-pub(crate) mod writing;
 #[cfg(test)]
 mod tests;
+pub(crate) mod writing;

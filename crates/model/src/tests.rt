@@ -29,21 +29,51 @@ fn played(
     }
 }
 
-fn says(
+fn says(rt: &impl Abort, model: &mut LineModel, alloc: Global, line: &[u8], wanted: &[u8]) {
+    let mut room = [b'.'; 256];
+    let n = played(model, alloc, line, &mut room).expect(rt, "an answer");
+    assert!(rt; n < 256);
+    assert_eq!(rt; &room[..n], wanted);
+    assert_eq!(rt; room[n], b'.');
+}
+
+// What comes before the census: a thread in native code, with a frame of code 1.
+const BEFORE: [(&str, &str); 11] = [
+    ("start", "thread 1 place 0"),
+    ("size 2 4 2", "bad line"),
+    ("edge 0", "refused Illegal New"),
+    ("begin 0", "ok"),
+    ("end 0", "ok"),
+    ("wake 0", "ok"),
+    ("cross 0", "go"),
+    ("install 1", "code 1"),
+    ("enter 0 1 1", "entered"),
+    ("tonative 0", "ok"),
+    ("ask census", "asked 1"),
+];
+
+const CENSUS: [(&str, &str); 11] = [
+    ("open", "open 1 census"),
+    ("tell 1", "told"),
+    ("hold 0", "ok"),
+    ("begin 0", "ok"),
+    ("change 0", "change 1 +1"),
+    ("end 0", "ok"),
+    ("operate", "census 1:1"),
+    ("clear 0", "ok"),
+    ("release 0", "ok"),
+    ("close", "closed 1"),
+    ("wake 0", "ok"),
+];
+
+fn says_all(
     rt: &impl Abort,
     model: &mut LineModel,
     alloc: Global,
-    line: &[u8],
-    wanted: &[u8],
+    run: &[(&'static str, &'static str)],
 ) {
-    let mut room = [b'.'; 64];
-    match played(model, alloc, line, &mut room) {
-        Ok(n) => {
-            assert!(rt; n < 64);
-            assert_eq!(rt; &room[..n], wanted);
-            assert_eq!(rt; room[n], b'.');
-        }
-        Err(_) => unreachable!(),
+    for (line, wanted) in run {
+        says(rt, model, alloc, line.as_bytes(), wanted.as_bytes());
     }
 }
 
@@ -51,20 +81,31 @@ fn says(
 fn a_run_is_answered(rt: HostRuntime) -> Result<(), Fail> {
     let alloc = rt.alloc();
     let mut model = made(alloc, 2, 4, 2).expect(&rt, "a model");
-    says(&rt, &mut model, alloc, b"start", b"thread 1 place 0");
-    says(&rt, &mut model, alloc, b"size 2 4 2", b"bad line");
-    says(&rt, &mut model, alloc, b"", b"bad line");
-    says(&rt, &mut model, alloc, b"edge 0\n", b"bad line");
-    says(&rt, &mut model, alloc, b"edge 0", b"refused Illegal New");
-    says(&rt, &mut model, alloc, b"begin 0", b"ok");
-    says(&rt, &mut model, alloc, b"end 0", b"ok");
-    says(&rt, &mut model, alloc, b"wake 0", b"ok");
+    says_all(&rt, &mut model, alloc, &BEFORE);
+    says_all(&rt, &mut model, alloc, &CENSUS);
     says(&rt, &mut model, alloc, b"cross 0", b"go");
-    says(&rt, &mut model, alloc, b"install 1", b"code 1");
-    says(&rt, &mut model, alloc, b"enter 0 1 1", b"entered");
     says(&rt, &mut model, alloc, b"enter 0 0", b"entered");
     says(&rt, &mut model, alloc, b"stack 0", b"stack 1:1 0:i");
-    says(&rt, &mut model, alloc, b"ask depth 1", b"asked 1");
+    says(&rt, &mut model, alloc, b"ask depth 1", b"asked 2");
+    says(&rt, &mut model, alloc, b"", b"bad line");
+    says(&rt, &mut model, alloc, b"edge 0\n", b"bad line");
+    Ok(())
+}
+
+// The text of this list doesn't fit the buffer that was made with the model.
+#[test]
+fn a_long_list_is_answered(rt: HostRuntime) -> Result<(), Fail> {
+    let alloc = rt.alloc();
+    let mut model = made(alloc, 1, 1, 1).expect(&rt, "a model");
+    says_all(&rt, &mut model, alloc, &BEFORE[..1]);
+    says_all(&rt, &mut model, alloc, &BEFORE[3..7]);
+    for frame in 0..40 {
+        says(&rt, &mut model, alloc, b"enter 0 0", b"entered");
+    }
+    let mut room = [b'.'; 256];
+    assert_eq!(rt; played(&mut model, alloc, b"stack 0", &mut room), Ok(165));
+    assert_eq!(rt; &room[..9], b"stack 0:i");
+    assert_eq!(rt; &room[161..166], b" 0:i.");
     Ok(())
 }
 
@@ -83,14 +124,26 @@ fn an_answer_waits_for_room(rt: HostRuntime) -> Result<(), Fail> {
     let mut model = made(alloc, 1, 1, 1).expect(&rt, "a model");
     let mut small = [b'.'; 15];
     let mut room = [b'.'; 16];
-    assert_eq!(rt; played(&mut model, alloc, b"start", &mut small), Err(LineFault::TooLong(16)));
-    assert_eq!(rt; played(&mut model, alloc, b"start", &mut room), Err(LineFault::AnswerWaits));
+    assert_eq!(rt;
+        played(&mut model, alloc, b"start", &mut small),
+        Err(LineFault::TooLong(16))
+    );
+    assert_eq!(rt;
+        played(&mut model, alloc, b"start", &mut room),
+        Err(LineFault::AnswerWaits)
+    );
     assert_eq!(rt; model.needs(), Ok(16));
-    assert_eq!(rt; model.take_answer(&mut small), Err(AnswerFault::TooLong(16)));
+    assert_eq!(rt;
+        model.take_answer(&mut small),
+        Err(AnswerFault::TooLong(16))
+    );
     assert_eq!(rt; &small, b"...............");
     assert_eq!(rt; model.take_answer(&mut room), Ok(16));
     assert_eq!(rt; &room, b"thread 1 place 0");
-    assert_eq!(rt; model.take_answer(&mut room), Err(AnswerFault::NothingWaits));
+    assert_eq!(rt;
+        model.take_answer(&mut room),
+        Err(AnswerFault::NothingWaits)
+    );
     assert_eq!(rt; model.needs(), Err(AnswerFault::NothingWaits));
     says(&rt, &mut model, alloc, b"start", b"refused PlacesFull");
     Ok(())
