@@ -2,8 +2,9 @@
 """Builds and runs the examples that embed the model: embed.py LIBMODEL
 
 In `examples/embed` a toy runtime in C and one in Rust are stepped beside the model, each once as it is, where all answers are the same, and
-once `careless`, where the first that differs must be the one that is stated in its folder. The program in C is built by $CC or cc, the one
-in Rust by cargo; one that can't be built for want of its compiler is told and left out.
+once `careless`, where the first that differs must be the one that is stated in its folder. The one in C, which gives a line again where memory
+was refused, is also run with each of its first growths of memory refused in turn, and must print the same. The program in C is built by $CC
+or cc, the one in Rust by cargo; one that can't be built for want of its compiler is told and left out.
 The last line is `N passed, M failed`; the status is 0 where none failed.
 """
 import os
@@ -13,9 +14,12 @@ import subprocess
 import sys
 import tempfile
 
+import refusing
+
 EXAMPLES = pathlib.Path(__file__).resolve().parent.parent / "examples" / "embed"
 SECONDS = 120
 BUILD_SECONDS = 600
+GROWTHS = 300
 
 
 def kit():
@@ -49,6 +53,18 @@ def judge(language, program):
     return passed, 2 - passed
 
 
+def refused(program, folder):
+    """The toy in C with one growth refused after the other. The model takes memory at some, and of the C library's own none is needed."""
+    library = refusing.built_in(folder)
+    wanted = (EXAMPLES / "c" / "toy.out").read_bytes()
+    for growth in range(1, GROWTHS + 1):
+        ran = subprocess.run([program], capture_output=True, timeout=SECONDS, env=refusing.asking(library, "REFUSE_GROWTH", growth))
+        if (ran.stdout, ran.stderr, ran.returncode) != (wanted, b"", 0):
+            print(f"FAILED: examples/embed/c, with growth {growth} refused: {ran.stdout}, {ran.stderr}, {ran.returncode}")
+            return 0, 1
+    return 1, 0
+
+
 def main():
     library = pathlib.Path(sys.argv[1]).resolve()
     archives = [library, kit() / "c" / "liblibc_c.a"]
@@ -59,7 +75,10 @@ def main():
             continue
         with tempfile.TemporaryDirectory() as folder:
             try:
-                more = judge(language, build(archives, pathlib.Path(folder)))
+                program = build(archives, pathlib.Path(folder))
+                more = judge(language, program)
+                if language == "c":
+                    more = tuple(map(sum, zip(more, refused(program, folder))))
             except (OSError, subprocess.SubprocessError) as why:
                 print(f"FAILED: examples/embed/{language}: {why}")
                 more = 0, 1

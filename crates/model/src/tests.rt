@@ -104,8 +104,8 @@ fn a_long_list_is_answered(rt: HostRuntime) -> Result<(), Fail> {
     }
     let mut room = [b'.'; 256];
     assert_eq!(rt; played(&mut model, alloc, b"stack 0", &mut room), Ok(165));
-    assert_eq!(rt; &room[..9], b"stack 0:i");
-    assert_eq!(rt; &room[161..166], b" 0:i.");
+    assert_eq!(rt; &room[..9], b"stack 0:i".as_slice());
+    assert_eq!(rt; &room[161..166], b" 0:i.".as_slice());
     Ok(())
 }
 
