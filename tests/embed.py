@@ -19,7 +19,7 @@ import refusing
 EXAMPLES = pathlib.Path(__file__).resolve().parent.parent / "examples" / "embed"
 SECONDS = 120
 BUILD_SECONDS = 600
-GROWTHS = 300
+GROWTHS = 100
 
 
 def kit():

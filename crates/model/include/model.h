@@ -11,7 +11,8 @@
      None is made from a signal handler, or in the child of a fork of a program with threads.
    - malloc, realloc and free are those of one allocator, with blocks aligned as C asks.
 
-   Memory grows with what the lines make (threads, codes, requests, frames), never with how many lines there were. */
+   Memory grows with what the lines make (threads, codes, requests, frames) and not with how many lines there were. Link libmodel.a and the
+   toolchain's c/liblibc_c.a, by which it calls malloc, realloc and free. */
 #ifndef MODEL_H
 #define MODEL_H
 
@@ -45,8 +46,8 @@ enum {
 /* Makes a model of these sizes, of which no line was played: 0, or MODEL_BAD_SIZE, MODEL_NO_MEMORY, MODEL_HAS_MODEL. */
 ptrdiff_t model_new(struct model *model, size_t places, size_t slots, size_t methods);
 
-/* Plays a line, puts its answer at the front of `answer`, and returns the answer's length; it is at least 2, and no zero byte follows it.
-   Else MODEL_NO_MEMORY or MODEL_ANSWER_WAITS, and the line was not played; or MODEL_ANSWER_TOO_LONG or MODEL_ANSWER_UNWRITTEN, and the line
+/* Plays a line, puts its answer at the front of `answer`, and returns the answer's length; the room behind it stays as it was (there is no
+   closing zero). Else MODEL_NO_MEMORY or MODEL_ANSWER_WAITS, and the line was not played; or MODEL_ANSWER_TOO_LONG or MODEL_ANSWER_UNWRITTEN, and the line
    was played, the room is as it was, and the answer waits for model_answer; or MODEL_NO_MODEL. */
 ptrdiff_t model_line(struct model *model, const unsigned char *line, size_t length, unsigned char *answer, size_t room);
 
