@@ -1,5 +1,5 @@
 -- A model that is stepped by lines: what a contract sees of it, and what a line comes to.
-use Rattle.std.specs.Prelude.{◌≡◌, ◌<◌, ℕ, Bool, true, false, List, Option, Some, None, length}
+use Rattle.std.specs.Prelude.{◌≡◌, ◌<◌, ℕ, Bool, true, false, List, Option, Some, None, is_some, length}
 use Rattle.system.specs.World.{World}
 use Rattle.replay.specs.declared.engine.Reply.{Reply}
 use Rattle.replay.specs.Grammar.{command_of}
@@ -17,15 +17,17 @@ pub record Stepped : Type 0 where
   pub waits : Option Reply
 
 -- The line is played: there is the definitions' reply to it in each world that the system was at, and the system is at the world after.
--- This is the text of the reply, and none waits.
+-- This is the text of the reply. No other reply waited, and none waits.
 pub record Answered (old : Stepped) (line text : List ℕ) (new : Stepped) : Type 0 where
+  pub none_waited : is_some old.waits ≡ false
   pub said : Reply
   pub played : Replied old.system (command_of line) said new.system
   pub text_is : text ≡ reply_text said
   pub none_waits : new.waits ≡ None
 
--- The line is played, and its reply waits.
+-- The line is played, and its reply waits. No other did.
 pub record Plays (old : Stepped) (line : List ℕ) (new : Stepped) : Type 0 where
+  pub none_waited : is_some old.waits ≡ false
   pub said : Reply
   pub played : Replied old.system (command_of line) said new.system
   pub waits_is : new.waits ≡ Some said
@@ -59,7 +61,7 @@ taken model = record { system = model.system; waits = None }
 
 -- What is so where a line has no answer yet. It wasn't played, and nothing changed; or it was, and its reply waits.
 abbrev pub Kept : LineFault → Stepped → List ℕ → ℕ → Stepped → Type 0
-Kept line.NoMemory old bytes room new = (new ≡ old) × ((world : Option World) → IsAt old.system world → LineTakes world bytes)
-Kept line.AnswerWaits old bytes room new = (new ≡ old) × ((said : Reply) × (old.waits ≡ Some said))
+Kept line.NoMemory old bytes room new = (is_some old.waits ≡ false) × (new ≡ old) × ((world : Option World) → IsAt old.system world → LineTakes world bytes)
+Kept line.AnswerWaits old bytes room new = (is_some old.waits ≡ true) × (new ≡ old)
 Kept (line.TooLong n) old bytes room new = Plays old bytes new × WhyWaits (answer.TooLong n) new.waits room
 Kept line.Unwritten old bytes room new = Plays old bytes new × WhyWaits answer.Unwritten new.waits room

@@ -1,5 +1,5 @@
 // The core, stepped by lines of text.
-ghost use Rattle.std.specs.Prelude.{◌≡◌, ◌≤◌, ◌<◌, ◌^◌, true, false, Option, Some, None, IfOk, IfErr, OnOk, OnErr, length, take, drop};
+ghost use Rattle.std.specs.Prelude.{◌≡◌, ◌≤◌, ◌<◌, ◌^◌, true, false, Option, Some, None, IfOk, IfErr, OnOk, OnErr, is_some, length, take, drop};
 ghost use Rattle.system.specs.World.{World, start_world};
 ghost use Rattle.system.specs.Stands.{are_sizes};
 ghost use Rattle.system.specs.declared.machine.NewFault.TheVariants as NewFaults;
@@ -98,7 +98,7 @@ impl LineModel {
         ensures kept { IfErr result (λ fault. Kept fault self.old line.now (length answer.old) self.new) }
         ensures unwritten { OnErr result (answer.new ≡ answer.old) }
     {
-        if self.waits.is_some() {
+        if self.has_answer() {
             return Err(LineFault::AnswerWaits);
         }
         match self.play(alloc, line) {
@@ -144,8 +144,16 @@ impl LineModel {
         }
     }
 
+    // Whether an answer waits.
+    fn has_answer(&self) -> bool
+        ensures { result ≡ is_some self.now.waits }
+    {
+        self.waits.is_some()
+    }
+
     // Plays a line, and keeps its reply.
     fn play(&mut self, alloc: Global, line: &[u8]) -> Result<(), AllocError>
+        requires none_waits { is_some self.old.waits ≡ false }
         ensures played { OnOk result (Plays self.old line.now self.new) }
         ensures kept { OnErr result (self.new ≡ self.old) }
         ensures no_memory { (world : Option World) → IsAt self.old.system world → OnErr result (LineTakes world line.now) }
