@@ -3,8 +3,9 @@
 
 In `examples/embed` a toy runtime in C and one in Rust are stepped beside the model, each once as it is, where all answers are the same, and
 once `careless`, where the first that differs must be the one that is stated in its folder. The one in C, which gives a line again where memory
-was refused, is also run with each of its first growths of memory refused in turn, and must print the same. The program in C is built by $CC
-or cc, the one in Rust by cargo; one that can't be built for want of its compiler is told and left out.
+was refused, is also run with each of its first growths of memory refused in turn, and must print the same. So is `tests/model.c`, which makes
+each call with each of its faults. The programs in C are built by $CC or cc, the one in Rust by cargo; what can't be built for want of its
+compiler is told and left out.
 The last line is `N passed, M failed`; the status is 0 where none failed.
 """
 import os
@@ -16,7 +17,8 @@ import tempfile
 
 import refusing
 
-EXAMPLES = pathlib.Path(__file__).resolve().parent.parent / "examples" / "embed"
+TESTS = pathlib.Path(__file__).resolve().parent
+EXAMPLES = TESTS.parent / "examples" / "embed"
 SECONDS = 120
 BUILD_SECONDS = 600
 GROWTHS = 100
@@ -28,10 +30,15 @@ def kit():
     return pathlib.Path(page).parent
 
 
-def build_c(archives, folder):
-    words = [os.environ.get("CC", "cc"), "-std=c11", "-O2", "-Wall", "-Wextra", "-Werror", "-o", folder / "toy", EXAMPLES / "c" / "toy.c", *archives]
+def built_c(source, archives, folder):
+    program = folder / source.stem
+    words = [os.environ.get("CC", "cc"), "-std=c11", "-O2", "-Wall", "-Wextra", "-Werror", "-o", program, source, *archives]
     subprocess.run(words, check=True, timeout=BUILD_SECONDS)
-    return folder / "toy"
+    return program
+
+
+def build_c(archives, folder):
+    return built_c(EXAMPLES / "c" / "toy.c", archives, folder)
 
 
 def build_rust(archives, folder):
@@ -53,16 +60,21 @@ def judge(language, program):
     return passed, 2 - passed
 
 
-def refused(program, folder):
-    """The toy in C with one growth refused after the other. The model takes memory at some, and of the C library's own none is needed."""
-    library = refusing.built_in(folder)
-    wanted = (EXAMPLES / "c" / "toy.out").read_bytes()
-    for growth in range(1, GROWTHS + 1):
+def refused(program, wanted, library):
+    """A program with no growth refused, and then with one after the other: it prints the same."""
+    for growth in range(GROWTHS + 1):
         ran = subprocess.run([program], capture_output=True, timeout=SECONDS, env=refusing.asking(library, "REFUSE_GROWTH", growth))
         if (ran.stdout, ran.stderr, ran.returncode) != (wanted, b"", 0):
-            print(f"FAILED: examples/embed/c, with growth {growth} refused: {ran.stdout}, {ran.stderr}, {ran.returncode}")
+            print(f"FAILED: {program.name} in C, with growth {growth} refused: {ran.stdout}, {ran.stderr}, {ran.returncode}")
             return 0, 1
     return 1, 0
+
+
+def refusals(toy, archives, folder):
+    library = refusing.built_in(folder)
+    calls = built_c(TESTS / "model.c", archives, folder)
+    each = refused(toy, (EXAMPLES / "c" / "toy.out").read_bytes(), library), refused(calls, b"ok\n", library)
+    return tuple(map(sum, zip(*each)))
 
 
 def main():
@@ -78,7 +90,7 @@ def main():
                 program = build(archives, pathlib.Path(folder))
                 more = judge(language, program)
                 if language == "c":
-                    more = tuple(map(sum, zip(more, refused(program, folder))))
+                    more = tuple(map(sum, zip(more, refusals(program, archives, pathlib.Path(folder)))))
             except (OSError, subprocess.SubprocessError) as why:
                 print(f"FAILED: examples/embed/{language}: {why}")
                 more = 0, 1
