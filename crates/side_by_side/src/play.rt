@@ -1,31 +1,31 @@
 //! Both sides, call by call.
 ghost use Rattle.std.specs.Prelude.{◌≡◌, ◌<◌};
 
-use crate::calls::{Call, CodeCall, RequestCall, ThreadCall};
 use crate::compare::{Difference, Seen, compare, replies, unlike};
 use crate::draw::Draw;
 use crate::habits::{Habits, Phase};
-use crate::oracle::{Live, Oracle};
 use crate::running::{Running, Sizes};
-use crate::said::Said;
 use crate::schedule::Scene;
 use bodies::Name;
 use operations::job::Errand;
+use oracle::{Call, CodeCall, Live, Loss, Oracle, RequestCall, Said, ThreadCall};
 use std::alloc::{AllocError, Global};
 use std::sync::Wait;
 use thread_list::{Parts, Shared};
 use thread_state::State;
 
 /// The schedule of a seed: so many calls on a system of these sizes.
-#[derive(Clone, Copy, PartialEq, Eq, Debug, Drop)]
+#[derive(Clone, Copy)]
 pub struct Plan {
     pub seed: u64,
     pub calls: u64,
     pub sizes: Sizes,
+    /// Which event the core loses, if any.
+    pub loss: Option<Loss>,
 }
 
 /// How many calls were made, and what they came to.
-#[derive(Clone, Copy, PartialEq, Eq, Debug, Drop)]
+#[derive(Clone, Copy)]
 pub struct Tally {
     pub calls: u64,
     pub refused: u64,
@@ -33,14 +33,27 @@ pub struct Tally {
     pub replies: u64,
     pub censuses: u64,
     pub freed: u64,
+    /// How many events the core lost.
+    pub lost: u64,
+}
+
+/// Where the two sides differ: at the call of the number.
+#[derive(Clone, Copy)]
+pub struct Differ {
+    pub number: u64,
+    pub call: Call,
+    pub found: Difference,
+    /// The number of the call in which the core lost an event; 0 for none.
+    pub lost: u64,
 }
 
 /// Why a schedule isn't played to its end.
-#[derive(Debug, Drop)]
+#[derive(Clone, Copy)]
 pub enum Stopped {
     NoMemory,
-    /// The two sides differ: at the call of the number.
-    Differ(u64, Call, Difference),
+    Differ(Differ),
+    /// The running system refuses the call in which the core lost an event: that it answered as if it were done shows nothing.
+    Void,
 }
 
 impl From<AllocError> for Stopped {
@@ -64,6 +77,8 @@ struct Pair<'a, N: Name, J: Errand> {
     oracle: Oracle,
     running: Running<'a, N, J>,
     tally: Tally,
+    /// The number of the call in which the core lost an event; 0 for none.
+    lost: u64,
 }
 
 /// Plays the schedule of a seed on both sides, and then brings all threads home and frees all codes. Answers what the calls came to.
@@ -88,9 +103,10 @@ pub fn play<N: Name, J: Errand, R: Wait>(
     let reckless = plan.seed % 16 == 0;
     let mut pair = Pair {
         alloc,
-        oracle: Oracle::new(alloc, places, slots, methods, reckless)?,
+        oracle: Oracle::new(alloc, places, slots, methods, reckless, plan.loss)?,
         running: Running::new(alloc, &shared, armer, jobs)?,
         tally: Tally::none(),
+        lost: 0,
     };
     pair.play_by(rt, plan)?;
     if pair.bring_home(rt, plan.sizes)? {
@@ -102,7 +118,7 @@ pub fn play<N: Name, J: Errand, R: Wait>(
 }
 
 /// What making a call came to.
-#[derive(Clone, Copy, PartialEq, Eq, Debug, Drop)]
+#[derive(Clone, Copy, PartialEq)]
 enum Made {
     /// It wasn't made, since it would wait.
     Waits,
@@ -120,6 +136,7 @@ impl Tally {
             replies: 0,
             censuses: 0,
             freed: 0,
+            lost: 0,
         }
     }
 
@@ -131,6 +148,7 @@ impl Tally {
         self.replies = self.replies.saturating_add(other.replies);
         self.censuses = self.censuses.saturating_add(other.censuses);
         self.freed = self.freed.saturating_add(other.freed);
+        self.lost = self.lost.saturating_add(other.lost);
     }
 
     fn note(&mut self, said: &Said) -> Made {
@@ -141,7 +159,7 @@ impl Tally {
                 return Made::Refused;
             }
             Said::Exited(_) => self.exits = self.exits.saturating_add(1),
-            Said::Census(_, _) => self.censuses = self.censuses.saturating_add(1),
+            Said::Census(_) => self.censuses = self.censuses.saturating_add(1),
             Said::Freed => self.freed = self.freed.saturating_add(1),
             _ => {}
         }
@@ -159,8 +177,9 @@ impl<'a, N: Name, J: Errand> Pair<'a, N, J> {
         };
         let said = self.running.answer(rt, self.alloc, sizes, &call)?;
         let made = self.tally.note(&said);
+        self.note_loss(made)?;
         if let Some(found) = unlike(Seen::Answer, core, said) {
-            return Err(Stopped::Differ(self.tally.calls, call, found));
+            return Err(self.differ(call, found));
         }
         let seen = compare(
             rt,
@@ -171,9 +190,31 @@ impl<'a, N: Name, J: Errand> Pair<'a, N, J> {
             &self.running,
         )?;
         if let Some(found) = seen {
-            return Err(Stopped::Differ(self.tally.calls, call, found));
+            return Err(self.differ(call, found));
         }
         Ok(made)
+    }
+
+    fn differ(&self, call: Call, found: Difference) -> Stopped {
+        Stopped::Differ(Differ {
+            number: self.tally.calls,
+            call,
+            found,
+            lost: self.lost,
+        })
+    }
+
+    // Notes the call in which the core lost an event.
+    fn note_loss(&mut self, made: Made) -> Result<(), Stopped> {
+        if self.lost != 0 || !self.oracle.has_lost() {
+            return Ok(());
+        }
+        if made == Made::Refused {
+            return Err(Stopped::Void);
+        }
+        self.lost = self.tally.calls;
+        self.tally.lost = 1;
+        Ok(())
     }
 
     fn play_by<R: Wait>(&mut self, rt: &R, plan: Plan) -> Result<(), Stopped>
@@ -306,11 +347,7 @@ impl<'a, N: Name, J: Errand> Pair<'a, N, J> {
             op = reply.op;
             let seen = replies(rt, self.alloc, op, &self.oracle, &self.running)?;
             if let Some(found) = seen {
-                return Err(Stopped::Differ(
-                    self.tally.calls,
-                    Call::Request(RequestCall::Close),
-                    found,
-                ));
+                return Err(self.differ(Call::Request(RequestCall::Close), found));
             }
         }
         Ok(())
