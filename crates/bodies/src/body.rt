@@ -61,6 +61,7 @@ impl<N: Name> SpareSeat<N> {
     }
 
     /// The place of both seats.
+    #[inline(always)]
     pub fn place(&self) -> usize
         ensures value { result ≡ self.now.seat.place }
         ensures bound { result < N.board.places }
@@ -95,6 +96,7 @@ impl<N: Name> Model for Body<N> {
 }
 
 // Pushes a frame where there is room.
+#[inline(always)]
 fn push(image: &mut Image, frame: Frame)
     requires { push_fault image.old ≡ None }
     ensures { HasFrames image.old image.new (image.old.frames ++ frame ∷ []) }
@@ -106,6 +108,7 @@ fn push(image: &mut Image, frame: Frame)
 }
 
 // The code of the hint, where the one load of its entry finds it in use.
+#[inline(always)]
 fn enter_code(seat: &mut ThreadSeat, board: &Board, hint: Option<CodeId>) -> Option<CodeId>
     requires board { seat.old.board ≡ board.now }
     requires slot { IfSome hint (λ c. c.slot < seat.old.board.slots) }
@@ -121,6 +124,7 @@ fn enter_code(seat: &mut ThreadSeat, board: &Board, hint: Option<CodeId>) -> Opt
     }
 }
 
+#[inline(always)]
 fn called_in(code: Option<CodeId>) -> Called
     ensures { result ≡ called_in code }
 {
@@ -169,6 +173,7 @@ impl<N: Name> Body<N> {
     }
 
     /// The thread's name.
+    #[inline(always)]
     pub fn name(&self) -> u64
         ensures { result ≡ self.now.name }
     {
@@ -206,6 +211,7 @@ impl<N: Name> Body<N> {
     }
 
     /// How many frames the stack has.
+    #[inline(always)]
     pub fn depth(&self) -> usize
         ensures { result ≡ length self.now.image.frames }
     {
@@ -222,6 +228,7 @@ impl<N: Name> Body<N> {
     /// Enters a method: in the code of the hint, where the one load of its entry finds it in use, and else interpreted.
     /// Without a hint no step is made. The body must have ended a publication, have room for a frame, and the hint must name a
     /// slot of the board.
+    #[inline(always)]
     pub fn call(&mut self, board: &Board, method: u32, hint: Option<CodeId>) -> Called
         requires board { board.now ≡ N.board }
         requires depth { length self.old.image.frames < 256 }
@@ -236,6 +243,7 @@ impl<N: Name> Body<N> {
     }
 
     /// Leaves the method of the top frame, and gives that frame.
+    #[inline(always)]
     pub fn ret(&mut self) -> Frame
         requires frames { 0 < length self.old.image.frames }
         ensures popped { (self.old.image.frames ≡ self.new.image.frames ++ result ∷ []) × HasFrames self.old.image self.new.image self.new.image.frames }
@@ -266,6 +274,7 @@ impl<N: Name> Body<N> {
     }
 
     /// The number that the place is armed with, 0 where it isn't: one load.
+    #[inline(always)]
     pub fn poll(&mut self, row: &PollRow) -> u64
         requires row { row.now ≡ N.poll_row }
         ensures step { self.new.poller ≡ polled self.old.poller result }

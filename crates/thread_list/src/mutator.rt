@@ -80,6 +80,7 @@ impl<'a, N: Name, J: Errand> Mutator<'a, N, J> {
 
     /// Enters a method: by the code of the hint where its entry is found in use, by one load, and otherwise, or without a
     /// hint, as an interpreted frame.
+    #[inline(always)]
     pub fn call(&mut self, method: u32, hint: Option<CodeId>) -> Result<Called, CallFault>
         requires slot { IfSome hint (λ c. c.slot < N.board.slots) }
         ensures step { IfOk result (λ said. (old : BodyView) × (new : BodyView) × (self.old.body ≡ Some old) × (self.new.body ≡ Some new) × IsCalled old new method hint said × (new.name ≡ old.name) × (new.poller ≡ old.poller)) }
@@ -103,6 +104,7 @@ impl<'a, N: Name, J: Errand> Mutator<'a, N, J> {
     }
 
     /// Returns from the method of the top frame, and polls: one load.
+    #[inline(always)]
     pub fn ret(&mut self) -> Result<Poll, ReturnFault>
         ensures left { IfOk result (Leaves self.old self.new) }
         ensures same { SameThread self.old self.new }
@@ -126,6 +128,7 @@ impl<'a, N: Name, J: Errand> Mutator<'a, N, J> {
     }
 
     /// A back edge of a loop: the thread polls, by one load. A thread that isn't in Java is refused with its state.
+    #[inline(always)]
     pub fn back_edge(&mut self) -> Result<Poll, State>
         ensures ok { IfOk result (λ said. (self.old.state ≡ IsInJava) × Polls self.old self.new IsInJava said) }
         ensures same { SameThread self.old self.new }
@@ -181,6 +184,7 @@ impl<'a, N: Name, J: Errand> Mutator<'a, N, J> {
     }
 
     // The poll of a thread that owns itself and goes on in Java: one load.
+    #[inline(always)]
     fn poll_into_java(&mut self) -> Poll
         requires running { is_running self.old.state ≡ true }
         ensures polled { Polls self.old self.new self.old.state result }

@@ -54,6 +54,7 @@ impl<N: Name, J: Errand> Model for Shared<N, J> {
 
 impl<N: Name, J: Errand> Shared<N, J> {
     /// The board of the codes' words.
+    #[inline(always)]
     pub fn board(&self) -> &Board
         ensures { result.now ≡ N.board }
     {
@@ -61,6 +62,7 @@ impl<N: Name, J: Errand> Shared<N, J> {
     }
 
     /// The row of the threads' poll words.
+    #[inline(always)]
     pub fn row(&self) -> &PollRow
         ensures { result.now ≡ N.poll_row }
     {
@@ -74,6 +76,7 @@ impl<N: Name, J: Errand> Shared<N, J> {
     }
 
     /// How many methods there are.
+    #[inline(always)]
     pub fn methods(&self) -> u32
         ensures { result ≡ self.now.methods }
     {
@@ -82,6 +85,7 @@ impl<N: Name, J: Errand> Shared<N, J> {
     }
 
     /// The berth of a place.
+    #[inline(always)]
     pub fn berth(&self, place: usize) -> &Berth<N, J>
         requires { place < N.board.places }
         ensures { result.now ≡ place }
@@ -90,6 +94,7 @@ impl<N: Name, J: Errand> Shared<N, J> {
     }
 
     /// The berth of a body's place.
+    #[inline(always)]
     pub fn berth_of(&self, body: &Body<N>) -> &Berth<N, J>
         ensures { result.now ≡ body.now.seat.place }
     {
@@ -98,6 +103,7 @@ impl<N: Name, J: Errand> Shared<N, J> {
 
     /// The code that a call of the method tries first: what was installed for it last, None without such a method or code. It is
     /// read off a plain word, so the code may be gone by then; `call` finds that out.
+    #[inline(always)]
     pub fn hint(&self, method: u32) -> Option<CodeId>
         ensures { IfSome result (λ c. c.slot < N.board.slots) }
     {
