@@ -194,11 +194,12 @@ impl<'a, N: Name, J: Errand> Mutator<'a, N, J> {
             unreachable!()
         };
         let found = body.poll(self.shared.row());
-        self.state = if found == 0 {
-            State::InJava
-        } else {
-            State::AtPoll(Back::Java)
-        };
+        if found != 0 {
+            self.state = State::AtPoll(Back::Java);
+        } else if let State::InVm = self.state {
+            // Nothing is written where it is in Java already: the next back edge would wait for that store.
+            self.state = State::InJava;
+        }
         poll_of(found)
     }
 }

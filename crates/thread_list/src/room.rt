@@ -156,25 +156,12 @@ impl<N: Name, J: Errand> Room<N, J> {
         ensures body { IfSome result (λ b. (b.seat.place ≡ self.old.place) × (0 < b.name) × (b.seat.stored ≢ 0)) }
         ensures none { IfNone result ((self.new ≡ self.old) × ((b : _) → self.old.holder ≡ IsAtHome b → b.name ≢ name)) }
     {
-        match std::mem::replace(&mut self.holder, Holder::Away) {
-            Holder::Home(body) => {
-                if body.name() == name {
-                    self.holder = Holder::Out(name);
-                    Some(body)
-                } else {
-                    self.holder = Holder::Home(body);
-                    None
-                }
-            }
-            Holder::Vacant(pair) => {
-                self.holder = Holder::Vacant(pair);
-                None
-            }
-            Holder::Out(other) => {
-                self.holder = Holder::Out(other);
-                None
-            }
-            Holder::Away => None,
+        if !self.has_body(name) {
+            return None;
+        }
+        match std::mem::replace(&mut self.holder, Holder::Out(name)) {
+            Holder::Home(body) => Some(body),
+            Holder::Vacant(_) | Holder::Out(_) | Holder::Away => unreachable!(),
         }
     }
 
