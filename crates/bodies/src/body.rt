@@ -78,7 +78,8 @@ impl<N: Name> SpareSeat<N> {
 #[derive(Drop)]
 pub struct Body<N: Name> {
     name: u64,
-    image: Image,
+    // Boxed, since bodies are moved into their berths and out again.
+    image: Box<Image>,
     seat: ThreadSeat,
     poller: Poller,
     of: PhantomData<N>,
@@ -90,9 +91,9 @@ impl<N: Name> Model for Body<N> {
 
     ghost Value = { BodyView };
 
-    ghost view = { λ b. record { name = b.name; image = b.image; seat = b.seat.seen; poller = b.poller.seen } };
+    ghost view = { λ b. record { name = b.name; image = b.image.value; seat = b.seat.seen; poller = b.poller.seen } };
 
-    ghost invariant = { λ b. (b.seat.board ≡ N.board) × (b.poller.table ≡ N.poll_row) × (b.poller.seen.place ≡ b.seat.seen.place) × IsFit N.board.slots b.image b.seat.seen × (b.image.publishing ≡ false) };
+    ghost invariant = { λ b. (b.seat.board ≡ N.board) × (b.poller.table ≡ N.poll_row) × (b.poller.seen.place ≡ b.seat.seen.place) × IsFit N.board.slots b.image.value b.seat.seen × (b.image.value.publishing ≡ false) };
 }
 
 // Pushes a frame where there is room.
@@ -152,10 +153,10 @@ fn count_changes(image: &mut Image, seat: &mut ThreadSeat, board: &Board)
 
 impl<N: Name> Body<N> {
     /// The body of a thread that starts: its stack is empty and nothing of it is counted.
-    pub fn new(name: u64, image: Image, pair: SpareSeat<N>) -> Body<N>
-        requires empty { (image.frames ≡ []) × (image.publishing ≡ false) × ((c : Code) → times c image.counted ≡ 0) }
+    pub fn new(name: u64, image: Box<Image>, pair: SpareSeat<N>) -> Body<N>
+        requires empty { (image.value.frames ≡ []) × (image.value.publishing ≡ false) × ((c : Code) → times c image.value.counted ≡ 0) }
         ensures name { result.name ≡ name }
-        ensures image { result.image ≡ image }
+        ensures image { result.image ≡ image.value }
         ensures seats { (result.seat ≡ pair.seat) × (result.poller ≡ pair.poller) }
     {
         let SpareSeat {
@@ -197,7 +198,7 @@ impl<N: Name> Body<N> {
         ensures reply { result.reply ≡ reply (J.asks job) self.now.image.frames }
         ensures called { J.may_answer job self.now.image result.reply }
     {
-        job.run_on(&self.image)
+        job.run_on(&*self.image)
     }
 
     /// The frames, the top last.
@@ -238,7 +239,7 @@ impl<N: Name> Body<N> {
         ensures others { (self.new.name ≡ self.old.name) × (self.new.poller ≡ self.old.poller) }
     {
         let code = enter_code(&mut self.seat, board, hint);
-        push(&mut self.image, Frame { method, code });
+        push(&mut *self.image, Frame { method, code });
         called_in(code)
     }
 
@@ -265,7 +266,7 @@ impl<N: Name> Body<N> {
             Ok(()) => {}
             Err(_) => unreachable!(),
         }
-        count_changes(&mut self.image, &mut self.seat, board);
+        count_changes(&mut *self.image, &mut self.seat, board);
         match self.image.end() {
             Ok(()) => {}
             Err(_) => unreachable!(),

@@ -1,5 +1,5 @@
 //! Threads that start.
-ghost use Rattle.std.specs.Prelude.{◌≡◌, IfOk, IfErr, true, ◌<◌, OnOk, Some};
+ghost use Rattle.std.specs.Prelude.{◌≡◌, IfOk, IfErr, true, false, [], ◌<◌, OnOk, Some};
 ghost use Rattle.thread_state.specs.declared.State.TheVariants.{InJava as IsInJava};
 ghost use Rattle.desk.specs.declared.entries.Entry.{Entry};
 ghost use Rattle.desk.specs.Machine.{State as DeskState, Book};
@@ -14,7 +14,7 @@ use bodies::{Body, Name};
 use desk::{Receipt, StartFault};
 use frames::image::Image;
 use operations::job::Errand;
-use std::alloc::Global;
+use std::alloc::{AllocError, Global};
 use std::sync::Wait;
 use thread_state::State;
 
@@ -31,7 +31,7 @@ impl<N: Name, J: Errand> Shared<N, J> {
         ensures goes_on { IfOk result (λ r. (body : BodyView) × (r.0.body ≡ Some body) × (body.poller.last ≡ Load 0)) }
         ensures refused { IfErr result (λ e. (s : DeskState) × (book : Book) × start_refused s N.board.places book e) }
     {
-        let image = Image::new(alloc);
+        let image = new_image(alloc);
         let (name, place, receipt) = self.enter(rt, image.is_ok())?;
         let Ok(image) = image else { unreachable!() };
         let berth = self.berth(place);
@@ -66,4 +66,11 @@ impl<N: Name, J: Errand> Shared<N, J> {
         let started = desk.start(has_image)?;
         Ok(started)
     }
+}
+
+// The image of an empty stack, which stays where it is while its thread's body moves.
+fn new_image(alloc: Global) -> Result<Box<Image>, AllocError>
+    ensures { IfOk result (λ image. image.value ≡ record { frames = []; counted = []; changed = []; publishing = false }) }
+{
+    Box::new(alloc, Image::new(alloc)?)
 }
