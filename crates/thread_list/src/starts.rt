@@ -72,5 +72,9 @@ impl<N: Name, J: Errand> Shared<N, J> {
 fn new_image(alloc: Global) -> Result<Box<Image>, AllocError>
     ensures { IfOk result (λ image. image.value ≡ record { frames = []; counted = []; changed = []; publishing = false }) }
 {
-    Box::new(alloc, Image::new(alloc)?)
+    let image = Image::new(alloc)?;
+    match Box::new(alloc, image) {
+        Ok(image) => Ok(image),
+        Err(_) => Err(AllocError),
+    }
 }
