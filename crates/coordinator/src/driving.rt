@@ -164,10 +164,10 @@ impl<'a, N: Name, J: Errand> Coordinator<'a, N, J> {
             return;
         }
         let berth = self.shared.berth(due.place);
-        let Some(mut body) = berth.take(rt, due.name, due.place) else {
+        let Ok(mut body) = berth.take(rt, due.name, due.place) else {
             return;
         };
-        if let Some(job) = berth.job(rt, due.name) {
+        if let Ok(job) = berth.job(rt, due.name) {
             let _ = serve_body(rt, self.shared, &mut body, job);
         }
         berth.release(rt, body, false);

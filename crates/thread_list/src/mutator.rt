@@ -6,6 +6,7 @@ ghost use Rattle.thread_list.specs.Moves.{SameThread, Polls, Leaves, is_running}
 ghost use Rattle.thread_list.specs.Refused.{call_refused, return_refused};
 
 use crate::polls::{Poll, poll_of};
+use crate::room::BerthReceipt;
 use crate::shared::Shared;
 use bodies::{Body, Called, Name};
 use frames::CodeId;
@@ -22,6 +23,8 @@ pub struct Mutator<'a, N: Name, J: Errand> {
     pub(crate) place: usize,
     pub(crate) state: State,
     pub(crate) body: Option<Body<N>>,
+    pub(crate) settled: BerthReceipt<N>,
+    pub(crate) given: Option<BerthReceipt<N>>,
 }
 
 impl<'a, N: Name, J: Errand> Model for Mutator<'a, N, J> {
@@ -31,7 +34,7 @@ impl<'a, N: Name, J: Errand> Model for Mutator<'a, N, J> {
 
     ghost view = { λ m. record { name = m.name; place = m.place; methods = m.shared.now.methods; state = m.state; body = m.body } };
 
-    ghost invariant = { λ m. IsRunning N.board.places m.name m.place m.state m.body };
+    ghost invariant = { λ m. IsRunning N.board.places m.name m.place m.state m.body m.settled m.given };
 }
 
 /// Why a thread doesn't enter a method, in the order of the tests.

@@ -14,6 +14,7 @@ ghost use Rattle.desk.specs.Refusals.{ask_refused, install_refused};
 
 use crate::berth::Berth;
 use crate::hints::Hints;
+use crate::room::{BerthAct, BerthReceipt};
 use board::Board;
 use bodies::{Body, Name};
 use desk::{CodeFault, Desk, NotLive, Receipt, Refused, live_names_rise};
@@ -50,6 +51,13 @@ impl<N: Name, J: Errand> Model for Shared<N, J> {
     ghost view = { λ s. record { methods = s.hints.methods } };
 
     ghost invariant = { λ s. (s.board ≡ N.board) × (s.row ≡ N.poll_row) × (length s.berths.items ≡ N.board.places) × AreInOrder s.berths.items × (s.hints.slots ≡ N.board.slots) };
+}
+
+/// The receipts of a thread that is gone: that its berth gave its place up, and of the entry of its exit.
+#[derive(Drop)]
+pub struct Exited<N: Name> {
+    pub vacated: BerthReceipt<N>,
+    pub exit: Receipt<N>,
 }
 
 impl<N: Name, J: Errand> Shared<N, J> {
@@ -211,15 +219,18 @@ impl<N: Name, J: Errand> Shared<N, J> {
         unreachable!()
     }
 
-    /// Enters that the thread of the name exits.
-    pub fn leave<R: Wait>(&self, rt: &R, name: u64) -> Receipt<N>
-        ensures { result.entry ≡ Entry.Exit name }
+    /// Enters that a thread exits whose berth gave its place up.
+    pub fn leave<R: Wait>(&self, rt: &R, vacated: BerthReceipt<N>) -> Exited<N>
+        requires { vacated.act ≡ BerthAct.Vacated }
+        ensures vacated { result.vacated ≡ vacated }
+        ensures exit { result.exit.entry ≡ Entry.Exit vacated.name }
     {
+        let name = vacated.name();
         for _ in rt.forever() {
             let gone = self.desk.lock(rt).exit(name);
-            if let Ok(receipt) = gone {
+            if let Ok(exit) = gone {
                 self.finished.notify_all();
-                return receipt;
+                return Exited { vacated, exit };
             }
             thread::yield_now();
         }

@@ -37,10 +37,10 @@ impl<N: Name, J: Errand> Shared<N, J> {
         let berth = self.berth(place);
         let mut body = Body::new(name, image, berth.start(rt, place));
         body.publish(self.board());
-        berth.settle(rt, body);
+        let settled = berth.settle(rt, body);
         let mut body = berth.wake(rt, name, place);
         if body.poll(self.row()) != 0 {
-            body = served(rt, self, body);
+            (body, _) = served(rt, self, body);
         }
         let mutator = Mutator {
             shared: self,
@@ -48,6 +48,8 @@ impl<N: Name, J: Errand> Shared<N, J> {
             place,
             state: State::InJava,
             body: Some(body),
+            settled,
+            given: None,
         };
         Ok((mutator, receipt))
     }
