@@ -5,6 +5,7 @@ ghost use Rattle.workers.specs.Summaries.{summary_text};
 ghost use Rattle.monitor.specs.Run.{IsNotRun, Printed, FailedWrites};
 
 use crate::fault::Fault;
+use bodies::Name;
 use frames::image::Image;
 use operations::Ask;
 use operations::job::{Call, Job};
@@ -47,7 +48,8 @@ pub fn run_with<R: Threads + Wait + Sync, G: Gate + Sync, W: Sink>(
                 { image.depth() as u64 },
             )
             .map_err(|_| AllocError)?;
-            list.push_reserved(Job::new(place as u64 + 1, Ask::Depth, call));
+            let job = Job::new(place as u64 + 1, Ask::Depth, call);
+            list.push_reserved(job);
         }
         jobs.push_reserved(list);
     }
@@ -72,7 +74,7 @@ fn parts_of(alloc: Global, threads: usize, methods: usize) -> Result<Parts, Faul
 }
 
 // The text of a summary.
-fn text_of(alloc: Global, summary: &Summary) -> Result<String, AllocError>
+fn text_of<N: Name>(alloc: Global, summary: &Summary<N>) -> Result<String, AllocError>
     ensures { IfOk result (λ text. string_bytes text ≡ summary_text summary.now) }
 {
     format!(in alloc; "{summary}")

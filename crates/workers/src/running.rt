@@ -2,11 +2,12 @@
 ghost use Rattle.std.specs.Prelude.{◌≡◌, ◌≤◌, All, IfOk, length, vec_len, vec_capacity};
 ghost use Rattle.poll.specs.Rows.{full_armer};
 ghost use Rattle.workers.specs.Replacing.{InstallsEach};
+ghost use Rattle.workers.specs.Jobs.{AreForEach};
 ghost use Rattle.workers.specs.Summaries.{IsSummary};
 
 use crate::fault::RunFault;
 use crate::gate::Gate;
-use crate::reclaimer::{Reclaimer, Tally};
+use crate::reclaimer::Reclaimer;
 use crate::summary::{Summary, lines_of, some_compiled};
 use crate::task::{BeginFault, Task};
 use crate::threads::{Started, join_all, start_all};
@@ -22,8 +23,8 @@ use std::thread::{self, Scope, Threads};
 use thread_list::{Parts, Shared};
 
 /// Runs a script on so many threads of a system that is made of the parts, and meanwhile replaces the code of each method and tries
-/// to reclaim the old one, with the jobs of one list a method: a job for each thread by its name, from 1 on. No thread runs any more
-/// when it returns, also where it is refused.
+/// to reclaim the old one, with those jobs of one list a method that are for live threads: each list has a job for each thread by its
+/// name, from 1 on, that asks for its depth. No thread runs any more when it returns, also where it is refused.
 pub fn run<N: Name + Send, J: Errand + Send, R: Threads + Wait + Sync, G: Gate + Sync>(
     rt: &R,
     alloc: Global,
@@ -32,9 +33,10 @@ pub fn run<N: Name + Send, J: Errand + Send, R: Threads + Wait + Sync, G: Gate +
     gate: &G,
     parts: Parts,
     jobs: Vec<Vec<J>>,
-) -> Result<Summary, RunFault>
+) -> Result<Summary<N>, RunFault>
     requires tables { (parts.board ≡ N.board) × (parts.row ≡ N.poll_row) }
     requires jobs { length jobs.items ≡ length code.now }
+    requires each { All (λ js. AreForEach J.whom J.asks threads js.items) jobs.items }
     ensures { IfOk result (IsSummary code.now threads) }
 {
     let Ok((shared, armer)) = Shared::<N, J>::new(alloc, parts) else {
@@ -52,7 +54,7 @@ fn run_over<'a, N: Name + Send, J: Errand + Send, R: Threads + Wait + Sync, G: G
     shared: &'a Shared<N, J>,
     armer: Armer,
     jobs: Vec<Vec<J>>,
-) -> Result<Summary, RunFault>
+) -> Result<Summary<N>, RunFault>
     requires armer { armer ≡ full_armer N.poll_row N.board.places }
     requires jobs { length jobs.items ≡ length code.now }
     ensures { IfOk result (IsSummary code.now threads) }
@@ -111,7 +113,7 @@ fn run_all<'a, N: Name + Send, J: Errand + Send, R: Threads + Wait + Sync, G: Ga
     tasks: Vec<Task<'a, N, J, R, G>>,
     reclaimer: Reclaimer<'a, N, J>,
     jobs: Vec<Vec<J>>,
-) -> Result<Summary, RunFault>
+) -> Result<Summary<N>, RunFault>
     requires tasks { All (λ t. t.code ≡ code.now) tasks.items }
     requires codes { InstallsEach (length code.now) reclaimer }
     requires jobs { length jobs.items ≡ length code.now }
@@ -121,7 +123,7 @@ fn run_all<'a, N: Name + Send, J: Errand + Send, R: Threads + Wait + Sync, G: Ga
     thread::scope(
         thread::scope_env(),
         rt,
-        move |scope| -> Result<Summary, RunFault>
+        move |scope| -> Result<Summary<N>, RunFault>
             requires { All (λ t. t.code ≡ code.now) tasks.items × InstallsEach (length code.now) reclaimer × (length jobs.items ≡ length code.now) × (vec_len room ≡ 0) × (vec_len tasks ≤ vec_capacity room) }
             ensures { IfOk result (IsSummary code.entry.now (vec_len tasks.entry)) }
         { run_in(scope, rt, alloc, code, tasks, room, reclaimer, jobs) },
@@ -146,7 +148,7 @@ fn run_in<
     room: Vec<Started<N>>,
     reclaimer: Reclaimer<'a, N, J>,
     jobs: Vec<Vec<J>>,
-) -> Result<Summary, RunFault>
+) -> Result<Summary<N>, RunFault>
     requires tasks { All (λ t. t.code ≡ code.now) tasks.items }
     requires codes { InstallsEach (length code.now) reclaimer }
     requires jobs { length jobs.items ≡ length code.now }
@@ -161,16 +163,6 @@ fn run_in<
     let reports = join_all(rt, code, handles)?;
     let lines = lines_of(alloc, code, reports.as_slice())?;
     let compiled = some_compiled(reports.as_slice());
-    let Tally {
-        installed,
-        freed,
-        counts,
-    } = reclaimer.finish(rt, alloc)?;
-    Ok(Summary {
-        lines,
-        compiled,
-        installed,
-        freed,
-        counts,
-    })
+    let codes = reclaimer.finish(rt, alloc)?;
+    Ok(Summary::new(lines, reports, compiled, codes))
 }
