@@ -104,11 +104,11 @@ unfolding freed_in
 freed_append [] t = omega arith
 freed_append (x ∷ ts) t = adds_one (is_some x.freed) (freed_in (ts ++ t ∷ [])) (freed_in ts) (freed_in (t ∷ [])) (freed_append ts t)
 
-is_one : (b : Bool) → b ≡ true → (if b then 1 else 0) ≡ 1
+is_one : (b : Bool) → b ≡ true → ◌≡◌ {A = ℕ} (if b then 1 else 0) 1
 is_one true is = refl
 is_one false is = absurd (cc is)
 
-is_none : (b : Bool) → b ≡ false → (if b then 1 else 0) ≡ 0
+is_none : (b : Bool) → b ≡ false → ◌≡◌ {A = ℕ} (if b then 1 else 0) 0
 is_none true is = absurd (cc is)
 is_none false is = refl
 

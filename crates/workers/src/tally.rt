@@ -82,6 +82,7 @@ fn count_freed<N: Name>(tries: &[Try<N>]) -> usize
     for one in tries {
         if one.is_freed() {
             count += 1;
+            continue;
         }
     }
     count
