@@ -5,7 +5,6 @@ ghost use Rattle.workers.specs.Summaries.{summary_text};
 ghost use Rattle.monitor.specs.Run.{IsNotRun, Printed, FailedWrites};
 
 use crate::fault::Fault;
-use bodies::Name;
 use frames::image::Image;
 use operations::Ask;
 use operations::job::{Call, Job};
@@ -74,7 +73,7 @@ fn parts_of(alloc: Global, threads: usize, methods: usize) -> Result<Parts, Faul
 }
 
 // The text of a summary.
-fn text_of<N: Name>(alloc: Global, summary: &Summary<N>) -> Result<String, AllocError>
+fn text_of(alloc: Global, summary: &Summary) -> Result<String, AllocError>
     ensures { IfOk result (λ text. string_bytes text ≡ summary_text summary.now) }
 {
     format!(in alloc; "{summary}")

@@ -8,10 +8,8 @@ mod reclaimer;
 mod report;
 mod running;
 mod summary;
-mod tally;
 mod task;
 mod threads;
-mod tries;
 mod worker;
 
 pub use fault::RunFault;
@@ -19,7 +17,5 @@ pub use gate::{Gate, OpenGate};
 pub use report::{Ending, Report};
 pub use running::run;
 pub use summary::{Line, Summary};
-pub use tally::Tally;
 pub use task::FUEL;
-pub use tries::{Counted, Try};
 pub use worker::{Refused, Worker};
