@@ -50,6 +50,7 @@ MEMORY = {
     "script": [["refused_memory_is_told"]],
     "poll": [["a_row_is_made_whole_or_not_at_all"]],
     "board": [["a_board_is_made_whole_or_not_at_all"]],
+    "coordinator_tests": [["memory::what_lacks_memory_is_tried_again"]],
 }
 NONE_REFUSED = "no growth was refused"
 PASSED = "test result: ok"

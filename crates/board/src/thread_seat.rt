@@ -17,6 +17,7 @@ use frames::board_rule::{BoardView, Entry, EntryState};
 use std::marker::{Brand, Model};
 
 /// Whether the entry's word says that the serial is in use.
+#[inline(always)]
 fn is_in_use(word: u64, serial: u64) -> bool
     ensures { result ≡ (word == pack serial InUse) }
 {
@@ -78,6 +79,7 @@ impl ThreadSeat {
     }
 
     /// Its place.
+    #[inline(always)]
     pub fn place(&self) -> usize
         ensures value { result ≡ self.now.seen.place }
         ensures bound { result < self.now.board.places }
@@ -86,6 +88,7 @@ impl ThreadSeat {
         self.place
     }
 
+    #[inline(always)]
     fn load_entry<A: About>(&mut self, board: &Board, code: CodeId) -> u64
         requires about { A.asked ≡ asked self.old.board code 0 }
         requires board { self.old.board ≡ board.now }
@@ -109,6 +112,7 @@ impl ThreadSeat {
     /// seat counts or has fresh is found standing there, in use or not entrant.
     ///
     /// The seat has ended a publication, and the code's slot is one of the board's.
+    #[inline(always)]
     pub fn enter(&mut self, board: &Board, code: CodeId) -> bool
         requires board { self.old.board ≡ board.now }
         requires slot { code.slot < self.old.board.slots }
@@ -123,6 +127,7 @@ impl ThreadSeat {
         is_in_use(self.load_entry::<Brand>(board, code), code.serial)
     }
 
+    #[inline(always)]
     fn load_moment<A: About>(&mut self, board: &Board)
         requires about { A.asked ≡ asked_of self.old.board }
         requires board { self.old.board ≡ board.now }
@@ -136,6 +141,7 @@ impl ThreadSeat {
     }
 
     /// Begins a publication: one load of the board's moment, which isn't 0.
+    #[inline(always)]
     pub fn read_moment(&mut self, board: &Board)
         requires board { self.old.board ≡ board.now }
         ensures board { self.new.board ≡ self.old.board }
@@ -147,6 +153,7 @@ impl ThreadSeat {
         self.load_moment::<Brand>(board)
     }
 
+    #[inline(always)]
     fn store_read<A: About>(&mut self, board: &Board)
         requires about { A.asked ≡ asked_of self.old.board }
         requires board { self.old.board ≡ board.now }
@@ -166,6 +173,7 @@ impl ThreadSeat {
     }
 
     /// Ends a publication: one store of the moment that was read when it began. Nothing is fresh from then on.
+    #[inline(always)]
     pub fn end_publication(&mut self, board: &Board)
         requires board { self.old.board ≡ board.now }
         requires begun { self.old.seen.moment ≢ 0 }
@@ -206,6 +214,7 @@ impl ThreadSeat {
         self.store_vacant::<Brand>(board)
     }
 
+    #[inline(always)]
     fn add_count<A: About>(&mut self, board: &Board, code: CodeId, by: u64) -> u64
         requires about { A.asked ≡ asked self.old.board code 0 }
         requires board { self.old.board ≡ board.now }
@@ -224,6 +233,7 @@ impl ThreadSeat {
             .fetch_add::<CountUp<A>>(&mut self.seat, count_at(self.slots, code.slot), by)
     }
 
+    #[inline(always)]
     fn sub_count<A: About>(&mut self, board: &Board, code: CodeId, by: u64) -> u64
         requires about { A.asked ≡ asked self.old.board code 0 }
         requires board { self.old.board ≡ board.now }
@@ -243,6 +253,7 @@ impl ThreadSeat {
     /// Changes how often this seat counts the code, inside a publication: one fetch-add, or one fetch-sub where `by` is negative.
     ///
     /// `by` isn't 0, the count stays from 0 to 256, and it rises only for a fresh code.
+    #[inline(always)]
     pub fn count_change(&mut self, board: &Board, code: CodeId, by: i32)
         requires board { self.old.board ≡ board.now }
         requires slot { code.slot < self.old.board.slots }

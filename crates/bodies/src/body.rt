@@ -61,6 +61,7 @@ impl<N: Name> SpareSeat<N> {
     }
 
     /// The place of both seats.
+    #[inline(always)]
     pub fn place(&self) -> usize
         ensures value { result ≡ self.now.seat.place }
         ensures bound { result < N.board.places }
@@ -77,7 +78,8 @@ impl<N: Name> SpareSeat<N> {
 #[derive(Drop)]
 pub struct Body<N: Name> {
     name: u64,
-    image: Image,
+    // Boxed, since bodies are moved into their berths and out again.
+    image: Box<Image>,
     seat: ThreadSeat,
     poller: Poller,
     of: PhantomData<N>,
@@ -89,12 +91,13 @@ impl<N: Name> Model for Body<N> {
 
     ghost Value = { BodyView };
 
-    ghost view = { λ b. record { name = b.name; image = b.image; seat = b.seat.seen; poller = b.poller.seen } };
+    ghost view = { λ b. record { name = b.name; image = b.image.value; seat = b.seat.seen; poller = b.poller.seen } };
 
-    ghost invariant = { λ b. (b.seat.board ≡ N.board) × (b.poller.table ≡ N.poll_row) × (b.poller.seen.place ≡ b.seat.seen.place) × IsFit N.board.slots b.image b.seat.seen × (b.image.publishing ≡ false) };
+    ghost invariant = { λ b. (b.seat.board ≡ N.board) × (b.poller.table ≡ N.poll_row) × (b.poller.seen.place ≡ b.seat.seen.place) × IsFit N.board.slots b.image.value b.seat.seen × (b.image.value.publishing ≡ false) };
 }
 
 // Pushes a frame where there is room.
+#[inline(always)]
 fn push(image: &mut Image, frame: Frame)
     requires { push_fault image.old ≡ None }
     ensures { HasFrames image.old image.new (image.old.frames ++ frame ∷ []) }
@@ -106,6 +109,7 @@ fn push(image: &mut Image, frame: Frame)
 }
 
 // The code of the hint, where the one load of its entry finds it in use.
+#[inline(always)]
 fn enter_code(seat: &mut ThreadSeat, board: &Board, hint: Option<CodeId>) -> Option<CodeId>
     requires board { seat.old.board ≡ board.now }
     requires slot { IfSome hint (λ c. c.slot < seat.old.board.slots) }
@@ -121,6 +125,7 @@ fn enter_code(seat: &mut ThreadSeat, board: &Board, hint: Option<CodeId>) -> Opt
     }
 }
 
+#[inline(always)]
 fn called_in(code: Option<CodeId>) -> Called
     ensures { result ≡ called_in code }
 {
@@ -148,10 +153,10 @@ fn count_changes(image: &mut Image, seat: &mut ThreadSeat, board: &Board)
 
 impl<N: Name> Body<N> {
     /// The body of a thread that starts: its stack is empty and nothing of it is counted.
-    pub fn new(name: u64, image: Image, pair: SpareSeat<N>) -> Body<N>
-        requires empty { (image.frames ≡ []) × (image.publishing ≡ false) × ((c : Code) → times c image.counted ≡ 0) }
+    pub fn new(name: u64, image: Box<Image>, pair: SpareSeat<N>) -> Body<N>
+        requires empty { (image.value.frames ≡ []) × (image.value.publishing ≡ false) × ((c : Code) → times c image.value.counted ≡ 0) }
         ensures name { result.name ≡ name }
-        ensures image { result.image ≡ image }
+        ensures image { result.image ≡ image.value }
         ensures seats { (result.seat ≡ pair.seat) × (result.poller ≡ pair.poller) }
     {
         let SpareSeat {
@@ -169,6 +174,7 @@ impl<N: Name> Body<N> {
     }
 
     /// The thread's name.
+    #[inline(always)]
     pub fn name(&self) -> u64
         ensures { result ≡ self.now.name }
     {
@@ -192,7 +198,7 @@ impl<N: Name> Body<N> {
         ensures reply { result.reply ≡ reply (J.asks job) self.now.image.frames }
         ensures called { J.may_answer job self.now.image result.reply }
     {
-        job.run_on(&self.image)
+        job.run_on(&*self.image)
     }
 
     /// The frames, the top last.
@@ -206,6 +212,7 @@ impl<N: Name> Body<N> {
     }
 
     /// How many frames the stack has.
+    #[inline(always)]
     pub fn depth(&self) -> usize
         ensures { result ≡ length self.now.image.frames }
     {
@@ -222,6 +229,7 @@ impl<N: Name> Body<N> {
     /// Enters a method: in the code of the hint, where the one load of its entry finds it in use, and else interpreted.
     /// Without a hint no step is made. The body must have ended a publication, have room for a frame, and the hint must name a
     /// slot of the board.
+    #[inline(always)]
     pub fn call(&mut self, board: &Board, method: u32, hint: Option<CodeId>) -> Called
         requires board { board.now ≡ N.board }
         requires depth { length self.old.image.frames < 256 }
@@ -231,11 +239,12 @@ impl<N: Name> Body<N> {
         ensures others { (self.new.name ≡ self.old.name) × (self.new.poller ≡ self.old.poller) }
     {
         let code = enter_code(&mut self.seat, board, hint);
-        push(&mut self.image, Frame { method, code });
+        push(&mut *self.image, Frame { method, code });
         called_in(code)
     }
 
     /// Leaves the method of the top frame, and gives that frame.
+    #[inline(always)]
     pub fn ret(&mut self) -> Frame
         requires frames { 0 < length self.old.image.frames }
         ensures popped { (self.old.image.frames ≡ self.new.image.frames ++ result ∷ []) × HasFrames self.old.image self.new.image self.new.image.frames }
@@ -257,7 +266,7 @@ impl<N: Name> Body<N> {
             Ok(()) => {}
             Err(_) => unreachable!(),
         }
-        count_changes(&mut self.image, &mut self.seat, board);
+        count_changes(&mut *self.image, &mut self.seat, board);
         match self.image.end() {
             Ok(()) => {}
             Err(_) => unreachable!(),
@@ -266,6 +275,7 @@ impl<N: Name> Body<N> {
     }
 
     /// The number that the place is armed with, 0 where it isn't: one load.
+    #[inline(always)]
     pub fn poll(&mut self, row: &PollRow) -> u64
         requires row { row.now ≡ N.poll_row }
         ensures step { self.new.poller ≡ polled self.old.poller result }

@@ -69,7 +69,7 @@ fn live<N: Name, J: Errand, R: Abort>(
     let mut armer = armer;
     keeper.install(&board, C);
     let spare: SpareSeat<N> = SpareSeat::new(seat, poller);
-    let mut body = Body::new(7, Image::new(alloc)?, spare);
+    let mut body = Body::new(7, Box::new(alloc, Image::new(alloc)?)?, spare);
     body.publish(&board);
     assert!(rt; body.call(&board, 0, Some(C)) == Called::Compiled(1));
     assert!(rt; body.call(&board, 1, None) == Called::Interpreted);

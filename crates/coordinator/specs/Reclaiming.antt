@@ -1,5 +1,5 @@
 -- What reclaiming answers.
-use Rattle.std.specs.Prelude.{◌≡◌, ◌⊎◌, ◌+◌, ◌^◌, nat_le, true, false, ℕ, List, [], ◌∷◌, map, Option, Some, None}
+use Rattle.std.specs.Prelude.{◌≡◌, ◌≢◌, ◌⊎◌, ◌<◌, ◌+◌, ◌^◌, nat_le, true, false, ℕ, List, [], ◌∷◌, map, Option, Some, None}
 use Rattle.method_table.specs.declared.Code.{Code}
 use Rattle.operations.specs.declared.Ask.{Ask}
 use Rattle.operations.specs.declared.Request.{Request}
@@ -20,11 +20,11 @@ use Rattle.desk.specs.declared.faults.AskFault.TheVariants as ask
 use Rattle.coordinator.specs.declared.faults.Reclaimed.{Reclaimed}
 use Rattle.coordinator.specs.declared.faults.Reclaimed.TheVariants.{Freed, Used, Late}
 
--- Code that was freed has the receipt of its Free.
-abbrev pub IsReclaimed : {N : Type 0} → ℕ → Reclaimed N → Type 0
-IsReclaimed serial (Freed r) = r.entry ≡ entry.Free serial
-IsReclaimed serial (Used n) = Unit {0}
-IsReclaimed serial (Late place) = Unit {0}
+-- Code that was freed has the receipt of its Free. Of what is used some activations stand. What is late is a place.
+abbrev pub IsReclaimed : {N : Type 0} → ℕ → ℕ → Reclaimed N → Type 0
+IsReclaimed places serial (Freed r) = r.entry ≡ entry.Free serial
+IsReclaimed places serial (Used n) = n ≢ 0
+IsReclaimed places serial (Late place) = place < places
 
 -- The unfreed code of the serial was weighed from what the keeper knew, with this answer.
 abbrev pub WasWeighed : ℕ → ℕ → DeskSeen → DeskSeen → Weighed → Type 0

@@ -7,6 +7,7 @@ ghost use Rattle.desk.specs.Refusals.{open_refused};
 ghost use Rattle.coordinator.specs.Holding.{held_nothing};
 ghost use Rattle.coordinator.specs.Refused.{not_closed};
 
+use crate::teller::Teller;
 use bodies::{Body, Name};
 use desk::{CloseFault, OpenFault, Receipt};
 use operations::job::Errand;
@@ -24,7 +25,7 @@ use thread_list::Shared;
 pub struct Coordinator<'a, N: Name, J: Errand> {
     pub(crate) shared: &'a Shared<N, J>,
     pub(crate) alloc: Global,
-    pub(crate) armer: Armer,
+    pub(crate) armer: Teller,
     pub(crate) places: usize,
     pub(crate) bodies: Vec<Body<N>>,
     pub(crate) operated: bool,
@@ -60,7 +61,7 @@ impl<'a, N: Name, J: Errand> Coordinator<'a, N, J> {
         Ok(Coordinator {
             shared,
             alloc,
-            armer,
+            armer: Teller::new(armer),
             places,
             bodies,
             operated: false,

@@ -1,11 +1,12 @@
 //! Working one request from its Open to its Close.
 ghost use Rattle.std.specs.Prelude.{◌≡◌, ◌<◌, [], ℕ, Some, None, IfOk, IfErr, OnOk, OnErr, IfSome, IfNone, false, vec_capacity};
+ghost use Rattle.bodies.specs.Census.{IsCensus};
 ghost use Rattle.desk.specs.declared.entries.Entry.{Entry};
 ghost use Rattle.desk.specs.Machine.{State as DeskState};
 ghost use Rattle.desk.specs.Fields.{at};
 ghost use Rattle.desk.specs.Targets.{open_kind};
 ghost use Rattle.coordinator.specs.Holding.{AreHeld};
-ghost use Rattle.coordinator.specs.Driving.{number_of, drive_refused};
+ghost use Rattle.coordinator.specs.Driving.{number_of, IsListed, HoldsOn, LacksList, drive_refused};
 
 use crate::coordinator::Coordinator;
 use crate::faults::{DriveFault, Driven, OperateFault};
@@ -47,6 +48,7 @@ impl<'a, N: Name, J: Errand> Coordinator<'a, N, J> {
     /// caller has operated the census, the list is over the threads that are still held.
     pub fn drive<R: Wait>(&mut self, rt: &R) -> Result<(Driven, Receipt<N>), DriveFault>
         ensures closed { IfOk result (λ r. r.1.entry ≡ Entry.Close (number_of r.0)) }
+        ensures listed { IfOk result (λ r. IsListed r.0) }
         ensures free { OnOk result ((self.new.held ≡ []) × (self.new.operated ≡ false)) }
         ensures refused { IfErr result (drive_refused self.old self.new) }
     {
@@ -105,6 +107,7 @@ impl<'a, N: Name, J: Errand> Coordinator<'a, N, J> {
     // Serves the targets of the open handshake, one at a time, until it is closed.
     fn drive_handshake<R: Wait>(&mut self, rt: &R) -> (Driven, Receipt<N>)
         ensures closed { result.1.entry ≡ Entry.Close (number_of result.0) }
+        ensures listed { IsListed result.0 }
         ensures free { (self.new.held ≡ []) × (self.new.operated ≡ false) }
     {
         self.release_all(rt);
@@ -164,10 +167,10 @@ impl<'a, N: Name, J: Errand> Coordinator<'a, N, J> {
             return;
         }
         let berth = self.shared.berth(due.place);
-        let Some(mut body) = berth.take(rt, due.name, due.place) else {
+        let Ok(mut body) = berth.take(rt, due.name, due.place) else {
             return;
         };
-        if let Some(job) = berth.job(rt, due.name) {
+        if let Ok(job) = berth.job(rt, due.name) {
             let _ = serve_body(rt, self.shared, &mut body, job);
         }
         berth.release(rt, body, false);
@@ -176,8 +179,11 @@ impl<'a, N: Name, J: Errand> Coordinator<'a, N, J> {
     // Holds all live threads, operates the open census over them, brings them back and closes it.
     fn drive_census<R: Wait>(&mut self, rt: &R) -> Result<(Driven, Receipt<N>), DriveFault>
         ensures closed { IfOk result (λ r. r.1.entry ≡ Entry.Close (number_of r.0)) }
+        ensures listed { IfOk result (λ r. IsListed r.0) }
         ensures free { OnOk result ((self.new.held ≡ []) × (self.new.operated ≡ false)) }
         ensures refused { IfErr result (λ e. e ≡ DriveFault.NoMemory) }
+        ensures lacks { OnErr result ((s : DeskState) × LacksList s self.new.held) }
+        ensures holds { OnErr result (HoldsOn self.old self.new) }
     {
         let Some(list) = self.counted(rt) else {
             return Err(DriveFault::NoMemory);
@@ -194,7 +200,11 @@ impl<'a, N: Name, J: Errand> Coordinator<'a, N, J> {
     }
 
     // Holds all live threads and operates the open census over them. None where there is no memory for its list.
-    fn counted<R: Wait>(&mut self, rt: &R) -> Option<Vec<(u64, u32)>> {
+    fn counted<R: Wait>(&mut self, rt: &R) -> Option<Vec<(u64, u32)>>
+        ensures counted { IfSome result (λ list. IsCensus self.new.held list.items) }
+        ensures lacks { IfNone result ((s : DeskState) × LacksList s self.new.held) }
+        ensures holds { IfNone result (HoldsOn self.old self.new) }
+    {
         for _ in rt.forever() {
             self.hold_all(rt);
             match self.operate(rt) {
@@ -210,7 +220,9 @@ impl<'a, N: Name, J: Errand> Coordinator<'a, N, J> {
     }
 
     // Holds each thread that is due.
-    fn hold_all<R: Wait>(&mut self, rt: &R) {
+    fn hold_all<R: Wait>(&mut self, rt: &R)
+        ensures { HoldsOn self.old self.new }
+    {
         let mut name = 0;
         for _ in rt.forever() {
             let Some(due) = self.next_due(rt, name) else {
@@ -222,7 +234,9 @@ impl<'a, N: Name, J: Errand> Coordinator<'a, N, J> {
     }
 
     // Takes the body of a thread out of its berth, where it isn't held.
-    fn hold_at<R: Wait>(&mut self, rt: &R, due: Live) {
+    fn hold_at<R: Wait>(&mut self, rt: &R, due: Live)
+        ensures { HoldsOn self.old self.new }
+    {
         if due.place >= self.places || is_held(self.bodies.as_slice(), due.place) {
             return;
         }

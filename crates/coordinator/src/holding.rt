@@ -84,7 +84,7 @@ impl<'a, N: Name, J: Errand> Coordinator<'a, N, J> {
         if is_held(self.bodies.as_slice(), place) {
             return Err(HoldFault::Held);
         }
-        let Some(body) = self.shared.berth(place).take(rt, name, place) else {
+        let Ok(body) = self.shared.berth(place).take(rt, name, place) else {
             return Err(HoldFault::NotSafe);
         };
         self.keep(body);

@@ -13,6 +13,7 @@ mod faults;
 mod holding;
 mod reclaiming;
 mod serving;
+mod teller;
 mod telling;
 
 pub use coordinator::Coordinator;

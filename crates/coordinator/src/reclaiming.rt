@@ -1,5 +1,5 @@
 //! Reclaiming a code that isn't entrant.
-ghost use Rattle.std.specs.Prelude.{◌≡◌, ◌≤◌, IfOk, IfErr, IfSome};
+ghost use Rattle.std.specs.Prelude.{◌≡◌, ◌<◌, ◌≤◌, [], true, false, length, IfOk, OnOk, IfErr, IfSome};
 ghost use Rattle.coordinator.specs.Reclaiming.{IsReclaimed, Frees, lacks_memory, not_reclaimed, request_of};
 ghost use Rattle.desk.specs.Fields.{at};
 
@@ -94,31 +94,27 @@ impl<'a, N: Name, J: Errand> Coordinator<'a, N, J> {
         serial: u64,
         jobs: Vec<J>,
     ) -> Result<Reclaimed<N>, NotReclaimed<J>>
-        ensures reclaimed { IfOk result (IsReclaimed serial) }
+        ensures reclaimed { IfOk result (IsReclaimed N.board.places serial) }
+        ensures shaken { OnOk result (0 < length jobs.items → (self.new.held ≡ []) × (self.new.operated ≡ false)) }
+        ensures alone { OnOk result (length jobs.items ≡ 0 → self.new ≡ self.old) }
         ensures refused { IfErr result (λ e. not_reclaimed J.whom J.asks serial jobs.items e.fault × (self.new ≡ self.old)) }
         ensures handed_back { IfErr result (λ e. e.jobs ≡ jobs) }
     {
+        let asks = !jobs.is_empty();
         let request = request_of(self.alloc, jobs.as_slice());
-        if self.ask(rt, serial, request, jobs)? {
-            let _ = self.drive(rt);
-        }
-        for _ in rt.forever() {
-            if let Some(said) = self.try_free(rt, serial) {
-                return Ok(said);
-            }
-            thread::yield_now();
-        }
-        unreachable!()
+        self.ask(rt, serial, request, jobs)?;
+        self.shake(rt, asks);
+        Ok(self.weigh(rt, serial))
     }
 
-    // The first step: the round, and the request waits. Answers whether there is one.
+    // The first step: the round, and the request waits, where there are jobs.
     fn ask<R: Wait>(
         &self,
         rt: &R,
         serial: u64,
         request: Result<Option<Request>, AllocError>,
         jobs: Vec<J>,
-    ) -> Result<bool, NotReclaimed<J>>
+    ) -> Result<(), NotReclaimed<J>>
         requires request { IfOk request (λ r. r ≡ request_of J.whom J.asks jobs.items) }
         ensures refused { IfErr result (λ e. not_reclaimed J.whom J.asks serial jobs.items e.fault) }
         ensures handed_back { IfErr result (λ e. e.jobs ≡ jobs) }
@@ -129,15 +125,45 @@ impl<'a, N: Name, J: Errand> Coordinator<'a, N, J> {
             let fault = fault_without_memory(&desk, serial);
             return Err(NotReclaimed { fault, jobs });
         };
-        let asked = match desk.begin_reclaim(self.shared.board(), serial, request, jobs) {
+        let _asked = match desk.begin_reclaim(self.shared.board(), serial, request, jobs) {
             Ok(asked) => asked,
             Err(refused) => return Err(refused),
         };
-        Ok(asked.is_some())
+        Ok(())
     }
 
-    fn try_free<R: Wait>(&self, rt: &R, serial: u64) -> Option<Reclaimed<N>>
-        ensures { IfSome result (IsReclaimed serial) }
+    // Works the handshake that waits to its Close, where there is one.
+    fn shake<R: Wait>(&mut self, rt: &R, waits: bool)
+        ensures shaken { waits ≡ true → (self.new.held ≡ []) × (self.new.operated ≡ false) }
+        ensures alone { waits ≡ false → self.new ≡ self.old }
+    {
+        if !waits {
+            return;
+        }
+        for _ in rt.forever() {
+            if let Ok(_closed) = self.drive(rt) {
+                return;
+            }
+            thread::yield_now();
+        }
+        unreachable!()
+    }
+
+    // Looks at each place and weighs the code, again where it isn't as the first step found it.
+    fn weigh<R: Wait>(&self, rt: &R, serial: u64) -> Reclaimed<N>
+        ensures { IsReclaimed N.board.places serial result }
+    {
+        for _ in rt.forever() {
+            if let Some(said) = self.try_weigh(rt, serial) {
+                return said;
+            }
+            thread::yield_now();
+        }
+        unreachable!()
+    }
+
+    fn try_weigh<R: Wait>(&self, rt: &R, serial: u64) -> Option<Reclaimed<N>>
+        ensures { IfSome result (IsReclaimed N.board.places serial) }
     {
         let mut desk = self.shared.desk().lock(rt);
         look_at_all(&mut desk, self.shared.board(), serial, self.places);

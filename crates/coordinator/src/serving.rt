@@ -21,7 +21,7 @@ fn told_job<N: Name, J: Errand, R: Wait>(rt: &R, shared: &Shared<N, J>, body: &B
     ensures { (J.whom result ≡ body.now.name) × (0 < J.number result) }
 {
     for _ in rt.forever() {
-        if let Some(job) = shared.berth_of(body).job(rt, body.name()) {
+        if let Ok(job) = shared.berth_of(body).job(rt, body.name()) {
             return job;
         }
         thread::yield_now();

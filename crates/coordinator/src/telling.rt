@@ -1,7 +1,6 @@
 //! Telling a name: its job, or the mark of a census, goes into the berth of its thread, and the thread's place is armed.
-ghost use Rattle.std.specs.Prelude.{◌≡◌, ◌<◌, ◌^◌, ◌++◌, ◌∷◌, [], true, false, length, slice_index, IfErr, IfSome, IfNone, OnOk};
+ghost use Rattle.std.specs.Prelude.{◌≡◌, ◌<◌, ◌^◌, true, false, length, slice_index, IfSome, IfNone};
 ghost use Rattle.thread_state.specs.PollRule.{armed_with};
-ghost use Rattle.thread_list.specs.Berths.{name_of, told_of};
 ghost use Rattle.desk.specs.Targets.{standing};
 ghost use Rattle.desk.specs.Fields.{at};
 ghost use Rattle.coordinator.specs.Refused.{tell_said};
@@ -11,60 +10,8 @@ use crate::faults::{TellFault, Told};
 use bodies::Name;
 use desk::{Desk, Standing, Target};
 use operations::job::Errand;
-use poll::{Armer, PollRow};
 use std::sync::Wait;
 use std::thread;
-use thread_list::Room;
-
-// A job goes into the berth of its target, and then the place is armed with the job's number. Where the berth refuses the job
-// nothing is armed.
-fn arm_with_job<N: Name, J: Errand>(
-    room: &mut Room<N, J>,
-    armer: &mut Armer,
-    row: &PollRow,
-    job: J,
-) -> Result<(), J>
-    requires row { armer.old.table ≡ row.now }
-    requires place { room.old.place < length armer.old.seen.armed }
-    requires later { slice_index armer.old.seen.armed room.old.place < J.number job }
-    requires small { J.number job < 2 ^ 40 }
-    ensures told { OnOk result ((name_of room.old.holder ≡ J.whom job) × (room.new ≡ record room.old { jobs = room.old.jobs ++ told_of J.number J.whom job ∷ [] })) }
-    ensures armed { OnOk result (armer.new.seen ≡ armed_with armer.old.seen room.old.place (J.number job)) }
-    ensures row { armer.new.table ≡ armer.old.table }
-    ensures refused { IfErr result (λ j. (j ≡ job) × (room.new ≡ room.old) × (armer.new ≡ armer.old)) }
-{
-    let number = job.op_of();
-    let place = room.place();
-    room.tell(job)?;
-    armer.arm(row, place, number);
-    Ok(())
-}
-
-// The berth of the name is marked with the number of a census, and then the place is armed with it. Where the berth bears another
-// name or none, nothing is armed.
-fn arm_with_mark<N: Name, J: Errand>(
-    room: &mut Room<N, J>,
-    armer: &mut Armer,
-    row: &PollRow,
-    name: u64,
-    number: u64,
-) -> bool
-    requires row { armer.old.table ≡ row.now }
-    requires place { room.old.place < length armer.old.seen.armed }
-    requires later { slice_index armer.old.seen.armed room.old.place < number }
-    requires small { number < 2 ^ 40 }
-    ensures told { result ≡ true → (name_of room.old.holder ≡ name) × (room.new ≡ record room.old { mark = number }) }
-    ensures armed { result ≡ true → armer.new.seen ≡ armed_with armer.old.seen room.old.place number }
-    ensures row { armer.new.table ≡ armer.old.table }
-    ensures refused { result ≡ false → (room.new ≡ room.old) × (armer.new ≡ armer.old) }
-{
-    if !room.mark(name, number) {
-        return false;
-    }
-    let at = room.place();
-    armer.arm(row, at, number);
-    true
-}
 
 // How the name stands to the open request, and, where it is a target that may have one and it is wanted, its job.
 fn look_up<N: Name, J: Errand>(
@@ -161,13 +108,9 @@ impl<'a, N: Name, J: Errand> Coordinator<'a, N, J> {
             return false;
         }
         if target.is_census {
-            return arm_with_mark(
-                &mut room,
-                &mut self.armer,
-                shared.row(),
-                name,
-                target.number,
-            );
+            return self
+                .armer
+                .mark(&mut room, shared.row(), name, target.number);
         }
         let Some(job) = hand.take() else {
             return false;
@@ -175,7 +118,7 @@ impl<'a, N: Name, J: Errand> Coordinator<'a, N, J> {
         if job.op_of() != target.number {
             return false;
         }
-        match arm_with_job(&mut room, &mut self.armer, shared.row(), job) {
+        match self.armer.tell(&mut room, shared.row(), job) {
             Ok(()) => true,
             Err(back) => {
                 *hand = Some(back);

@@ -14,6 +14,7 @@ mod invalidated;
 mod leaving;
 mod many;
 mod meeting;
+mod memory;
 mod refusals;
 mod row;
 

@@ -187,7 +187,7 @@ fn first_body<N: Name>(
     ensures settled { IfOk result (λ b. IsSettled b.image) }
 {
     let spare: SpareSeat<N> = SpareSeat::new(seat, poller);
-    let mut body = Body::new(1, Image::new(alloc)?, spare);
+    let mut body = Body::new(1, Box::new(alloc, Image::new(alloc)?)?, spare);
     body.publish(board);
     Ok(body)
 }

@@ -91,6 +91,7 @@ impl Image {
     }
 
     /// The number of frames, at most [`DEPTH`].
+    #[inline(always)]
     pub fn depth(&self) -> usize
         ensures value { result ≡ length self.now.frames }
         ensures bound { result ≤ 256 }
@@ -102,6 +103,7 @@ impl Image {
     ///
     /// # Errors
     /// In this order: the stack has [`DEPTH`] frames; a publication is open.
+    #[inline(always)]
     pub fn push(&mut self, frame: Frame) -> Result<(), PushFault>
         ensures ok { OnOk result (HasFrames self.old self.new (self.old.frames ++ frame ∷ [])) }
         ensures accepted { OnOk result (push_fault self.old ≡ None) }
@@ -129,6 +131,7 @@ impl Image {
     ///
     /// # Errors
     /// In this order: there is no frame; a publication is open.
+    #[inline(always)]
     pub fn pop(&mut self) -> Result<Frame, PopFault>
         ensures ok { IfOk result (λ frame. (self.old.frames ≡ self.new.frames ++ frame ∷ [])
             × HasFrames self.old self.new self.new.frames) }
@@ -223,6 +226,7 @@ impl Image {
     }
 
     /// Whether no publication is open and every code has as many frames as are counted.
+    #[inline(always)]
     pub fn is_settled(&self) -> bool
         ensures { IsTrue result ↔ IsSettled self.now }
     {

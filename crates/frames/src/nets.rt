@@ -59,6 +59,7 @@ impl Nets {
     }
 
     /// Moves the net of the code by 1 or by -1.
+    #[inline(always)]
     pub(crate) fn add(&mut self, code: CodeId, by: i32)
         requires open { self.old.flushed ≡ false }
         requires one { (pos 0 ≤ℤ (by +ℤ pos 1)) × (by ≤ℤ pos 1) }
@@ -139,6 +140,7 @@ fn no_marks(alloc: Global) -> Result<Vec<u16>, AllocError>
     vec![in alloc; 0u16; MARKS]
 }
 
+#[inline(always)]
 fn same_code(one: CodeId, other: CodeId) -> bool
     ensures { result ≡ same_code one other }
 {
@@ -146,6 +148,7 @@ fn same_code(one: CodeId, other: CodeId) -> bool
 }
 
 // Where the mark of the code's slot is.
+#[inline(always)]
 fn mark_of(code: CodeId) -> usize
     ensures value { result ≡ mark_of code }
     ensures bound { result < 1024 }
@@ -153,6 +156,7 @@ fn mark_of(code: CodeId) -> usize
     code.slot as usize % MARKS
 }
 
+#[inline(always)]
 fn stands_at(nets: &[Change], code: CodeId, place: usize) -> bool
     ensures { result ≡ true → IsAt nets.now code place }
 {
@@ -160,6 +164,7 @@ fn stands_at(nets: &[Change], code: CodeId, place: usize) -> bool
 }
 
 // The place of the code. Only where slots share a mark it is looked for one by one.
+#[inline(always)]
 fn place_of(nets: &[Change], marks: &[u16], code: CodeId) -> Option<usize>
     requires marks { length marks.now ≡ 1024 }
     requires marked { slice_index_or marks.now (mark_of code) 0 ≡ 0 → times code (codes_in nets.now) ≡ 0 }

@@ -47,7 +47,8 @@ pub fn run_with<R: Threads + Wait + Sync, G: Gate + Sync, W: Sink>(
                 { image.depth() as u64 },
             )
             .map_err(|_| AllocError)?;
-            list.push_reserved(Job::new(place as u64 + 1, Ask::Depth, call));
+            let job = Job::new(place as u64 + 1, Ask::Depth, call);
+            list.push_reserved(job);
         }
         jobs.push_reserved(list);
     }

@@ -119,6 +119,7 @@ impl PollRow {
 impl Poller {
     /// The number that the place is armed with, 0 where nothing is armed or what was armed last is cleared: one load. It is 0, or above
     /// all that this poller has cleared.
+    #[inline(always)]
     pub fn poll(&mut self, row: &PollRow) -> u64
         requires row { self.old.table ≡ row.now }
         ensures row { self.new.table ≡ self.old.table }

@@ -51,6 +51,7 @@ fn turns_of<N: Name, J: Errand, R: Wait>(
     }
 }
 
+#[inline(always)]
 fn goes_on<E: Drop>(said: Result<Poll, E>) -> bool {
     matches!(said, Ok(Poll::Go))
 }
@@ -64,6 +65,7 @@ fn back_edges<N: Name, J: Errand>(thread: &mut Mutator<'_, N, J>, turns: u64) ->
 }
 
 // A call of the method by its hint.
+#[inline(always)]
 fn call<N: Name, J: Errand>(
     shared: &Shared<N, J>,
     thread: &mut Mutator<'_, N, J>,

@@ -1,10 +1,9 @@
 -- Jobs and marks of a berth.
-use Rattle.std.proofs.Common.{◌≡◌, ◌≢◌, ℕ, zero, suc, ◌<◌, List, [], ◌∷◌, ◌++◌, map, refl, sym, ap, ◌∙◌, subst, arith}
+use Rattle.std.proofs.Common.{◌≡◌, ℕ, ◌<◌, List, [], ◌∷◌, ◌++◌, map, refl, sym, ap, ◌∙◌, subst, arith}
 use Rattle.std.proofs.lemmas.List.{map-append}
-use Rattle.bodies.specs.Bodies.{BodyView, SpareView}
 use Rattle.thread_list.specs.declared.room.Holder.{Holder}
-use Rattle.thread_list.specs.declared.room.Holder.TheVariants.{Vacant, Away, Out, Home}
-use Rattle.thread_list.specs.Berths.{Told, told_of, AreFor, IsMark, IsBerth, IsHolder, name_of}
+use Rattle.thread_list.specs.declared.room.Holder.TheVariants.{Away}
+use Rattle.thread_list.specs.Berths.{Told, told_of, AreFor, IsBerth, IsHolder, name_of}
 
 -- no job is for nobody
 pub none_for : (ts : List Told) → AreFor 0 ts → ts ≡ []

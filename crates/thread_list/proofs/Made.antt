@@ -1,7 +1,6 @@
 -- Lists of seats and pollers as they are made: each element is that of its index.
-use Rattle.std.proofs.Common.{◌≡◌, ℕ, zero, suc, ◌<◌, List, [], ◌∷◌, length, Some, arith, ◌∙◌, sym, ap, subst}
+use Rattle.std.proofs.Common.{◌≡◌, ℕ, zero, suc, ◌<◌, List, [], ◌∷◌, length, Some, arith, ◌∙◌, sym, ap}
 use Rattle.std.specs.Prelude.{slice_get}
-use Rattle.frames.specs.BoardViews.{seat_view}
 use Rattle.board.specs.Boards.{BoardId, SeatSeen, first_seat}
 use Rattle.poll.specs.Rows.{RowId, PollerSeen, first_poller}
 use Rattle.thread_list.specs.Sized.{AreSeatsOf, ArePollersOf}

@@ -1,6 +1,6 @@
 -- Berths.
-use Rattle.std.specs.Prelude.{◌≡◌, ◌≢◌, ◌<◌, ◌+◌, ◌-◌, ◌^◌, ℕ, Bool, true, false, List, [], ◌∷◌, map, min, length, slice_index_or, Option, Some, None, Vec, vec_capacity}
-use Rattle.bodies.specs.Bodies.{BodyView, SpareView}
+use Rattle.std.specs.Prelude.{◌≡◌, ◌≢◌, ◌<◌, ◌+◌, ◌-◌, ◌^◌, ℕ, Bool, true, false, List, [], ◌∷◌, min, length, slice_index_or, Option, Some, None, Vec, vec_capacity}
+use Rattle.thread_list.specs.declared.room.BerthAct.{BerthAct}
 use Rattle.thread_list.specs.declared.room.Holder.{Holder}
 use Rattle.thread_list.specs.declared.room.Holder.TheVariants.{Vacant, Away, Out, Home}
 
@@ -8,6 +8,20 @@ use Rattle.thread_list.specs.declared.room.Holder.TheVariants.{Vacant, Away, Out
 pub record Told : Type 0 where
   pub number : ℕ
   pub whom : ℕ
+
+-- what was done at a berth: at which place, for which name, and what
+pub record Acted : Type 0 where
+  pub place : ℕ
+  pub name : ℕ
+  pub act : BerthAct
+
+abbrev pub acted : ℕ → ℕ → BerthAct → Acted
+acted place name act = record { place = place; name = name; act = act }
+
+-- the number of the job that came out with a body, 0 for none
+abbrev pub number_of : {J : Type 0} → (J → ℕ) → Option J → ℕ
+number_of number None = 0
+number_of number (Some job) = number job
 
 -- a berth: its place, who has its seat, its jobs in order, the census that it was told and that isn't operated (0 for none), for how many
 -- jobs it has room, and how many threads wait for a change of it

@@ -1,7 +1,7 @@
 -- What contracts see of a mutator, what its type keeps, and what a poll leads to.
 use Rattle.std.specs.Prelude.{◌≡◌, ◌≢◌, ◌<◌, ◌==◌, ◌++◌, ◌∷◌, [], ℕ, Option, Some, None, Bool, true, false, if◌then◌else◌}
 use Rattle.thread_state.specs.declared.State.{State}
-use Rattle.thread_state.specs.declared.State.TheVariants.{Vacant, New, InJava, InVm, InNative, Blocked, NewTrans, NativeTrans, BlockedTrans, AtPoll, Serving}
+use Rattle.thread_state.specs.declared.State.TheVariants.{InJava, InVm, AtPoll}
 use Rattle.thread_state.specs.declared.poll_rule.Deed.TheVariants.{Load}
 use Rattle.thread_state.specs.PollRule.{polled}
 use Rattle.thread_state.specs.declared.Back.{Back}
@@ -9,6 +9,10 @@ use Rattle.thread_state.specs.States.{cross, either, state_of}
 use Rattle.frames.specs.declared.Frame.{Frame}
 use Rattle.frames.specs.ImageView.{HasFrames}
 use Rattle.bodies.specs.Bodies.{BodyView}
+use Rattle.desk.specs.declared.entries.Entry.{Entry}
+use Rattle.desk.specs.Machine.{Stands}
+use Rattle.thread_list.specs.Berths.{Acted, acted}
+use Rattle.thread_list.specs.declared.room.BerthAct.TheVariants.{Settled, Given, Served}
 use Rattle.thread_list.specs.declared.polls.Poll.{Poll}
 use Rattle.thread_list.specs.declared.polls.Poll.TheVariants.{Go, Stop}
 
@@ -42,12 +46,20 @@ abbrev pub is_there : Option BodyView → Bool
 is_there None = false
 is_there (Some p) = true
 
--- What a mutator keeps: a body is the thread's own, and the thread has it in hand in the states in which it owns itself.
-pub record IsRunning (places name place : ℕ) (state : State) (body : Option BodyView) : Type 0 where
+-- A thread that hasn't its body in hand has the receipt that its berth took it.
+abbrev pub IsGiven : ℕ → ℕ → Option BodyView → Option Acted → Type 0
+IsGiven name place (Some p) given = Unit {0}
+IsGiven name place None given = given ≡ Some (acted place name Given)
+
+-- What a mutator keeps: a body is the thread's own, the thread has it in hand in the states in which it owns itself, its name and its
+-- first body went into its berth when it started, and a body that it hasn't in hand went there since.
+pub record IsRunning (places name place : ℕ) (state : State) (body : Option BodyView) (settled : Acted) (given : Option Acted) : Type 0 where
   pub own : IsOf name place body
   pub there : owns state ≡ true → is_there body ≡ true
   pub named : 0 < name
   pub seated : place < places
+  pub settled_there : settled ≡ acted place name Settled
+  pub given_there : IsGiven name place body given
 
 -- The same thread: what no call changes.
 abbrev pub SameThread : Running → Running → Type 0
@@ -79,6 +91,12 @@ Leaves old new said
   where
     from_java : State
     from_java = InJava
+
+-- A turn of a thread that has stopped: its body came out of its berth to serve, and where a job came with it, what the job answered is
+-- entered.
+abbrev pub IsTurn : ℕ → ℕ → Acted → Option Stands → Type 0
+IsTurn place name out None = out ≡ acted place name (Served 0)
+IsTurn place name out (Some r) = (number : ℕ) × (reply : ℕ) × (0 < number) × (out ≡ acted place name (Served number)) × (r.entry ≡ Entry.Finish number name reply)
 
 -- A thread that has its body back polls, and goes on where its way back leads, or stops there. What else became of its body while
 -- it was away isn't known.

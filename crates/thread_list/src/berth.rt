@@ -1,8 +1,9 @@
 //! A berth: where a thread's body is while the thread doesn't own itself.
-ghost use Rattle.std.specs.Prelude.{◌≡◌, ◌≢◌, ◌<◌, ◌^◌, [], OnOk, IfErr, IfSome};
+ghost use Rattle.std.specs.Prelude.{◌≡◌, ◌≢◌, ◌<◌, ◌^◌, [], OnOk, IfOk, IfErr, IfSome};
 ghost use Rattle.frames.specs.ImageView.{IsCounted};
+ghost use Rattle.thread_list.specs.Berths.{acted, number_of};
 
-use crate::room::Room;
+use crate::room::{BerthAct, BerthReceipt, Room};
 use board::Board;
 use bodies::{Body, Name, SpareSeat};
 use operations::job::Errand;
@@ -10,8 +11,8 @@ use std::marker::Model;
 use std::sync::{Condvar, Mutex, Wait};
 use std::thread;
 
-/// A room under a lock, and a bell that rings for those that wait for a change of it. Each call takes this lock, and no other.
-/// Contracts see the place that it was made for.
+/// A room under a lock, and a bell that rings for those that wait for a change of it. Each call takes this lock, and no other, and
+/// answers the receipt of what it did there, or what came out. Contracts see the place that it was made for.
 #[derive(Drop)]
 pub struct Berth<N: Name, J: Errand> {
     place: usize,
@@ -52,26 +53,28 @@ impl<N: Name, J: Errand> Berth<N, J> {
         }
     }
 
-    fn try_give<R: Wait>(&self, rt: &R, body: Body<N>) -> Result<(), Body<N>>
+    fn try_give<R: Wait>(&self, rt: &R, body: Body<N>) -> Result<BerthReceipt<N>, Body<N>>
         requires body { (body.seat.stored ≢ 0) × (0 < body.name) }
+        ensures ok { IfOk result (λ r. r ≡ acted body.seat.place body.name BerthAct.Given) }
         ensures err { IfErr result (λ b. b ≡ body) }
     {
         let mut room = self.room.lock(rt);
-        room.give(body)?;
+        let receipt = room.give(body)?;
         let wanted = room.has_sleepers();
         drop(room);
         self.ring(wanted);
-        Ok(())
+        Ok(receipt)
     }
 
     /// The body goes in.
-    pub fn give<R: Wait>(&self, rt: &R, body: Body<N>)
+    pub fn give<R: Wait>(&self, rt: &R, body: Body<N>) -> BerthReceipt<N>
         requires body { (body.seat.stored ≢ 0) × (0 < body.name) }
+        ensures { result ≡ acted body.seat.place body.name BerthAct.Given }
     {
         let mut body = body;
         for _ in rt.forever() {
             match self.try_give(rt, body) {
-                Ok(()) => return,
+                Ok(receipt) => return receipt,
                 Err(back) => body = back,
             }
             thread::yield_now();
@@ -79,26 +82,28 @@ impl<N: Name, J: Errand> Berth<N, J> {
         unreachable!()
     }
 
-    fn try_settle<R: Wait>(&self, rt: &R, body: Body<N>) -> Result<(), Body<N>>
+    fn try_settle<R: Wait>(&self, rt: &R, body: Body<N>) -> Result<BerthReceipt<N>, Body<N>>
         requires body { (body.seat.stored ≢ 0) × (0 < body.name) }
+        ensures ok { IfOk result (λ r. r ≡ acted body.seat.place body.name BerthAct.Settled) }
         ensures err { IfErr result (λ b. b ≡ body) }
     {
         let mut room = self.room.lock(rt);
-        room.settle(body)?;
+        let receipt = room.settle(body)?;
         let wanted = room.has_sleepers();
         drop(room);
         self.ring(wanted);
-        Ok(())
+        Ok(receipt)
     }
 
     /// Name and body of a thread that starts go in.
-    pub fn settle<R: Wait>(&self, rt: &R, body: Body<N>)
+    pub fn settle<R: Wait>(&self, rt: &R, body: Body<N>) -> BerthReceipt<N>
         requires body { (body.seat.stored ≢ 0) × (0 < body.name) }
+        ensures { result ≡ acted body.seat.place body.name BerthAct.Settled }
     {
         let mut body = body;
         for _ in rt.forever() {
             match self.try_settle(rt, body) {
-                Ok(()) => return,
+                Ok(receipt) => return receipt,
                 Err(back) => body = back,
             }
             thread::yield_now();
@@ -106,26 +111,33 @@ impl<N: Name, J: Errand> Berth<N, J> {
         unreachable!()
     }
 
-    fn try_release<R: Wait>(&self, rt: &R, body: Body<N>, operated: bool) -> Result<(), Body<N>>
+    fn try_release<R: Wait>(
+        &self,
+        rt: &R,
+        body: Body<N>,
+        operated: bool,
+    ) -> Result<BerthReceipt<N>, Body<N>>
         requires body { (body.seat.stored ≢ 0) × (0 < body.name) }
+        ensures ok { IfOk result (λ r. r ≡ acted body.seat.place body.name (BerthAct.Released operated)) }
         ensures err { IfErr result (λ b. b ≡ body) }
     {
         let mut room = self.room.lock(rt);
-        room.release(body, operated)?;
+        let receipt = room.release(body, operated)?;
         let wanted = room.has_sleepers();
         drop(room);
         self.ring(wanted);
-        Ok(())
+        Ok(receipt)
     }
 
     /// A held body goes back. Where a census was operated over it, nothing keeps the thread any more.
-    pub fn release<R: Wait>(&self, rt: &R, body: Body<N>, operated: bool)
+    pub fn release<R: Wait>(&self, rt: &R, body: Body<N>, operated: bool) -> BerthReceipt<N>
         requires body { (body.seat.stored ≢ 0) × (0 < body.name) }
+        ensures { result ≡ acted body.seat.place body.name (BerthAct.Released operated) }
     {
         let mut body = body;
         for _ in rt.forever() {
             match self.try_release(rt, body, operated) {
-                Ok(()) => return,
+                Ok(receipt) => return receipt,
                 Err(back) => body = back,
             }
             thread::yield_now();
@@ -150,15 +162,12 @@ impl<N: Name, J: Errand> Berth<N, J> {
         unreachable!()
     }
 
-    /// Takes the body of the name, where it is here.
-    pub fn take<R: Wait>(&self, rt: &R, name: u64, place: usize) -> Option<Body<N>>
-        ensures { IfSome result (λ b. (b.name ≡ name) × (0 < b.name) × (b.seat.place ≡ place) × (b.seat.stored ≢ 0)) }
+    /// Takes the body of the name, where it is here; the error is the receipt that it wasn't.
+    pub fn take<R: Wait>(&self, rt: &R, name: u64, place: usize) -> Result<Body<N>, BerthReceipt<N>>
+        ensures body { IfOk result (λ b. (b.name ≡ name) × (0 < b.name) × (b.seat.place ≡ place) × (b.seat.stored ≢ 0)) }
+        ensures absent { IfErr result (λ r. r ≡ acted place name BerthAct.Absent) }
     {
-        let mut room = self.room.lock(rt);
-        if room.place() != place {
-            return None;
-        }
-        room.take(name)
+        self.room.lock(rt).take(name, place)
     }
 
     /// Takes the body of the name out, once it is here and nobody holds it.
@@ -167,10 +176,8 @@ impl<N: Name, J: Errand> Berth<N, J> {
     {
         for _ in rt.forever() {
             let mut room = self.room.lock(rt);
-            if room.place() == place {
-                if let Some(body) = room.take(name) {
-                    return body;
-                }
+            if let Ok(body) = room.take(name, place) {
+                return body;
             }
             room.note_sleeper(true);
             let mut room = self.bell.wait(rt, room);
@@ -180,18 +187,24 @@ impl<N: Name, J: Errand> Berth<N, J> {
     }
 
     /// Takes the body of the name out, once it is here and no census keeps it, with its oldest job.
-    pub fn serve<R: Wait>(&self, rt: &R, name: u64, place: usize) -> (Body<N>, Option<J>)
+    pub fn serve<R: Wait>(
+        &self,
+        rt: &R,
+        name: u64,
+        place: usize,
+    ) -> (Body<N>, Option<J>, BerthReceipt<N>)
         ensures body { (result.0.name ≡ name) × (0 < result.0.name) × (result.0.seat.place ≡ place) × (result.0.seat.stored ≢ 0) }
         ensures job { IfSome result.1 (λ j. (J.whom j ≡ name) × (0 < J.number j)) }
+        ensures receipt { result.2 ≡ acted place name (BerthAct.Served (number_of J.number result.1)) }
     {
         for _ in rt.forever() {
             let mut room = self.room.lock(rt);
             if room.place() == place {
-                if let Some(both) = room.serve(name) {
+                if let Some(served) = room.serve(name) {
                     let wanted = room.has_sleepers();
                     drop(room);
                     self.ring(wanted);
-                    return both;
+                    return served;
                 }
             }
             room.note_sleeper(true);
@@ -215,24 +228,31 @@ impl<N: Name, J: Errand> Berth<N, J> {
         unreachable!()
     }
 
-    /// The oldest job that was told to a thread whose body is out.
-    pub fn job<R: Wait>(&self, rt: &R, name: u64) -> Option<J>
-        ensures { IfSome result (λ j. (J.whom j ≡ name) × (0 < J.number j)) }
+    /// The oldest job that was told to a thread whose body is out; the error is the receipt that there was none.
+    pub fn job<R: Wait>(&self, rt: &R, name: u64) -> Result<J, BerthReceipt<N>>
+        ensures job { IfOk result (λ j. (J.whom j ≡ name) × (0 < J.number j)) }
+        ensures no_job { IfErr result (λ r. (r.name ≡ name) × (r.act ≡ BerthAct.NoJob)) }
     {
         self.room.lock(rt).job(name)
     }
 
     /// The name is taken off and the place is given up. The body comes back where something is told to it.
-    pub fn exit<R: Wait>(&self, rt: &R, body: Body<N>, board: &Board) -> Result<(), Body<N>>
+    pub fn exit<R: Wait>(
+        &self,
+        rt: &R,
+        body: Body<N>,
+        board: &Board,
+    ) -> Result<BerthReceipt<N>, Body<N>>
         requires board { board.now ≡ N.board }
         requires empty { (body.image.frames ≡ []) × IsCounted body.image }
+        ensures ok { IfOk result (λ r. r ≡ acted body.seat.place body.name BerthAct.Vacated) }
         ensures err { IfErr result (λ b. b ≡ body) }
     {
         let mut room = self.room.lock(rt);
-        room.exit(body, board)?;
+        let receipt = room.exit(body, board)?;
         let wanted = room.has_sleepers();
         drop(room);
         self.ring(wanted);
-        Ok(())
+        Ok(receipt)
     }
 }

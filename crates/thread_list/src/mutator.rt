@@ -6,6 +6,7 @@ ghost use Rattle.thread_list.specs.Moves.{SameThread, Polls, Leaves, is_running}
 ghost use Rattle.thread_list.specs.Refused.{call_refused, return_refused};
 
 use crate::polls::{Poll, poll_of};
+use crate::room::BerthReceipt;
 use crate::shared::Shared;
 use bodies::{Body, Called, Name};
 use frames::CodeId;
@@ -22,6 +23,8 @@ pub struct Mutator<'a, N: Name, J: Errand> {
     pub(crate) place: usize,
     pub(crate) state: State,
     pub(crate) body: Option<Body<N>>,
+    pub(crate) settled: BerthReceipt<N>,
+    pub(crate) given: Option<BerthReceipt<N>>,
 }
 
 impl<'a, N: Name, J: Errand> Model for Mutator<'a, N, J> {
@@ -31,7 +34,7 @@ impl<'a, N: Name, J: Errand> Model for Mutator<'a, N, J> {
 
     ghost view = { λ m. record { name = m.name; place = m.place; methods = m.shared.now.methods; state = m.state; body = m.body } };
 
-    ghost invariant = { λ m. IsRunning N.board.places m.name m.place m.state m.body };
+    ghost invariant = { λ m. IsRunning N.board.places m.name m.place m.state m.body m.settled m.given };
 }
 
 /// Why a thread doesn't enter a method, in the order of the tests.
@@ -80,6 +83,7 @@ impl<'a, N: Name, J: Errand> Mutator<'a, N, J> {
 
     /// Enters a method: by the code of the hint where its entry is found in use, by one load, and otherwise, or without a
     /// hint, as an interpreted frame.
+    #[inline(always)]
     pub fn call(&mut self, method: u32, hint: Option<CodeId>) -> Result<Called, CallFault>
         requires slot { IfSome hint (λ c. c.slot < N.board.slots) }
         ensures step { IfOk result (λ said. (old : BodyView) × (new : BodyView) × (self.old.body ≡ Some old) × (self.new.body ≡ Some new) × IsCalled old new method hint said × (new.name ≡ old.name) × (new.poller ≡ old.poller)) }
@@ -103,6 +107,7 @@ impl<'a, N: Name, J: Errand> Mutator<'a, N, J> {
     }
 
     /// Returns from the method of the top frame, and polls: one load.
+    #[inline(always)]
     pub fn ret(&mut self) -> Result<Poll, ReturnFault>
         ensures left { IfOk result (Leaves self.old self.new) }
         ensures same { SameThread self.old self.new }
@@ -126,6 +131,7 @@ impl<'a, N: Name, J: Errand> Mutator<'a, N, J> {
     }
 
     /// A back edge of a loop: the thread polls, by one load. A thread that isn't in Java is refused with its state.
+    #[inline(always)]
     pub fn back_edge(&mut self) -> Result<Poll, State>
         ensures ok { IfOk result (λ said. (self.old.state ≡ IsInJava) × Polls self.old self.new IsInJava said) }
         ensures same { SameThread self.old self.new }
@@ -181,6 +187,7 @@ impl<'a, N: Name, J: Errand> Mutator<'a, N, J> {
     }
 
     // The poll of a thread that owns itself and goes on in Java: one load.
+    #[inline(always)]
     fn poll_into_java(&mut self) -> Poll
         requires running { is_running self.old.state ≡ true }
         ensures polled { Polls self.old self.new self.old.state result }
@@ -190,11 +197,12 @@ impl<'a, N: Name, J: Errand> Mutator<'a, N, J> {
             unreachable!()
         };
         let found = body.poll(self.shared.row());
-        self.state = if found == 0 {
-            State::InJava
-        } else {
-            State::AtPoll(Back::Java)
-        };
+        if found != 0 {
+            self.state = State::AtPoll(Back::Java);
+        } else if let State::InVm = self.state {
+            // Nothing is written where it is in Java already: the next back edge would wait for that store.
+            self.state = State::InJava;
+        }
         poll_of(found)
     }
 }

@@ -12,6 +12,7 @@ pub enum Poll {
 }
 
 /// The answer of a poll that found this number in the thread's poll word.
+#[inline(always)]
 pub fn poll_of(found: u64) -> Poll
     ensures { result ≡ poll_of found }
 {

@@ -3,13 +3,71 @@ ghost use Rattle.std.specs.Prelude.{◌≡◌, ◌<◌, ◌≢◌, Some, None, [
 ghost use Rattle.std.specs.Prelude.{◌++◌, ◌∷◌, ◌≤◌, ◌==◌, true, false, not, length, vec_capacity, if◌then◌else◌};
 ghost use Rattle.frames.specs.ImageView.{IsCounted};
 ghost use Rattle.frames.specs.BoardViews.{stored_as};
-ghost use Rattle.thread_list.specs.Berths.{told_of, name_of, slept, IsRoom};
+ghost use Rattle.thread_list.specs.Berths.{told_of, name_of, slept, IsRoom, acted, number_of};
 ghost use Rattle.thread_list.specs.declared.room.Holder.TheVariants.{Vacant as IsVacant, Away as IsAway, Out as IsOut, Home as IsAtHome};
 
 use board::Board;
 use bodies::{Body, Name, SpareSeat};
 use operations::job::Errand;
-use std::marker::Model;
+use std::marker::{Model, PhantomData};
+
+/// What was done under the lock of a berth.
+#[derive(Clone, Copy, PartialEq, Eq, Debug, Drop)]
+pub enum BerthAct {
+    /// Name and body of a thread that starts went in.
+    Settled,
+    /// The body went in.
+    Given,
+    /// The body that was held went in; whether a census was operated over it.
+    Released(bool),
+    /// The body came out to serve, with the job of this number, or with none (0).
+    Served(u64),
+    /// The name was taken off, and the place given up.
+    Vacated,
+    /// No body of the name was here.
+    Absent,
+    /// The name's body was here, or nothing was told to the name.
+    NoJob,
+}
+
+/// That an act was done at a berth of the system of N: at which place, and for which name. Only a room makes one, where it does the
+/// act, and it can't be copied.
+#[derive(Drop)]
+pub struct BerthReceipt<N: Name> {
+    place: usize,
+    name: u64,
+    act: BerthAct,
+    of: PhantomData<N>,
+}
+
+impl<N: Name> Model for BerthReceipt<N> {
+    ghost use Rattle.thread_list.specs.Berths.{Acted};
+
+    ghost Value = { Acted };
+
+    ghost view = { λ r. record { place = r.place; name = r.name; act = r.act } };
+}
+
+impl<N: Name> BerthReceipt<N> {
+    /// The name of the thread for which the act was done.
+    pub fn name(&self) -> u64
+        ensures { result ≡ self.now.name }
+    {
+        let _ = &self.act;
+        self.name
+    }
+}
+
+fn receipt_of<N: Name>(place: usize, name: u64, act: BerthAct) -> BerthReceipt<N>
+    ensures { result ≡ acted place name act }
+{
+    BerthReceipt {
+        place,
+        name,
+        act,
+        of: PhantomData,
+    }
+}
 
 /// Who has the seat and the poller of a place.
 #[derive(Drop)]
@@ -119,8 +177,9 @@ impl<N: Name, J: Errand> Room<N, J> {
     }
 
     /// Name and body of a thread that starts go in.
-    pub fn settle(&mut self, body: Body<N>) -> Result<(), Body<N>>
+    pub fn settle(&mut self, body: Body<N>) -> Result<BerthReceipt<N>, Body<N>>
         requires body { (body.seat.stored ≢ 0) × (0 < body.name) }
+        ensures receipt { IfOk result (λ r. r ≡ acted body.seat.place body.name BerthAct.Settled) }
         ensures ok { OnOk result ((self.old.holder ≡ IsAway) × (self.new ≡ record self.old { holder = IsAtHome body })) }
         ensures err { IfErr result (λ b. (b ≡ body) × (self.new ≡ self.old) × (self.old.holder ≡ IsAway → self.old.place ≢ body.seat.place)) }
     {
@@ -130,13 +189,15 @@ impl<N: Name, J: Errand> Room<N, J> {
         if self.place != body.place() {
             return Err(body);
         }
+        let receipt = receipt_of(body.place(), body.name(), BerthAct::Settled);
         self.holder = Holder::Home(body);
-        Ok(())
+        Ok(receipt)
     }
 
     /// The body goes in. It comes back where the berth bears another name, or has a body.
-    pub fn give(&mut self, body: Body<N>) -> Result<(), Body<N>>
+    pub fn give(&mut self, body: Body<N>) -> Result<BerthReceipt<N>, Body<N>>
         requires body { (body.seat.stored ≢ 0) × (0 < body.name) }
+        ensures receipt { IfOk result (λ r. r ≡ acted body.seat.place body.name BerthAct.Given) }
         ensures ok { OnOk result ((self.old.holder ≡ IsOut body.name) × (self.new ≡ record self.old { holder = IsAtHome body })) }
         ensures err { IfErr result (λ b. (b ≡ body) × (self.new ≡ self.old) × (self.old.holder ≡ IsOut body.name → self.old.place ≢ body.seat.place)) }
     {
@@ -146,40 +207,45 @@ impl<N: Name, J: Errand> Room<N, J> {
         if name != body.name() || self.place != body.place() {
             return Err(body);
         }
+        let receipt = receipt_of(body.place(), name, BerthAct::Given);
         self.holder = Holder::Home(body);
-        Ok(())
+        Ok(receipt)
     }
 
-    /// The body of the name comes out, where it is there.
-    pub fn take(&mut self, name: u64) -> Option<Body<N>>
+    /// The body of the name comes out, where it is here and this is the place.
+    pub fn take(&mut self, name: u64, place: usize) -> Result<Body<N>, BerthReceipt<N>>
+        ensures ok { IfOk result (λ b. (self.old.holder ≡ IsAtHome b) × (b.name ≡ name) × (self.old.place ≡ place) × (self.new ≡ record self.old { holder = IsOut name })) }
+        ensures body { IfOk result (λ b. (b.seat.place ≡ place) × (0 < b.name) × (b.seat.stored ≢ 0)) }
+        ensures absent { IfErr result (λ r. (r ≡ acted place name BerthAct.Absent) × (self.new ≡ self.old)) }
+        ensures err { OnErr result (self.old.place ≡ place → (b : _) → self.old.holder ≡ IsAtHome b → b.name ≢ name) }
+    {
+        if self.place != place {
+            return Err(receipt_of(place, name, BerthAct::Absent));
+        }
+        match self.take_out(name) {
+            Some(body) => Ok(body),
+            None => Err(receipt_of(place, name, BerthAct::Absent)),
+        }
+    }
+
+    // The body of the name comes out, where it is here.
+    fn take_out(&mut self, name: u64) -> Option<Body<N>>
         ensures some { IfSome result (λ b. (self.old.holder ≡ IsAtHome b) × (b.name ≡ name) × (self.new ≡ record self.old { holder = IsOut name })) }
         ensures body { IfSome result (λ b. (b.seat.place ≡ self.old.place) × (0 < b.name) × (b.seat.stored ≢ 0)) }
         ensures none { IfNone result ((self.new ≡ self.old) × ((b : _) → self.old.holder ≡ IsAtHome b → b.name ≢ name)) }
     {
-        match std::mem::replace(&mut self.holder, Holder::Away) {
-            Holder::Home(body) => {
-                if body.name() == name {
-                    self.holder = Holder::Out(name);
-                    Some(body)
-                } else {
-                    self.holder = Holder::Home(body);
-                    None
-                }
-            }
-            Holder::Vacant(pair) => {
-                self.holder = Holder::Vacant(pair);
-                None
-            }
-            Holder::Out(other) => {
-                self.holder = Holder::Out(other);
-                None
-            }
-            Holder::Away => None,
+        if !self.has_body(name) {
+            return None;
+        }
+        match std::mem::replace(&mut self.holder, Holder::Out(name)) {
+            Holder::Home(body) => Some(body),
+            Holder::Vacant(_) | Holder::Out(_) | Holder::Away => unreachable!(),
         }
     }
 
     /// The body of the name comes out to serve, with its oldest job. It stays where it was told a census that isn't operated.
-    pub fn serve(&mut self, name: u64) -> Option<(Body<N>, Option<J>)>
+    pub fn serve(&mut self, name: u64) -> Option<(Body<N>, Option<J>, BerthReceipt<N>)>
+        ensures receipt { IfSome result (λ r. r.2 ≡ acted self.old.place name (BerthAct.Served (number_of J.number r.1))) }
         ensures body { IfSome result (λ r. (self.old.holder ≡ IsAtHome r.0) × (r.0.name ≡ name) × (0 < r.0.name) × (r.0.seat.place ≡ self.old.place) × (r.0.seat.stored ≢ 0) × (self.old.mark ≡ 0)) }
         ensures job { IfSome result (λ r. IfSome r.1 (λ j. (J.whom j ≡ name) × (0 < J.number j) × (self.old.jobs ≡ told_of J.number J.whom j ∷ self.new.jobs))) }
         ensures no_job { IfSome result (λ r. IfNone r.1 ((self.old.jobs ≡ []) × (self.new.jobs ≡ []))) }
@@ -189,27 +255,30 @@ impl<N: Name, J: Errand> Room<N, J> {
         if self.mark != 0 {
             return None;
         }
-        let body = self.take(name)?;
+        let body = self.take_out(name)?;
         if self.jobs.is_empty() {
-            return Some((body, None));
+            let receipt = receipt_of(self.place, name, BerthAct::Served(0));
+            return Some((body, None, receipt));
         }
         let job = self.jobs.remove(0);
-        Some((body, Some(job)))
+        let receipt = receipt_of(self.place, name, BerthAct::Served(job.op_of()));
+        Some((body, Some(job), receipt))
     }
 
     /// The oldest job of the name, whose body is out.
-    pub fn job(&mut self, name: u64) -> Option<J>
-        ensures some { IfSome result (λ j. (J.whom j ≡ name) × (0 < J.number j) × (self.old.jobs ≡ told_of J.number J.whom j ∷ self.new.jobs)) }
+    pub fn job(&mut self, name: u64) -> Result<J, BerthReceipt<N>>
+        ensures ok { IfOk result (λ j. (J.whom j ≡ name) × (0 < J.number j) × (self.old.jobs ≡ told_of J.number J.whom j ∷ self.new.jobs)) }
         ensures same { self.new ≡ record self.old { jobs = self.new.jobs } }
-        ensures none { IfNone result ((self.new ≡ self.old) × (self.old.holder ≡ IsOut name → self.old.jobs ≡ [])) }
+        ensures no_job { IfErr result (λ r. (r ≡ acted self.old.place name BerthAct.NoJob) × (self.new ≡ self.old)) }
+        ensures err { OnErr result (self.old.holder ≡ IsOut name → self.old.jobs ≡ []) }
     {
         let Holder::Out(out) = self.holder else {
-            return None;
+            return Err(receipt_of(self.place, name, BerthAct::NoJob));
         };
         if out != name || self.jobs.is_empty() {
-            return None;
+            return Err(receipt_of(self.place, name, BerthAct::NoJob));
         }
-        Some(self.jobs.remove(0))
+        Ok(self.jobs.remove(0))
     }
 
     /// A job goes in for its target, behind those that are there. It comes back where the berth bears another name than its target's, or
@@ -260,22 +329,25 @@ impl<N: Name, J: Errand> Room<N, J> {
     }
 
     /// The body that was held goes in, and the mark of an operated census goes.
-    pub fn release(&mut self, body: Body<N>, operated: bool) -> Result<(), Body<N>>
+    pub fn release(&mut self, body: Body<N>, operated: bool) -> Result<BerthReceipt<N>, Body<N>>
         requires body { (body.seat.stored ≢ 0) × (0 < body.name) }
+        ensures receipt { IfOk result (λ r. r ≡ acted body.seat.place body.name (BerthAct.Released operated)) }
         ensures ok { OnOk result ((self.old.holder ≡ IsOut body.name) × (self.new ≡ record self.old { holder = IsAtHome body; mark = if operated then 0 else self.old.mark })) }
         ensures err { IfErr result (λ b. (b ≡ body) × (self.new ≡ self.old) × (self.old.holder ≡ IsOut body.name → self.old.place ≢ body.seat.place)) }
     {
+        let receipt = receipt_of(body.place(), body.name(), BerthAct::Released(operated));
         self.give(body)?;
         if operated {
             self.mark = 0;
         }
-        Ok(())
+        Ok(receipt)
     }
 
     /// The name is taken off and the place is given up: one store of 0. The body comes back where something is told to it.
-    pub fn exit(&mut self, body: Body<N>, board: &Board) -> Result<(), Body<N>>
+    pub fn exit(&mut self, body: Body<N>, board: &Board) -> Result<BerthReceipt<N>, Body<N>>
         requires board { board.now ≡ N.board }
         requires empty { (body.image.frames ≡ []) × IsCounted body.image }
+        ensures receipt { IfOk result (λ r. r ≡ acted body.seat.place body.name BerthAct.Vacated) }
         ensures ok { OnOk result ((self.old.holder ≡ IsOut body.name) × (self.old.jobs ≡ []) × (self.old.mark ≡ 0) × (self.new ≡ record self.old { holder = IsVacant (record { seat = stored_as body.seat 0; poller = body.poller }) })) }
         ensures err { IfErr result (λ b. (b ≡ body) × (self.new ≡ self.old) × (self.old.holder ≡ IsOut body.name → self.old.place ≡ body.seat.place → self.old.jobs ≡ [] → self.old.mark ≢ 0)) }
     {
@@ -289,7 +361,8 @@ impl<N: Name, J: Errand> Room<N, J> {
         {
             return Err(body);
         }
+        let receipt = receipt_of(body.place(), name, BerthAct::Vacated);
         self.holder = Holder::Vacant(body.vacate(board));
-        Ok(())
+        Ok(receipt)
     }
 }

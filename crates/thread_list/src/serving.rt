@@ -1,11 +1,13 @@
 //! What a thread does while it has stopped.
 ghost use Rattle.std.specs.Prelude.{◌≡◌, ◌≢◌, ◌<◌, ℕ};
+ghost use Rattle.thread_list.specs.Moves.{IsTurn};
 ghost use Rattle.frames.specs.ImageView.{IsSettled};
 ghost use Rattle.operations.specs.Asks.{reply};
 ghost use Rattle.thread_state.specs.declared.poll_rule.Deed.TheVariants.{Load};
 ghost use Rattle.thread_state.specs.PollRule.{exchanged};
 ghost use Rattle.desk.specs.declared.entries.Entry.{Entry};
 
+use crate::room::BerthReceipt;
 use crate::shared::Shared;
 use bodies::{Body, Name};
 use desk::Receipt;
@@ -13,31 +15,63 @@ use operations::job::Errand;
 use std::sync::Wait;
 use std::thread;
 
+/// The receipts of a turn of a thread that has stopped: that its body came out of its berth to serve, and, where a job came out with
+/// it, of the entry of what the job answered.
+#[derive(Drop)]
+pub struct Turn<N: Name> {
+    pub out: BerthReceipt<N>,
+    pub finish: Option<Receipt<N>>,
+}
+
 /// A thread that has stopped gives its body to its berth, takes it back once nobody holds it and no census keeps it, publishes its
-/// stack, serves what it was told, and polls, until a poll goes on.
-pub fn served<N: Name, J: Errand, R: Wait>(rt: &R, shared: &Shared<N, J>, body: Body<N>) -> Body<N>
+/// stack, serves what it was told, and polls, until a poll goes on. Answers the body with its last turn.
+pub fn served<N: Name, J: Errand, R: Wait>(
+    rt: &R,
+    shared: &Shared<N, J>,
+    body: Body<N>,
+) -> (Body<N>, Turn<N>)
     requires body { (body.seat.stored ≢ 0) × (0 < body.name) }
-    ensures same { (result.name ≡ body.name) × (result.seat.place ≡ body.seat.place) × (result.seat.stored ≢ 0) }
-    ensures goes_on { result.poller.last ≡ Load 0 }
+    ensures same { (result.0.name ≡ body.name) × (result.0.seat.place ≡ body.seat.place) × (result.0.seat.stored ≢ 0) }
+    ensures goes_on { result.0.poller.last ≡ Load 0 }
+    ensures turn { IsTurn body.seat.place body.name result.1.out result.1.finish }
+{
+    let mut body = body;
+    for _ in rt.forever() {
+        let (turned, turn) = take_turn(rt, shared, body);
+        body = turned;
+        if body.poll(shared.row()) == 0 {
+            return (body, turn);
+        }
+    }
+    unreachable!()
+}
+
+// One turn: the body goes to its berth, comes out to serve, is published, and serves the job that came out with it.
+fn take_turn<N: Name, J: Errand, R: Wait>(
+    rt: &R,
+    shared: &Shared<N, J>,
+    body: Body<N>,
+) -> (Body<N>, Turn<N>)
+    requires body { (body.seat.stored ≢ 0) × (0 < body.name) }
+    ensures same { (result.0.name ≡ body.name) × (result.0.seat.place ≡ body.seat.place) × (result.0.seat.stored ≢ 0) }
+    ensures settled { IsSettled result.0.image }
+    ensures turn { IsTurn body.seat.place body.name result.1.out result.1.finish }
 {
     let name = body.name();
     let place = body.place();
     let berth = shared.berth_of(&body);
-    let mut body = body;
-    for _ in rt.forever() {
-        berth.give(rt, body);
-        let (taken, job) = berth.serve(rt, name, place);
-        body = taken;
-        body.publish(shared.board());
-        if let Some(job) = job {
-            serve(rt, shared, &mut body, job);
+    berth.give(rt, body);
+    let (mut body, job, out) = berth.serve(rt, name, place);
+    body.publish(shared.board());
+    let finish = match job {
+        Some(job) => {
+            let receipt = serve(rt, shared, &mut body, job);
             give_way(rt, shared);
+            Some(receipt)
         }
-        if body.poll(shared.row()) == 0 {
-            return body;
-        }
-    }
-    unreachable!()
+        None => None,
+    };
+    (body, Turn { out, finish })
 }
 
 // How often a thread that has served itself yields while others have still to: where more threads run than there are processors,

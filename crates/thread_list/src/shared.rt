@@ -14,6 +14,7 @@ ghost use Rattle.desk.specs.Refusals.{ask_refused, install_refused};
 
 use crate::berth::Berth;
 use crate::hints::Hints;
+use crate::room::{BerthAct, BerthReceipt};
 use board::Board;
 use bodies::{Body, Name};
 use desk::{CodeFault, Desk, NotLive, Receipt, Refused, live_names_rise};
@@ -52,8 +53,16 @@ impl<N: Name, J: Errand> Model for Shared<N, J> {
     ghost invariant = { λ s. (s.board ≡ N.board) × (s.row ≡ N.poll_row) × (length s.berths.items ≡ N.board.places) × AreInOrder s.berths.items × (s.hints.slots ≡ N.board.slots) };
 }
 
+/// The receipts of a thread that is gone: that its berth gave its place up, and of the entry of its exit.
+#[derive(Drop)]
+pub struct Exited<N: Name> {
+    pub vacated: BerthReceipt<N>,
+    pub exit: Receipt<N>,
+}
+
 impl<N: Name, J: Errand> Shared<N, J> {
     /// The board of the codes' words.
+    #[inline(always)]
     pub fn board(&self) -> &Board
         ensures { result.now ≡ N.board }
     {
@@ -61,6 +70,7 @@ impl<N: Name, J: Errand> Shared<N, J> {
     }
 
     /// The row of the threads' poll words.
+    #[inline(always)]
     pub fn row(&self) -> &PollRow
         ensures { result.now ≡ N.poll_row }
     {
@@ -74,6 +84,7 @@ impl<N: Name, J: Errand> Shared<N, J> {
     }
 
     /// How many methods there are.
+    #[inline(always)]
     pub fn methods(&self) -> u32
         ensures { result ≡ self.now.methods }
     {
@@ -82,6 +93,7 @@ impl<N: Name, J: Errand> Shared<N, J> {
     }
 
     /// The berth of a place.
+    #[inline(always)]
     pub fn berth(&self, place: usize) -> &Berth<N, J>
         requires { place < N.board.places }
         ensures { result.now ≡ place }
@@ -90,6 +102,7 @@ impl<N: Name, J: Errand> Shared<N, J> {
     }
 
     /// The berth of a body's place.
+    #[inline(always)]
     pub fn berth_of(&self, body: &Body<N>) -> &Berth<N, J>
         ensures { result.now ≡ body.now.seat.place }
     {
@@ -98,6 +111,7 @@ impl<N: Name, J: Errand> Shared<N, J> {
 
     /// The code that a call of the method tries first: what was installed for it last, None without such a method or code. It is
     /// read off a plain word, so the code may be gone by then; `call` finds that out.
+    #[inline(always)]
     pub fn hint(&self, method: u32) -> Option<CodeId>
         ensures { IfSome result (λ c. c.slot < N.board.slots) }
     {
@@ -205,15 +219,18 @@ impl<N: Name, J: Errand> Shared<N, J> {
         unreachable!()
     }
 
-    /// Enters that the thread of the name exits.
-    pub fn leave<R: Wait>(&self, rt: &R, name: u64) -> Receipt<N>
-        ensures { result.entry ≡ Entry.Exit name }
+    /// Enters that a thread exits whose berth gave its place up.
+    pub fn leave<R: Wait>(&self, rt: &R, vacated: BerthReceipt<N>) -> Exited<N>
+        requires { vacated.act ≡ BerthAct.Vacated }
+        ensures vacated { result.vacated ≡ vacated }
+        ensures exit { result.exit.entry ≡ Entry.Exit vacated.name }
     {
+        let name = vacated.name();
         for _ in rt.forever() {
             let gone = self.desk.lock(rt).exit(name);
-            if let Ok(receipt) = gone {
+            if let Ok(exit) = gone {
                 self.finished.notify_all();
-                return receipt;
+                return Exited { vacated, exit };
             }
             thread::yield_now();
         }

@@ -1,5 +1,5 @@
 //! Threads that start.
-ghost use Rattle.std.specs.Prelude.{◌≡◌, IfOk, IfErr, true, ◌<◌, OnOk, Some};
+ghost use Rattle.std.specs.Prelude.{◌≡◌, IfOk, IfErr, true, false, [], ◌<◌, OnOk, Some};
 ghost use Rattle.thread_state.specs.declared.State.TheVariants.{InJava as IsInJava};
 ghost use Rattle.desk.specs.declared.entries.Entry.{Entry};
 ghost use Rattle.desk.specs.Machine.{State as DeskState, Book};
@@ -14,7 +14,7 @@ use bodies::{Body, Name};
 use desk::{Receipt, StartFault};
 use frames::image::Image;
 use operations::job::Errand;
-use std::alloc::Global;
+use std::alloc::{AllocError, Global};
 use std::sync::Wait;
 use thread_state::State;
 
@@ -31,16 +31,16 @@ impl<N: Name, J: Errand> Shared<N, J> {
         ensures goes_on { IfOk result (λ r. (body : BodyView) × (r.0.body ≡ Some body) × (body.poller.last ≡ Load 0)) }
         ensures refused { IfErr result (λ e. (s : DeskState) × (book : Book) × start_refused s N.board.places book e) }
     {
-        let image = Image::new(alloc);
+        let image = new_image(alloc);
         let (name, place, receipt) = self.enter(rt, image.is_ok())?;
         let Ok(image) = image else { unreachable!() };
         let berth = self.berth(place);
         let mut body = Body::new(name, image, berth.start(rt, place));
         body.publish(self.board());
-        berth.settle(rt, body);
+        let settled = berth.settle(rt, body);
         let mut body = berth.wake(rt, name, place);
         if body.poll(self.row()) != 0 {
-            body = served(rt, self, body);
+            (body, _) = served(rt, self, body);
         }
         let mutator = Mutator {
             shared: self,
@@ -48,6 +48,8 @@ impl<N: Name, J: Errand> Shared<N, J> {
             place,
             state: State::InJava,
             body: Some(body),
+            settled,
+            given: None,
         };
         Ok((mutator, receipt))
     }
@@ -65,5 +67,16 @@ impl<N: Name, J: Errand> Shared<N, J> {
         let mut desk = self.desk.lock(rt);
         let started = desk.start(has_image)?;
         Ok(started)
+    }
+}
+
+// The image of an empty stack, which stays where it is while its thread's body moves.
+fn new_image(alloc: Global) -> Result<Box<Image>, AllocError>
+    ensures { IfOk result (λ image. image.value ≡ record { frames = []; counted = []; changed = []; publishing = false }) }
+{
+    let image = Image::new(alloc)?;
+    match Box::new(alloc, image) {
+        Ok(image) => Ok(image),
+        Err(_) => Err(AllocError),
     }
 }

@@ -1,20 +1,21 @@
 //! What a thread calls that may wait for others: it gives its body away and gets it back.
 ghost use Rattle.std.specs.Prelude.{◌≡◌, ◌≢◌, ◌<◌, ◌==◌, ◌⊎◌, [], ℕ, true, false, Some, None, IfOk, OnOk, IfErr, length};
+ghost use Rattle.thread_list.specs.Berths.{acted};
 ghost use Rattle.thread_state.specs.declared.Back.{Back as WayBack};
 ghost use Rattle.thread_state.specs.declared.State.TheVariants.{InJava as IsInJava, InVm as IsInVm, InNative as IsInNative, Blocked as IsBlocked, NativeTrans as IsNativeTrans, BlockedTrans as IsBlockedTrans, AtPoll as IsAtPoll, Serving as IsServing};
 ghost use Rattle.thread_state.specs.declared.Move.TheVariants as movement;
 ghost use Rattle.thread_state.specs.States as table;
 ghost use Rattle.desk.specs.declared.entries.Entry.{Entry};
 ghost use Rattle.thread_list.specs.declared.polls.Poll.TheVariants.{Go as GoesOn};
-ghost use Rattle.thread_list.specs.Moves.{SameThread, ComesBack, GoesBack, is_running, owns};
+ghost use Rattle.thread_list.specs.Moves.{SameThread, ComesBack, GoesBack, IsTurn, is_running, owns};
 ghost use Rattle.thread_list.specs.Refused.{exit_refused, HasNoFrame};
 
 use crate::mutator::{Mutator, is_running};
 use crate::polls::{Poll, poll_of};
-use crate::serving::served;
-use crate::shared::Shared;
+use crate::room::{BerthAct, BerthReceipt};
+use crate::serving::{Turn, served};
+use crate::shared::{Exited, Shared};
 use bodies::{Body, Name};
-use desk::Receipt;
 use operations::job::Errand;
 use std::sync::Wait;
 use thread_state::{Back, State};
@@ -95,8 +96,9 @@ impl<'a, N: Name, J: Errand> Mutator<'a, N, J> {
     }
 
     /// After a poll that answered Stop: the thread stops, serves what it was told, and goes on where its last poll goes on. A thread
-    /// that isn't at a poll is refused with its state.
-    pub fn stop<R: Wait>(&mut self, rt: &R) -> Result<(), State>
+    /// that isn't at a poll is refused with its state. Answers the receipts of the last turn in which it served.
+    pub fn stop<R: Wait>(&mut self, rt: &R) -> Result<Turn<N>, State>
+        ensures turned { IfOk result (λ turn. IsTurn self.old.place self.old.name turn.out turn.finish) }
         ensures ok { OnOk result ((back : WayBack) × (self.old.state ≡ IsAtPoll back) × ComesBack self.new (IsServing back) GoesOn) }
         ensures same { SameThread self.old self.new }
         ensures err { IfErr result (λ s. (s ≡ self.old.state) × ((back : WayBack) → s ≢ IsAtPoll back) × (self.new ≡ self.old)) }
@@ -107,9 +109,10 @@ impl<'a, N: Name, J: Errand> Mutator<'a, N, J> {
         let Some(body) = self.body.take() else {
             unreachable!()
         };
-        self.body = Some(served(rt, self.shared, body));
+        let (body, turn) = served(rt, self.shared, body);
+        self.body = Some(body);
         self.state = state_of(back);
-        Ok(())
+        Ok(turn)
     }
 
     // The body goes into its berth, and the thread is in this state, in which it doesn't own itself.
@@ -125,7 +128,7 @@ impl<'a, N: Name, J: Errand> Mutator<'a, N, J> {
         };
         self.state = to;
         let berth = self.shared.berth_of(&body);
-        berth.give(rt, body);
+        self.given = Some(berth.give(rt, body));
     }
 
     // The body comes out of its berth, and the thread polls: it goes on where the way back leads, or stops there.
@@ -147,11 +150,12 @@ impl<'a, N: Name, J: Errand> Mutator<'a, N, J> {
         poll_of(found)
     }
 
-    /// The thread ends: it publishes its empty stack, serves what it was told before, and gives its place up. Answers the receipt of
-    /// its Exit. It is refused, with the mutator as it was, where it isn't in Java or in the VM, and where its stack isn't empty. A
+    /// The thread ends: it publishes its empty stack, serves what it was told before, and gives its place up. Answers the receipts of
+    /// that and of its Exit. It is refused, with the mutator as it was, where it isn't in Java or in the VM, and where its stack isn't empty. A
     /// body that came back from serving may have frames that a holder left there; then it is refused in Java, where it served.
-    pub fn exit<R: Wait>(self, rt: &R) -> Result<Receipt<N>, (ExitFault, Mutator<'a, N, J>)>
-        ensures exited { IfOk result (λ r. (r.entry ≡ Entry.Exit self.entry.name) × (is_running self.entry.state ≡ true) × HasNoFrame self.entry.body) }
+    pub fn exit<R: Wait>(self, rt: &R) -> Result<Exited<N>, (ExitFault, Mutator<'a, N, J>)>
+        ensures exited { IfOk result (λ r. (r.exit.entry ≡ Entry.Exit self.entry.name) × (is_running self.entry.state ≡ true) × HasNoFrame self.entry.body) }
+        ensures vacated { IfOk result (λ r. r.vacated ≡ acted self.entry.place self.entry.name BerthAct.Vacated) }
         ensures refused { IfErr result (λ e. ((e.1 ≡ self.entry) × exit_refused self.entry e.0) ⊎ (HasNoFrame self.entry.body × (e.0 ≡ ExitFault.StackNotEmpty) × (e.1.state ≡ IsInJava) × SameThread self.entry e.1 × exit_refused e.1 e.0)) }
     {
         if !is_running(self.state) {
@@ -166,19 +170,25 @@ impl<'a, N: Name, J: Errand> Mutator<'a, N, J> {
             place,
             state: _,
             body,
+            settled,
+            given: _,
         } = self;
         let Some(body) = body else { unreachable!() };
-        if let Err(body) = vacate(rt, shared, body) {
-            let back = Mutator {
-                shared,
-                name,
-                place,
-                state: State::InJava,
-                body: Some(body),
-            };
-            return Err((ExitFault::StackNotEmpty, back));
+        match vacate(rt, shared, body) {
+            Ok(vacated) => Ok(shared.leave(rt, vacated)),
+            Err(body) => {
+                let back = Mutator {
+                    shared,
+                    name,
+                    place,
+                    state: State::InJava,
+                    body: Some(body),
+                    settled,
+                    given: None,
+                };
+                Err((ExitFault::StackNotEmpty, back))
+            }
         }
-        Ok(shared.leave(rt, name))
     }
 
     // How many frames the stack of the thread has, as far as it has its body.
@@ -198,8 +208,9 @@ fn vacate<N: Name, J: Errand, R: Wait>(
     rt: &R,
     shared: &Shared<N, J>,
     body: Body<N>,
-) -> Result<(), Body<N>>
+) -> Result<BerthReceipt<N>, Body<N>>
     requires body { (body.seat.stored ≢ 0) × (0 < body.name) }
+    ensures vacated { IfOk result (λ r. r ≡ acted body.seat.place body.name BerthAct.Vacated) }
     ensures same { IfErr result (λ b. (b.name ≡ body.name) × (b.seat.place ≡ body.seat.place) × (b.seat.stored ≢ 0)) }
     ensures frames { IfErr result (λ b. 0 < length b.image.frames) }
 {
@@ -210,8 +221,8 @@ fn vacate<N: Name, J: Errand, R: Wait>(
         }
         body.publish(shared.board());
         match shared.berth_of(&body).exit(rt, body, shared.board()) {
-            Ok(()) => return Ok(()),
-            Err(back) => body = served(rt, shared, back),
+            Ok(vacated) => return Ok(vacated),
+            Err(back) => (body, _) = served(rt, shared, back),
         }
     }
     unreachable!()

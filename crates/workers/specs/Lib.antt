@@ -2,3 +2,4 @@ pub mod Marks
 pub mod Ended
 pub mod Summaries
 pub mod Replacing
+pub mod Jobs

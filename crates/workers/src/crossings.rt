@@ -18,7 +18,7 @@ pub fn settle<N: Name, J: Errand, R: Wait>(rt: &R, thread: &mut Mutator<'_, N, J
     ensures same { SameThread thread.old thread.new }
 {
     if let State::AtPoll(_) = thread.state() {
-        let Ok(()) = thread.stop(rt) else {
+        let Ok(_turn) = thread.stop(rt) else {
             unreachable!()
         };
     }

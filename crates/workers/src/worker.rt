@@ -90,7 +90,7 @@ impl<'a, N: Name, J: Errand, R: Wait, G: Gate> Worker<'a, N, J, R, G> {
         for _ in self.rt.forever() {
             unwind(self.rt, &mut thread);
             match thread.exit(self.rt) {
-                Ok(receipt) => return receipt,
+                Ok(exited) => return exited.exit,
                 Err((_, back)) => thread = back,
             }
         }

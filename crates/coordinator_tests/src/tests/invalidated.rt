@@ -1,65 +1,84 @@
-//! Threads call by a code while it is invalidated: none enters it once it has seen that.
+//! Threads call and return while the method's code is invalidated and installed anew, again and again: none enters a code once it has
+//! seen that it is invalidated.
 ghost use Rattle.std.specs.Prelude.{◌≡◌, ◌<◌, IfSome};
 
-use super::{started, wait_for};
+use super::{heed, started, wait_for};
 use bodies::{Called, Name};
-use coordinator::{Coordinator, Reclaimed};
 use frames::CodeId;
 use operations::job::{Errand, Job};
 use std::alloc::{AllocError, Global};
 use std::marker::Brand;
 use std::process::Abort;
 use std::sync::Wait;
-use std::sync::atomic::{AtomicBool, AtomicU64, Ordering};
+use std::sync::atomic::{AtomicU64, Ordering};
 use std::test::*;
 use std::thread::{Threads, join, map_indices};
-use thread_list::{Mutator, Parts, Poll, Shared};
+use thread_list::{Mutator, Parts, Shared};
 
-// How many threads call.
-const THREADS: usize = 3;
+// How many threads call, and how often each.
+const THREADS: usize = 4;
 
-// How many codes are invalidated, one after the other.
+const CALLS: u64 = 10_000;
+
+// How many codes are invalidated, one after the other. None is freed, so each has a slot of its own.
 const CODES: u64 = 100;
 
-// How often a thread calls after it has seen that its code is invalidated.
-const MORE: u32 = 100;
+const SLOTS: usize = 101;
 
-// Calls method 0 by the hint and returns. Answers whether that entered the code; None where something was refused.
-fn enters<N: Name, J: Errand>(thread: &mut Mutator<'_, N, J>, hint: Option<CodeId>) -> Option<bool>
+// How many calls all threads make between one invalidation and the next.
+const CALLS_OF_CODE: u64 = 300;
+
+// A thread asks for a new hint only before so many calls: the one that it has may be old.
+const CALLS_OF_HINT: u64 = 50;
+
+// What the threads tell one another: how many calls there were, how many of them were in a code, and the last code that is
+// invalidated.
+#[derive(Drop)]
+struct Told {
+    calls: AtomicU64,
+    compiled: AtomicU64,
+    invalidated: AtomicU64,
+}
+
+// Calls method 0 by the hint and returns. Answers the code that it was in, 0 for none; None where something was refused.
+fn call_once<N: Name, J: Errand, R: Wait>(
+    rt: &R,
+    thread: &mut Mutator<'_, N, J>,
+    hint: Option<CodeId>,
+) -> Option<u64>
     requires slot { IfSome hint (λ c. c.slot < N.board.slots) }
 {
-    let said = thread.call(0, hint).ok()?;
-    match thread.ret() {
-        Ok(Poll::Go) => Some(matches!(said, Called::Compiled(_))),
-        Ok(Poll::Stop(_)) | Err(_) => None,
+    let called = thread.call(0, hint).ok()?;
+    let said = thread.ret().ok()?;
+    if !heed(rt, thread, said) {
+        return None;
+    }
+    match called {
+        Called::Compiled(serial) => Some(serial),
+        Called::Interpreted => Some(0),
     }
 }
 
-// Calls by the code until it is seen to be invalidated, and then some times more.
-fn call_across<N: Name, J: Errand, R: Wait>(
+// Calls so often by one hint, each time after a look at which codes are invalidated: it is never in one of those.
+fn call_by_hint<N: Name, J: Errand, R: Wait>(
     rt: &R,
     shared: &Shared<N, J>,
     thread: &mut Mutator<'_, N, J>,
-    entered: &AtomicU64,
-    invalidated: &AtomicBool,
+    told: &Told,
 ) -> bool {
     let hint = shared.hint(0);
-    if enters(thread, hint) != Some(true) {
-        return false;
-    }
-    entered.fetch_add(1, Ordering::SeqCst);
-    for _ in rt.forever() {
-        if enters(thread, hint).is_none() {
+    for _ in 0..CALLS_OF_HINT {
+        let seen = told.invalidated.load(Ordering::SeqCst);
+        let Some(serial) = call_once(rt, thread, hint) else {
+            return false;
+        };
+        if serial != 0 && serial <= seen {
             return false;
         }
-        if invalidated.load(Ordering::SeqCst) {
-            break;
+        if serial != 0 {
+            told.compiled.fetch_add(1, Ordering::SeqCst);
         }
-    }
-    for _ in 0..MORE {
-        if enters(thread, hint) != Some(false) {
-            return false;
-        }
+        told.calls.fetch_add(1, Ordering::SeqCst);
     }
     true
 }
@@ -69,14 +88,15 @@ fn live<N: Name, J: Errand, R: Wait>(
     rt: &R,
     alloc: Global,
     shared: &Shared<N, J>,
-    entered: &AtomicU64,
-    invalidated: &AtomicBool,
+    told: &Told,
 ) -> bool {
     let Ok(mut thread) = started(rt, alloc, shared) else {
         return false;
     };
-    if !call_across(rt, shared, &mut thread, entered, invalidated) {
-        return false;
+    for _ in 0..CALLS / CALLS_OF_HINT {
+        if !call_by_hint(rt, shared, &mut thread, told) {
+            return false;
+        }
     }
     thread.exit(rt).is_ok()
 }
@@ -86,80 +106,62 @@ fn live_all<N: Name + Send + Sync, J: Errand + Send, R: Threads + Wait + Sync>(
     rt: &R,
     alloc: Global,
     shared: &Shared<N, J>,
-    entered: &AtomicU64,
-    invalidated: &AtomicBool,
+    told: &Told,
 ) -> bool {
-    match map_indices(
-        rt,
-        alloc,
-        THREADS,
-        &|_| live(rt, alloc, shared, entered, invalidated),
-    ) {
+    match map_indices(rt, alloc, THREADS, &|_| live(rt, alloc, shared, told)) {
         Ok(lived) => lived.iter().all(|it| *it),
         Err(_) => false,
     }
 }
 
-// Invalidates the code once all threads have entered it.
-fn invalidate<N: Name, J: Errand, R: Wait>(
-    rt: &R,
-    shared: &Shared<N, J>,
-    serial: u64,
-    entered: &AtomicU64,
-    invalidated: &AtomicBool,
-) -> bool {
-    let came = wait_for(THREADS as u64, entered);
-    let done = shared.invalidate(rt, serial).is_ok();
-    invalidated.store(true, Ordering::SeqCst);
-    came && done
-}
-
-// A code is installed, called by all threads, invalidated meanwhile, and reclaimed.
-fn try_one<N: Name + Send + Sync, J: Errand + Send, R: Threads + Wait + Sync>(
-    rt: &R,
-    alloc: Global,
-    shared: &Shared<N, J>,
-    coordinator: &mut Coordinator<'_, N, J>,
-    serial: u64,
-) -> bool {
-    let installed = shared.install(rt, 0);
-    if !matches!(installed, Ok((n, _)) if n == serial) {
-        return false;
+// Invalidates one code after the other while the threads call, and installs the next.
+fn replace_all<N: Name, J: Errand, R: Wait>(rt: &R, shared: &Shared<N, J>, told: &Told) -> bool {
+    for serial in 1..CODES + 1 {
+        if !wait_for(serial * CALLS_OF_CODE, &told.calls) {
+            return false;
+        }
+        if shared.invalidate(rt, serial).is_err() {
+            return false;
+        }
+        told.invalidated.store(serial, Ordering::SeqCst);
+        if !matches!(shared.install(rt, 0), Ok((n, _)) if n == serial + 1) {
+            return false;
+        }
     }
-    let entered = AtomicU64::new(0);
-    let invalidated = AtomicBool::new(false);
-    let (called, done) = join(
-        rt,
-        || live_all(rt, alloc, shared, &entered, &invalidated),
-        || invalidate(rt, shared, serial, &entered, &invalidated),
-    );
-    let freed = coordinator.reclaim(rt, serial, Vec::new(alloc));
-    called && done && matches!(freed, Ok(Reclaimed::Freed(_)))
+    true
 }
 
-fn try_all<N: Name + Send + Sync, J: Errand + Send, R: Threads + Wait + Sync + Abort>(
+fn call_across<N: Name + Send + Sync, J: Errand + Send, R: Threads + Wait + Sync + Abort>(
     rt: &R,
     alloc: Global,
     parts: Parts,
 ) -> Result<(), AllocError>
     requires tables { (parts.board ≡ N.board) × (parts.row ≡ N.poll_row) }
 {
-    let Ok((shared, armer)) = Shared::<N, J>::new(alloc, parts) else {
+    let Ok((shared, _armer)) = Shared::<N, J>::new(alloc, parts) else {
         return Err(AllocError);
     };
-    let Ok(mut coordinator) = Coordinator::new(&shared, armer, alloc) else {
-        return Err(AllocError);
+    let installed = shared.install(rt, 0);
+    assert!(rt; matches!(installed, Ok((1, _))));
+    let told = Told {
+        calls: AtomicU64::new(0),
+        compiled: AtomicU64::new(0),
+        invalidated: AtomicU64::new(0),
     };
-    for serial in 1..CODES + 1 {
-        let kept = try_one(rt, alloc, &shared, &mut coordinator, serial);
-        assert!(rt; kept);
-    }
+    let (called, replaced) = join(
+        rt,
+        || live_all(rt, alloc, &shared, &told),
+        || replace_all(rt, &shared, &told),
+    );
+    assert!(rt; called && replaced);
+    assert!(rt; told.compiled.load(Ordering::SeqCst) > 0);
+    assert!(rt; shared.peek_counts() == 0);
     Ok(())
 }
 
 #[test]
 fn no_call_enters_what_is_seen_invalidated(rt: HostRuntime) -> Result<(), Fail> {
-    let parts = Parts::new(rt.alloc(), THREADS, 2, 1).map_err(|_| AllocError)?;
-    try_all::<Brand, Job, HostRuntime>(&rt, rt.alloc(), parts)?;
+    let parts = Parts::new(rt.alloc(), THREADS, SLOTS, 1).map_err(|_| AllocError)?;
+    call_across::<Brand, Job, HostRuntime>(&rt, rt.alloc(), parts)?;
     Ok(())
 }

@@ -21,7 +21,7 @@ use thread_list::{Parts, Shared};
 // How many threads exit, one after the other. They have the names from 1 on.
 const EXITS: u64 = 1000;
 
-// The thread of this name starts, waits until it is asked, and exits, now sooner and now later.
+// The thread of this name starts in the place of the one before, waits until it is asked, and exits, now sooner and now later.
 fn start_and_exit<N: Name, J: Errand, R: Wait>(
     rt: &R,
     alloc: Global,
@@ -33,7 +33,7 @@ fn start_and_exit<N: Name, J: Errand, R: Wait>(
     let Ok(thread) = started(rt, alloc, shared) else {
         return false;
     };
-    if thread.name() != name {
+    if thread.name() != name || thread.place() != 0 {
         return false;
     }
     live.store(name, Ordering::SeqCst);

@@ -85,7 +85,10 @@ fn make<N: Name, J: Errand, R: Wait>(
         ThreadCall::FromNative => of_polled(thread.from_native(rt)),
         ThreadCall::Block => of_done(thread.block(rt)),
         ThreadCall::Unblock => of_polled(thread.unblock(rt)),
-        ThreadCall::Stop => of_done(thread.stop(rt)),
+        ThreadCall::Stop => match thread.stop(rt) {
+            Ok(_turn) => Said::Done,
+            Err(state) => Said::Refused(Refusal::Illegal(state)),
+        },
     }
 }
 

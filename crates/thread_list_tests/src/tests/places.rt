@@ -52,11 +52,11 @@ fn take_and_release<N: Name, J: Errand, R: Wait + Abort>(
     thread: &Mutator<'_, N, J>,
 ) -> Result<(), AllocError> {
     let berth = shared.berth(thread.place());
-    assert!(rt; berth.take(rt, 2, thread.place()).is_none());
-    let Some(body) = berth.take(rt, thread.name(), thread.place()) else {
+    assert!(rt; berth.take(rt, 2, thread.place()).is_err());
+    let Ok(body) = berth.take(rt, thread.name(), thread.place()) else {
         return Err(AllocError);
     };
-    assert!(rt; berth.take(rt, thread.name(), thread.place()).is_none());
+    assert!(rt; berth.take(rt, thread.name(), thread.place()).is_err());
     berth.release(rt, body, false);
     Ok(())
 }

@@ -1,4 +1,4 @@
-use Rattle.std.proofs.Common.{◌≡◌, ◌∙◌, sym, ap, refl, arith, rules, length, length-append, ◌+◌, ◌∷◌, subst, ℕ, [], List}
+use Rattle.std.proofs.Common.{◌≡◌, ◌∙◌, sym, ap, arith, rules, length, length-append, ◌+◌, ◌∷◌, subst, []}
 use Rattle.frames.specs.declared.board_rule.SeatView.{SeatView}
 use Rattle.thread_list.specs.Berths.{IsRoom, Berthing, AreInOrder}
 use Rattle.thread_list.proofs.InOrder.{AreDownFrom, down_push, turned}

@@ -1,4 +1,4 @@
-use Rattle.std.proofs.Common.{◌≡◌, ◌≤◌, ◌-◌, vec_len}
+use Rattle.std.proofs.Common.{◌≤◌, ◌-◌, vec_len}
 use Rattle.std.specs.Prelude.{All}
 use Rattle.thread_list.specs.Berths.{IsRoom}
 use Rattle.thread_list.proofs.parts.job_lists.Given as goal

@@ -3,4 +3,4 @@ use Rattle.thread_list.proofs.serving.served.Given as goal
 
 abbrev pub invariant-loop : goal.invariant-loop
 invariant-loop g l =
-    (goal.iterator-loop g).can_next l.iterator' × (goal.iterator-loop g).is_finite l.iterator' × (l.body.seat.stored ≢ 0) × (l.body.name ≡ l.name) × (l.body.seat.place ≡ l.place) × (l.name ≡ l.fn.body.name) × (l.place ≡ l.fn.body.seat.place) × (0 < l.name)
+    (goal.iterator-loop g).can_next l.iterator' × (goal.iterator-loop g).is_finite l.iterator' × (l.body.seat.stored ≢ 0) × (l.body.name ≡ l.fn.body.name) × (l.body.seat.place ≡ l.fn.body.seat.place) × (0 < l.body.name)

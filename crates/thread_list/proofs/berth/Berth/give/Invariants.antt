@@ -1,6 +1,6 @@
-use Rattle.std.proofs.Common.{◌<◌, ◌≢◌}
+use Rattle.std.proofs.Common.{◌≡◌}
 use Rattle.thread_list.proofs.berth.Berth.give.Given as goal
 
 abbrev pub invariant-loop : goal.invariant-loop
 invariant-loop g l =
-    (goal.iterator-loop g).can_next l.iterator' × (goal.iterator-loop g).is_finite l.iterator' × (l.body.seat.stored ≢ 0) × (0 < l.body.name)
+    (goal.iterator-loop g).can_next l.iterator' × (goal.iterator-loop g).is_finite l.iterator' × (l.body ≡ l.fn.body)

@@ -1,4 +1,4 @@
-use Rattle.std.proofs.Common.{◌≡◌, ap, sym, ◌∙◌, rules}
+use Rattle.std.proofs.Common.{ap, sym, ◌∙◌, rules}
 use Rattle.poll.specs.Rows.{full_armer}
 use Rattle.thread_list.proofs.Made.{seats_made, pollers_made}
 use Rattle.thread_list.proofs.parts.Parts.new.Goals as goal

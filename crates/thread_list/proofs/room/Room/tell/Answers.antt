@@ -1,8 +1,5 @@
-use Rattle.std.proofs.Common.{◌≡◌, ◌≢◌, ◌<◌, ◌∙◌, sym, ap, subst, refl, rules, arith, map, [], List, vec_capacity}
-use Rattle.thread_list.specs.declared.room.Holder.{Holder}
-use Rattle.thread_list.specs.declared.room.Holder.TheVariants.{Vacant, Away, Out, Home}
-use Rattle.thread_list.specs.Berths.{Told, told_of, AreFor, IsMark, IsBerth, IsHolder, name_of}
-use Rattle.thread_list.proofs.Berthed.{none_for, for_push, settles, empties, tells}
+use Rattle.std.proofs.Common.{rules, vec_capacity}
+use Rattle.thread_list.proofs.Berthed.{tells}
 use Rattle.thread_list.proofs.room.Room.tell.Goals as goal
 
 pub invariant_of-self : goal.invariant_of-self

@@ -1,7 +1,7 @@
-use Rattle.std.proofs.Common.{◌≡◌, ap, sym, ◌∙◌, rules, subst}
+use Rattle.std.proofs.Common.{◌≡◌, rules, subst}
 use Rattle.board.specs.Boards.{BoardId}
 use Rattle.poll.specs.Rows.{RowId}
-use Rattle.thread_list.specs.Sized.{PartsSeen, AreSeatsOf, ArePollersOf}
+use Rattle.thread_list.specs.Sized.{AreSeatsOf, ArePollersOf}
 use Rattle.thread_list.proofs.shared.Shared.new.Goals as goal
 
 pub berths_of-berths-requires-clause-seats : goal.berths_of-berths-requires-clause-seats

@@ -1,7 +1,7 @@
 use denote.Param.Send.{sendable}
 use Rattle.std.proofs.Crossing.{crosses}
 use Rattle.thread_list.proofs.Crosses.{shared_crosses}
-use Rattle.coordinator_tests.proofs.tests.invalidated.try_one.Goals as goal
+use Rattle.coordinator_tests.proofs.tests.invalidated.call_across.Goals as goal
 
 pub join-called-requires-send-F : goal.join-called-requires-send-F
 join-called-requires-send-F g c κs within =
