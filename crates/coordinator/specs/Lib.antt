@@ -2,3 +2,4 @@ pub mod Holding
 pub mod Refused
 pub mod Driving
 pub mod Reclaiming
+pub mod Receipts

@@ -7,6 +7,8 @@ ghost use Rattle.desk.specs.Fields.{at};
 ghost use Rattle.desk.specs.Targets.{open_kind};
 ghost use Rattle.coordinator.specs.Holding.{AreHeld};
 ghost use Rattle.coordinator.specs.Driving.{number_of, IsListed, HoldsOn, LacksList, drive_refused};
+ghost use Rattle.coordinator.specs.Receipts.{IsAttended};
+ghost use Rattle.thread_list.specs.Berths.{acted};
 
 use crate::coordinator::Coordinator;
 use crate::faults::{DriveFault, Driven, OperateFault};
@@ -17,10 +19,18 @@ use desk::{CloseFault, Desk, Live, Receipt};
 use operations::job::Errand;
 use std::sync::Wait;
 use std::{hint, thread};
-use thread_list::Shared;
+use thread_list::{BerthAct, BerthReceipt, Shared};
 
 // How often a `drive` looks at poll words without a lock before it sleeps: about as long as a thread takes to its next poll.
 const SPINS: u32 = 500;
+
+// The receipts of a target that was served where its body was: of what its job answered, or that it had none, and that its body went
+// back.
+#[derive(Drop)]
+struct Attended<N: Name> {
+    done: Result<Receipt<N>, BerthReceipt<N>>,
+    back: BerthReceipt<N>,
+}
 
 // Nothing is open and nothing waits.
 #[derive(Drop)]
@@ -141,7 +151,7 @@ impl<'a, N: Name, J: Errand> Coordinator<'a, N, J> {
     // itself, and is waited for only to the end: what another runs until then may wait for those that come after it. It waits without
     // a lock as far as the spins that are left go, and then asleep. Answers how many are left.
     fn serve_due<R: Wait>(&self, rt: &R, due: Live, spins: u32, to_the_end: bool) -> u32 {
-        if due.place >= self.places || self.serve_at(rt, due) {
+        if due.place >= self.places || self.serve_at(rt, due).is_ok() {
             return spins;
         }
         let left = self.spin(due.place, spins);
@@ -149,7 +159,7 @@ impl<'a, N: Name, J: Errand> Coordinator<'a, N, J> {
             return left;
         }
         if self.shared.berth(due.place).wait_for(rt, due.name) {
-            self.serve_at(rt, due);
+            let _ = self.serve_at(rt, due);
         } else if to_the_end {
             self.shared.wait_finished(rt, due.name);
         }
@@ -167,20 +177,20 @@ impl<'a, N: Name, J: Errand> Coordinator<'a, N, J> {
         left
     }
 
-    // Takes the body of a target out of its berth, where it is there, serves it, and brings it back. Answers whether it was there.
-    fn serve_at<R: Wait>(&self, rt: &R, due: Live) -> bool {
-        if due.place >= self.places {
-            return false;
-        }
+    // Takes the body of a target out of its berth, serves it, and brings it back; the error is the receipt that it isn't there.
+    fn serve_at<R: Wait>(&self, rt: &R, due: Live) -> Result<Attended<N>, BerthReceipt<N>>
+        requires { due.place < N.board.places }
+        ensures attended { IfOk result (λ a. IsAttended due.place due.name a.done a.back) }
+        ensures absent { IfErr result (λ r. r ≡ acted due.place due.name BerthAct.Absent) }
+    {
         let berth = self.shared.berth(due.place);
-        let Ok(mut body) = berth.take(rt, due.name, due.place) else {
-            return false;
+        let mut body = berth.take(rt, due.name, due.place)?;
+        let done = match berth.job(rt, due.name) {
+            Ok(job) => Ok(serve_body(rt, self.shared, &mut body, job)),
+            Err(none) => Err(none),
         };
-        if let Ok(job) = berth.job(rt, due.name) {
-            let _ = serve_body(rt, self.shared, &mut body, job);
-        }
-        berth.release(rt, body, false);
-        true
+        let back = berth.release(rt, body, false);
+        Ok(Attended { done, back })
     }
 
     // Holds all live threads, operates the open census over them, brings them back and closes it.

@@ -1,10 +1,10 @@
 //! Holding a thread: the coordinator takes its body out of its berth, and brings it back.
-ghost use Rattle.std.specs.Prelude.{◌≡◌, ◌≢◌, ◌<◌, ◌++◌, ◌∷◌, [], ℕ, false, IfSome, IfNone, OnOk, IfErr, OnErr, length};
-ghost use Rattle.std.specs.List.{remove};
+ghost use Rattle.std.specs.Prelude.{◌≡◌, ◌≢◌, ◌<◌, ◌++◌, ◌∷◌, [], ℕ, false, IfSome, IfNone, IfOk, OnOk, IfErr, OnErr, length};
 ghost use Rattle.bodies.specs.Bodies.{BodyView};
 ghost use Rattle.desk.specs.Targets.{standing, name_at};
 ghost use Rattle.desk.specs.Fields.{at};
 ghost use Rattle.coordinator.specs.Holding.{is_held, StandsAt};
+ghost use Rattle.coordinator.specs.Receipts.{Releases};
 ghost use Rattle.coordinator.specs.Refused.{Holds, hold_fault, hold_refused};
 
 use crate::coordinator::Coordinator;
@@ -13,6 +13,7 @@ use bodies::{Body, Name};
 use desk::{Desk, Standing};
 use operations::job::Errand;
 use std::sync::Wait;
+use thread_list::BerthReceipt;
 
 /// Where the body of the place stands.
 pub fn index_of<N: Name>(bodies: &[Body<N>], place: usize) -> Option<usize>
@@ -101,16 +102,16 @@ impl<'a, N: Name, J: Errand> Coordinator<'a, N, J> {
         self.bodies.push_reserved(body);
     }
 
-    /// Brings the body of a held thread back into its berth.
-    pub fn release<R: Wait>(&mut self, rt: &R, place: usize) -> Result<(), NotHeld>
-        ensures released { OnOk result ((index : ℕ) × (body : BodyView) × StandsAt self.old.held index place body × (self.new ≡ record self.old { held = remove self.old.held index })) }
+    /// Brings the body of a held thread back into its berth. Answers the receipt that it is there.
+    pub fn release<R: Wait>(&mut self, rt: &R, place: usize) -> Result<BerthReceipt<N>, NotHeld>
+        ensures released { IfOk result (Releases self.old self.new place) }
         ensures refused { OnErr result ((is_held place self.old.held ≡ false) × (self.new ≡ self.old)) }
     {
         let Some(index) = index_of(self.bodies.as_slice(), place) else {
             return Err(NotHeld);
         };
         let body = self.bodies.remove(index);
-        self.shared.berth_of(&body).release(rt, body, self.operated);
-        Ok(())
+        let berth = self.shared.berth_of(&body);
+        Ok(berth.release(rt, body, self.operated))
     }
 }

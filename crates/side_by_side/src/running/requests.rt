@@ -170,7 +170,7 @@ impl<'a, N: Name, J: Errand> Running<'a, N, J> {
 
     fn release<R: Wait>(&mut self, rt: &R, place: usize) -> Said {
         match self.coordinator.release(rt, place) {
-            Ok(()) => Said::Done,
+            Ok(_receipt) => Said::Done,
             Err(NotHeld) => Said::Refused(Refusal::NotHeld),
         }
     }
