@@ -1,9 +1,10 @@
--- What is known of a body that went back into its berth.
-use Rattle.std.specs.Prelude.{◌≡◌, ℕ, false, Result, Ok, Err}
+-- What receipts say of a body that went back into its berth, and of a request that waits.
+use Rattle.std.specs.Prelude.{◌≡◌, ℕ, false, Option, Some, None, Result, Ok, Err}
 use Rattle.std.specs.List.{remove}
 use Rattle.bodies.specs.Bodies.{BodyView}
-use Rattle.desk.specs.declared.entries.Entry.TheVariants.{Finish}
+use Rattle.desk.specs.declared.entries.Entry.TheVariants.{Finish, Ask}
 use Rattle.desk.specs.Machine.{Stands}
+use Rattle.operations.specs.declared.Request.{Request}
 use Rattle.thread_list.specs.Berths.{Acted, acted}
 use Rattle.thread_list.specs.declared.room.BerthAct.TheVariants.{Released, NoJob}
 use Rattle.coordinator.specs.Holding.{Holding, StandsAt}
@@ -18,3 +19,9 @@ Releases old new place receipt
 abbrev pub IsAttended : ℕ → ℕ → Result Stands Acted → Acted → Type 0
 IsAttended place name (Ok r) back = ((number : ℕ) × (reply : ℕ) × (r.entry ≡ Finish number name reply)) × (back ≡ acted place name (Released false))
 IsAttended place name (Err r) back = (r.name ≡ name) × (r.act ≡ NoJob) × (back ≡ acted place name (Released false))
+
+-- The request, where there is one, waits under the number.
+abbrev pub IsAskOf : Option Request → Option (ℕ × Stands) → Type 0
+IsAskOf request None = request ≡ None
+IsAskOf None (Some asked) = Unit {0}
+IsAskOf (Some request) (Some asked) = asked.1.entry ≡ Ask asked.0 request

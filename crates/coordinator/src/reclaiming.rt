@@ -1,13 +1,14 @@
 //! Reclaiming a code that isn't entrant.
 ghost use Rattle.std.specs.Prelude.{◌≡◌, ◌<◌, ◌≤◌, [], true, false, length, IfOk, OnOk, IfErr, IfSome};
 ghost use Rattle.coordinator.specs.Reclaiming.{IsReclaimed, Frees, lacks_memory, not_reclaimed, request_of};
+ghost use Rattle.coordinator.specs.Receipts.{IsAskOf};
 ghost use Rattle.desk.specs.Fields.{at};
 
 use crate::coordinator::Coordinator;
 use crate::faults::Reclaimed;
 use board::{Board, Weighed};
 use bodies::Name;
-use desk::{AskFault, Desk, NotReclaimed, ReclaimFault};
+use desk::{AskFault, Desk, NotReclaimed, Receipt, ReclaimFault};
 use operations::job::Errand;
 use operations::{Request, Targets};
 use std::alloc::{AllocError, Global};
@@ -102,20 +103,21 @@ impl<'a, N: Name, J: Errand> Coordinator<'a, N, J> {
     {
         let asks = !jobs.is_empty();
         let request = request_of(self.alloc, jobs.as_slice());
-        self.ask(rt, serial, request, jobs)?;
+        let _asked = self.ask(rt, serial, request, jobs)?;
         self.shake(rt, asks);
         Ok(self.weigh(rt, serial))
     }
 
-    // The first step: the round, and the request waits, where there are jobs.
+    // The first step: the round, and the request waits, where there are jobs. Answers its number, with the receipt of its Ask.
     fn ask<R: Wait>(
         &self,
         rt: &R,
         serial: u64,
         request: Result<Option<Request>, AllocError>,
         jobs: Vec<J>,
-    ) -> Result<(), NotReclaimed<J>>
+    ) -> Result<Option<(u64, Receipt<N>)>, NotReclaimed<J>>
         requires request { IfOk request (λ r. r ≡ request_of J.whom J.asks jobs.items) }
+        ensures asked { IfOk result (IsAskOf (request_of J.whom J.asks jobs.items)) }
         ensures refused { IfErr result (λ e. not_reclaimed J.whom J.asks serial jobs.items e.fault) }
         ensures handed_back { IfErr result (λ e. e.jobs ≡ jobs) }
     {
@@ -125,11 +127,11 @@ impl<'a, N: Name, J: Errand> Coordinator<'a, N, J> {
             let fault = fault_without_memory(&desk, serial);
             return Err(NotReclaimed { fault, jobs });
         };
-        let _asked = match desk.begin_reclaim(self.shared.board(), serial, request, jobs) {
+        let asked = match desk.begin_reclaim(self.shared.board(), serial, request, jobs) {
             Ok(asked) => asked,
             Err(refused) => return Err(refused),
         };
-        Ok(())
+        Ok(asked)
     }
 
     // Works the handshake that waits to its Close, where there is one.

@@ -1,5 +1,5 @@
 //! Arming. It has a module of its own, so that no other code can arm a place.
-ghost use Rattle.std.specs.Prelude.{◌≡◌, ◌<◌, ◌^◌, ◌++◌, ◌∷◌, [], true, false, length, slice_index, IfErr, OnOk};
+ghost use Rattle.std.specs.Prelude.{◌≡◌, ◌≢◌, ◌<◌, ◌≤◌, ◌^◌, ◌++◌, ◌∷◌, [], true, false, length, slice_index, IfErr, OnErr, OnOk};
 ghost use Rattle.thread_state.specs.PollRule.{armed_with};
 ghost use Rattle.thread_list.specs.Berths.{name_of, told_of};
 
@@ -55,6 +55,7 @@ impl Teller {
         ensures armed { OnOk result (self.new.seen ≡ armed_with self.old.seen room.old.place (J.number job)) }
         ensures row { self.new.table ≡ self.old.table }
         ensures refused { IfErr result (λ j. (j ≡ job) × (room.new ≡ room.old) × (self.new ≡ self.old)) }
+        ensures full { OnErr result (0 < J.whom job → name_of room.old.holder ≡ J.whom job → room.old.room ≤ length room.old.jobs) }
     {
         let number = job.op_of();
         let place = room.place();
@@ -80,6 +81,7 @@ impl Teller {
         ensures armed { result ≡ true → self.new.seen ≡ armed_with self.old.seen room.old.place number }
         ensures row { self.new.table ≡ self.old.table }
         ensures refused { result ≡ false → (room.new ≡ room.old) × (self.new ≡ self.old) }
+        ensures other { result ≡ false → 0 < name → name_of room.old.holder ≢ name }
     {
         if !room.mark(name, number) {
             return false;
