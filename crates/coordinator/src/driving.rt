@@ -112,30 +112,48 @@ impl<'a, N: Name, J: Errand> Coordinator<'a, N, J> {
     {
         self.release_all(rt);
         let mut spins = SPINS;
+        let mut to_the_end = false;
         for _ in rt.forever() {
-            self.serve_all(rt);
+            spins = self.serve_all(rt, spins, to_the_end);
             if let Ok((number, receipt)) = self.close(rt) {
                 return (Driven::Handshake(number), receipt);
             }
-            spins = self.wait(rt, spins);
+            to_the_end = true;
         }
         unreachable!()
     }
 
-    // Waits until the first target that is due has brought its body or is answered for: without a lock, as far as the spins that are
-    // left go, and then asleep. Answers how many are left.
-    fn wait<R: Wait>(&self, rt: &R, spins: u32) -> u32 {
-        let Some(due) = self.next_due(rt, 0) else {
-            return spins;
-        };
-        if due.place >= self.places {
+    // Serves each target that is due, in the order of their names. Answers how many spins are left.
+    fn serve_all<R: Wait>(&self, rt: &R, spins: u32, to_the_end: bool) -> u32 {
+        let mut left = spins;
+        let mut name = 0;
+        for _ in rt.forever() {
+            let Some(due) = self.next_due(rt, name) else {
+                return left;
+            };
+            name = due.name;
+            left = self.serve_due(rt, due, left, to_the_end);
+        }
+        unreachable!()
+    }
+
+    // Serves a target at once where its body is in its berth, and else once it is there. A target that comes for what it was told serves
+    // itself, and is waited for only to the end: what another runs until then may wait for those that come after it. It waits without
+    // a lock as far as the spins that are left go, and then asleep. Answers how many are left.
+    fn serve_due<R: Wait>(&self, rt: &R, due: Live, spins: u32, to_the_end: bool) -> u32 {
+        if due.place >= self.places || self.serve_at(rt, due) {
             return spins;
         }
         let left = self.spin(due.place, spins);
-        if left == 0 && !self.shared.berth(due.place).wait_for(rt, due.name) {
+        if left > 0 {
+            return left;
+        }
+        if self.shared.berth(due.place).wait_for(rt, due.name) {
+            self.serve_at(rt, due);
+        } else if to_the_end {
             self.shared.wait_finished(rt, due.name);
         }
-        left
+        0
     }
 
     // Spins until nothing is armed at the place, so many times at most. Answers how many are left.
@@ -149,31 +167,20 @@ impl<'a, N: Name, J: Errand> Coordinator<'a, N, J> {
         left
     }
 
-    // Serves each target whose body is in its berth.
-    fn serve_all<R: Wait>(&self, rt: &R) {
-        let mut name = 0;
-        for _ in rt.forever() {
-            let Some(due) = self.next_due(rt, name) else {
-                return;
-            };
-            name = due.name;
-            self.serve_at(rt, due);
-        }
-    }
-
-    // Takes the body of a target out of its berth, where it is there, serves it, and brings it back.
-    fn serve_at<R: Wait>(&self, rt: &R, due: Live) {
+    // Takes the body of a target out of its berth, where it is there, serves it, and brings it back. Answers whether it was there.
+    fn serve_at<R: Wait>(&self, rt: &R, due: Live) -> bool {
         if due.place >= self.places {
-            return;
+            return false;
         }
         let berth = self.shared.berth(due.place);
         let Ok(mut body) = berth.take(rt, due.name, due.place) else {
-            return;
+            return false;
         };
         if let Ok(job) = berth.job(rt, due.name) {
             let _ = serve_body(rt, self.shared, &mut body, job);
         }
         berth.release(rt, body, false);
+        true
     }
 
     // Holds all live threads, operates the open census over them, brings them back and closes it.
