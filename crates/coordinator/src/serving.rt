@@ -41,7 +41,8 @@ pub fn serve_body<N: Name, J: Errand, R: Wait>(
     ensures served { IsServed (J.number job) body.old body.new }
 {
     body.publish(shared.board());
-    serve(rt, shared, body, job)
+    let (receipt, _others) = serve(rt, shared, body, job);
+    receipt
 }
 
 // Why a held thread that stands to the open request like this isn't served, where its place was last armed with the number.

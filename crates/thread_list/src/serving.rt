@@ -65,8 +65,10 @@ fn take_turn<N: Name, J: Errand, R: Wait>(
     body.publish(shared.board());
     let finish = match job {
         Some(job) => {
-            let receipt = serve(rt, shared, &mut body, job);
-            give_way(rt, shared);
+            let (receipt, others) = serve(rt, shared, &mut body, job);
+            if others {
+                give_way(shared, place);
+            }
             Some(receipt)
         }
         None => None,
@@ -74,36 +76,38 @@ fn take_turn<N: Name, J: Errand, R: Wait>(
     (body, Turn { out, finish })
 }
 
-// How often a thread that has served itself yields while others have still to: where more threads run than there are processors,
+// How often a thread that has served itself yields at most while others have still to: where more threads run than there are processors,
 // each of them then comes to its poll within one round of the scheduler.
 const YIELDS: u32 = 16;
 
-// Lets other threads run, where some have still to be answered for.
-fn give_way<N: Name, J: Errand, R: Wait>(rt: &R, shared: &Shared<N, J>) {
-    if shared.has_due(rt) {
-        for _ in 0..YIELDS {
-            thread::yield_now();
+// Lets other threads run, until something new is armed at the place.
+fn give_way<N: Name, J: Errand>(shared: &Shared<N, J>, place: usize) {
+    for _ in 0..YIELDS {
+        if shared.row().peek(place) != 0 {
+            return;
         }
+        thread::yield_now();
     }
 }
 
-/// Runs a job on a settled body, enters what it answered, and clears the operation. The receipt is of that entry.
+/// Runs a job on a settled body, enters what it answered, and clears the operation. Answers the receipt of that entry, and whether others
+/// had still to be answered for then.
 pub fn serve<N: Name, J: Errand, R: Wait>(
     rt: &R,
     shared: &Shared<N, J>,
     body: &mut Body<N>,
     job: J,
-) -> Receipt<N>
+) -> (Receipt<N>, bool)
     requires job { (J.whom job ≡ body.old.name) × (0 < J.number job) }
     requires settled { IsSettled body.old.image }
-    ensures entry { result.entry ≡ Entry.Finish (J.number job) (J.whom job) (reply (J.asks job) body.old.image.frames) }
+    ensures entry { result.0.entry ≡ Entry.Finish (J.number job) (J.whom job) (reply (J.asks job) body.old.image.frames) }
     ensures called { J.may_answer job body.old.image (reply (J.asks job) body.old.image.frames) }
     ensures body { (body.new.name ≡ body.old.name) × (body.new.image ≡ body.old.image) × (body.new.seat ≡ body.old.seat) }
     ensures cleared { (found : ℕ) × (body.new.poller ≡ exchanged body.old.poller (J.number job) found) }
 {
     let n = job.op_of();
     let done = body.run(job);
-    let receipt = shared.finish(rt, body, done);
+    let (receipt, others) = shared.finish(rt, body, done);
     body.clear(shared.row(), n);
-    receipt
+    (receipt, others)
 }

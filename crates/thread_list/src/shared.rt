@@ -188,29 +188,37 @@ impl<N: Name, J: Errand> Shared<N, J> {
         Ok(list)
     }
 
-    fn try_finish<R: Wait>(&self, rt: &R, body: &Body<N>, done: Done) -> Result<Receipt<N>, Done>
+    fn try_finish<R: Wait>(
+        &self,
+        rt: &R,
+        body: &Body<N>,
+        done: Done,
+    ) -> Result<(Receipt<N>, bool), Done>
         requires name { body.now.name ≡ done.target }
         requires settled { IsSettled body.now.image }
         requires reply { done.reply ≡ reply done.ask body.now.image.frames }
-        ensures ok { IfOk result (λ r. r.entry ≡ Entry.Finish done.op done.target done.reply) }
+        ensures ok { IfOk result (λ r. r.0.entry ≡ Entry.Finish done.op done.target done.reply) }
         ensures err { IfErr result (λ d. d ≡ done) }
     {
-        self.desk.lock(rt).finish(body, done)
+        let mut desk = self.desk.lock(rt);
+        let receipt = desk.finish(body, done)?;
+        let others = desk.next_due(0).is_some();
+        Ok((receipt, others))
     }
 
-    /// Enters what a job answered on a settled body.
-    pub fn finish<R: Wait>(&self, rt: &R, body: &Body<N>, done: Done) -> Receipt<N>
+    /// Enters what a job answered on a settled body. Answers also whether others have still to be answered for.
+    pub fn finish<R: Wait>(&self, rt: &R, body: &Body<N>, done: Done) -> (Receipt<N>, bool)
         requires name { body.now.name ≡ done.target }
         requires settled { IsSettled body.now.image }
         requires reply { done.reply ≡ reply done.ask body.now.image.frames }
-        ensures { result.entry ≡ Entry.Finish done.op done.target done.reply }
+        ensures { result.0.entry ≡ Entry.Finish done.op done.target done.reply }
     {
         let mut done = done;
         for _ in rt.forever() {
             match self.try_finish(rt, body, done) {
-                Ok(receipt) => {
+                Ok(finished) => {
                     self.finished.notify_all();
-                    return receipt;
+                    return finished;
                 }
                 Err(back) => done = back,
             }
@@ -246,12 +254,6 @@ impl<N: Name, J: Errand> Shared<N, J> {
             }
             let _desk = self.finished.wait(rt, desk);
         }
-    }
-
-    /// Whether a thread has still to be answered for.
-    pub fn has_due<R: Wait>(&self, rt: &R) -> bool {
-        let _ = &self.hints;
-        self.desk.lock(rt).next_due(0).is_some()
     }
 }
 
