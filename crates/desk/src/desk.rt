@@ -476,6 +476,8 @@ impl<N: Name, J: Errand> Desk<N, J> {
     ) -> Result<Option<(u64, Receipt<N>)>, NotReclaimed<J>>
         requires board { board.now ≡ N.board }
         ensures asked { IfOk result (λ r. IfSome r (λ a. IfSome request (λ asked. Enters self.old self.new (Entry.Ask a.0 asked) a.1))) }
+        ensures allowed { OnOk result ((retire_fault (unfreed (at self.old).table.codes serial) ≡ None) × (is_idle (at self.old) ≡ true) × (nat_le (2 ^ 40) (self.old.keeper.moment + 1) ≡ false)) }
+        ensures wanted { IfOk result (λ r. IfSome r (λ a. request ≢ None)) }
         ensures quiet { IfOk result (λ r. IfNone r ((request ≡ None) × (self.new.book ≡ self.old.book))) }
         ensures sizes { OnOk result ((self.new.slots ≡ self.old.slots) × (self.new.methods ≡ self.old.methods)) }
         ensures round { OnOk result (self.new.keeper ≡ went_round self.old.keeper self.old.keeper.moment) }
