@@ -4,11 +4,13 @@
 # `make hostile` runs the tests of threads twenty times, and those of refused memory with each growth refused in turn;
 # `make soak` runs threads at random over what they share, with one seed after the other, for MINUTES.
 # `make side SEEDS=1000 FIRST=21` plays as many random schedules, from that seed on, on the running layer and on the core beside it.
-.PHONY: run test examples bench hostile runs soak side
+# `make pictures` draws the pictures of PICTURES again.
+.PHONY: run test examples bench hostile runs soak side pictures
 
 MINUTES ?= 10
 SEEDS ?= 1000
 FIRST ?= 21
+PICTURES = handshake_native safepoint_census reclaiming
 
 run:
 	@cd crates/monitor && rt run -- replay < ../../examples/one_publication.lines
@@ -38,3 +40,7 @@ soak:
 side:
 	@cd crates/side_by_side && rt run
 	@crates/side_by_side/out/side_by_side $(SEEDS) $(FIRST)
+
+pictures:
+	@cd crates/timeline && rt run < ../../examples/reclaiming.lines > /dev/null
+	@for name in $(PICTURES); do crates/timeline/out/timeline < examples/$$name.lines > examples/$$name.svg; done

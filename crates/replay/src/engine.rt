@@ -19,7 +19,7 @@ pub enum Reply {
 }
 
 /// Does what a line says, and replies. Before the first size that is accepted there is no system.
-pub(crate) fn obey(
+pub fn obey(
     system: &mut Option<System>,
     alloc: Global,
     command: Option<Command>,

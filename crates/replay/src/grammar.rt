@@ -22,7 +22,7 @@ pub enum Command {
 const LONGEST: usize = 1024;
 
 /// The command that the line spells. The names of a handshake take memory, nothing else does.
-pub(crate) fn parse(alloc: Global, line: &[u8]) -> Result<Option<Command>, AllocError>
+pub fn parse(alloc: Global, line: &[u8]) -> Result<Option<Command>, AllocError>
     ensures command { IfOk result (λ command. command ≡ command_of line.now) }
     ensures no_memory { OnErr result (is_handshake (command_of line.now) ≡ true) }
 {

@@ -8,7 +8,7 @@ const ROOM: usize = 1025;
 
 /// The beginning of a line whose end wasn't read yet, as far as it matters.
 #[derive(Drop)]
-pub(crate) struct Held {
+pub struct Held {
     bytes: [u8; 1025],
     len: usize,
 }
@@ -24,7 +24,7 @@ impl Model for Held {
 }
 
 impl Held {
-    pub(crate) fn new() -> Held
+    pub fn new() -> Held
         ensures { result ≡ [] }
     {
         Held {
@@ -33,26 +33,26 @@ impl Held {
         }
     }
 
-    pub(crate) fn is_empty(&self) -> bool
+    pub fn is_empty(&self) -> bool
         ensures { result ≡ (length self.now == 0) }
     {
         self.len == 0
     }
 
-    pub(crate) fn as_slice(&self) -> &[u8]
+    pub fn as_slice(&self) -> &[u8]
         ensures { result.now ≡ self.now }
     {
         &self.bytes[..self.len]
     }
 
-    pub(crate) fn clear(&mut self)
+    pub fn clear(&mut self)
         ensures { self.new ≡ [] }
     {
         self.len = 0;
     }
 
     /// Adds bytes, as far as there is room.
-    pub(crate) fn add(&mut self, piece: &[u8])
+    pub fn add(&mut self, piece: &[u8])
         ensures { self.new ≡ take 1025 (self.old ++ piece.now) }
     {
         self.len = put_after(&mut self.bytes, self.len, piece);

@@ -4,9 +4,9 @@
 pub mod device;
 pub mod engine;
 pub mod grammar;
-pub(crate) mod held;
+pub mod held;
 pub(crate) mod keywords;
-pub(crate) mod print;
+pub mod print;
 pub mod spelling;
 pub mod stream;
 pub(crate) mod words;

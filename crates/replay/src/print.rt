@@ -293,7 +293,7 @@ pub(crate) fn is_short_reply(reply: &Reply) -> bool
 }
 
 /// Puts the line of text for a reply behind the text.
-pub(crate) fn put_reply(text: &mut Vec<u8>, reply: &Reply) -> Result<(), AllocError>
+pub fn put_reply(text: &mut Vec<u8>, reply: &Reply) -> Result<(), AllocError>
     ensures text { OnOk result (text.new.items ≡ text.old.items ++ (reply_text reply.now ++ 10 ∷ [])) }
     ensures grows { is_short_reply reply.now ≡ true → OnOk result (vec_len text.new ≤ vec_len text.old + 97) }
     ensures room { is_short_reply reply.now ≡ true → OnErr result (vec_capacity text.old < vec_len text.old + 97) }

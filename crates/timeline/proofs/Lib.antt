@@ -1,0 +1,3 @@
+pub mod LinesTold
+pub mod BytesTold
+pub mod MarksAdded

@@ -1,0 +1,5 @@
+pub mod Faults
+pub mod Marks
+pub mod Reading
+pub mod Drawn
+pub mod Outcome

@@ -1,0 +1,64 @@
+// What a line is about.
+use replay::grammar::Command;
+use system::events::{Act, Event};
+
+/// What is done to a code.
+#[derive(Clone, Copy, Drop)]
+pub enum Touch {
+    Invalidate,
+    /// By place.
+    Look(usize),
+    Weigh,
+    Free,
+    /// It is only asked for.
+    Read,
+}
+
+/// What a line is about, without the names of a request.
+#[derive(Clone, Copy, Drop)]
+pub enum Subject {
+    /// No thread, operation or code.
+    Whole,
+    /// Places, slots and methods.
+    Size(u64, u64, u64),
+    Place(usize, Act),
+    Start,
+    Install,
+    /// By serial.
+    Code(u64, Touch),
+    Ask,
+    Open,
+    /// By the thread's name.
+    Tell(u64),
+    Operate,
+    Close,
+}
+
+impl Subject {
+    pub fn of(command: &Option<Command>) -> Subject {
+        match command {
+            None => Subject::Whole,
+            Some(Command::Size(x, y, z)) => Subject::Size(*x, *y, *z),
+            Some(Command::Do(event)) => Subject::of_event(event),
+        }
+    }
+
+    fn of_event(event: &Event) -> Subject {
+        match event {
+            Event::At(place, act) => Subject::Place(*place, *act),
+            Event::Start => Subject::Start,
+            Event::Install(_) => Subject::Install,
+            Event::Invalidate(serial) => Subject::Code(*serial, Touch::Invalidate),
+            Event::Round | Event::Resolve(_) => Subject::Whole,
+            Event::Look(serial, place) => Subject::Code(*serial, Touch::Look(*place)),
+            Event::Weigh(serial) => Subject::Code(*serial, Touch::Weigh),
+            Event::Free(serial) => Subject::Code(*serial, Touch::Free),
+            Event::Ask(_) => Subject::Ask,
+            Event::Open => Subject::Open,
+            Event::Tell(name) => Subject::Tell(*name),
+            Event::Operate => Subject::Operate,
+            Event::Close => Subject::Close,
+            Event::Count(serial) | Event::CodeState(serial) => Subject::Code(*serial, Touch::Read),
+        }
+    }
+}
