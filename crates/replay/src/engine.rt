@@ -26,6 +26,7 @@ pub fn obey(
 ) -> Result<Reply, AllocError>
     ensures replied { IfOk result (λ said. Replied system.old command said system.new) }
     ensures no_memory { (world : Option World) → IsAt system.old world → OnErr result (TakesIn world command) }
+    ensures kept { OnErr result (system.new ≡ system.old) }
 {
     match command {
         None => Ok(Reply::BadLine),
@@ -43,6 +44,7 @@ fn size(
 ) -> Result<Reply, AllocError>
     ensures replied { IfOk result (λ said. Replied system.old (Some (Command.Size x y z)) said system.new) }
     ensures no_memory { (world : Option World) → IsAt system.old world → OnErr result (TakesIn world (Some (Command.Size x y z))) }
+    ensures kept { OnErr result (system.new ≡ system.old) }
 {
     if system.is_some() {
         return Ok(Reply::BadLine);
@@ -64,6 +66,7 @@ fn event_reply(
 ) -> Result<Reply, AllocError>
     ensures replied { IfOk result (λ said. Replied system.old (Some (Command.Do event)) said system.new) }
     ensures no_memory { (world : Option World) → IsAt system.old world → OnErr result (TakesIn world (Some (Command.Do event))) }
+    ensures kept { OnErr result (system.new ≡ system.old) }
 {
     match system {
         None => Ok(Reply::BadLine),

@@ -1,0 +1,10 @@
+//! The model, stepped line by line, for programs in C, Rust and other languages that call C.
+#![tactic(auto)]
+
+pub mod face;
+pub mod handle;
+pub mod line_model;
+mod loose;
+#[cfg(test)]
+mod tests;
+pub(crate) mod writing;
