@@ -1,11 +1,12 @@
 # `make run` builds the proved program and shows its main job on a shipped example; `make test` is the gate, and then the programs
-# that it built, from outside. `make examples` runs the program alone from outside, on all shipped examples too, and what `make embed` runs:
-# the toy runtimes in C and in Rust that step the model beside them, over the static library; `make bench` times the program;
+# that it built and the library for C, from outside. `make examples` runs the program alone from outside, on all shipped examples too, and
+# what `make embed` runs: the toy runtimes in C and in Rust that step the model beside them, over the static library; `make bench` times
+# the program;
 # `make runs` runs scripts on threads, each a hundred times, and then with each thread and each growth of memory refused in turn;
 # `make hostile` runs the tests of threads twenty times, and those of refused memory with each growth refused in turn;
 # `make soak` runs threads at random over what they share, with one seed after the other, for MINUTES.
 # `make side SEEDS=1000 FIRST=21` plays as many random schedules, from that seed on, on the running layer and on the core beside it.
-# `make pictures` draws the pictures of PICTURES again.
+# `make pictures` draws the pictures of PICTURES, which are in examples, again.
 .PHONY: run test examples embed bench hostile runs soak side pictures
 
 MINUTES ?= 10

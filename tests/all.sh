@@ -1,5 +1,6 @@
 #!/usr/bin/env bash
-# All tests: the gate, and then the programs that it built, from outside. The last line counts both; the status is 0 where none failed.
+# All tests: the gate, and then, from outside, the programs that it built and the library that C links, which is built here. The last line
+# counts them all; the status is 0 where none failed.
 set -uo pipefail
 cd "$(dirname "$0")/.."
 said=$(mktemp)
@@ -10,10 +11,23 @@ counts() {
     tail -n 1 "$said" | sed -nE 's/^([0-9]+) passed, ([0-9]+) failed$/\1 \2/p'
 }
 
+# Runs a command that ends in such a line, and adds its counts. One that ends without that line counts as one failure.
+count() {
+    local more bad
+    "$@" | tee "$said" || status=1
+    read -r more bad < <(counts)
+    passed=$((passed + ${more:-0})) failed=$((failed + ${bad:-1}))
+}
+
+embed() {
+    (cd crates/model && rt lib) && tests/embed.py crates/model/out/libmodel.a
+}
+
 PYTHONUNBUFFERED=1 rt ci | tee "$said" || exit
-read -r proved _ < <(counts)
-tests/program.py crates/monitor/out/monitor crates/monitor/out/monitor.by-rattle | tee "$said"
-status=$?
-read -r passed failed < <(counts)
-echo "$((proved + ${passed:-0})) passed, ${failed:-1} failed"
+read -r passed _ < <(counts)
+failed=0 status=0
+count tests/program.py crates/monitor/out/monitor crates/monitor/out/monitor.by-rattle
+count tests/pictures.py crates/timeline/out/timeline crates/timeline/out/timeline.by-rattle
+count embed
+echo "$passed passed, $failed failed"
 exit "$status"
