@@ -3,7 +3,8 @@
 # `make runs` runs scripts on threads, each a hundred times, and then with each thread and each growth of memory refused in turn;
 # `make hostile` runs the tests of threads twenty times, and those of refused memory with each growth refused in turn;
 # `make soak` runs threads at random over what they share, with one seed after the other, for MINUTES.
-# `make side SEEDS=1000 FIRST=21` plays as many random schedules, from that seed on, on the running layer and on the core beside it.
+# `make side SEEDS=1000 FIRST=21` says how many events that a wrong core loses are found, and plays as many random schedules, from that
+# seed on, on the running layer and on the core beside it.
 .PHONY: run test examples bench hostile runs soak side
 
 MINUTES ?= 10
@@ -37,4 +38,5 @@ soak:
 
 side:
 	@cd crates/side_by_side && rt run
+	@crates/side_by_side/out/side_by_side trials
 	@crates/side_by_side/out/side_by_side $(SEEDS) $(FIRST)

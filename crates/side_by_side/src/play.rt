@@ -1,31 +1,33 @@
 //! Both sides, call by call.
 ghost use Rattle.std.specs.Prelude.{◌≡◌, ◌<◌};
+ghost use Rattle.poll.specs.Rows.{full_armer};
 
-use crate::calls::{Call, CodeCall, RequestCall, ThreadCall};
 use crate::compare::{Difference, Seen, compare, replies, unlike};
 use crate::draw::Draw;
 use crate::habits::{Habits, Phase};
-use crate::oracle::{Live, Oracle};
 use crate::running::{Running, Sizes};
-use crate::said::Said;
 use crate::schedule::Scene;
 use bodies::Name;
 use operations::job::Errand;
+use oracle::{Call, CodeCall, Live, Loss, Oracle, RequestCall, Said, ThreadCall};
+use poll::Armer;
 use std::alloc::{AllocError, Global};
 use std::sync::Wait;
 use thread_list::{Parts, Shared};
 use thread_state::State;
 
 /// The schedule of a seed: so many calls on a system of these sizes.
-#[derive(Clone, Copy, PartialEq, Eq, Debug, Drop)]
+#[derive(Clone, Copy)]
 pub struct Plan {
     pub seed: u64,
     pub calls: u64,
     pub sizes: Sizes,
+    /// Which event the core loses, if any.
+    pub loss: Option<Loss>,
 }
 
 /// How many calls were made, and what they came to.
-#[derive(Clone, Copy, PartialEq, Eq, Debug, Drop)]
+#[derive(Clone, Copy)]
 pub struct Tally {
     pub calls: u64,
     pub refused: u64,
@@ -33,14 +35,27 @@ pub struct Tally {
     pub replies: u64,
     pub censuses: u64,
     pub freed: u64,
+    /// How many events the core lost.
+    pub lost: u64,
+}
+
+/// Where the two sides differ: at the call of the number.
+#[derive(Clone, Copy)]
+pub struct Differ {
+    pub number: u64,
+    pub call: Call,
+    pub found: Difference,
+    /// The number of the call in which the core lost an event; 0 for none.
+    pub lost: u64,
 }
 
 /// Why a schedule isn't played to its end.
-#[derive(Debug, Drop)]
+#[derive(Clone, Copy)]
 pub enum Stopped {
     NoMemory,
-    /// The two sides differ: at the call of the number.
-    Differ(u64, Call, Difference),
+    Differ(Differ),
+    /// The running system refuses the call in which the core lost an event: that it answered as if it were done shows nothing.
+    Void,
 }
 
 impl From<AllocError> for Stopped {
@@ -64,6 +79,8 @@ struct Pair<'a, N: Name, J: Errand> {
     oracle: Oracle,
     running: Running<'a, N, J>,
     tally: Tally,
+    /// The number of the call in which the core lost an event; 0 for none.
+    lost: u64,
 }
 
 /// Plays the schedule of a seed on both sides, and then brings all threads home and frees all codes. Answers what the calls came to.
@@ -80,29 +97,56 @@ pub fn play<N: Name, J: Errand, R: Wait>(
     let Ok((shared, armer)) = Shared::<N, J>::new(alloc, parts) else {
         return Err(Stopped::NoMemory);
     };
+    play_over(rt, alloc, plan, &shared, armer, jobs)
+}
+
+// Plays it over what the threads share.
+fn play_over<N: Name, J: Errand, R: Wait>(
+    rt: &R,
+    alloc: Global,
+    plan: Plan,
+    shared: &Shared<N, J>,
+    armer: Armer,
+    jobs: Vec<J>,
+) -> Result<Tally, Stopped>
+    requires armer { armer ≡ full_armer N.poll_row N.board.places }
+    requires sizes { (plan.sizes.places ≡ N.board.places) × (plan.sizes.slots ≡ N.board.slots) }
+{
+    let running = Running::new(alloc, shared, armer, jobs)?;
+    play_with(rt, alloc, plan, running)
+}
+
+// Plays it beside the core.
+fn play_with<N: Name, J: Errand, R: Wait>(
+    rt: &R,
+    alloc: Global,
+    plan: Plan,
+    running: Running<'_, N, J>,
+) -> Result<Tally, Stopped>
+    requires sizes { (plan.sizes.places ≡ N.board.places) × (plan.sizes.slots ≡ N.board.slots) }
+{
+    let mut pair = Pair {
+        alloc,
+        oracle: core_of(alloc, plan)?,
+        running,
+        tally: Tally::none(),
+        lost: 0,
+    };
+    pair.play_all(rt, plan)
+}
+
+fn core_of(alloc: Global, plan: Plan) -> Result<Oracle, AllocError> {
     let Sizes {
         places,
         slots,
         methods,
     } = plan.sizes;
     let reckless = plan.seed % 16 == 0;
-    let mut pair = Pair {
-        alloc,
-        oracle: Oracle::new(alloc, places, slots, methods, reckless)?,
-        running: Running::new(alloc, &shared, armer, jobs)?,
-        tally: Tally::none(),
-    };
-    pair.play_by(rt, plan)?;
-    if pair.bring_home(rt, plan.sizes)? {
-        pair.free_all(rt, plan.sizes)?;
-    }
-    pair.compare_replies(rt)?;
-    pair.tally.replies = pair.oracle.replies.len() as u64;
-    Ok(pair.tally)
+    Oracle::new(alloc, places, slots, methods, reckless, plan.loss)
 }
 
 /// What making a call came to.
-#[derive(Clone, Copy, PartialEq, Eq, Debug, Drop)]
+#[derive(Clone, Copy, PartialEq)]
 enum Made {
     /// It wasn't made, since it would wait.
     Waits,
@@ -120,6 +164,7 @@ impl Tally {
             replies: 0,
             censuses: 0,
             freed: 0,
+            lost: 0,
         }
     }
 
@@ -131,6 +176,7 @@ impl Tally {
         self.replies = self.replies.saturating_add(other.replies);
         self.censuses = self.censuses.saturating_add(other.censuses);
         self.freed = self.freed.saturating_add(other.freed);
+        self.lost = self.lost.saturating_add(other.lost);
     }
 
     fn note(&mut self, said: &Said) -> Made {
@@ -141,7 +187,7 @@ impl Tally {
                 return Made::Refused;
             }
             Said::Exited(_) => self.exits = self.exits.saturating_add(1),
-            Said::Census(_, _) => self.censuses = self.censuses.saturating_add(1),
+            Said::Census(_) => self.censuses = self.censuses.saturating_add(1),
             Said::Freed => self.freed = self.freed.saturating_add(1),
             _ => {}
         }
@@ -159,21 +205,64 @@ impl<'a, N: Name, J: Errand> Pair<'a, N, J> {
         };
         let said = self.running.answer(rt, self.alloc, sizes, &call)?;
         let made = self.tally.note(&said);
-        if let Some(found) = unlike(Seen::Answer, core, said) {
-            return Err(Stopped::Differ(self.tally.calls, call, found));
+        self.note_loss(made)?;
+        match self.unlike(rt, sizes, core, said)? {
+            None => Ok(made),
+            Some(found) => Err(self.differ(call, found)),
         }
-        let seen = compare(
-            rt,
-            self.alloc,
-            sizes,
-            self.tally.calls,
-            &mut self.oracle,
-            &self.running,
-        )?;
-        if let Some(found) = seen {
-            return Err(Stopped::Differ(self.tally.calls, call, found));
+    }
+
+    // The first thing in which the two differ: their answers, or what is seen of them.
+    fn unlike<R: Wait>(
+        &mut self,
+        rt: &R,
+        sizes: Sizes,
+        core: Said,
+        said: Said,
+    ) -> Result<Option<Difference>, AllocError>
+        requires sizes { (sizes.places ≡ N.board.places) × (sizes.slots ≡ N.board.slots) }
+    {
+        let answers = unlike(Seen::Answer, core, said);
+        if answers.is_some() {
+            return Ok(answers);
         }
-        Ok(made)
+        let turn = self.tally.calls;
+        compare(rt, self.alloc, sizes, turn, &mut self.oracle, &self.running)
+    }
+
+    fn differ(&self, call: Call, found: Difference) -> Stopped {
+        Stopped::Differ(Differ {
+            number: self.tally.calls,
+            call,
+            found,
+            lost: self.lost,
+        })
+    }
+
+    // Notes the call in which the core lost an event.
+    fn note_loss(&mut self, made: Made) -> Result<(), Stopped> {
+        if self.lost != 0 || !self.oracle.has_lost() {
+            return Ok(());
+        }
+        if made == Made::Refused {
+            return Err(Stopped::Void);
+        }
+        self.lost = self.tally.calls;
+        self.tally.lost = 1;
+        Ok(())
+    }
+
+    // The schedule, and then all that brings the threads home. Answers what the calls came to.
+    fn play_all<R: Wait>(&mut self, rt: &R, plan: Plan) -> Result<Tally, Stopped>
+        requires sizes { (plan.sizes.places ≡ N.board.places) × (plan.sizes.slots ≡ N.board.slots) }
+    {
+        self.play_by(rt, plan)?;
+        if self.bring_home(rt, plan.sizes)? {
+            self.free_all(rt, plan.sizes)?;
+        }
+        self.compare_replies(rt)?;
+        self.tally.replies = self.oracle.replies.len() as u64;
+        Ok(self.tally)
     }
 
     fn play_by<R: Wait>(&mut self, rt: &R, plan: Plan) -> Result<(), Stopped>
@@ -225,20 +314,41 @@ impl<'a, N: Name, J: Errand> Pair<'a, N, J> {
         requires sizes { (sizes.places ≡ N.board.places) × (sizes.slots ≡ N.board.slots) }
     {
         let live = self.live()?;
-        for thread in &live {
+        self.bring_all_home(rt, sizes, live.as_slice())
+    }
+
+    fn bring_all_home<R: Wait>(
+        &mut self,
+        rt: &R,
+        sizes: Sizes,
+        live: &[Live],
+    ) -> Result<bool, Stopped>
+        requires sizes { (sizes.places ≡ N.board.places) × (sizes.slots ≡ N.board.slots) }
+    {
+        for thread in live {
             if !self.send_away(rt, sizes, *thread)? {
                 return Ok(false);
             }
         }
+        if !self.drive_all(rt, sizes)? {
+            return Ok(false);
+        }
+        for thread in live {
+            self.take_home(rt, sizes, *thread)?;
+        }
+        Ok(true)
+    }
+
+    // All requests are worked on to their Close. Whether none is left.
+    fn drive_all<R: Wait>(&mut self, rt: &R, sizes: Sizes) -> Result<bool, Stopped>
+        requires sizes { (sizes.places ≡ N.board.places) × (sizes.slots ≡ N.board.slots) }
+    {
         for _request in 0..REQUESTS {
             match self.make(rt, sizes, Call::Request(RequestCall::Drive))? {
                 Made::Waits => return Ok(false),
                 Made::Refused => break,
                 Made::Done => {}
             }
-        }
-        for thread in &live {
-            self.take_home(rt, sizes, *thread)?;
         }
         Ok(true)
     }
@@ -272,12 +382,19 @@ impl<'a, N: Name, J: Errand> Pair<'a, N, J> {
         if let State::InVm = self.oracle.state_at(thread.place)? {
             self.make(rt, sizes, Call::Of(thread.name, ThreadCall::FromVm))?;
         }
+        self.return_all(rt, sizes, thread.name)?;
+        self.make(rt, sizes, Call::Exit(thread.name))?;
+        Ok(())
+    }
+
+    fn return_all<R: Wait>(&mut self, rt: &R, sizes: Sizes, name: u64) -> Result<(), Stopped>
+        requires sizes { (sizes.places ≡ N.board.places) × (sizes.slots ≡ N.board.slots) }
+    {
         for _frame in 0..RETURNS {
-            if self.make(rt, sizes, Call::Of(thread.name, ThreadCall::Ret))? != Made::Done {
+            if self.make(rt, sizes, Call::Of(name, ThreadCall::Ret))? != Made::Done {
                 break;
             }
         }
-        self.make(rt, sizes, Call::Exit(thread.name))?;
         Ok(())
     }
 
@@ -306,11 +423,7 @@ impl<'a, N: Name, J: Errand> Pair<'a, N, J> {
             op = reply.op;
             let seen = replies(rt, self.alloc, op, &self.oracle, &self.running)?;
             if let Some(found) = seen {
-                return Err(Stopped::Differ(
-                    self.tally.calls,
-                    Call::Request(RequestCall::Close),
-                    found,
-                ));
+                return Err(self.differ(Call::Request(RequestCall::Close), found));
             }
         }
         Ok(())

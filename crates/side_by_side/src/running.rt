@@ -6,18 +6,17 @@ mod codes;
 mod requests;
 mod threads;
 
-use crate::calls::Call;
-use crate::said::Said;
 use bodies::Name;
 use coordinator::Coordinator;
 use operations::job::Errand;
+use oracle::{Call, Said};
 use poll::Armer;
 use std::alloc::{AllocError, Global};
 use std::sync::Wait;
 use thread_list::{Mutator, Shared};
 
 /// How many places, slots and methods a system has.
-#[derive(Clone, Copy, PartialEq, Eq, Debug, Drop)]
+#[derive(Clone, Copy)]
 pub struct Sizes {
     pub places: usize,
     pub slots: u32,
@@ -31,6 +30,8 @@ pub struct Running<'a, N: Name, J: Errand> {
     pub coordinator: Coordinator<'a, N, J>,
     pub threads: Vec<Mutator<'a, N, J>>,
     pub jobs: Vec<J>,
+    /// What the last census counted: codes with their frames.
+    pub counts: Vec<(u64, u32)>,
 }
 
 impl<'a, N: Name, J: Errand> Running<'a, N, J> {
@@ -50,6 +51,7 @@ impl<'a, N: Name, J: Errand> Running<'a, N, J> {
             coordinator,
             threads: Vec::new(alloc),
             jobs,
+            counts: Vec::new(alloc),
         })
     }
 

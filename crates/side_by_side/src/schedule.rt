@@ -1,15 +1,14 @@
 //! Which call is made next.
 ghost use Rattle.std.specs.Prelude.{◌<◌};
 
-use crate::calls::{Call, CodeCall, Handshake, RequestCall, StepCall, ThreadCall};
 use crate::draw::Draw;
 use crate::habits::{Habits, Phase, Shares};
-use crate::oracle::{Live, Oracle};
 use crate::running::{Running, Sizes};
 use bodies::Name;
 use frames::CodeId;
 use operations::Ask;
 use operations::job::Errand;
+use oracle::{Call, CodeCall, Handshake, Live, Oracle, RequestCall, StepCall, ThreadCall};
 use std::alloc::{AllocError, Global};
 use thread_state::{Back, State};
 
@@ -28,7 +27,7 @@ pub struct Scene<'s, 'a, N: Name, J: Errand> {
 }
 
 // Whom a step of a request is for.
-#[derive(Clone, Copy, PartialEq, Eq, Debug, Drop)]
+#[derive(Clone, Copy)]
 enum Want {
     /// Of the open request, and not told.
     Untold,

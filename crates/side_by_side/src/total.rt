@@ -2,11 +2,12 @@
 ghost use Rattle.std.specs.Prelude.{◌≡◌, ◌≤◌, ◌<◌, IfOk};
 ghost use Rattle.operations.specs.Asks.{reply};
 
-use crate::play::{Plan, Stopped, Tally, play};
+use crate::play::{Differ, Plan, Stopped, Tally, play};
 use crate::running::Sizes;
 use frames::image::Image;
 use operations::Ask;
 use operations::job::{Call, Job};
+use oracle::Loss;
 use std::alloc::{AllocError, Global};
 use std::fmt;
 use std::marker::Brand;
@@ -26,7 +27,7 @@ const CODES: u64 = 24;
 const LATER: u64 = 24;
 
 /// What the schedules of so many seeds came to.
-#[derive(Clone, Copy, PartialEq, Eq, Debug, Drop)]
+#[derive(Clone, Copy)]
 pub struct Total {
     pub seeds: u64,
     pub first: u64,
@@ -34,7 +35,7 @@ pub struct Total {
 }
 
 /// What a seed came to in place of that.
-#[derive(Debug, Drop)]
+#[derive(Clone, Copy)]
 pub struct Found {
     pub seed: u64,
     pub stopped: Stopped,
@@ -63,16 +64,23 @@ impl fmt::Display for Found {
         let seed = self.seed;
         match &self.stopped {
             Stopped::NoMemory => write!(f, "seed {seed}: no memory"),
-            Stopped::Differ(number, call, unlike) => {
-                let seen = unlike.seen;
-                let core = &unlike.core;
-                let running = &unlike.running;
-                write!(
-                    f,
-                    "seed {seed}, call {number}, {call:?}, {seen:?}: the core has {core:?}, the running system {running:?}"
-                )
-            }
+            Stopped::Void => write!(f, "seed {seed}: the core lost an event that is refused"),
+            Stopped::Differ(differ) => write!(f, "seed {seed}, {differ}"),
         }
+    }
+}
+
+impl fmt::Display for Differ {
+    fn fmt<W: fmt::Write>(&self, f: &mut fmt::Formatter<W>) -> fmt::Result {
+        let number = self.number;
+        let call = &self.call;
+        let seen = self.found.seen;
+        let core = &self.found.core;
+        let running = &self.found.running;
+        write!(
+            f,
+            "call {number}, {call:?}, {seen:?}: the core has {core:?}, the running system {running:?}"
+        )
     }
 }
 
@@ -85,7 +93,7 @@ pub fn play_all<R: Wait>(rt: &R, alloc: Global, seeds: u64, first: u64) -> Resul
     };
     for index in 0..seeds {
         let seed = first.saturating_add(index);
-        match play_seed(rt, alloc, seed) {
+        match play_seed(rt, alloc, seed, None) {
             Ok(tally) => total.all.add(tally),
             Err(stopped) => return Err(Found { seed, stopped }),
         }
@@ -122,14 +130,14 @@ fn ask_of(index: u64) -> Ask {
     }
 }
 
-/// Plays the schedule of one seed.
-pub fn play_seed<R: Wait>(rt: &R, alloc: Global, seed: u64) -> Result<Tally, Stopped> {
+/// Plays the schedule of one seed, beside a core that may lose an event.
+pub fn play_seed<R: Wait>(
+    rt: &R,
+    alloc: Global,
+    seed: u64,
+    loss: Option<Loss>,
+) -> Result<Tally, Stopped> {
     let sizes = sizes_of(seed);
-    let slots = sizes.slots as usize;
-    let methods = sizes.methods as usize;
-    let Ok(parts) = Parts::new(alloc, sizes.places, slots, methods) else {
-        return Err(Stopped::NoMemory);
-    };
     let mut jobs = Vec::new(alloc);
     for name in 1..(sizes.places as u64).saturating_add(LATER) {
         for index in 0..2 * SAME + CODES {
@@ -145,10 +153,16 @@ pub fn play_seed<R: Wait>(rt: &R, alloc: Global, seed: u64) -> Result<Tally, Sto
                 .map_err(|_| AllocError)?;
         }
     }
+    let slots = sizes.slots as usize;
+    let methods = sizes.methods as usize;
+    let Ok(parts) = Parts::new(alloc, sizes.places, slots, methods) else {
+        return Err(Stopped::NoMemory);
+    };
     let plan = Plan {
         seed,
         calls: CALLS,
         sizes,
+        loss,
     };
     play::<Brand, Job, R>(rt, alloc, plan, parts, jobs)
 }

@@ -1,21 +1,25 @@
-//! The words of the command line.
-use std::alloc::{AllocError, Global};
+//! The words behind the program's name.
+use std::alloc::Global;
 use std::env::{self, Env};
 
-/// How many seeds there are, the first, and whether it is told what they came to.
-#[derive(Clone, Copy, PartialEq, Eq, Debug, Drop)]
-pub struct Words {
-    pub seeds: u64,
-    pub first: u64,
-    pub told: bool,
+/// What is asked for.
+#[derive(Clone, Copy)]
+pub enum Words {
+    /// The first schedules, and the trials; told is only what is wrong.
+    All,
+    /// The schedules of so many seeds, from the first on.
+    Seeds { seeds: u64, first: u64 },
+    /// The trials, and what each kind came to.
+    Trials,
 }
 
-const SEEDS: u64 = 20;
+/// How many seeds there are where nothing else is said, and the first.
+pub const SEEDS: u64 = 20;
 
-const FIRST: u64 = 1;
+pub const FIRST: u64 = 1;
 
-/// The words are no numbers, or there are too many.
-#[derive(Clone, Copy, PartialEq, Eq, Debug, Drop)]
+/// The words are none of these.
+#[derive(Clone, Copy)]
 pub struct BadWords;
 
 /// The words behind the program's name.
@@ -27,25 +31,20 @@ pub fn read_words<E: Env>(env: &E, alloc: Global) -> Result<Words, BadWords> {
         Ok(words) => words,
         Err(_) => return Err(BadWords),
     };
-    numbers(words.as_slice())
+    asked(words.as_slice())
 }
 
-fn numbers(words: &[String]) -> Result<Words, BadWords> {
+fn asked(words: &[String]) -> Result<Words, BadWords> {
     match words {
-        [_] => Ok(Words {
-            seeds: SEEDS,
-            first: FIRST,
-            told: false,
-        }),
-        [_, seeds] => Ok(Words {
+        [_] => Ok(Words::All),
+        [_, word] if word.as_str() == "trials" => Ok(Words::Trials),
+        [_, seeds] => Ok(Words::Seeds {
             seeds: number(seeds)?,
             first: FIRST,
-            told: true,
         }),
-        [_, seeds, first] => Ok(Words {
+        [_, seeds, first] => Ok(Words::Seeds {
             seeds: number(seeds)?,
             first: number(first)?,
-            told: true,
         }),
         _ => Err(BadWords),
     }

@@ -2,11 +2,11 @@
 ghost use Rattle.std.specs.Prelude.{◌≡◌};
 
 use super::Running;
-use crate::calls::CodeCall;
-use crate::said::{Said, of_free, of_invalidate, of_retire};
+use crate::faults::{of_code, of_free, of_invalidate, of_retire};
 use board::Weighed;
 use bodies::Name;
 use operations::job::Errand;
+use oracle::{CodeCall, Said};
 use std::alloc::{AllocError, Global};
 use std::sync::Wait;
 use system::answers::Refusal;
@@ -35,7 +35,7 @@ impl<'a, N: Name, J: Errand> Running<'a, N, J> {
     fn install<R: Wait>(&mut self, rt: &R, method: u32) -> Result<Said, AllocError> {
         match self.shared.install(rt, method) {
             Ok((serial, _receipt)) => Ok(Said::Code(serial)),
-            Err(fault) => Said::of_code(fault),
+            Err(fault) => of_code(fault),
         }
     }
 

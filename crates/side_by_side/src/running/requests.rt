@@ -2,13 +2,15 @@
 ghost use Rattle.std.specs.Prelude.{◌<◌, length, IfSome};
 
 use super::Running;
-use crate::calls::{Handshake, RequestCall, StepCall};
-use crate::said::{Said, of_close, of_hold, of_open, of_serve, of_tell};
+use crate::faults::{
+    of_ask, of_close, of_drive, of_hold, of_open, of_operate, of_reclaim, of_serve, of_tell,
+};
 use bodies::Name;
 use coordinator::{Driven, NotHeld, NotReclaimed, Reclaimed, Told};
 use desk::Refused;
 use operations::job::Errand;
 use operations::{Ask, Request, Targets};
+use oracle::{Handshake, RequestCall, Said, StepCall};
 use std::alloc::{AllocError, Global};
 use std::sync::Wait;
 use system::answers::Refusal;
@@ -107,7 +109,7 @@ impl<'a, N: Name, J: Errand> Running<'a, N, J> {
     fn submit_census<R: Wait>(&mut self, rt: &R, alloc: Global) -> Result<Said, AllocError> {
         match self.shared.submit(rt, Request::Census, Vec::new(alloc)) {
             Ok((number, _receipt)) => Ok(Said::Asked(number)),
-            Err(refused) => Said::of_ask(refused.fault),
+            Err(refused) => of_ask(refused.fault),
         }
     }
 
@@ -127,7 +129,7 @@ impl<'a, N: Name, J: Errand> Running<'a, N, J> {
             Err(refused) => {
                 let Refused { fault, jobs } = refused;
                 self.put_back(jobs)?;
-                Said::of_ask(fault)
+                of_ask(fault)
             }
         }
     }
@@ -163,8 +165,11 @@ impl<'a, N: Name, J: Errand> Running<'a, N, J> {
 
     fn operate<R: Wait>(&mut self, rt: &R) -> Result<Said, AllocError> {
         match self.coordinator.operate(rt) {
-            Ok((number, counts, _receipt)) => Ok(Said::Census(number, counts)),
-            Err(fault) => Said::of_operate(fault),
+            Ok((number, counts, _receipt)) => {
+                self.counts = counts;
+                Ok(Said::Census(number))
+            }
+            Err(fault) => of_operate(fault),
         }
     }
 
@@ -185,11 +190,14 @@ impl<'a, N: Name, J: Errand> Running<'a, N, J> {
     fn drive<R: Wait>(&mut self, rt: &R) -> Result<Said, AllocError> {
         let driven = match self.coordinator.drive(rt) {
             Ok((driven, _receipt)) => driven,
-            Err(fault) => return Said::of_drive(fault),
+            Err(fault) => return of_drive(fault),
         };
         match driven {
             Driven::Handshake(number) => Ok(Said::Handshake(number)),
-            Driven::Census(number, counts) => Ok(Said::Census(number, counts)),
+            Driven::Census(number, counts) => {
+                self.counts = counts;
+                Ok(Said::Census(number))
+            }
         }
     }
 
@@ -211,7 +219,7 @@ impl<'a, N: Name, J: Errand> Running<'a, N, J> {
             Err(refused) => {
                 let NotReclaimed { fault, jobs } = refused;
                 self.put_back(jobs)?;
-                Said::of_reclaim(fault)
+                of_reclaim(fault)
             }
         }
     }

@@ -2,11 +2,11 @@
 ghost use Rattle.std.specs.Prelude.{◌≡◌, ◌<◌, length, IfSome};
 
 use super::Running;
-use crate::calls::ThreadCall;
-use crate::said::{Said, of_call, of_exit, of_return};
+use crate::faults::{of_call, of_exit, of_poll, of_return, of_start};
 use bodies::{Called, Name};
 use frames::CodeId;
 use operations::job::Errand;
+use oracle::{Said, ThreadCall};
 use std::alloc::{AllocError, Global};
 use std::sync::Wait;
 use system::answers::Refusal;
@@ -35,14 +35,14 @@ fn of_done(said: Result<(), State>) -> Said {
 
 fn of_polled(said: Result<Poll, State>) -> Said {
     match said {
-        Ok(poll) => Said::of_poll(poll),
+        Ok(poll) => of_poll(poll),
         Err(state) => Said::Refused(Refusal::Illegal(state)),
     }
 }
 
 fn of_returned(said: Result<Poll, ReturnFault>) -> Said {
     match said {
-        Ok(poll) => Said::of_poll(poll),
+        Ok(poll) => of_poll(poll),
         Err(fault) => Said::Refused(of_return(fault)),
     }
 }
@@ -100,7 +100,7 @@ impl<'a, N: Name, J: Errand> Running<'a, N, J> {
                 self.keep(thread)?;
                 Ok(said)
             }
-            Err(fault) => Said::of_start(fault),
+            Err(fault) => of_start(fault),
         }
     }
 

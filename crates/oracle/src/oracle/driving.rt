@@ -122,20 +122,20 @@ impl Oracle {
                 return Ok(held);
             }
         }
-        let counted = if self.is_operated() {
-            Said::Census(0, self.counts_of_held()?)
+        if self.is_operated() {
+            self.counts = self.counts_of_held()?;
         } else {
-            self.operate()?
-        };
-        let Said::Census(_, counts) = counted else {
-            return Ok(counted);
-        };
+            let counted = self.operate()?;
+            let Said::Census(_) = counted else {
+                return Ok(counted);
+            };
+        }
         let released = self.release_all()?;
         if released != Said::Done {
             return Ok(released);
         }
         match self.close()? {
-            Said::Closed(number) => Ok(Said::Census(number, counts)),
+            Said::Closed(number) => Ok(Said::Census(number)),
             other => Ok(other),
         }
     }
@@ -165,11 +165,8 @@ impl Oracle {
             let Some(place) = self.held.get(index).copied() else {
                 break;
             };
-            if let Said::Frames(stack) = self.at(place, Act::Stack)? {
-                for frame in &stack {
-                    frames.push(*frame)?;
-                }
-            }
+            let stack = self.stack_at(place)?;
+            frames.extend_from_slice(&stack)?;
         }
         let mut counts = Vec::new(self.alloc);
         for made in &self.codes {

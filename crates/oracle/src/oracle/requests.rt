@@ -9,6 +9,14 @@ use system::events::{Act, Event};
 use thread_state::State;
 
 impl Opened {
+    /// Whether the request is of the name: it is among the handshake's targets, or was given out before the census.
+    pub fn asks(&self, name: u64, names: u64) -> bool {
+        match &self.targets {
+            None => 0 < name && name <= names,
+            Some(targets) => targets.contains(&name),
+        }
+    }
+
     /// Whether a live thread has still to be told, served or counted.
     pub fn is_due(&self, name: u64) -> bool {
         match &self.targets {
@@ -186,9 +194,9 @@ impl Oracle {
             }
         }
         let said = self.play(Event::Operate)?;
-        let Said::Counts(counts) = said else {
+        if said != Said::Counts {
             return Ok(said);
-        };
+        }
         if let Some(open) = &mut self.open {
             open.operated = true;
         }
@@ -196,7 +204,7 @@ impl Oracle {
         if cleared != Said::Done {
             return Ok(cleared);
         }
-        Ok(Said::Census(self.open_number(), counts))
+        Ok(Said::Census(self.open_number()))
     }
 
     // An open census isn't operated, and all threads are held.

@@ -4,7 +4,7 @@ use operations::Ask;
 use std::alloc::{AllocError, Global};
 
 /// What a thread calls.
-#[derive(Clone, Copy, PartialEq, Eq, Debug, Drop)]
+#[derive(Clone, Copy, Debug)]
 pub enum ThreadCall {
     /// Of the method, by the hint.
     Call(u32, Option<CodeId>),
@@ -21,7 +21,7 @@ pub enum ThreadCall {
 }
 
 /// A handshake of so many names, from the first on with the same step between two; with a step of 0 one name stands as often.
-#[derive(Clone, Copy, PartialEq, Eq, Debug, Drop)]
+#[derive(Clone, Copy, Debug)]
 pub struct Handshake {
     pub first: u64,
     pub step: u64,
@@ -45,7 +45,7 @@ impl Handshake {
 }
 
 /// What is called of codes. `Round`, `Look`, `Weigh` and `Free` are the desk's own calls, which `Reclaim` makes in a row.
-#[derive(Clone, Copy, PartialEq, Eq, Debug, Drop)]
+#[derive(Clone, Copy, Debug)]
 pub enum CodeCall {
     Install(u32),
     Invalidate(u64),
@@ -57,7 +57,7 @@ pub enum CodeCall {
 }
 
 /// What is called of a request as a whole.
-#[derive(Clone, Copy, PartialEq, Eq, Debug, Drop)]
+#[derive(Clone, Copy, Debug)]
 pub enum RequestCall {
     SubmitCensus,
     Submit(Handshake),
@@ -67,7 +67,7 @@ pub enum RequestCall {
 }
 
 /// A step of the open request, for a name, for a place, or for all.
-#[derive(Clone, Copy, PartialEq, Eq, Debug, Drop)]
+#[derive(Clone, Copy, Debug)]
 pub enum StepCall {
     Tell(u64),
     Hold(usize),
@@ -77,7 +77,7 @@ pub enum StepCall {
 }
 
 /// A call of the running layer. Threads are told by their names, codes by their serials.
-#[derive(Clone, Copy, PartialEq, Eq, Debug, Drop)]
+#[derive(Clone, Copy, Debug)]
 pub enum Call {
     Start,
     Of(u64, ThreadCall),

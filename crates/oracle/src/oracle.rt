@@ -8,11 +8,12 @@ mod requests;
 mod threads;
 
 use crate::calls::Call;
-use crate::said::Said;
-use frames::CodeId;
+use crate::losses::{Kind, Loss};
+use crate::said::{Said, Target};
+use frames::{CodeId, Frame};
 use std::alloc::{AllocError, Global};
 use system::System;
-use system::answers::Refusal;
+use system::answers::{Answer, CountList, Refusal};
 use system::events::{Act, Event};
 use thread_state::State;
 
@@ -20,7 +21,7 @@ use thread_state::State;
 const CHANGES: usize = 512;
 
 /// A live thread.
-#[derive(Clone, Copy, PartialEq, Eq, Debug, Drop)]
+#[derive(Clone, Copy)]
 pub struct Live {
     pub name: u64,
     pub place: usize,
@@ -44,7 +45,7 @@ pub struct Opened {
 }
 
 /// A reply of an operation.
-#[derive(Clone, Copy, PartialEq, Eq, Debug, Drop)]
+#[derive(Clone, Copy)]
 pub struct Reply {
     pub op: u64,
     pub name: u64,
@@ -52,7 +53,7 @@ pub struct Reply {
 }
 
 /// A code with the method that it is of.
-#[derive(Clone, Copy, PartialEq, Eq, Debug, Drop)]
+#[derive(Clone, Copy)]
 pub struct Made {
     pub method: u32,
     pub id: CodeId,
@@ -65,6 +66,9 @@ pub struct Oracle {
     alloc: Global,
     /// Whether a thread may be stopped by a census, which can't be operated then, since only one thread makes all calls.
     reckless: bool,
+    /// The event that is still to be lost.
+    loss: Option<Loss>,
+    lost: bool,
     /// In the order of their names.
     pub live: Vec<Live>,
     pub names: u64,
@@ -81,6 +85,8 @@ pub struct Oracle {
     /// All codes.
     pub codes: Vec<Made>,
     pub replies: Vec<Reply>,
+    /// What the last census counted: codes with their frames.
+    pub counts: Vec<(u64, u32)>,
 }
 
 impl Oracle {
@@ -90,6 +96,7 @@ impl Oracle {
         slots: u32,
         methods: u32,
         reckless: bool,
+        loss: Option<Loss>,
     ) -> Result<Oracle, AllocError> {
         let Ok(system) = System::new(alloc, places, slots as usize, methods as usize) else {
             return Err(AllocError);
@@ -98,6 +105,8 @@ impl Oracle {
             system,
             alloc,
             reckless,
+            loss,
+            lost: false,
             live: Vec::new(alloc),
             names: 0,
             waiting: Vec::new(alloc),
@@ -108,6 +117,7 @@ impl Oracle {
             hints: vec![in alloc; None; methods as usize]?,
             codes: Vec::new(alloc),
             replies: Vec::new(alloc),
+            counts: Vec::new(alloc),
         })
     }
 
@@ -123,10 +133,48 @@ impl Oracle {
         }
     }
 
-    /// Plays one event.
+    /// Plays one event, where it isn't the one that is lost.
     pub fn play(&mut self, event: Event) -> Result<Said, AllocError> {
+        if let Some(kind) = self.loses(&event) {
+            return Ok(kind.said());
+        }
         let answer = self.system.apply(self.alloc, event)?;
-        Said::of_answer(self.alloc, answer)
+        if let Answer::Census(counts) = &answer {
+            self.keep_counts(counts)?;
+        }
+        Ok(Said::of_answer(&answer))
+    }
+
+    fn keep_counts(&mut self, counts: &CountList) -> Result<(), AllocError> {
+        let mut pairs = Vec::new(self.alloc);
+        for counted in counts.as_slice() {
+            pairs.push((counted.serial, counted.count))?;
+        }
+        self.counts = pairs;
+        Ok(())
+    }
+
+    // The kind of the event, where it is the one that is lost.
+    fn loses(&mut self, event: &Event) -> Option<Kind> {
+        let Loss { kind, before } = self.loss?;
+        if Kind::of(event) != Some(kind) {
+            return None;
+        }
+        if before > 0 {
+            self.loss = Some(Loss {
+                kind,
+                before: before - 1,
+            });
+            return None;
+        }
+        self.loss = None;
+        self.lost = true;
+        Some(kind)
+    }
+
+    /// Whether an event was lost.
+    pub fn has_lost(&self) -> bool {
+        self.lost
     }
 
     fn at(&mut self, place: usize, act: Act) -> Result<Said, AllocError> {
@@ -156,8 +204,11 @@ impl Oracle {
     }
 
     /// The frames of the thread at the place.
-    pub fn stack_at(&mut self, place: usize) -> Result<Said, AllocError> {
-        self.at(place, Act::Stack)
+    pub fn stack_at(&mut self, place: usize) -> Result<Vec<Frame>, AllocError> {
+        match self.system.apply(self.alloc, Event::At(place, Act::Stack))? {
+            Answer::Frames(frames) => Vec::from_slice(self.alloc, frames.as_slice()),
+            _ => Ok(Vec::new(self.alloc)),
+        }
     }
 
     /// The index of the code in the slot; 0 where there is none.
@@ -229,5 +280,37 @@ impl Oracle {
     /// Whether a census was told to the thread at the place and isn't operated: then it doesn't go on past a stop.
     pub fn is_kept(&self, place: usize) -> bool {
         self.armed_at(place) != 0 && self.is_census()
+    }
+
+    /// Whether nothing is open or waits.
+    pub fn is_idle(&self) -> bool {
+        self.open.is_none() && self.waiting.is_empty()
+    }
+
+    /// The name that is live at the place, or that nobody is.
+    pub fn said_at(&self, place: usize) -> Said {
+        match self.name_at(place) {
+            Some(name) => Said::Number(name),
+            None => Said::Gone,
+        }
+    }
+
+    /// How the name stands to the open request.
+    pub fn standing(&self, name: u64) -> Said {
+        let Some(open) = &self.open else {
+            return Said::Refused(Refusal::NothingOpen);
+        };
+        if !open.asks(name, self.names) {
+            return Said::Refused(Refusal::NotOf);
+        }
+        match self.place_of(name) {
+            Some(place) if name <= open.names => Said::Target(Target {
+                number: open.number,
+                place,
+                is_census: open.targets.is_none(),
+                is_done: !open.is_due(name),
+            }),
+            _ => Said::Gone,
+        }
     }
 }

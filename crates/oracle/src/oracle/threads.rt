@@ -87,15 +87,11 @@ impl Oracle {
             method,
             code: Some(id),
         };
-        match self.at(place, Act::Stack)? {
-            Said::Frames(frames) => {
-                if frames.last().copied() == Some(top) {
-                    Ok(Said::Compiled(id.serial))
-                } else {
-                    Ok(Said::Frames(frames))
-                }
-            }
-            other => Ok(other),
+        let frames = self.stack_at(place)?;
+        if frames.last().copied() == Some(top) {
+            Ok(Said::Compiled(id.serial))
+        } else {
+            Ok(Said::Entered)
         }
     }
 
@@ -240,9 +236,7 @@ impl Oracle {
     }
 
     fn depth(&mut self, place: usize) -> Result<usize, AllocError> {
-        match self.at(place, Act::Stack)? {
-            Said::Frames(frames) => Ok(frames.len()),
-            _ => Ok(0),
-        }
+        let frames = self.stack_at(place)?;
+        Ok(frames.len())
     }
 }

@@ -1,0 +1,186 @@
+//! What a running system answers, in the language of both sides.
+use coordinator::{DriveFault, HoldFault, OperateFault, ReclaimFault, ServeFault, TellFault};
+use desk::{AskFault, CloseFault, CodeFault, OpenFault, Standing, StartFault};
+use method_table::table::{FreeFault, InstallFault, InvalidateFault, RetireFault};
+use oracle::{Said, Target};
+use std::alloc::AllocError;
+use system::answers::Refusal;
+use thread_list::{CallFault, ExitFault, Poll, ReturnFault};
+use thread_state::State;
+
+pub fn of_poll(poll: Poll) -> Said {
+    match poll {
+        Poll::Go => Said::Go,
+        Poll::Stop(number) => Said::Stop(number),
+    }
+}
+
+pub fn of_start(fault: StartFault) -> Result<Said, AllocError> {
+    Ok(Said::Refused(match fault {
+        StartFault::SafepointOpen => Refusal::SafepointOpen,
+        StartFault::PlacesFull => Refusal::PlacesFull,
+        StartFault::Spent => Refusal::Spent,
+        StartFault::HistoryFull => return Ok(Said::HistoryFull),
+        StartFault::NoMemory => return Err(AllocError),
+    }))
+}
+
+pub fn of_code(fault: CodeFault) -> Result<Said, AllocError> {
+    Ok(Said::Refused(match fault {
+        CodeFault::Install(InstallFault::NoSuchMethod) => Refusal::NoSuchMethod,
+        CodeFault::Install(InstallFault::HasCode) => Refusal::HasCode,
+        CodeFault::Install(InstallFault::TableFull) => Refusal::TableFull,
+        CodeFault::Install(InstallFault::SerialsSpent) => Refusal::SerialsSpent,
+        CodeFault::HistoryFull => return Ok(Said::HistoryFull),
+        CodeFault::Install(InstallFault::NoMemory) | CodeFault::NoMemory => {
+            return Err(AllocError);
+        }
+    }))
+}
+
+pub fn of_ask(fault: AskFault) -> Result<Said, AllocError> {
+    Ok(Said::Refused(match fault {
+        AskFault::Spent => Refusal::Spent,
+        AskFault::QueueFull => Refusal::QueueFull,
+        AskFault::NoTargets => Refusal::NoTargets,
+        AskFault::BadTargets => Refusal::BadTargets,
+        AskFault::HistoryFull => return Ok(Said::HistoryFull),
+        AskFault::NoMemory => return Err(AllocError),
+    }))
+}
+
+pub fn of_reclaim(fault: ReclaimFault) -> Result<Said, AllocError> {
+    match fault {
+        ReclaimFault::Code(fault) => Ok(Said::Refused(of_retire(fault))),
+        ReclaimFault::AlreadyOpen => Ok(Said::Refused(Refusal::AlreadyOpen)),
+        ReclaimFault::Spent => Ok(Said::Refused(Refusal::Spent)),
+        ReclaimFault::Ask(fault) => of_ask(fault),
+    }
+}
+
+pub fn of_operate(fault: OperateFault) -> Result<Said, AllocError> {
+    match fault {
+        OperateFault::Refused(fault) => Ok(Said::Refused(of_census(fault))),
+        OperateFault::NoMemory => Err(AllocError),
+    }
+}
+
+pub fn of_drive(fault: DriveFault) -> Result<Said, AllocError> {
+    match fault {
+        DriveFault::QueueEmpty => Ok(Said::Refused(Refusal::QueueEmpty)),
+        DriveFault::NoMemory => Err(AllocError),
+    }
+}
+
+pub fn of_call(fault: CallFault) -> Refusal {
+    match fault {
+        CallFault::Illegal(state) => Refusal::Illegal(state),
+        CallFault::NoSuchMethod => Refusal::NoSuchMethod,
+        CallFault::DepthFull => Refusal::DepthFull,
+    }
+}
+
+pub fn of_return(fault: ReturnFault) -> Refusal {
+    match fault {
+        ReturnFault::Illegal(state) => Refusal::Illegal(state),
+        ReturnFault::EmptyStack => Refusal::EmptyStack,
+    }
+}
+
+pub fn of_exit(fault: ExitFault) -> Refusal {
+    match fault {
+        ExitFault::Illegal(state) => Refusal::Illegal(state),
+        ExitFault::StackNotEmpty => Refusal::StackNotEmpty,
+    }
+}
+
+pub fn of_invalidate(fault: InvalidateFault) -> Refusal {
+    match fault {
+        InvalidateFault::Unknown => Refusal::Unknown,
+        InvalidateFault::NotInUse => Refusal::NotInUse,
+    }
+}
+
+pub fn of_retire(fault: RetireFault) -> Refusal {
+    match fault {
+        RetireFault::Unknown => Refusal::Unknown,
+        RetireFault::NotNotEntrant => Refusal::NotNotEntrant,
+    }
+}
+
+pub fn of_free(fault: FreeFault) -> Refusal {
+    match fault {
+        FreeFault::Unknown => Refusal::Unknown,
+        FreeFault::NotZombie => Refusal::NotZombie,
+    }
+}
+
+pub fn of_open(fault: OpenFault) -> Refusal {
+    match fault {
+        OpenFault::AlreadyOpen => Refusal::AlreadyOpen,
+        OpenFault::QueueEmpty => Refusal::QueueEmpty,
+    }
+}
+
+pub fn of_close(fault: CloseFault) -> Refusal {
+    match fault {
+        CloseFault::NothingOpen => Refusal::NothingOpen,
+        CloseFault::Held => Refusal::Held,
+        CloseFault::NotDone => Refusal::NotDone,
+    }
+}
+
+pub fn of_tell(fault: TellFault) -> Refusal {
+    match fault {
+        TellFault::NothingOpen => Refusal::NothingOpen,
+        TellFault::NotOf => Refusal::NotOf,
+        TellFault::AlreadyTold => Refusal::AlreadyTold,
+    }
+}
+
+pub fn of_hold(fault: HoldFault) -> Refusal {
+    match fault {
+        HoldFault::NoSuchPlace => Refusal::NoSuchPlace,
+        HoldFault::Vacant => Refusal::Illegal(State::Vacant),
+        HoldFault::NothingOpen => Refusal::NothingOpen,
+        HoldFault::NotOf => Refusal::NotOf,
+        HoldFault::NotTold => Refusal::NotTold,
+        HoldFault::AlreadyDone => Refusal::AlreadyDone,
+        HoldFault::Held => Refusal::Held,
+        HoldFault::NotSafe => Refusal::NotSafe,
+    }
+}
+
+pub fn of_serve(fault: ServeFault) -> Refusal {
+    match fault {
+        ServeFault::NotHeld => Refusal::NotHeld,
+        ServeFault::NothingOpen => Refusal::NothingOpen,
+        ServeFault::NotOf => Refusal::NotOf,
+        ServeFault::NotTold => Refusal::NotTold,
+        ServeFault::AlreadyDone => Refusal::AlreadyDone,
+    }
+}
+
+fn of_census(fault: desk::OperateFault) -> Refusal {
+    match fault {
+        desk::OperateFault::NothingOpen => Refusal::NothingOpen,
+        desk::OperateFault::NotOf => Refusal::NotOf,
+        desk::OperateFault::AlreadyDone => Refusal::AlreadyDone,
+        desk::OperateFault::NotAllHeld => Refusal::NotAllHeld,
+    }
+}
+
+/// How a name stands to the open request.
+pub fn of_standing(standing: Standing) -> Said {
+    match standing {
+        Standing::NothingOpen => Said::Refused(Refusal::NothingOpen),
+        Standing::NotOf => Said::Refused(Refusal::NotOf),
+        Standing::Gone => Said::Gone,
+        Standing::Asked(target) => Said::Target(Target {
+            number: target.number,
+            place: target.place,
+            is_census: target.is_census,
+            is_done: target.is_done,
+        }),
+    }
+}
