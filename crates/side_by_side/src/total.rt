@@ -138,6 +138,11 @@ pub fn play_seed<R: Wait>(
     loss: Option<Loss>,
 ) -> Result<Tally, Stopped> {
     let sizes = sizes_of(seed);
+    let slots = sizes.slots as usize;
+    let methods = sizes.methods as usize;
+    let Ok(parts) = Parts::new(alloc, sizes.places, slots, methods) else {
+        return Err(Stopped::NoMemory);
+    };
     let mut jobs = Vec::new(alloc);
     for name in 1..(sizes.places as u64).saturating_add(LATER) {
         for index in 0..2 * SAME + CODES {
@@ -153,11 +158,6 @@ pub fn play_seed<R: Wait>(
                 .map_err(|_| AllocError)?;
         }
     }
-    let slots = sizes.slots as usize;
-    let methods = sizes.methods as usize;
-    let Ok(parts) = Parts::new(alloc, sizes.places, slots, methods) else {
-        return Err(Stopped::NoMemory);
-    };
     let plan = Plan {
         seed,
         calls: CALLS,
