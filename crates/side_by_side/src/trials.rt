@@ -32,10 +32,22 @@ impl From<AllocError> for Untold {
     }
 }
 
-// The schedules, from the seed 1 on. In each the event of a kind is lost that so many come before, one a trial.
+// The schedules, from the seed 1 on.
 const SCHEDULES: u64 = 6;
 
-const BEFORE: [u64; 4] = [0, 3, 15, 60];
+// How many events of a kind are lost in a schedule, one a trial.
+const LOSSES: u64 = 4;
+
+// The event that is lost has as many of its kind before it as the square of a number below this.
+const TRIES: u64 = 13;
+
+// What became of a trial: an event was lost, its call was refused anyway, or the schedule has no such event.
+#[derive(Drop)]
+enum Tried {
+    Lost,
+    Refused,
+    None,
+}
 
 /// All kinds, each with whether its loss is always seen at its call: by the thread's state, by what the desk answers of the code, or
 /// since the call has an event that is refused then. A lost Change may have had nothing to change; of the others a later call tells.
@@ -108,37 +120,60 @@ impl fmt::Display for Untold {
     }
 }
 
-// One event is lost. Whether there was one to lose.
+// One event is lost, where there is one.
 fn try_one<R: Wait>(
     rt: &R,
     alloc: Global,
     seed: u64,
     loss: Loss,
     trials: &mut Trials,
-) -> Result<bool, AllocError> {
+) -> Result<Tried, AllocError> {
     match play_seed(rt, alloc, seed, Some(loss)) {
         Ok(tally) => {
             trials.lost = trials.lost.saturating_add(tally.lost);
-            Ok(tally.lost > 0)
+            Ok(if tally.lost > 0 {
+                Tried::Lost
+            } else {
+                Tried::None
+            })
         }
         Err(Stopped::Differ(found)) => {
             trials.note(&found);
-            Ok(true)
+            Ok(Tried::Lost)
         }
-        Err(Stopped::Void) => Ok(true),
+        Err(Stopped::Void) => Ok(Tried::Refused),
         Err(Stopped::NoMemory) => Err(AllocError),
     }
+}
+
+// The trials of a kind in one schedule.
+fn try_schedule<R: Wait>(
+    rt: &R,
+    alloc: Global,
+    seed: u64,
+    trials: &mut Trials,
+) -> Result<(), AllocError> {
+    let kind = trials.kind;
+    let mut left = LOSSES;
+    for root in 0..TRIES {
+        let before = root * root;
+        match try_one(rt, alloc, seed, Loss { kind, before }, trials)? {
+            Tried::Lost => left = left.saturating_sub(1),
+            Tried::Refused => {}
+            Tried::None => return Ok(()),
+        }
+        if left == 0 {
+            return Ok(());
+        }
+    }
+    Ok(())
 }
 
 /// The trials of a kind.
 pub fn try_kind<R: Wait>(rt: &R, alloc: Global, kind: Kind) -> Result<Trials, AllocError> {
     let mut trials = Trials::of(kind);
     for seed in 1..SCHEDULES + 1 {
-        for before in BEFORE {
-            if !try_one(rt, alloc, seed, Loss { kind, before }, &mut trials)? {
-                break;
-            }
-        }
+        try_schedule(rt, alloc, seed, &mut trials)?;
     }
     Ok(trials)
 }
