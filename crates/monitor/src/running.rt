@@ -1,13 +1,15 @@
 // Running a script on threads.
-ghost use Rattle.std.specs.Prelude.{◌≡◌, ◌≤◌, ◌<◌, ◌*◌, ◌-◌, ◌^◌, min, IfOk, IfErr, string_bytes};
+ghost use Rattle.std.specs.Prelude.{◌≡◌, ◌≤◌, ◌<◌, ◌*◌, ◌-◌, ◌^◌, min, All, IfOk, IfErr, length, string_bytes};
 ghost use Rattle.operations.specs.Asks.{reply};
+ghost use Rattle.workers.specs.Jobs.{AreForEach};
 ghost use Rattle.workers.specs.Summaries.{summary_text};
-ghost use Rattle.monitor.specs.Run.{IsNotRun, Printed, FailedWrites};
+ghost use Rattle.monitor.specs.Run.{IsNotRun, IsRunText, Printed, FailedWrites};
 
 use crate::fault::Fault;
+use bodies::Name;
 use frames::image::Image;
 use operations::Ask;
-use operations::job::{Call, Job};
+use operations::job::{Call, Errand, Job};
 use replay::device::Sink;
 use replay::stream::flush;
 use script::Code;
@@ -52,12 +54,33 @@ pub fn run_with<R: Threads + Wait + Sync, G: Gate + Sync, W: Sink>(
         }
         jobs.push_reserved(list);
     }
-    let summary = workers::run::<Brand, Job, R, G>(rt, alloc, code, threads, gate, parts, jobs)?;
-    let mut text = text_of(alloc, &summary)?.into_bytes();
+    let said = text_of_run::<Brand, R, G>(rt, alloc, code, threads, gate, parts, jobs)?;
+    let mut text = said.into_bytes();
     match flush(&mut text, sink) {
         Ok(()) => Ok(()),
         Err(_) => Err(Fault::WriteFailed),
     }
+}
+
+// The text of what a run came to. What it came to carries the name of the run's system, so that no function which picks that name
+// can have it as a value.
+fn text_of_run<N: Name + Send, R: Threads + Wait + Sync, G: Gate + Sync>(
+    rt: &R,
+    alloc: Global,
+    code: &Code,
+    threads: usize,
+    gate: &G,
+    parts: Parts,
+    jobs: Vec<Vec<Job>>,
+) -> Result<String, Fault>
+    requires tables { (parts.board ≡ N.board) × (parts.row ≡ N.poll_row) }
+    requires jobs { length jobs.items ≡ length code.now }
+    requires each { All (λ js. AreForEach ⟦<Job as Errand>⟧.whom ⟦<Job as Errand>⟧.asks threads js.items) jobs.items }
+    ensures text { IfOk result (λ text. IsRunText code.now threads (string_bytes text)) }
+    ensures refused { IfErr result IsNotRun }
+{
+    let summary = workers::run::<N, Job, R, G>(rt, alloc, code, threads, gate, parts, jobs)?;
+    Ok(text_of(alloc, &summary)?)
 }
 
 // The parts of a system of so many places, with two slots a method.
@@ -73,7 +96,7 @@ fn parts_of(alloc: Global, threads: usize, methods: usize) -> Result<Parts, Faul
 }
 
 // The text of a summary.
-fn text_of(alloc: Global, summary: &Summary) -> Result<String, AllocError>
+fn text_of<N: Name>(alloc: Global, summary: &Summary<N>) -> Result<String, AllocError>
     ensures { IfOk result (λ text. string_bytes text ≡ summary_text summary.now) }
 {
     format!(in alloc; "{summary}")

@@ -8,8 +8,10 @@ mod reclaimer;
 mod report;
 mod running;
 mod summary;
+mod tally;
 mod task;
 mod threads;
+mod tries;
 mod worker;
 
 pub use fault::RunFault;
@@ -17,5 +19,7 @@ pub use gate::{Gate, OpenGate};
 pub use report::{Ending, Report};
 pub use running::run;
 pub use summary::{Line, Summary};
+pub use tally::Tally;
 pub use task::FUEL;
+pub use tries::{Counted, Try};
 pub use worker::{Refused, Worker};

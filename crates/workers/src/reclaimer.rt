@@ -1,14 +1,15 @@
 //! The codes of a run: what the thread does that installs and reclaims them.
-ghost use Rattle.std.specs.Prelude.{◌≡◌, ◌==◌, ◌≤◌, ◌<◌, ◌+◌, IfOk, IfSome, OnOk, length};
+ghost use Rattle.std.specs.Prelude.{◌≡◌, ◌==◌, ◌<◌, ◌++◌, [], ◌∷◌, IfOk, OnOk, length};
 ghost use Rattle.std.specs.List.{filter, list_any};
 ghost use Rattle.poll.specs.Rows.{full_armer};
-ghost use Rattle.desk.specs.declared.entries.Entry.{Entry};
-ghost use Rattle.workers.specs.Replacing.{IsInstall, InstallsEach, IsKept, Replaced, ReplacedEach, FreesSome};
+ghost use Rattle.workers.specs.Replacing.{IsInstall, IsInvalidate, IsTry, InstallsEach, Replaced, ReplacedEach, EachMore, IsFinished, left_of};
 
 use crate::fault::RunFault;
+use crate::tally::Tally;
+use crate::tries::{Counted, Try};
 use bodies::Name;
-use coordinator::{Coordinator, Reclaimed};
-use desk::{AskFault, CodeFault, Receipt, ReclaimFault};
+use coordinator::Coordinator;
+use desk::{CodeFault, Receipt};
 use method_table::table::InstallFault;
 use operations::job::Errand;
 use poll::Armer;
@@ -17,16 +18,16 @@ use std::marker::Model;
 use std::sync::Wait;
 use thread_list::Shared;
 
-/// Installs codes, takes them out of use and reclaims them. Contracts see the code of each method that is in use, the codes that are
-/// out of use and not freed, and the receipts of those that were installed and freed.
+/// Installs codes, takes them out of use and reclaims them. Contracts see the code of each method that is in use, the receipts of
+/// those that were installed and taken out of use, and the tries to reclaim these.
 #[derive(Drop)]
 pub struct Reclaimer<'a, N: Name, J: Errand> {
     shared: &'a Shared<N, J>,
     coordinator: Coordinator<'a, N, J>,
     in_use: Vec<u64>,
-    left: Vec<u64>,
     installed: Vec<Receipt<N>>,
-    freed: Vec<Receipt<N>>,
+    invalidated: Vec<Receipt<N>>,
+    tries: Vec<Try<N>>,
 }
 
 impl<'a, N: Name, J: Errand> Model for Reclaimer<'a, N, J> {
@@ -34,15 +35,7 @@ impl<'a, N: Name, J: Errand> Model for Reclaimer<'a, N, J> {
 
     ghost Value = { Codes };
 
-    ghost view = { λ r. record { in_use = r.in_use.items; left = r.left.items; installed = r.installed.items; freed = r.freed.items } };
-}
-
-/// How many codes a run installed and freed, and the sum of all count words at its end.
-#[derive(Clone, Copy, PartialEq, Eq, Debug, Drop)]
-pub struct Tally {
-    pub installed: usize,
-    pub freed: usize,
-    pub counts: u64,
+    ghost view = { λ r. record { in_use = r.in_use.items; installed = r.installed.items; invalidated = r.invalidated.items; tries = r.tries.items } };
 }
 
 impl<'a, N: Name, J: Errand> Reclaimer<'a, N, J> {
@@ -71,9 +64,9 @@ impl<'a, N: Name, J: Errand> Reclaimer<'a, N, J> {
             shared,
             coordinator,
             in_use,
-            left: Vec::new(alloc),
             installed,
-            freed: Vec::new(alloc),
+            invalidated: Vec::new(alloc),
+            tries: Vec::new(alloc),
         })
     }
 
@@ -95,29 +88,24 @@ impl<'a, N: Name, J: Errand> Reclaimer<'a, N, J> {
         Ok(())
     }
 
-    /// Takes all codes out of use, and reclaims all that are left, without jobs.
-    pub fn finish<R: Wait>(self, rt: &R, alloc: Global) -> Result<Tally, RunFault>
-        ensures installed { IfOk result (λ t. t.installed ≡ length self.entry.installed) }
-        ensures freed { IfOk result (λ t. t.freed ≤ length self.entry.freed + length self.entry.left + length self.entry.in_use) }
+    /// Takes all codes out of use, and tries once more to reclaim each that is left, and once each of those, without jobs.
+    pub fn finish<R: Wait>(self, rt: &R, alloc: Global) -> Result<Tally<N>, RunFault>
+        ensures { IfOk result (IsFinished self.entry) }
     {
         let Reclaimer {
             shared,
             mut coordinator,
             in_use,
-            left,
             installed,
-            mut freed,
+            mut invalidated,
+            tries,
         } = self;
-        for serial in &in_use {
-            invalidate(rt, shared, *serial)?;
-        }
-        reclaim_all(rt, alloc, &mut coordinator, &left, &mut freed)?;
-        reclaim_all(rt, alloc, &mut coordinator, &in_use, &mut freed)?;
-        Ok(Tally {
-            installed: installed.len(),
-            freed: freed.len(),
-            counts: shared.peek_counts(),
-        })
+        invalidate_all(rt, shared, &in_use, &mut invalidated)?;
+        let mut last = Vec::new(alloc);
+        try_left(rt, alloc, &mut coordinator, &tries, &mut last)?;
+        try_all(rt, alloc, &mut coordinator, &in_use, &mut last)?;
+        let counts = Counted::read(shared);
+        Ok(Tally::new(installed, invalidated, tries, last, counts))
     }
 
     // Takes the code of a method out of use, installs another, and tries once to reclaim the old one.
@@ -126,37 +114,25 @@ impl<'a, N: Name, J: Errand> Reclaimer<'a, N, J> {
         ensures { OnOk result (Replaced method self.old self.new) }
     {
         let old = self.in_use[method];
-        invalidate(rt, self.shared, old)?;
+        let gone = invalidate(rt, self.shared, old)?;
+        keep(&mut self.invalidated, gone)?;
         let (new, receipt) = install(rt, self.shared, method)?;
         self.in_use[method] = new;
-        if self.installed.push(receipt).is_err() {
-            return Err(RunFault::NoMemory);
-        }
-        let reclaimed = reclaim(rt, &mut self.coordinator, old, jobs)?;
-        self.keep(old, reclaimed)?;
+        keep(&mut self.installed, receipt)?;
+        let tried = Try::make(rt, &mut self.coordinator, old, jobs)?;
+        keep(&mut self.tries, tried)?;
         Ok(())
     }
+}
 
-    // A code that was taken out of use is freed, or left.
-    fn keep(&mut self, serial: u64, freed: Option<Receipt<N>>) -> Result<(), RunFault>
-        requires { IfSome freed (λ r. r.entry ≡ Entry.Free serial) }
-        ensures kept { OnOk result (IsKept serial self.old.freed self.old.left self.new.freed self.new.left) }
-        ensures same { (self.new.in_use ≡ self.old.in_use) × (self.new.installed ≡ self.old.installed) }
-    {
-        match freed {
-            Some(receipt) => {
-                if self.freed.push(receipt).is_err() {
-                    return Err(RunFault::NoMemory);
-                }
-            }
-            None => {
-                if self.left.push(serial).is_err() {
-                    return Err(RunFault::NoMemory);
-                }
-            }
-        }
-        Ok(())
+// One more item.
+fn keep<T: Drop>(list: &mut Vec<T>, item: T) -> Result<(), RunFault>
+    ensures { OnOk result (list.new.items ≡ list.old.items ++ item ∷ []) }
+{
+    if list.push(item).is_err() {
+        return Err(RunFault::NoMemory);
     }
+    Ok(())
 }
 
 // The jobs that are for live threads.
@@ -198,7 +174,7 @@ fn invalidate<N: Name, J: Errand, R: Wait>(
     shared: &Shared<N, J>,
     serial: u64,
 ) -> Result<Receipt<N>, RunFault>
-    ensures { IfOk result (λ r. r.entry ≡ Entry.Invalidate serial) }
+    ensures { IfOk result (IsInvalidate serial) }
 {
     match shared.invalidate(rt, serial) {
         Ok(receipt) => Ok(receipt),
@@ -206,43 +182,55 @@ fn invalidate<N: Name, J: Errand, R: Wait>(
     }
 }
 
-// Reclaims a code, and answers the receipt of its Free where it is freed.
-fn reclaim<N: Name, J: Errand, R: Wait>(
+// Takes codes out of use, and keeps the receipts.
+fn invalidate_all<N: Name, J: Errand, R: Wait>(
     rt: &R,
-    coordinator: &mut Coordinator<'_, N, J>,
-    serial: u64,
-    jobs: Vec<J>,
-) -> Result<Option<Receipt<N>>, RunFault>
-    ensures { IfOk result (λ said. IfSome said (λ r. r.entry ≡ Entry.Free serial)) }
+    shared: &Shared<N, J>,
+    serials: &[u64],
+    invalidated: &mut Vec<Receipt<N>>,
+) -> Result<(), RunFault>
+    ensures { OnOk result (EachMore IsInvalidate serials.now invalidated.old.items invalidated.new.items) }
 {
-    match coordinator.reclaim(rt, serial, jobs) {
-        Ok(Reclaimed::Freed(receipt)) => Ok(Some(receipt)),
-        Ok(Reclaimed::Used(_) | Reclaimed::Late(_)) => Ok(None),
-        Err(refused) => match refused.fault {
-            ReclaimFault::Ask(AskFault::NoMemory) => Err(RunFault::NoMemory),
-            _ => Err(RunFault::Refused),
-        },
+    for serial in serials {
+        let receipt = invalidate(rt, shared, *serial)?;
+        keep(invalidated, receipt)?;
     }
+    Ok(())
 }
 
-// Reclaims codes without jobs, and keeps the receipts of those that are freed.
-fn reclaim_all<N: Name, J: Errand, R: Wait>(
+// Tries once to reclaim each of these codes, without jobs.
+fn try_all<N: Name, J: Errand, R: Wait>(
     rt: &R,
     alloc: Global,
     coordinator: &mut Coordinator<'_, N, J>,
     serials: &[u64],
-    freed: &mut Vec<Receipt<N>>,
+    tries: &mut Vec<Try<N>>,
 ) -> Result<(), RunFault>
-    ensures some { OnOk result (FreesSome serials.now freed.old.items freed.new.items) }
-    ensures few { OnOk result (length freed.new.items ≤ length freed.old.items + length serials.now) }
+    ensures { OnOk result (EachMore IsTry serials.now tries.old.items tries.new.items) }
 {
     for serial in serials {
-        let Some(receipt) = reclaim(rt, coordinator, *serial, Vec::new(alloc))? else {
+        let tried = Try::make(rt, coordinator, *serial, Vec::new(alloc))?;
+        keep(tries, tried)?;
+    }
+    Ok(())
+}
+
+// The same of each code that wasn't freed by the tries before.
+fn try_left<N: Name, J: Errand, R: Wait>(
+    rt: &R,
+    alloc: Global,
+    coordinator: &mut Coordinator<'_, N, J>,
+    before: &[Try<N>],
+    tries: &mut Vec<Try<N>>,
+) -> Result<(), RunFault>
+    ensures { OnOk result (EachMore IsTry (left_of before.now) tries.old.items tries.new.items) }
+{
+    for one in before {
+        if one.is_freed() {
             continue;
-        };
-        if freed.push(receipt).is_err() {
-            return Err(RunFault::NoMemory);
         }
+        let tried = Try::make(rt, coordinator, one.serial(), Vec::new(alloc))?;
+        keep(tries, tried)?;
     }
     Ok(())
 }

@@ -7,7 +7,7 @@ ghost use Rattle.workers.specs.Summaries.{IsSummary};
 
 use crate::fault::RunFault;
 use crate::gate::Gate;
-use crate::reclaimer::{Reclaimer, Tally};
+use crate::reclaimer::Reclaimer;
 use crate::summary::{Summary, lines_of, some_compiled};
 use crate::task::{BeginFault, Task};
 use crate::threads::{Started, join_all, start_all};
@@ -33,7 +33,7 @@ pub fn run<N: Name + Send, J: Errand + Send, R: Threads + Wait + Sync, G: Gate +
     gate: &G,
     parts: Parts,
     jobs: Vec<Vec<J>>,
-) -> Result<Summary, RunFault>
+) -> Result<Summary<N>, RunFault>
     requires tables { (parts.board ≡ N.board) × (parts.row ≡ N.poll_row) }
     requires jobs { length jobs.items ≡ length code.now }
     requires each { All (λ js. AreForEach J.whom J.asks threads js.items) jobs.items }
@@ -54,7 +54,7 @@ fn run_over<'a, N: Name + Send, J: Errand + Send, R: Threads + Wait + Sync, G: G
     shared: &'a Shared<N, J>,
     armer: Armer,
     jobs: Vec<Vec<J>>,
-) -> Result<Summary, RunFault>
+) -> Result<Summary<N>, RunFault>
     requires armer { armer ≡ full_armer N.poll_row N.board.places }
     requires jobs { length jobs.items ≡ length code.now }
     ensures { IfOk result (IsSummary code.now threads) }
@@ -113,7 +113,7 @@ fn run_all<'a, N: Name + Send, J: Errand + Send, R: Threads + Wait + Sync, G: Ga
     tasks: Vec<Task<'a, N, J, R, G>>,
     reclaimer: Reclaimer<'a, N, J>,
     jobs: Vec<Vec<J>>,
-) -> Result<Summary, RunFault>
+) -> Result<Summary<N>, RunFault>
     requires tasks { All (λ t. t.code ≡ code.now) tasks.items }
     requires codes { InstallsEach (length code.now) reclaimer }
     requires jobs { length jobs.items ≡ length code.now }
@@ -123,7 +123,7 @@ fn run_all<'a, N: Name + Send, J: Errand + Send, R: Threads + Wait + Sync, G: Ga
     thread::scope(
         thread::scope_env(),
         rt,
-        move |scope| -> Result<Summary, RunFault>
+        move |scope| -> Result<Summary<N>, RunFault>
             requires { All (λ t. t.code ≡ code.now) tasks.items × InstallsEach (length code.now) reclaimer × (length jobs.items ≡ length code.now) × (vec_len room ≡ 0) × (vec_len tasks ≤ vec_capacity room) }
             ensures { IfOk result (IsSummary code.entry.now (vec_len tasks.entry)) }
         { run_in(scope, rt, alloc, code, tasks, room, reclaimer, jobs) },
@@ -148,7 +148,7 @@ fn run_in<
     room: Vec<Started<N>>,
     reclaimer: Reclaimer<'a, N, J>,
     jobs: Vec<Vec<J>>,
-) -> Result<Summary, RunFault>
+) -> Result<Summary<N>, RunFault>
     requires tasks { All (λ t. t.code ≡ code.now) tasks.items }
     requires codes { InstallsEach (length code.now) reclaimer }
     requires jobs { length jobs.items ≡ length code.now }
@@ -163,16 +163,6 @@ fn run_in<
     let reports = join_all(rt, code, handles)?;
     let lines = lines_of(alloc, code, reports.as_slice())?;
     let compiled = some_compiled(reports.as_slice());
-    let Tally {
-        installed,
-        freed,
-        counts,
-    } = reclaimer.finish(rt, alloc)?;
-    Ok(Summary {
-        lines,
-        compiled,
-        installed,
-        freed,
-        counts,
-    })
+    let codes = reclaimer.finish(rt, alloc)?;
+    Ok(Summary::new(lines, reports, compiled, codes))
 }

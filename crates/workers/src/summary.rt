@@ -1,14 +1,16 @@
 //! What a run came to, and its text.
 ghost use Rattle.std.specs.Prelude.{◌≡◌, ◌+◌, All, IfOk, length, Some};
 ghost use Rattle.workers.specs.Ended.{IsReport};
-ghost use Rattle.workers.specs.Summaries.{ending_text, line_text, summary_text, EndsWith, AreLines, some_compiled};
+ghost use Rattle.workers.specs.Summaries.{ending_text, line_text, summary_text, EndsWith, Tells, AreLines, some_compiled};
 
 use crate::fault::RunFault;
 use crate::report::{Ending, Report};
+use crate::tally::Tally;
 use bodies::Name;
 use script::Code;
 use std::alloc::Global;
 use std::fmt;
+use std::marker::Model;
 
 /// What is told of one thread: its name, how its run ended, and how many marks it made.
 #[derive(Clone, Copy, PartialEq, Eq, Debug, Drop)]
@@ -18,15 +20,63 @@ pub struct Line {
     pub made: u64,
 }
 
-/// What is told of a run: a line for each thread in rising name, whether some frame was compiled, how many codes were installed and
-/// freed, and the sum of all count words. `{}` is the text, each line with a newline.
-#[derive(Debug, Drop)]
-pub struct Summary {
-    pub lines: Vec<Line>,
-    pub compiled: bool,
-    pub installed: usize,
-    pub freed: usize,
-    pub counts: u64,
+/// What a run came to: a line for each thread in rising name, with its report, whether some frame was compiled, and what was done to
+/// the codes. `{}` is the text, each line with a newline.
+#[derive(Drop)]
+pub struct Summary<N: Name> {
+    lines: Vec<Line>,
+    reports: Vec<Report<N>>,
+    compiled: bool,
+    codes: Tally<N>,
+}
+
+impl<N: Name> Model for Summary<N> {
+    ghost use Rattle.workers.specs.Summaries.{Summed};
+
+    ghost Value = { Summed };
+
+    ghost view = { λ s. record { lines = s.lines.items; reports = s.reports.items; compiled = s.compiled; codes = s.codes } };
+}
+
+impl<N: Name> Summary<N> {
+    pub(crate) fn new(
+        lines: Vec<Line>,
+        reports: Vec<Report<N>>,
+        compiled: bool,
+        codes: Tally<N>,
+    ) -> Summary<N>
+        ensures { result ≡ record { lines = lines.items; reports = reports.items; compiled = compiled; codes = codes } }
+    {
+        Summary {
+            lines,
+            reports,
+            compiled,
+            codes,
+        }
+    }
+
+    /// The lines of the threads, in rising name.
+    pub fn lines(&self) -> &[Line]
+        ensures { result.now ≡ self.now.lines }
+    {
+        let _ = &self.reports;
+        self.lines.as_slice()
+    }
+
+    /// Whether some frame of some thread was compiled.
+    pub fn compiled(&self) -> bool
+        ensures { result ≡ self.now.compiled }
+    {
+        let _ = &self.reports;
+        self.compiled
+    }
+
+    /// What was done to the codes.
+    pub fn codes(&self) -> &Tally<N>
+        ensures { result.now ≡ self.now.codes }
+    {
+        &self.codes
+    }
 }
 
 impl fmt::Display for Ending {
@@ -49,7 +99,7 @@ impl fmt::Display for Line {
     }
 }
 
-impl fmt::Display for Summary {
+impl<N: Name> fmt::Display for Summary<N> {
     ghost output = { λ summary. Some (summary_text summary) };
 
     fn fmt<W: fmt::Write>(&self, f: &mut fmt::Formatter<W>) -> fmt::Result {
@@ -60,8 +110,9 @@ impl fmt::Display for Summary {
         }
         let compiled = if self.compiled { "yes" } else { "no" };
         write!(f, "compiled {compiled}\n")?;
-        write!(f, "codes {} freed {}\n", self.installed, self.freed)?;
-        write!(f, "counts {}\n", self.counts)
+        let codes = &self.codes;
+        write!(f, "codes {} freed {}\n", codes.installed(), codes.freed())?;
+        write!(f, "counts {}\n", codes.counts())
     }
 }
 
@@ -72,7 +123,7 @@ pub fn lines_of<N: Name>(
     reports: &[Report<N>],
 ) -> Result<Vec<Line>, RunFault>
     requires { All (IsReport code.now) reports.now }
-    ensures lines { IfOk result (λ lines. AreLines code.now 1 lines.items) }
+    ensures lines { IfOk result (λ lines. AreLines code.now 1 reports.now lines.items) }
     ensures len { IfOk result (λ lines. length lines.items ≡ length reports.now) }
 {
     let mut lines = Vec::with_capacity(alloc, reports.len())?;
@@ -86,7 +137,7 @@ pub fn lines_of<N: Name>(
 // The line of the thread of a name.
 fn line_of<N: Name>(code: &Code, report: &Report<N>, name: u64) -> Result<Line, RunFault>
     requires { IsReport code.now report.now }
-    ensures { IfOk result (λ line. (line.name ≡ name) × EndsWith code.now line) }
+    ensures { IfOk result (λ line. (line.name ≡ name) × EndsWith code.now line × Tells report.now line) }
 {
     let _ = code;
     let Ok(ending) = report.ending() else {

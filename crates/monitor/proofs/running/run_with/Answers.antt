@@ -1,7 +1,5 @@
-use Rattle.std.proofs.Common.{rules, refl, subst}
+use Rattle.std.proofs.Common.{rules, refl, string_bytes}
 use Rattle.operations.proofs.Boxed.{answered}
-use Rattle.std.specs.Io.KnownBytes.{Appends}
-use Rattle.replay.specs.Known.{AppendsPart}
 use Rattle.workers.specs.Jobs.{AreForEach}
 use Rattle.thread_list.proofs.Popped.{all_push}
 use Rattle.monitor.proofs.Jobs.{depths_next}
@@ -10,19 +8,13 @@ use Rattle.monitor.proofs.running.run_with.Goals as goal
 
 pub returns-in-Ok-clause-printed : goal.returns-in-Ok-clause-printed
 returns-in-Ok-clause-printed g c =
-    let done = rw c.into_bytes-text.ensures.value at c.in-Ok.ensures.done.0 in (
-      c.in_ok-summary.summary,
-      c.in_ok-summary.ensures,
-      subst (λ bytes. Appends (g.W.Sink.got c.args.sink.now) (g.W.Sink.got c.flush.new.sink) bytes) c.in_ok-text_of.ensures done,
-    )
+    let done = rw c.into_bytes-text.ensures.value at c.in-Ok.ensures.done.0 in
+    (string_bytes c.in_ok-said.said, c.in_ok-said.ensures.text, done)
 
 pub returns-clause-printed : goal.returns-clause-printed
 returns-clause-printed g c =
-    let part = rw c.into_bytes-text.ensures.value at c.in-Err.ensures.part.0 in (
-      c.in_ok-summary.summary,
-      c.in_ok-summary.ensures,
-      subst (λ bytes. AppendsPart (g.W.Sink.got c.args.sink.now) (g.W.Sink.got c.flush.new.sink) bytes) c.in_ok-text_of.ensures part,
-    )
+    let part = rw c.into_bytes-text.ensures.value at c.in-Err.ensures.part.0 in
+    (string_bytes c.in_ok-said.said, c.in_ok-said.ensures.text, part)
 
 -- The boxed callback answers what its closure does.
 pub new-job-requires-clause-answers : goal.new-job-requires-clause-answers
