@@ -1,3 +1,4 @@
 mod Held
 mod Each
 mod Holdings
+mod Closed

@@ -1,6 +1,7 @@
 -- A history with one entry more.
 use Rattle.std.proofs.Common.{◌≡◌, ◌≢◌, ℕ, zero, suc, ◌+◌, ◌<◌, ◌≤◌, List, [], ◌∷◌, ◌++◌, Bool, true, false, not, cond, Some, None, length, map, refl, sym, ap, ◌∙◌, subst, arith, length-append}
 use Rattle.std.specs.Prelude.{◌&&◌, ◌==◌, is_none, slice_get, slice_set}
+use Rattle.std.specs.List.{remove}
 use Rattle.std.proofs.lemmas.Bool.{eq-eqb, ne_eqb, and_parts}
 use Rattle.std.proofs.lemmas.List.{map-append}
 use Rattle.frames.specs.declared.CodeId.{CodeId}
@@ -20,12 +21,11 @@ use Rattle.desk.specs.declared.entries.Entry.TheVariants.{Start, Exit, Ask, Open
 use Rattle.desk.specs.declared.entries.Live.{Live}
 use Rattle.desk.specs.declared.entries.Carried.{Carried}
 use Rattle.desk.specs.declared.entries.Opened.{Opened}
-use Rattle.desk.specs.Machine.{State, step, lawful, start, after_from, legal_from, after, is_legal, needs, is_taken, is_live, without, Asked, Current, needs_of_asked, needs_of_opened, needs_of_codes, states_left, may_open_more, is_first, live_of, open_next, opened_of, rest_of, finished, as_operated, Book, has_census, open_of, passes, is_due, may_operate, may_close, at_number, without_number, steps_of, is_free_slot, Stands, stands}
+use Rattle.desk.specs.Machine.{State, step, lawful, start, after_from, legal_from, after, is_legal, needs, is_taken, is_live, without, Asked, Current, needs_of_asked, needs_of_opened, needs_of_codes, states_left, may_open_more, is_least, is_first, live_of, open_next, opened_of, rest_of, finished, as_operated, Book, has_census, passes, is_due, may_operate, may_close, at_number, without_number, steps_of, is_free_slot, Stands, stands}
 use Rattle.desk.specs.Fields.{IsKept, AreFit, state_of, asked_of, current_of, due_of, IsIndex, IsCarried, AreCarried, DeskSeen, Enters, at}
 use Rattle.desk.proofs.Fewer.{filter_le, filter_less}
-use Rattle.desk.proofs.Newest.{same_at}
 use Rattle.desk.proofs.CodeEntries.{unfreed_parts}
-use Rattle.desk.proofs.OpenLists.{open_at, none_at, set_at, needs_at, needs_without, fit_of, fit_at, fit_push, needs_push}
+use Rattle.desk.proofs.OpenLists.{open_at, none_at, set_at, removed_at, needs_at, needs_without, fit_of, fit_at, fit_push, fit_without, needs_push}
 
 after_from-push : (s : State) (h : List Entry) (e : Entry) → after_from s (h ++ e ∷ []) ≡ step (after_from s h) e
 after_from-push s [] e = refl
@@ -103,10 +103,6 @@ pub carried_push : {J : Type 0} (whom : J → ℕ) (q : List (Waiting (Carried J
 carried_push whom [] w are new = (new, tt)
 carried_push whom (x ∷ q) w are new = (are.0, carried_push whom q w are.1 new)
 
-more_of : (cs : List Current) → may_open_more cs ≡ true → cs ≡ []
-more_of [] h = refl
-more_of (c ∷ cs) h = cc
-
 due_opened : (before : ℕ) (ls : List Live) (a : Asked) → due_of (opened_of before ls a) ≤ steps_of a.request
 due_opened before ls a = by a.request
   where
@@ -115,7 +111,7 @@ due_opened before ls a = by a.request
     by (Handshake targets ask) = let l = filter_le (λ (t : ℕ). is_live t ls) targets in omega arith
 
 pub open_keeps : {J : Type 0} (whom : J → ℕ) (slots methods : ℕ) (b b' : Book) (nn num : ℕ) (live : List Live) (q q' : List (Waiting (Carried J))) (w : Waiting (Carried J)) (os os' : List (Opened J)) (o : Opened J) (t : TableView)
-    → IsKept slots methods b (state_of nn live num q os t) → AreCarried whom q → may_open_more (map current_of os) ≡ true → q ≡ w ∷ q' → os' ≡ os ++ o ∷ []
+    → IsKept slots methods b (state_of nn live num q os t) → AreCarried whom q → may_open_more (map asked_of q) (map current_of os) ≡ true → q ≡ w ∷ q' → os' ≡ os ++ o ∷ []
     → o.number ≡ w.number → o.request ≡ w.request → o.before ≡ nn → o.left ≡ steps_of w.request → o.due.items ≡ live_of live w.load.due.items → o.operated ≡ false
     → b'.history ≡ b.history ++ Open w.number ∷ [] → b'.reserved + 1 ≡ b.reserved → IsKept slots methods b' (state_of nn live num q' os' t) × AreCarried whom q'
 open_keeps whom slots methods b b' nn num live q q' w os os' o t k are none is there_is number request before left due operated there kept =
@@ -162,15 +158,19 @@ due_left name c h fit =
     let less = filter_less (λ (x : ℕ). x == name) c.due h in
     (omega arith, omega arith)
 
+-- where one is due, an entry is left
+pub due_entry : (name : ℕ) (c : Current) → is_due name c ≡ true → due_of c ≤ c.left → 0 < c.left
+due_entry name c h fit = let d = due_left name c h fit in omega (arith, d.0)
+
 pub finish_keeps : {J : Type 0} (slots methods : ℕ) (b b' : Book) (nn num n name reply i : ℕ) (live : List Live) (q : List (Waiting (Carried J))) (os os' : List (Opened J)) (o o' : Opened J) (t : TableView)
     → IsKept slots methods b (state_of nn live num q os t) → IsIndex n os (Some i) → slice_get os i ≡ Some o → os' ≡ slice_set os i o' → current_of o' ≡ finished name (current_of o)
-    → among name o.due.items ≡ true → is_live name live ≡ true
+    → among name o.due.items ≡ true → is_live name live ≡ true → is_least n name (map current_of os) ≡ true
     → b'.history ≡ b.history ++ Finish n name reply ∷ [] → b'.reserved + 1 ≡ b.reserved → IsKept slots methods b' (state_of nn live num q os' t)
-finish_keeps slots methods b b' nn num n name reply i live q os os' o o' t k at here is new due lives there kept =
+finish_keeps slots methods b b' nn num n name reply i live q os os' o o' t k at here is new due lives least there kept =
     let found = open_at n i os o at here in
     let d = due_left name (current_of o) due (fit_of n (map current_of os) (current_of o) k.fit found).1 in
     changes slots methods b b' (Finish n name reply) (finished name) nn num n i live q os os' o o' t k at here is new
-    (both_true _ _ (ap (passes (is_due name)) found ∙ due) lives) refl refl d.0 d.1 there kept
+    (both_true _ _ (both_true _ _ (ap (passes (is_due name)) found ∙ due) lives) least) refl refl d.0 d.1 there kept
 
 operate_left : (c : Current) → may_operate c ≡ true → due_of c ≤ c.left → ((as_operated c).left + 1 ≡ c.left) × (due_of (as_operated c) ≤ (as_operated c).left)
 operate_left c h fit =
@@ -192,21 +192,30 @@ operate_keeps slots methods b b' nn num n i live q os os' o o' t k at here is ne
     changes slots methods b b' (Operate n) as_operated nn num n i live q os os' o o' t k at here is new
     (ap (passes may_operate) found ∙ may) refl refl d.0 d.1 there kept
 
-pub close_keeps : {J : Type 0} (slots methods : ℕ) (b b' : Book) (nn num : ℕ) (live : List Live) (q : List (Waiting (Carried J))) (os os' : List (Opened J)) (o : Opened J) (t : TableView)
-    → IsKept slots methods b (state_of nn live num q os t) → os ≡ o ∷ os' → may_close live (current_of o) ≡ true
+pub close_keeps : {J : Type 0} (slots methods : ℕ) (b b' : Book) (nn num i : ℕ) (live : List Live) (q : List (Waiting (Carried J))) (os os' : List (Opened J)) (o : Opened J) (t : TableView)
+    → IsKept slots methods b (state_of nn live num q os t) → IsIndex o.number os (Some i) → slice_get os i ≡ Some o → os' ≡ remove os i → may_close live (current_of o) ≡ true
     → b'.history ≡ b.history ++ Close o.number ∷ [] → b'.reserved + (1 + o.left) ≡ b.reserved → IsKept slots methods b' (state_of nn live num q os' t)
-close_keeps slots methods b b' nn num live q os os' o t k is may there kept =
-    let cs : map current_of os ≡ current_of o ∷ map current_of os' = ap (map current_of) is in
-    let found : open_of o.number (map current_of os) ≡ Some (current_of o) =
-    ap (open_of o.number) cs ∙ ap (λ x. cond x (Some (current_of o)) (open_of o.number (map current_of os'))) (eq-eqb o.number o.number refl) in
-    let gone : without_number o.number (map current_of os) ≡ map current_of os' =
-    ap (without_number o.number) cs ∙ ap (λ x. cond x (map current_of os') (current_of o ∷ without_number o.number (map current_of os'))) (eq-eqb o.number o.number refl) in
-    let m : needs_of_opened (map current_of os) ≡ (1 + o.left) + needs_of_opened (map current_of os') = ap needs_of_opened cs in
-    let fit : AreFit (current_of o ∷ map current_of os') = subst AreFit cs k.fit in
+close_keeps slots methods b b' nn num i live q os os' o t k at here is may there kept =
+    let found = open_at o.number i os o at here in
+    let gone : map current_of os' ≡ without_number o.number (map current_of os) = ap (map current_of) is ∙ removed_at o.number i os at in
+    let m = needs_without o.number (map current_of os) (current_of o) found in
+    let m' : needs_of_opened (map current_of os') ≡ needs_of_opened (without_number o.number (map current_of os)) = ap needs_of_opened gone in
     keeps slots methods b b' (Close o.number) _ _ k.legal k.state there
     (ap (passes (may_close live)) found ∙ may)
-    (ap (λ (cs : List Current). record { next_name = nn; live = live; next_number = num; waiting = map asked_of q; opened = cs; table = t }) gone)
-    (let z = k.needed in omega arith) fit.2
+    (ap (λ (cs : List Current). record { next_name = nn; live = live; next_number = num; waiting = map asked_of q; opened = cs; table = t }) (sym gone))
+    (let z = k.needed in omega arith)
+    (subst AreFit (sym gone) (fit_without o.number (map current_of os) k.fit))
+
+-- the Close of one that may be closed is lawful
+pub close_is : {J : Type 0} (nn num i : ℕ) (live : List Live) (q : List (Waiting (Carried J))) (os : List (Opened J)) (o : Opened J) (t : TableView)
+    → IsIndex o.number os (Some i) → slice_get os i ≡ Some o → may_close live (current_of o) ≡ true → lawful (state_of nn live num q os t) (Close o.number) ≡ true
+close_is nn num i live q os o t at here may = ap (passes (may_close live)) (open_at o.number i os o at here) ∙ may
+
+-- what stays is kept
+pub same_keeps : {J : Type 0} (slots methods : ℕ) (b : Book) (nn num : ℕ) (live : List Live) (q : List (Waiting (Carried J))) (os os' : List (Opened J)) (t : TableView)
+    → IsKept slots methods b (state_of nn live num q os t) → map current_of os' ≡ map current_of os → IsKept slots methods b (state_of nn live num q os' t)
+same_keeps slots methods b nn num live q os os' t k same =
+    subst (λ (cs : List Current). IsKept slots methods b (record { next_name = nn; live = live; next_number = num; waiting = map asked_of q; opened = cs; table = t })) (sym same) k
 
 -- entries that codes can still make
 needs_of_codes-push : (cs : List Code) (c : Code) → needs_of_codes (cs ++ c ∷ []) ≡ needs_of_codes cs + states_left c.state
@@ -306,20 +315,15 @@ pub enters_by : (d d' : DeskSeen) (s : State) (e : Entry) (r : Stands) → at d 
 enters_by d d' s e r is may history receipt slots methods = record { lawful_is = ap (λ (t : State). lawful t e) is ∙ may; history_is = history; receipt_is = receipt; sizes_stay = (slots, methods) }
 
 -- a Finish is lawful, or not
-pub finish_is : {J : Type 0} (n name reply nn num i : ℕ) (live : List Live) (q : List (Waiting (Carried J))) (os : List (Opened J)) (o : Opened J) (t : TableView) (b : Bool)
-    → IsIndex n os (Some i) → slice_get os i ≡ Some o → b ≡ (is_due name (current_of o) && is_live name live) → lawful (state_of nn live num q os t) (Finish n name reply) ≡ b
-finish_is n name reply nn num i live q os o t b at here is = ap (λ x. passes (is_due name) x && is_live name live) (open_at n i os o at here) ∙ sym is
+pub finish_is : {J : Type 0} (n name reply nn num i : ℕ) (live : List Live) (q : List (Waiting (Carried J))) (os : List (Opened J)) (o : Opened J) (t : TableView) (b least : Bool)
+    → IsIndex n os (Some i) → slice_get os i ≡ Some o → b ≡ (is_due name (current_of o) && is_live name live) → least ≡ is_least n name (map current_of os)
+    → lawful (state_of nn live num q os t) (Finish n name reply) ≡ (b && least)
+finish_is n name reply nn num i live q os o t b least at here is least_is =
+    ap (λ x. (passes (is_due name) x && is_live name live) && is_least n name (map current_of os)) (open_at n i os o at here) ∙ (λ k. sym is k && sym least_is k)
 
 pub finish_not : {J : Type 0} (n name reply nn num : ℕ) (live : List Live) (q : List (Waiting (Carried J))) (os : List (Opened J)) (t : TableView)
     → IsIndex n os None → lawful (state_of nn live num q os t) (Finish n name reply) ≡ false
-finish_not n name reply nn num live q os t none = ap (λ x. passes (is_due name) x && is_live name live) (none_at n os none)
-
-pub may_more : {J : Type 0} (os : List (Opened J)) → length os ≡ 0 → may_open_more (map current_of os) ≡ true
-may_more [] e = refl
-may_more (o ∷ os) e = absurd (omega arith)
-
-pub first_index : {J : Type 0} (os : List (Opened J)) (o : Opened J) → slice_get os 0 ≡ Some o → 0 < length os → IsIndex o.number os (Some 0)
-first_index os o here low = (low, (λ k x l h. absurd (omega arith)), (λ x h. ap (λ (z : Opened _). z.number) (same_at os 0 x o h here)))
+finish_not n name reply nn num live q os t none = ap (λ x. (passes (is_due name) x && is_live name live) && is_least n name (map current_of os)) (none_at n os none)
 
 pub may_operate_is : {J : Type 0} (a b o : Opened J) → a ≡ o → b ≡ o → is_census a.request ≡ true → b.operated ≡ false → may_operate (current_of o) ≡ true
 may_operate_is a b o p q census fresh =

@@ -7,6 +7,7 @@ use Rattle.desk.specs.declared.entries.Entry.{Entry}
 use Rattle.desk.specs.declared.entries.Live.{Live}
 use Rattle.desk.specs.declared.entries.Carried.{Carried}
 use Rattle.desk.specs.declared.entries.Opened.{Opened}
+use Rattle.desk.specs.JobsFit.{JobsLeft}
 use Rattle.desk.specs.Machine.{Asked, Current, State, Book, after, is_legal, needs, targets_of, Stands, stands, lawful, may_operate}
 
 abbrev pub asked_of : {J : Type 0} → Waiting (Carried J) → Asked
@@ -33,6 +34,9 @@ AreCarried whom (w ∷ ws) = IsCarried whom w × AreCarried whom ws
 abbrev pub names_left : {J : Type 0} → (J → ℕ) → Opened J → List ℕ
 names_left whom o = map whom o.jobs.items
 
+abbrev pub jobs_left : {J : Type 0} → (J → ℕ) → Opened J → JobsLeft
+jobs_left whom o = record { number = o.number; names = names_left whom o }
+
 -- how many entries an open request must still make
 abbrev pub due_of : Current → ℕ
 due_of c = (if may_operate c then 1 else 0) + length c.due
@@ -56,7 +60,7 @@ pub record DeskSeen : Type 0 where
   pub slots : ℕ
   pub methods : ℕ
   pub keeper : KeeperView
-  pub jobs : List (List ℕ)
+  pub jobs : List JobsLeft
 
 -- the state that its history comes to
 abbrev pub at : DeskSeen → State

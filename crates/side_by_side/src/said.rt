@@ -218,6 +218,7 @@ pub fn of_open(fault: OpenFault) -> Refusal {
 pub fn of_close(fault: CloseFault) -> Refusal {
     match fault {
         CloseFault::NothingOpen => Refusal::NothingOpen,
+        CloseFault::NotOf => Refusal::NotOf,
         CloseFault::Held => Refusal::Held,
         CloseFault::NotDone => Refusal::NotDone,
     }

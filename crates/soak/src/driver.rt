@@ -105,11 +105,13 @@ impl<'a, N: Name, J: Errand, R: Wait> Driver<'a, N, J, R> {
                 self.invalidate(method)?;
             }
         }
-        match self.choices.below(6) {
-            0 | 1 => self.ask_and_drive(),
-            2 => self.count_by_hand(),
-            3 => self.shake_by_hand(),
-            4 => self.reclaim_with_jobs(),
+        match self.choices.below(8) {
+            0 => self.ask_and_drive(),
+            1 | 2 => self.ask_and_drive_four(),
+            3 => self.count_by_hand(),
+            4 => self.shake_by_hand(),
+            5 => self.shake_four_by_hand(),
+            6 => self.reclaim_with_jobs(),
             _ => self.reclaim(),
         }?;
         self.reclaim()

@@ -31,9 +31,9 @@ use Rattle.system.specs.Operations.{Waiting, Opened, is_marked, with_mark, poll_
 use Rattle.system.specs.Log.{names_given, operations_given, moment}
 use Rattle.system.specs.World.{World, is_live_target, vacant_place, walk, covered, census}
 use Rattle.system.specs.Places.{Effect, becomes, leaves, marks, does, is_lawful, may_while_publishing, to_state, move_by, crosses, polls, changes, pushed, enters, calls, is_known, popped, was_told, is_undone, is_uncleared, in_found, finish_in, clear_in, in_open, go_or_stop}
-use Rattle.system.specs.Step.{lands, at, new_thread, start_at, start, install_in, install, of_code, invalidate, clear_or_late, look, unlooked, weigh_all, weigh, free, open_oldest, may_open, may_tell, tell_in, tell_oldest, all_threads, operate, is_over, close, count, code_or_none}
+use Rattle.system.specs.Step.{lands, at, new_thread, start_at, start, install_in, install, of_code, invalidate, clear_or_late, look, unlooked, weigh_all, weigh, free, open_oldest, awaits_safepoint, may_open, may_tell, tell_in, tell_oldest, all_threads, operate, is_over, close, count, code_or_none}
 use Rattle.system.specs.Runs.{world_of, answer_of, after, answer_to}
-use Rattle.system.proofs.Outcomes.{coded, with_request, with_operated, without_opened, Stands, Acts, is_move, move_of, IsCode, Calls}
+use Rattle.system.proofs.Outcomes.{coded, with_request, with_operated, without_opened, Opens, Stands, Acts, is_move, move_of, IsCode, Calls}
 use Rattle.system.proofs.Cases.{Cases}
 use Rattle.system.proofs.Lists.{found_passes, find_place, any_at, filter_at}
 
@@ -349,6 +349,31 @@ code_case w Q stop serial work h = on (unfreed w.codes serial) refl
     on None e = stop
     on (Some code) e = h code e (eqb-true code.serial serial (and_parts (code.serial == serial) (takes_slot code.state) (found_passes (λ (x : Code). (x.serial == serial) && takes_slot x.state) w.codes code e)).0)
 
+-- A census is opened alone.
+alone_of : (os : List Opened) (b : Bool) → b ≡ true → not (b && not (is_empty os)) ≡ true → os ≡ []
+alone_of [] b h k = refl
+alone_of (o ∷ os) true h k = absurd (false≢true k)
+alone_of (o ∷ os) false h k = absurd (false≢true h)
+
+-- The oldest request that waits may be opened.
+pub opens_of : (w : World) (oldest : Waiting) (others : List Waiting) → may_open w.requests ≡ true → w.requests.waiting ≡ oldest ∷ others → Opens w oldest others
+opens_of w oldest others may e =
+    let a = and_parts (nat_lt (length w.requests.opened) 4 && not (is_safepoint w.requests)) (not (awaits_safepoint w.requests.waiting && not (is_empty w.requests.opened))) may in
+    let b = and_parts (nat_lt (length w.requests.opened) 4) (not (is_safepoint w.requests)) a.0 in
+    record {
+      few = ltb-true (length w.requests.opened) 4 b.0;
+      no_safepoint = not-true (is_safepoint w.requests) b.1;
+      alone = λ census. alone_of w.requests.opened (is_census oldest.request) census (subst (λ ws. not (awaits_safepoint ws && not (is_empty w.requests.opened)) ≡ true) e a.1);
+      waiting_is = e;
+    }
+
+-- A Close of an open operation.
+close_case : (w : World) (P : Event → Answer → World → Type 0) → Cases w P → (number : Option ℕ) (o : Opened) → ((i : ℕ) × (slice_get w.requests.opened i ≡ Some o)) → Comes w P (event.Close number) (close w o)
+close_case w P c number o at =
+    chain2 (Comes w P (event.Close number)) (c.refuses (event.Close number)) (all_threads (λ t. not (t.held && is_target o.request t.name)) w) refusal.Held (is_over w o) refusal.NotDone
+    (accepted (record w { requests = without_opened w o }) (answer.Closed o.number))
+    (λ held over. c.closes number o (record { open_is = record { position = at.0; here = at.1 }; none_held = held; over = over }))
+
 -- Each event, by its cases.
 pub by_cases : (w : World) (P : Event → Answer → World → Type 0) → Cases w P → (e : Event) → P e (answer_to w e) (after w e)
 by_cases w P c (event.At p a) = at_case w P c p a (slice_get w.places p) refl
@@ -388,15 +413,7 @@ by_cases w P c event.Open = chain1 (Comes w P event.Open) (c.refuses event.Open)
   where
     on : may_open w.requests ≡ true → (ws : List Waiting) → w.requests.waiting ≡ ws → Comes w P event.Open (open_oldest w ws)
     on may [] e = c.refuses event.Open refusal.QueueEmpty
-    on may (oldest ∷ others) e =
-        let none : w.requests.opened ≡ [] = empty_of w.requests.opened may in
-        c.opens oldest others (record {
-          few = subst (λ (os : List Opened). length os < 4) (sym none) (omega arith);
-          no_safepoint = ap (λ (os : List Opened). list_any (λ o. is_census o.request) os) none;
-          alone = λ census. none;
-          none_open = none;
-          waiting_is = e;
-        })
+    on may (oldest ∷ others) e = c.opens oldest others (opens_of w oldest others may e)
 by_cases w P c (event.Tell name) = chain2 (Comes w P (event.Tell name)) (c.refuses (event.Tell name)) (not (is_empty w.requests.opened)) refusal.NothingOpen
     (list_any (λ o. may_tell w o.request name) w.requests.opened) refusal.NotOf (tell_oldest w name (filter (λ o. is_live_target w o name) w.requests.opened))
     (λ some may. on may (filter (λ o. is_live_target w o name) w.requests.opened) refl)
@@ -415,10 +432,9 @@ by_cases w P c event.Operate = opened_case w (Comes w P event.Operate) (c.refuse
     chain5 (Comes w P event.Operate) (c.refuses event.Operate) (is_census o.request) refusal.NotOf (not o.operated) refusal.AlreadyDone (all_threads (λ t. t.held) w) refusal.NotAllHeld
     (all_threads (λ t. not (is_publishing t)) w) refusal.Publishing (all_threads is_settled w) refusal.Unpublished (accepted (record w { requests = with_operated w o }) (answer.Census (census w)))
     (λ census new held quiet settled. c.operates o os (record { opened_is = e; census = census; not_operated = not-true o.operated new; held = held; quiet = quiet; settled = settled })))
-by_cases w P c event.Close = opened_case w (Comes w P event.Close) (c.refuses event.Close refusal.NothingOpen) (close w) (λ o os e.
-    chain2 (Comes w P event.Close) (c.refuses event.Close) (all_threads (λ t. not (t.held && is_target o.request t.name)) w) refusal.Held (is_over w o) refusal.NotDone
-    (accepted (record w { requests = without_opened w o }) (answer.Closed o.number))
-    (λ held over. c.closes o (record { open_is = record { position = 0; here = subst (λ (xs : List Opened). slice_get xs 0 ≡ Some o) (sym e) refl }; none_held = held; over = over })))
+by_cases w P c (event.Close None) = opened_case w (Comes w P (event.Close None)) (c.refuses (event.Close None) refusal.NothingOpen) (close w) (λ o os e. close_case w P c None o (0, subst (λ (xs : List Opened). slice_get xs 0 ≡ Some o) (sym e) refl))
+by_cases w P c (event.Close (Some n)) = chain1 (Comes w P (event.Close (Some n))) (c.refuses (event.Close (Some n))) (not (is_empty w.requests.opened)) refusal.NothingOpen (in_found refusal.NotOf (find (λ o. o.number == n) w.requests.opened) (close w))
+    (λ some. found_case w (Comes w P (event.Close (Some n))) refusal.NotOf (c.refuses (event.Close (Some n)) refusal.NotOf) (λ o. o.number == n) w.requests.opened (close w) (λ o e at. close_case w P c (Some n) o at))
 by_cases w P c (event.Count serial) = code_case w (Comes w P (event.Count serial)) (c.refuses (event.Count serial) refusal.Unknown) serial (count w) (λ code found same. c.counts serial code found)
 by_cases w P c (event.CodeState serial) = on (code_of w.codes serial) refl
   where

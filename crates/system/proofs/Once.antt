@@ -1,6 +1,6 @@
 -- Each operation runs at most once.
-use Rattle.std.proofs.Common.{◌≡◌, ℕ, suc, ◌+◌, ◌<◌, Bool, true, false, cond, List, [], ◌∷◌, ◌++◌, length, Some, None, sym, refl, ap, ◌∙◌, ⊎_elim, subst, arith}
-use Rattle.std.specs.Prelude.{not, ◌||◌, ◌&&◌, ◌==◌, slice_get, slice_set}
+use Rattle.std.proofs.Common.{◌≡◌, ℕ, suc, ◌+◌, ◌<◌, Bool, true, false, cond, List, [], ◌∷◌, ◌++◌, length, Some, None, sym, refl, ap, ap₂, ◌∙◌, ⊎_elim, subst, arith}
+use Rattle.std.specs.Prelude.{not, ◌||◌, ◌&&◌, ◌==◌, map, filter, slice_get, slice_set}
 use Rattle.std.proofs.lemmas.Bool.{false≢true, eq-eqb, ne_eqb, ltb-true, ltb-false}
 use Rattle.std.proofs.lemmas.List.Folds.{list_any-append}
 use Rattle.std.specs.Prelude.{nat_lt}
@@ -70,7 +70,7 @@ done_stays w = record {
   tells = λ name opened i. λ n name h. h;
   finds_gone = λ name i. λ n name h. h;
   operates = λ opened others i. λ n name h. list_any-append (λ (mark : Mark). (mark.operation == n) && (mark.name == name)) (marks_of opened.number (live_names w)) w.requests.done ∙ or_later (is_marked (marks_of opened.number (live_names w)) n name) (is_marked w.requests.done n name) h;
-  closes = λ opened i. λ n name h. h;
+  closes = λ number opened i. λ n name h. h;
   counts = λ serial code i. λ n name h. h;
   says_state = λ serial code i. λ n name h. h;
   resolves = λ method i. λ n name h. h;
@@ -139,7 +139,7 @@ past_kept n w k h = record {
   tells = λ name opened i. record { operated = h.operated; was = h.was };
   finds_gone = λ name i. h;
   operates = λ opened others i. record { operated = λ j o x e. (let m = map_at (operated_if opened.number) w.requests.opened j o x in subst (λ (y : Opened). y.operated ≡ true) m.2 (operated_still opened.number m.0 (h.operated j m.0 m.1 (sym (operated_number opened.number m.0) ∙ (ap (λ (y : Opened). y.number) m.2 ∙ e))))); was = h.was };
-  closes = λ opened i. record { operated = λ j o x e. (let m = filter_at (λ (o : Opened). not (o.number == opened.number)) w.requests.opened j o x in h.operated m.0 o m.1 e); was = h.was };
+  closes = λ number opened i. record { operated = λ j o x e. (let m = filter_at (λ (o : Opened). not (o.number == opened.number)) w.requests.opened j o x in h.operated m.0 o m.1 e); was = h.was };
   counts = λ serial code i. h;
   says_state = λ serial code i. h;
   resolves = λ method i. h;
@@ -203,7 +203,7 @@ operating w k = record {
   tells = λ name opened i. tt;
   finds_gone = λ name i. tt;
   operates = λ opened others i. λ z. (opened, others, i.opened_is, i.not_operated, operated_past w opened others k i);
-  closes = λ opened i. tt;
+  closes = λ number opened i. tt;
   counts = λ serial code i. tt;
   says_state = λ serial code i. tt;
   resolves = λ method i. tt;
@@ -268,7 +268,7 @@ named_kept w h = record {
   tells = λ name opened i. h;
   finds_gone = λ name i. h;
   operates = λ opened others i. h;
-  closes = λ opened i. h;
+  closes = λ number opened i. h;
   counts = λ serial code i. h;
   says_state = λ serial code i. h;
   resolves = λ method i. h;
@@ -278,9 +278,27 @@ named_after : (w : World) (events : List Event) → Named w → Named (world_aft
 named_after w [] h = h
 named_after w (e ∷ events) h = named_after (after w e) events (by_cases w (λ e a v. Named v) (named_kept w h) e)
 
--- The log tells which operation is open.
+-- The log tells which operations are open.
 abbrev LogOpen : World → Type 0
-LogOpen w = (i : ℕ) (o : Opened) → slice_get w.requests.opened i ≡ Some o → open_in w.log ≡ o.number
+LogOpen w = open_in w.log ≡ map (λ (o : Opened). o.number) w.requests.opened
+
+numbers_push : (os : List Opened) (o : Opened) → map (λ (x : Opened). x.number) (os ++ o ∷ []) ≡ map (λ (x : Opened). x.number) os ++ o.number ∷ []
+numbers_push [] o = refl
+numbers_push (x ∷ os) o = ap (λ ns. x.number ∷ ns) (numbers_push os o)
+
+numbers_operated : (n : ℕ) (os : List Opened) → map (λ (x : Opened). x.number) (map (operated_if n) os) ≡ map (λ (x : Opened). x.number) os
+numbers_operated n [] = refl
+numbers_operated n (x ∷ os) = ap₂ (λ m ns. m ∷ ns) (operated_number n x) (numbers_operated n os)
+
+numbers_left : (n : ℕ) (os : List Opened) → filter (λ m. not (m == n)) (map (λ (x : Opened). x.number) os) ≡ map (λ (x : Opened). x.number) (filter (λ x. not (x.number == n)) os)
+numbers_left n [] = refl
+numbers_left n (x ∷ os) = by (x.number == n) (numbers_left n os)
+  where
+    by : (b : Bool) → filter (λ m. not (m == n)) (map (λ (y : Opened). y.number) os) ≡ map (λ (y : Opened). y.number) (filter (λ y. not (y.number == n)) os)
+        → cond (not b) (x.number ∷ filter (λ m. not (m == n)) (map (λ (y : Opened). y.number) os)) (filter (λ m. not (m == n)) (map (λ (y : Opened). y.number) os))
+        ≡ map (λ (y : Opened). y.number) (cond (not b) (x ∷ filter (λ y. not (y.number == n)) os) (filter (λ y. not (y.number == n)) os))
+    by true r = r
+    by false r = ap (λ ns. x.number ∷ ns) r
 
 log_kept : (w : World) → LogOpen w → Cases w (λ e a v. LogOpen v)
 log_kept w h = record {
@@ -311,11 +329,11 @@ log_kept w h = record {
   retires = λ serial code i. h;
   frees = λ serial code i. h;
   asks = λ request i. h;
-  opens = λ oldest others i j o x. ⊎_elim (λ old. (let none : slice_get {X = Opened} [] j ≡ Some o = subst (λ os. slice_get os j ≡ Some o) i.none_open old in cc)) (λ new. ap (λ (y : Opened). y.number) new.1) (push_at w.requests.opened (newly_opened w oldest) j o x);
+  opens = λ oldest others i. ap (λ ns. ns ++ oldest.number ∷ []) h ∙ sym (numbers_push w.requests.opened (newly_opened w oldest));
   tells = λ name opened i. h;
   finds_gone = λ name i. h;
-  operates = λ opened others i j o x. (let m = map_at (operated_if opened.number) w.requests.opened j o x in h j m.0 m.1 ∙ (sym (operated_number opened.number m.0) ∙ ap (λ (y : Opened). y.number) m.2));
-  closes = λ opened i j o x. (let m = filter_at (λ (y : Opened). not (y.number == opened.number)) w.requests.opened j o x in h m.0 o m.1);
+  operates = λ opened others i. h ∙ sym (numbers_operated opened.number w.requests.opened);
+  closes = λ number opened i. ap (filter (λ m. not (m == opened.number))) h ∙ numbers_left opened.number w.requests.opened;
   counts = λ serial code i. h;
   says_state = λ serial code i. h;
   resolves = λ method i. h;
@@ -356,7 +374,7 @@ run_at_most_once places slots methods events = record {
       let two : b.0 ≡ second.opened = (let e : b.0 ∷ b.1 ≡ second.opened ∷ [] = sym b.2 ∙ second.opened_is in cc) in
       let still : second.opened.operated ≡ true = there.operated 0 second.opened (subst (λ (os : List Opened). slice_get os 0 ≡ Some second.opened) (sym second.opened_is) refl) (second.number ∙ sym number) in
       false≢true (sym b.3 ∙ (ap (λ (o : Opened). o.operated) two ∙ still)));
-  open_is = λ i o x. log_after (start_world places slots methods) events (λ j p y. cc) i o x;
+  open_is = log_after (start_world places slots methods) events refl;
   name_is = λ place t x. (let w = world_after (start_world places slots methods) events in
       named_after (start_world places slots methods) events (each_start (λ p t. 0 ≡ t.name) places) place t (there_of w place t x));
 }

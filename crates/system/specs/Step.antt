@@ -145,9 +145,17 @@ open_oldest w (oldest ∷ others) =
     })
     (answer.Opened oldest.number (kind_of oldest.request))
 
--- One operation is open at a time. (own choice)
+-- The oldest waiting request is a census.
+abbrev pub awaits_safepoint : List Waiting → Bool
+awaits_safepoint [] = false
+awaits_safepoint (oldest ∷ others) = is_census oldest.request
+
+-- Up to four handshakes are open, or one census alone. (own choice)
 abbrev pub may_open : Requests → Bool
-may_open requests = is_empty requests.opened
+may_open requests =
+    nat_lt (length requests.opened) 4
+    && not (is_safepoint requests)
+    && not (awaits_safepoint requests.waiting && not (is_empty requests.opened))
 
 -- The oldest waiting request is opened.
 abbrev pub open_next : World → Verdict World
@@ -212,6 +220,13 @@ close w opened =
     accepted (record w { requests = record w.requests { opened = filter (λ o. not (o.number == opened.number)) w.requests.opened } })
     (answer.Closed opened.number)
 
+-- The oldest open operation, or that of the number.
+abbrev pub close_of : World → Option ℕ → Verdict World
+close_of w None = in_open w.requests.opened (close w)
+close_of w (Some number) =
+    unless not (is_empty w.requests.opened) refuse NothingOpen then
+    in_found NotOf (find (λ o. o.number == number) w.requests.opened) (close w)
+
 -- The code's count as the threads published it.
 abbrev pub count : World → Code → Verdict World
 count w code = accepted w (answer.Count (walk w (id_of code)))
@@ -239,7 +254,7 @@ outcome w (event.Ask request) = ask w request
 outcome w event.Open = open_next w
 outcome w (event.Tell name) = tell w name
 outcome w event.Operate = in_open w.requests.opened (operate w)
-outcome w event.Close = in_open w.requests.opened (close w)
+outcome w (event.Close number) = close_of w number
 outcome w (event.Count serial) = of_code (unfreed w.codes serial) (count w)
 outcome w (event.CodeState serial) = of_code (code_of w.codes serial) (λ code. accepted w (answer.State code.state))
 outcome w (event.Resolve method) = resolve w method

@@ -245,7 +245,7 @@ impl<N: Name, J: Errand> Shared<N, J> {
         unreachable!()
     }
 
-    /// Waits until the thread of the name is answered for, or is live no more.
+    /// Waits until the thread of the name is answered for in the oldest open request, or is live no more.
     pub fn wait_finished<R: Wait>(&self, rt: &R, name: u64) {
         for _ in rt.forever() {
             let desk = self.desk.lock(rt);
@@ -257,9 +257,9 @@ impl<N: Name, J: Errand> Shared<N, J> {
     }
 }
 
-// Whether the thread of the name has still to be answered for.
+// Whether the thread of the name has still to be answered for in the oldest open request.
 fn is_due<N: Name, J: Errand>(desk: &Desk<N, J>, name: u64) -> bool {
-    match desk.next_due(name.saturating_sub(1)) {
+    match desk.next_awaited(name.saturating_sub(1)) {
         Some(due) => due.name == name,
         None => false,
     }

@@ -139,7 +139,7 @@ all_steps w h = record {
   tells = λ name opened i. rests w (asked w (with_told w.requests opened name) (event.Tell name) answer.Told) (event.Tell name) answer.Told refl (asked_rests w (event.Tell name) answer.Told (record { no_round = refl; no_invalidate = λ r. refl; no_look = λ r q. refl }) (λ q. record { starts_not = refl; exits_not = refl; begins_not = refl; ends_not = refl; enters_not = λ r. refl; misses_not = λ r. refl }) (with_told w.requests opened name));
   finds_gone = λ name i. rests w (noted w (event.Tell name) answer.Gone) (event.Tell name) answer.Gone refl (noted_rests w (event.Tell name) answer.Gone (record { no_round = refl; no_invalidate = λ r. refl; no_look = λ r q. refl }) (λ q. record { starts_not = refl; exits_not = refl; begins_not = refl; ends_not = refl; enters_not = λ r. refl; misses_not = λ r. refl }));
   operates = λ opened others i. rests w (asked w (with_operated w opened) event.Operate (answer.Census (census w))) event.Operate (answer.Census (census w)) refl (asked_rests w event.Operate (answer.Census (census w)) (record { no_round = refl; no_invalidate = λ r. refl; no_look = λ r q. refl }) (λ q. record { starts_not = refl; exits_not = refl; begins_not = refl; ends_not = refl; enters_not = λ r. refl; misses_not = λ r. refl }) (with_operated w opened));
-  closes = λ opened i. rests w (asked w (without_opened w opened) event.Close (answer.Closed opened.number)) event.Close (answer.Closed opened.number) refl (asked_rests w event.Close (answer.Closed opened.number) (record { no_round = refl; no_invalidate = λ r. refl; no_look = λ r q. refl }) (λ q. record { starts_not = refl; exits_not = refl; begins_not = refl; ends_not = refl; enters_not = λ r. refl; misses_not = λ r. refl }) (without_opened w opened));
+  closes = λ number opened i. rests w (asked w (without_opened w opened) (event.Close number) (answer.Closed opened.number)) (event.Close number) (answer.Closed opened.number) refl (asked_rests w (event.Close number) (answer.Closed opened.number) (record { no_round = refl; no_invalidate = λ r. refl; no_look = λ r q. refl }) (λ q. record { starts_not = refl; exits_not = refl; begins_not = refl; ends_not = refl; enters_not = λ r. refl; misses_not = λ r. refl }) (without_opened w opened));
   counts = λ serial code i. rests w (noted w (event.Count serial) (answer.Count (walk w (id_of code)))) (event.Count serial) (answer.Count (walk w (id_of code))) refl (noted_rests w (event.Count serial) (answer.Count (walk w (id_of code))) (record { no_round = refl; no_invalidate = λ r. refl; no_look = λ r q. refl }) (λ q. record { starts_not = refl; exits_not = refl; begins_not = refl; ends_not = refl; enters_not = λ r. refl; misses_not = λ r. refl }));
   says_state = λ serial code i. rests w (noted w (event.CodeState serial) (answer.State code.state)) (event.CodeState serial) (answer.State code.state) refl (noted_rests w (event.CodeState serial) (answer.State code.state) (record { no_round = refl; no_invalidate = λ r. refl; no_look = λ r q. refl }) (λ q. record { starts_not = refl; exits_not = refl; begins_not = refl; ends_not = refl; enters_not = λ r. refl; misses_not = λ r. refl }));
   resolves = λ method i. rests w (noted w (event.Resolve method) (code_or_none (in_use_for w.codes method))) (event.Resolve method) (code_or_none (in_use_for w.codes method)) refl (noted_rests w (event.Resolve method) (code_or_none (in_use_for w.codes method)) (record { no_round = refl; no_invalidate = λ r. refl; no_look = λ r q. refl }) (λ q. record { starts_not = refl; exits_not = refl; begins_not = refl; ends_not = refl; enters_not = λ r. refl; misses_not = λ r. refl }));

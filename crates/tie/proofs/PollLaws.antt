@@ -12,7 +12,8 @@ use Rattle.system.proofs.ByCases.{by_cases}
 use Rattle.system.proofs.Seats.{each_start}
 use Rattle.system.proofs.Worlds.{worlds_are_sound}
 use Rattle.tie.specs.PollRow.{row_of, armed_at, uncleared_at, cleared_at, RowsKeepTheRule, polls_of, IsPolled, ChangesByItsStep, EventsAreTheirPolls}
-use Rattle.tie.proofs.PollKept.{word_is, pending_at, IsLast, IsToldTo}
+use Rattle.tie.proofs.PollMarks.{greatest_first}
+use Rattle.tie.proofs.PollKept.{word_is, pending_at, IsLast, IsAhead}
 use Rattle.tie.proofs.PollTold.{log_tells}
 use Rattle.tie.proofs.PollRows.{RowIn, row_kept}
 use Rattle.tie.proofs.PollSteps.{steps}
@@ -30,7 +31,7 @@ row_start places slots methods = record {
   few = λ p. omega arith;
   waiting = λ p. nothing_waits places p;
   last = λ p. inl (refl, refl);
-  told = each_start (λ p t. IsToldTo no_requests 0 t.name) places;
+  ahead = each_start (λ p t. IsAhead no_requests 0 t.name) places;
   names = λ p. omega arith;
   apart = λ p q some same. absurd (omega arith);
 }
@@ -51,20 +52,21 @@ row_in places slots methods events = onward [] events (row_start places slots me
         subst (λ v. RowIn (world_after v events)) (one_more (start_world places slots methods) before e)
         (onward (before ++ e ∷ []) events (subst RowIn (sym (one_more (start_world places slots methods) before e)) next))
 
-pub row_word : (w : World) → RowIn w → (p : ℕ) → (row_of w p).word ≡ unwrap_or (greatest (uncleared_at p w.log)) 0
+pub row_word : (w : World) → RowIn w → (p : ℕ) → (row_of w p).word ≡ unwrap_or (greatest (uncleared_at p w.requests.told w.requests.cleared w.log)) 0
 row_word w h p = word_is w.requests (thread_at w p) ∙ ap (λ ns. unwrap_or (greatest ns) 0) (h.waiting p)
 
 kept_at : (w : World) → RowIn w → (p : ℕ) → IsPlaceKept (row_of w p)
 kept_at w h p = by (h.last p)
   where
-    by : IsLast (uncleared_at p w.log) (armed_at p w.log) (cleared_at p w.log) → IsPlaceKept (row_of w p)
+    by : IsLast (uncleared_at p w.requests.told w.requests.cleared w.log) (armed_at p w.requests.told w.log) (cleared_at p w.requests.told w.requests.cleared w.log) → IsPlaceKept (row_of w p)
     by (inl a) = record {
       cleared_by = (let same = a.1 in omega arith);
-      word_is = row_word w h p ∙ (ap (λ ns. unwrap_or (greatest ns) 0) a.0 ∙ (let same = eq-eqb (cleared_at p w.log) (armed_at p w.log) a.1 in rw same refl));
+      word_is = row_word w h p ∙ (ap (λ ns. unwrap_or (greatest ns) 0) a.0 ∙ (let same = eq-eqb (cleared_at p w.requests.told w.requests.cleared w.log) (armed_at p w.requests.told w.log) a.1 in rw same refl));
     }
     by (inr a) = record {
-      cleared_by = (let less = a.1 in omega arith);
-      word_is = row_word w h p ∙ (ap (λ ns. unwrap_or (greatest ns) 0) a.0 ∙ (let differ = ne_eqb (cleared_at p w.log) (armed_at p w.log) (λ same. (let less = a.1 in omega arith)) in rw differ refl));
+      cleared_by = (let less = a.3 in omega arith);
+      word_is = row_word w h p ∙ (ap (λ ns. unwrap_or (greatest ns) 0) a.1 ∙ (ap (λ o. unwrap_or o 0) (greatest_first (armed_at p w.requests.told w.log) a.0 a.2)
+          ∙ (let differ = ne_eqb (cleared_at p w.requests.told w.requests.cleared w.log) (armed_at p w.requests.told w.log) (λ same. (let less = a.3 in omega arith)) in rw differ refl)));
     }
 
 pub rows_keep_the_rule : RowsKeepTheRule

@@ -164,7 +164,7 @@ tied_kept w t r h = record {
   tells = λ name opened i. plain (record { event = event.Tell name; answer = answer.Told }) (λ q s f. f) (λ q s f. f);
   finds_gone = λ name i. plain (record { event = event.Tell name; answer = answer.Gone }) (λ q s f. f) (λ q s f. f);
   operates = λ opened others i. plain (record { event = event.Operate; answer = answer.Census (census w) }) (λ q s f. f) (λ q s f. f);
-  closes = λ opened i. plain (record { event = event.Close; answer = answer.Closed opened.number }) (λ q s f. f) (λ q s f. f);
+  closes = λ number opened i. plain (record { event = event.Close number; answer = answer.Closed opened.number }) (λ q s f. f) (λ q s f. f);
   counts = λ serial code i. plain (record { event = event.Count serial; answer = answer.Count (walk w (id_of code)) }) (λ q s f. f) (λ q s f. f);
   says_state = λ serial code i. plain (record { event = event.CodeState serial; answer = answer.State code.state }) (λ q s f. f) (λ q s f. f);
   resolves = λ method i. plain (record { event = event.Resolve method; answer = code_or_none (in_use_for w.codes method) }) (λ q s f. f) (λ q s f. f);

@@ -21,6 +21,9 @@ ask depth => refused NoTargets
 ask depth 7 7 => refused BadTargets
 open => refused QueueEmpty
 close => refused NothingOpen
+close 7 => refused NothingOpen
+close 1 2 => bad line
+close 07 => bad line
 ",
 };
 

@@ -166,7 +166,7 @@ cross 0 => go
 ask depth 1 => asked 1
 ask top 1 => asked 2
 open => open 1 handshake
-open => refused AlreadyOpen
+open => open 2 handshake
 tell 1 => told
 exit 0 => refused OperationPending
 edge 0 => stop 1
@@ -179,6 +179,77 @@ close => refused NotDone
 clear 0 => ok
 cross 0 => go
 close => closed 1
+open => refused QueueEmpty
+tell 1 => told
+edge 0 => stop 2
+take 0 => ok
+finish 0 => reply 0
+clear 0 => ok
+cross 0 => go
+close => closed 2
+",
+};
+
+const FOUR_HANDSHAKES: Transcript = Transcript {
+    name: "four_handshakes",
+    lines: "\
+size 1 4 2 => ok
+start => thread 1 place 0
+begin 0 => ok
+end 0 => ok
+wake 0 => ok
+cross 0 => go
+enter 0 1 => entered
+ask depth 1 => asked 1
+ask top 1 => asked 2
+ask depth 1 => asked 3
+ask depth 2 => asked 4
+ask census => asked 5
+open => open 1 handshake
+open => open 2 handshake
+open => open 3 handshake
+open => open 4 handshake
+open => refused AlreadyOpen
+tell 1 => told
+tell 1 => told
+edge 0 => stop 2
+take 0 => ok
+finish 0 => reply 1
+clear 0 => ok
+cross 0 => stop 2
+close 3 => refused NotDone
+close => closed 1
+take 0 => ok
+tell 1 => told
+finish 0 => reply 0
+clear 0 => ok
+finish 0 => reply 1
+clear 0 => ok
+tell 1 => refused AlreadyTold
+cross 0 => go
+close 3 => closed 3
+open => refused AlreadyOpen
+close => closed 2
+close 1 => refused NotOf
+tell 1 => refused NotOf
+tell 2 => gone
+close => closed 4
+open => open 5 census
+",
+};
+
+const SECOND_TOLD_ALONE: Transcript = Transcript {
+    name: "second_told_alone",
+    lines: "\
+size 1 4 2 => ok
+start => thread 1 place 0
+begin 0 => ok
+end 0 => ok
+wake 0 => ok
+cross 0 => go
+ask depth 2 => asked 1
+ask depth 1 => asked 2
+open => open 1 handshake
 open => open 2 handshake
 tell 1 => told
 edge 0 => stop 2
@@ -186,6 +257,10 @@ take 0 => ok
 finish 0 => reply 0
 clear 0 => ok
 cross 0 => go
+exit 0 => exited 1
+start => thread 2 place 0
+tell 2 => gone
+close => closed 1
 close => closed 2
 ",
 };
@@ -544,7 +619,7 @@ close => closed 1
 ",
 };
 
-pub const RUNS: [Transcript; 13] = [
+pub const RUNS: [Transcript; 15] = [
     LOOK_BEFORE_A_ROUND,
     RECLAIMED_AFTER_ALL_PUBLISHED,
     PUBLICATION_BEGUN_BEFORE_THE_ROUND,
@@ -552,6 +627,8 @@ pub const RUNS: [Transcript; 13] = [
     NEXT_CODE_OF_A_METHOD,
     PLACE_USED_AGAIN,
     TWO_OPERATIONS_IN_TURN,
+    FOUR_HANDSHAKES,
+    SECOND_TOLD_ALONE,
     HELD_IN_NATIVE,
     QUEUE_OF_CENSUSES,
     SAFEPOINT_OF_TWO_THREADS,
