@@ -86,12 +86,25 @@ impl<'a, N: Name, J: Errand> Coordinator<'a, N, J> {
         let Ok(is_census) = self.begin(rt) else {
             return Err(DriveFault::QueueEmpty);
         };
-        self.tell_all(rt);
         if is_census {
-            self.drive_census(rt)
-        } else {
-            Ok(self.drive_handshake(rt))
+            return self.work_census(rt);
         }
+        self.tell_all(rt);
+        Ok(self.drive_handshake(rt))
+    }
+
+    // Tells all live threads the open census, and works it to its Close.
+    pub(crate) fn work_census<R: Wait>(
+        &mut self,
+        rt: &R,
+    ) -> Result<(Driven, Receipt<N>), DriveFault>
+        ensures closed { IfOk result (λ r. r.1.entry ≡ Entry.Close (number_of r.0)) }
+        ensures listed { IfOk result (λ r. IsListed r.0) }
+        ensures free { OnOk result ((self.new.held ≡ []) × (self.new.operated ≡ false)) }
+        ensures refused { IfErr result (drive_refused self.old self.new) }
+    {
+        self.tell_all(rt);
+        self.drive_census(rt)
     }
 
     // Opens the oldest request where nothing is open, and answers whether the open one is a census.
@@ -240,7 +253,7 @@ impl<'a, N: Name, J: Errand> Coordinator<'a, N, J> {
     }
 
     // Holds all live threads, operates the open census over them, brings them back and closes it.
-    pub(crate) fn drive_census<R: Wait>(&mut self, rt: &R) -> Result<(Driven, Receipt<N>), DriveFault>
+    fn drive_census<R: Wait>(&mut self, rt: &R) -> Result<(Driven, Receipt<N>), DriveFault>
         ensures closed { IfOk result (λ r. r.1.entry ≡ Entry.Close (number_of r.0)) }
         ensures listed { IfOk result (λ r. IsListed r.0) }
         ensures free { OnOk result ((self.new.held ≡ []) × (self.new.operated ≡ false)) }

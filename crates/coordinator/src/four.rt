@@ -23,8 +23,7 @@ impl<'a, N: Name, J: Errand> Coordinator<'a, N, J> {
             return Err(DriveFault::QueueEmpty);
         };
         if is_census {
-            self.tell_all(rt);
-            let _ = self.drive_census(rt)?;
+            let _ = self.work_census(rt)?;
             return Ok(1);
         }
         self.open_all(rt);
