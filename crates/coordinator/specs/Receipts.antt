@@ -1,5 +1,5 @@
 -- What receipts say of a body that went back into its berth, and of a request that waits.
-use Rattle.std.specs.Prelude.{◌≡◌, ℕ, false, Option, Some, None, Result, Ok, Err}
+use Rattle.std.specs.Prelude.{◌≡◌, ℕ, true, false, Option, Some, None, Result, Ok, Err}
 use Rattle.std.specs.List.{remove}
 use Rattle.bodies.specs.Bodies.{BodyView}
 use Rattle.desk.specs.declared.entries.Entry.TheVariants.{Finish, Ask}
@@ -23,5 +23,5 @@ IsAttended place name (Err r) back = (r.name ≡ name) × (r.act ≡ NoJob) × (
 -- The request, where there is one, waits under the number.
 abbrev pub IsAskOf : Option Request → Option (ℕ × Stands) → Type 0
 IsAskOf request None = request ≡ None
-IsAskOf None (Some asked) = Unit {0}
+IsAskOf None (Some asked) = true ≡ false
 IsAskOf (Some request) (Some asked) = asked.1.entry ≡ Ask asked.0 request

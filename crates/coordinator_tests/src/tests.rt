@@ -76,16 +76,6 @@ fn wait_for(far: u64, turn: &AtomicU64) -> bool {
     false
 }
 
-// Waits until all is done.
-fn wait_done<R: Wait>(rt: &R, done: &AtomicBool) {
-    for _ in rt.forever() {
-        if done.load(Ordering::SeqCst) {
-            return;
-        }
-        thread::yield_now();
-    }
-}
-
 // Stops where the poll says so. Answers whether it could.
 fn heed<N: Name, J: Errand, R: Wait>(rt: &R, thread: &mut Mutator<'_, N, J>, said: Poll) -> bool {
     match said {

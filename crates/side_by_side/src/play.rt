@@ -1,5 +1,6 @@
 //! Both sides, call by call.
 ghost use Rattle.std.specs.Prelude.{◌≡◌, ◌<◌};
+ghost use Rattle.poll.specs.Rows.{full_armer};
 
 use crate::calls::{Call, CodeCall, RequestCall, ThreadCall};
 use crate::compare::{Difference, Seen, compare, replies, unlike};
@@ -11,6 +12,7 @@ use crate::said::Said;
 use crate::schedule::Scene;
 use bodies::Name;
 use operations::job::Errand;
+use poll::Armer;
 use std::alloc::{AllocError, Global};
 use std::sync::Wait;
 use thread_list::{Parts, Shared};
@@ -82,25 +84,51 @@ pub fn play<N: Name, J: Errand, R: Wait>(
     let Ok((shared, armer)) = Shared::<N, J>::new(alloc, parts) else {
         return Err(Stopped::NoMemory);
     };
+    play_over(rt, alloc, plan, &shared, armer, jobs)
+}
+
+// Plays it over what the threads share.
+fn play_over<N: Name, J: Errand, R: Wait>(
+    rt: &R,
+    alloc: Global,
+    plan: Plan,
+    shared: &Shared<N, J>,
+    armer: Armer,
+    jobs: Vec<J>,
+) -> Result<Tally, Stopped>
+    requires armer { armer ≡ full_armer N.poll_row N.board.places }
+    requires sizes { (plan.sizes.places ≡ N.board.places) × (plan.sizes.slots ≡ N.board.slots) }
+{
+    let running = Running::new(alloc, shared, armer, jobs)?;
+    play_with(rt, alloc, plan, running)
+}
+
+// Plays it beside the core.
+fn play_with<N: Name, J: Errand, R: Wait>(
+    rt: &R,
+    alloc: Global,
+    plan: Plan,
+    running: Running<'_, N, J>,
+) -> Result<Tally, Stopped>
+    requires sizes { (plan.sizes.places ≡ N.board.places) × (plan.sizes.slots ≡ N.board.slots) }
+{
+    let mut pair = Pair {
+        alloc,
+        oracle: core_of(alloc, plan)?,
+        running,
+        tally: Tally::none(),
+    };
+    pair.play_all(rt, plan)
+}
+
+fn core_of(alloc: Global, plan: Plan) -> Result<Oracle, AllocError> {
     let Sizes {
         places,
         slots,
         methods,
     } = plan.sizes;
     let reckless = plan.seed % 16 == 0;
-    let mut pair = Pair {
-        alloc,
-        oracle: Oracle::new(alloc, places, slots, methods, reckless)?,
-        running: Running::new(alloc, &shared, armer, jobs)?,
-        tally: Tally::none(),
-    };
-    pair.play_by(rt, plan)?;
-    if pair.bring_home(rt, plan.sizes)? {
-        pair.free_all(rt, plan.sizes)?;
-    }
-    pair.compare_replies(rt)?;
-    pair.tally.replies = pair.oracle.replies.len() as u64;
-    Ok(pair.tally)
+    Oracle::new(alloc, places, slots, methods, reckless)
 }
 
 /// What making a call came to.
@@ -166,21 +194,41 @@ impl<'a, N: Name, J: Errand> Pair<'a, N, J> {
         if matches!(said, Said::Opened(_)) && self.oracle.open.len() > 1 {
             self.tally.beside = self.tally.beside.saturating_add(1);
         }
-        if let Some(found) = unlike(Seen::Answer, core, said) {
-            return Err(Stopped::Differ(self.tally.calls, call, found));
+        match self.unlike(rt, sizes, core, said)? {
+            None => Ok(made),
+            Some(found) => Err(Stopped::Differ(self.tally.calls, call, found)),
         }
-        let seen = compare(
-            rt,
-            self.alloc,
-            sizes,
-            self.tally.calls,
-            &mut self.oracle,
-            &self.running,
-        )?;
-        if let Some(found) = seen {
-            return Err(Stopped::Differ(self.tally.calls, call, found));
+    }
+
+    // The first thing in which the two differ: their answers, or what is seen of them.
+    fn unlike<R: Wait>(
+        &mut self,
+        rt: &R,
+        sizes: Sizes,
+        core: Said,
+        said: Said,
+    ) -> Result<Option<Difference>, AllocError>
+        requires sizes { (sizes.places ≡ N.board.places) × (sizes.slots ≡ N.board.slots) }
+    {
+        let answers = unlike(Seen::Answer, core, said);
+        if answers.is_some() {
+            return Ok(answers);
         }
-        Ok(made)
+        let turn = self.tally.calls;
+        compare(rt, self.alloc, sizes, turn, &mut self.oracle, &self.running)
+    }
+
+    // The schedule, and then all that brings the threads home. Answers what the calls came to.
+    fn play_all<R: Wait>(&mut self, rt: &R, plan: Plan) -> Result<Tally, Stopped>
+        requires sizes { (plan.sizes.places ≡ N.board.places) × (plan.sizes.slots ≡ N.board.slots) }
+    {
+        self.play_by(rt, plan)?;
+        if self.bring_home(rt, plan.sizes)? {
+            self.free_all(rt, plan.sizes)?;
+        }
+        self.compare_replies(rt)?;
+        self.tally.replies = self.oracle.replies.len() as u64;
+        Ok(self.tally)
     }
 
     fn play_by<R: Wait>(&mut self, rt: &R, plan: Plan) -> Result<(), Stopped>
@@ -232,11 +280,35 @@ impl<'a, N: Name, J: Errand> Pair<'a, N, J> {
         requires sizes { (sizes.places ≡ N.board.places) × (sizes.slots ≡ N.board.slots) }
     {
         let live = self.live()?;
-        for thread in &live {
+        self.bring_all_home(rt, sizes, live.as_slice())
+    }
+
+    fn bring_all_home<R: Wait>(
+        &mut self,
+        rt: &R,
+        sizes: Sizes,
+        live: &[Live],
+    ) -> Result<bool, Stopped>
+        requires sizes { (sizes.places ≡ N.board.places) × (sizes.slots ≡ N.board.slots) }
+    {
+        for thread in live {
             if !self.send_away(rt, sizes, *thread)? {
                 return Ok(false);
             }
         }
+        if !self.drive_all(rt, sizes)? {
+            return Ok(false);
+        }
+        for thread in live {
+            self.take_home(rt, sizes, *thread)?;
+        }
+        Ok(true)
+    }
+
+    // All requests are worked on to their Close. Whether none is left.
+    fn drive_all<R: Wait>(&mut self, rt: &R, sizes: Sizes) -> Result<bool, Stopped>
+        requires sizes { (sizes.places ≡ N.board.places) × (sizes.slots ≡ N.board.slots) }
+    {
         for request in 0..REQUESTS {
             let call = if request % 2 == 0 {
                 RequestCall::DriveFour
@@ -248,9 +320,6 @@ impl<'a, N: Name, J: Errand> Pair<'a, N, J> {
                 Made::Refused => break,
                 Made::Done => {}
             }
-        }
-        for thread in &live {
-            self.take_home(rt, sizes, *thread)?;
         }
         Ok(true)
     }
@@ -284,12 +353,19 @@ impl<'a, N: Name, J: Errand> Pair<'a, N, J> {
         if let State::InVm = self.oracle.state_at(thread.place)? {
             self.make(rt, sizes, Call::Of(thread.name, ThreadCall::FromVm))?;
         }
+        self.return_all(rt, sizes, thread.name)?;
+        self.make(rt, sizes, Call::Exit(thread.name))?;
+        Ok(())
+    }
+
+    fn return_all<R: Wait>(&mut self, rt: &R, sizes: Sizes, name: u64) -> Result<(), Stopped>
+        requires sizes { (sizes.places ≡ N.board.places) × (sizes.slots ≡ N.board.slots) }
+    {
         for _frame in 0..RETURNS {
-            if self.make(rt, sizes, Call::Of(thread.name, ThreadCall::Ret))? != Made::Done {
+            if self.make(rt, sizes, Call::Of(name, ThreadCall::Ret))? != Made::Done {
                 break;
             }
         }
-        self.make(rt, sizes, Call::Exit(thread.name))?;
         Ok(())
     }
 

@@ -90,8 +90,8 @@ fn give_way<N: Name, J: Errand>(shared: &Shared<N, J>, place: usize) {
     }
 }
 
-/// Runs a job on a settled body, enters what it answered, and clears the operation. Answers the receipt of that entry, and whether others
-/// had still to be answered for then.
+/// Runs a job on a settled body, enters what it answered, and clears the operation. Answers the receipt of that entry, and whether
+/// others, those with a greater name, had still to be answered for then.
 pub fn serve<N: Name, J: Errand, R: Wait>(
     rt: &R,
     shared: &Shared<N, J>,

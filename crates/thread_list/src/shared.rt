@@ -200,13 +200,15 @@ impl<N: Name, J: Errand> Shared<N, J> {
         ensures ok { IfOk result (λ r. r.0.entry ≡ Entry.Finish done.op done.target done.reply) }
         ensures err { IfErr result (λ d. d ≡ done) }
     {
+        let name = done.target();
         let mut desk = self.desk.lock(rt);
         let receipt = desk.finish(body, done)?;
-        let others = desk.next_due(0).is_some();
+        let others = desk.next_due(name).is_some();
         Ok((receipt, others))
     }
 
-    /// Enters what a job answered on a settled body. Answers also whether others have still to be answered for.
+    /// Enters what a job answered on a settled body. Answers also whether a thread with a greater name has still to be answered for: the
+    /// first such is found without a look at all that are done.
     pub fn finish<R: Wait>(&self, rt: &R, body: &Body<N>, done: Done) -> (Receipt<N>, bool)
         requires name { body.now.name ≡ done.target }
         requires settled { IsSettled body.now.image }

@@ -1,7 +1,7 @@
 //! A census over threads in Java, in native code, blocked, at a poll and in the VM: it counts what the count words count.
 ghost use Rattle.std.specs.Prelude.{◌≡◌};
 
-use super::{TURNS, heed, run_until, started, wait_done, wait_for};
+use super::{TURNS, heed, run_until, started, wait_for};
 use bodies::Name;
 use coordinator::Coordinator;
 use operations::Request;
@@ -43,6 +43,16 @@ fn go<N: Name, J: Errand, R: Wait>(rt: &R, thread: &mut Mutator<'_, N, J>, index
         return false;
     }
     thread.block(rt).is_ok()
+}
+
+// Waits until all is done.
+fn wait_done<R: Wait>(rt: &R, done: &AtomicBool) {
+    for _ in rt.forever() {
+        if done.load(Ordering::SeqCst) {
+            return;
+        }
+        thread::yield_now();
+    }
 }
 
 // Makes back edges until it is told to stop, and stays at that poll for a while.

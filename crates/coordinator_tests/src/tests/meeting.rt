@@ -1,9 +1,8 @@
-//! Two threads are served in one handshake at once: the job of one waits for that of the other, and each for the other, also where one
-//! of them goes into native code after it was told.
+//! Two threads serve one handshake at once: the job of one waits for that of the other, and each for the other.
 ghost use Rattle.std.specs.Prelude.{◌≡◌};
 ghost use Rattle.operations.specs.Asks.{reply};
 
-use super::{ask_both, heed, run_until, started, wait_done, wait_for};
+use super::{ask_both, run_until, started, wait_for};
 use bodies::Name;
 use coordinator::{Coordinator, Driven};
 use frames::image::Image;
@@ -16,7 +15,7 @@ use std::sync::atomic::{AtomicBool, AtomicU64, Ordering};
 use std::sync::{Arc, Wait};
 use std::test::*;
 use std::thread::{Threads, join};
-use thread_list::{Mutator, Parts, Shared};
+use thread_list::{Parts, Shared};
 
 // Waits until both jobs have begun; where they never have, notes that.
 fn wait_for_other(begun: &AtomicU64, missed: &AtomicBool) {
@@ -33,50 +32,19 @@ fn run_beside(waits: bool, begun: &AtomicU64, missed: &AtomicBool) {
     }
 }
 
-// Goes into native code without a poll once a job has begun, and comes back when all is done.
-fn go_native<N: Name, J: Errand, R: Wait>(
-    rt: &R,
-    thread: &mut Mutator<'_, N, J>,
-    begun: &AtomicU64,
-    done: &AtomicBool,
-) -> bool {
-    if !wait_for(1, begun) || thread.to_native(rt).is_err() {
-        return false;
-    }
-    wait_done(rt, done);
-    match thread.from_native(rt) {
-        Ok(said) => heed(rt, thread, said),
-        Err(_) => false,
-    }
-}
-
-// What the threads of a meeting share: how many are there, how many jobs have begun, whether all is done, and the name of the thread
-// that goes into native code, 0 for none.
-#[derive(Drop)]
-struct Meeting<'a> {
-    there: &'a AtomicU64,
-    begun: &'a AtomicU64,
-    done: &'a AtomicBool,
-    leaver: u64,
-}
-
-// A thread starts, runs or goes into native code until all is done, and exits.
+// A thread starts, runs until all is done, and exits.
 fn live<N: Name, J: Errand, R: Wait>(
     rt: &R,
     alloc: Global,
     shared: &Shared<N, J>,
-    meeting: &Meeting<'_>,
+    there: &AtomicU64,
+    done: &AtomicBool,
 ) -> bool {
     let Ok(mut thread) = started(rt, alloc, shared) else {
         return false;
     };
-    meeting.there.fetch_add(1, Ordering::SeqCst);
-    let went = if thread.name() == meeting.leaver {
-        go_native(rt, &mut thread, meeting.begun, meeting.done)
-    } else {
-        run_until(rt, &mut thread, meeting.done)
-    };
-    if !went {
+    there.fetch_add(1, Ordering::SeqCst);
+    if !run_until(rt, &mut thread, done) {
         return false;
     }
     thread.exit(rt).is_ok()
@@ -87,12 +55,13 @@ fn live_both<N: Name + Send + Sync, J: Errand + Send, R: Threads + Wait + Sync>(
     rt: &R,
     alloc: Global,
     shared: &Shared<N, J>,
-    meeting: &Meeting<'_>,
+    there: &AtomicU64,
+    done: &AtomicBool,
 ) -> bool {
     let (one, other) = join(
         rt,
-        || live(rt, alloc, shared, meeting),
-        || live(rt, alloc, shared, meeting),
+        || live(rt, alloc, shared, there, done),
+        || live(rt, alloc, shared, there, done),
     );
     one && other
 }
@@ -103,14 +72,15 @@ fn coordinate<N: Name, J: Errand, R: Wait>(
     alloc: Global,
     shared: &Shared<N, J>,
     coordinator: Coordinator<'_, N, J>,
-    meeting: &Meeting<'_>,
+    there: &AtomicU64,
+    done: &AtomicBool,
     jobs: Vec<J>,
 ) -> bool {
     let mut coordinator = coordinator;
-    let came = wait_for(2, meeting.there);
+    let came = wait_for(2, there);
     let asked = ask_both(rt, alloc, shared, jobs);
     let driven = coordinator.drive(rt);
-    meeting.done.store(true, Ordering::SeqCst);
+    done.store(true, Ordering::SeqCst);
     came && asked.is_ok() && matches!(driven, Ok((Driven::Handshake(1), _)))
 }
 
@@ -119,8 +89,6 @@ fn meet<N: Name + Send + Sync, J: Errand + Send, R: Threads + Wait + Sync + Abor
     alloc: Global,
     parts: Parts,
     jobs: Vec<J>,
-    begun: &AtomicU64,
-    leaver: u64,
 ) -> Result<(), AllocError>
     requires tables { (parts.board ≡ N.board) × (parts.row ≡ N.poll_row) }
 {
@@ -132,16 +100,10 @@ fn meet<N: Name + Send + Sync, J: Errand + Send, R: Threads + Wait + Sync + Abor
     };
     let there = AtomicU64::new(0);
     let done = AtomicBool::new(false);
-    let meeting = Meeting {
-        there: &there,
-        begun,
-        done: &done,
-        leaver,
-    };
     let (lived, driven) = join(
         rt,
-        || live_both(rt, alloc, &shared, &meeting),
-        || coordinate(rt, alloc, &shared, coordinator, &meeting, jobs),
+        || live_both(rt, alloc, &shared, &there, &done),
+        || coordinate(rt, alloc, &shared, coordinator, &there, &done, jobs),
     );
     assert!(rt; lived && driven);
     let replies = shared.replies(rt, 1)?;
@@ -149,12 +111,10 @@ fn meet<N: Name + Send + Sync, J: Errand + Send, R: Threads + Wait + Sync + Abor
     Ok(())
 }
 
-// Whose job waits, 0 for both, and whose thread goes into native code, 0 for none.
-const MEETINGS: [(u64, u64); 5] = [(0, 0), (1, 0), (2, 0), (1, 2), (2, 1)];
-
+// The job of the name waits, or both where it is 0.
 #[test]
 fn one_job_waits_for_the_other(rt: HostRuntime) -> Result<(), Fail> {
-    for (waiting, leaver) in MEETINGS {
+    for waiting in 0..3 {
         let parts = Parts::new(rt.alloc(), 2, 4, 2).map_err(|_| AllocError)?;
         let begun = Arc::new(rt.alloc(), AtomicU64::new(0))?;
         let missed = Arc::new(rt.alloc(), AtomicBool::new(false))?;
@@ -174,7 +134,7 @@ fn one_job_waits_for_the_other(rt: HostRuntime) -> Result<(), Fail> {
             jobs.push(Job::new(name, Ask::Depth, call))
                 .map_err(|_| AllocError)?;
         }
-        meet::<Brand, Job, HostRuntime>(&rt, rt.alloc(), parts, jobs, &begun, leaver)?;
+        meet::<Brand, Job, HostRuntime>(&rt, rt.alloc(), parts, jobs)?;
         assert!(rt; begun.load(Ordering::SeqCst) == 2 && !missed.load(Ordering::SeqCst));
     }
     Ok(())
