@@ -4,4 +4,5 @@ pub mod Serials
 pub mod Newest
 pub mod Ties
 pub mod KeptLemmas
+pub mod Replaced
 pub mod Forward
