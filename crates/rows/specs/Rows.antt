@@ -55,9 +55,9 @@ publication_begun_before_the_round =
 abbrev pub slot_used_again : List Entry
 slot_used_again =
     start ⇒ thread 1 0 ∷ begin 0 ⇒ ok ∷ end 0 ⇒ ok ∷ wake 0 ⇒ ok ∷ cross 0 ⇒ go ∷ install 0 ⇒ code 1 ∷
-    install 0 ⇒ refused HasCode ∷ invalidate 1 ⇒ ok ∷ install 0 ⇒ refused TableFull ∷ round ⇒ ok ∷ begin 0 ⇒ ok ∷ end 0 ⇒ ok ∷
-    look 1 0 ⇒ is_clear ∷ weigh 1 ⇒ retired ∷ free 1 ⇒ ok ∷ install 0 ⇒ code 2 ∷ enter_code 0 0 1 ⇒ wrong_method ∷
-    enter_code 0 0 2 ⇒ entered ∷ enter_code 0 0 3 ⇒ refused Unknown ∷ resolve 0 ⇒ code 2 ∷ []
+    install 0 ⇒ refused TableFull ∷ invalidate 1 ⇒ ok ∷ install 0 ⇒ refused TableFull ∷ round ⇒ ok ∷ begin 0 ⇒ ok ∷
+    end 0 ⇒ ok ∷ look 1 0 ⇒ is_clear ∷ weigh 1 ⇒ retired ∷ free 1 ⇒ ok ∷ install 0 ⇒ code 2 ∷
+    enter_code 0 0 1 ⇒ wrong_method ∷ enter_code 0 0 2 ⇒ entered ∷ enter_code 0 0 3 ⇒ refused Unknown ∷ resolve 0 ⇒ code 2 ∷ []
 
 -- A method has its next code while a frame of the old one stands; a call of the old code is sent away. (1 place, 4 slots, 2 methods)
 abbrev pub next_code_of_a_method : List Entry
@@ -302,3 +302,13 @@ second_told_alone =
     ask_depth (1 ∷ []) ⇒ asked 2 ∷ open_oldest ⇒ open_handshake 1 ∷ open_oldest ⇒ open_handshake 2 ∷ tell 1 ⇒ told ∷
     edge 0 ⇒ stop 2 ∷ take 0 ⇒ ok ∷ finish 0 ⇒ reply 0 ∷ clear 0 ⇒ ok ∷ cross 0 ⇒ go ∷ exit 0 ⇒ exited 1 ∷
     start ⇒ thread 2 0 ∷ tell 2 ⇒ gone ∷ close ⇒ closed 1 ∷ close ⇒ closed 2 ∷ []
+
+-- Code in use is replaced. (1 place, 4 slots, 2 methods)
+abbrev pub install_over : List Entry
+install_over =
+    start ⇒ thread 1 0 ∷ begin 0 ⇒ ok ∷ end 0 ⇒ ok ∷ wake 0 ⇒ ok ∷ cross 0 ⇒ go ∷ install 0 ⇒ code 1 ∷
+    enter_code 0 0 1 ⇒ entered ∷ install 0 ⇒ code 2 ∷ state 1 ⇒ not_entrant ∷ resolve 0 ⇒ code 2 ∷
+    enter_code 0 0 1 ⇒ wrong_method ∷ enter_code 0 0 2 ⇒ entered ∷ invalidate 1 ⇒ refused NotInUse ∷ look 1 0 ⇒ late ∷
+    round ⇒ ok ∷ begin 0 ⇒ ok ∷ change 0 ⇒ changes 1 (pos 1) ∷ change 0 ⇒ changes 2 (pos 1) ∷ end 0 ⇒ ok ∷
+    look 1 0 ⇒ is_clear ∷ weigh 1 ⇒ used 1 ∷ install 0 ⇒ code 3 ∷ install 0 ⇒ code 4 ∷ install 0 ⇒ refused TableFull ∷
+    state 4 ⇒ in_use ∷ state 3 ⇒ not_entrant ∷ []

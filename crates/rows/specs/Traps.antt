@@ -205,7 +205,7 @@ hold_order =
 -- Code in use is named before a full table; a zombie still takes its slot. (1 place, 2 slots, 2 methods)
 abbrev pub install_order : List Entry
 install_order =
-    install 0 ⇒ code 1 ∷ install 1 ⇒ code 2 ∷ install 0 ⇒ refused HasCode ∷ invalidate 1 ⇒ ok ∷
+    install 0 ⇒ code 1 ∷ install 1 ⇒ code 2 ∷ install 0 ⇒ refused TableFull ∷ invalidate 1 ⇒ ok ∷
     install 0 ⇒ refused TableFull ∷ look 1 0 ⇒ is_clear ∷ weigh 1 ⇒ retired ∷ install 0 ⇒ refused TableFull ∷
     resolve 0 ⇒ none ∷ free 1 ⇒ ok ∷ install 0 ⇒ code 3 ∷ resolve 0 ⇒ code 3 ∷ []
 

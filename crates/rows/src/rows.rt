@@ -126,3 +126,8 @@ pub fn four_handshakes()
 pub fn second_told_alone()
     ensures { Plays 1 4 2 Rows.second_told_alone }
 {}
+
+/// Code in use is replaced: the old is not entrant, and the new one is in use.
+pub fn install_over()
+    ensures { Plays 1 4 2 Rows.install_over }
+{}

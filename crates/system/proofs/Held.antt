@@ -13,7 +13,6 @@ use Rattle.system.specs.Laws.{HeldIsSafe, AllHeldAreSafe}
 use Rattle.system.proofs.Outcomes.{Stands, begun, changed_by, ended, entered, moved, held, released}
 use Rattle.method_table.specs.Codes.{id_of}
 use Rattle.system.proofs.Cases.{Cases}
-use Rattle.system.proofs.ByCases.{by_cases}
 use Rattle.system.proofs.Seats.{Each, each_some, each_none, each_start, there_of}
 
 -- Each held thread is safe, by place.
@@ -62,11 +61,3 @@ safe_kept w h = record {
   says_state = λ serial code i. h;
   resolves = λ method i. h;
 }
-
-pub safe_after : (w : World) (events : List Event) → AreSafe w → AreSafe (world_after w events)
-safe_after w [] h = h
-safe_after w (e ∷ events) h = safe_after (after w e) events (by_cases w (λ e a v. AreSafe v) (safe_kept w h) e)
-
-pub held_are_safe : (places slots methods : ℕ) (events : List Event) → AllHeldAreSafe (world_after (start_world places slots methods) events)
-held_are_safe places slots methods events p t e =
-    safe_after (start_world places slots methods) events (each_start (λ p t. HeldIsSafe t) places) p t (there_of (world_after (start_world places slots methods) events) p t e)

@@ -21,7 +21,8 @@ use Rattle.system.specs.Safepoints.{is_accepted, IsNext}
 use Rattle.system.specs.Ran.{open_in, name_in, OperationsRunAtMostOnce}
 use Rattle.system.proofs.Outcomes.{Stands, begun, changed_by, ended, entered, moved, held, released, newly_opened, Opens, Operates, Closes}
 use Rattle.system.proofs.Cases.{Cases}
-use Rattle.system.proofs.ByCases.{by_cases}
+use Rattle.system.proofs.ByCases.{Simple, by_cases}
+use Rattle.system.proofs.Twice.{in_steps}
 use Rattle.system.proofs.Seats.{Each, each_some, each_none, each_other, each_start, there_of}
 use Rattle.system.proofs.Lists.{map_at, push_at, push_length, filter_at}
 use Rattle.system.proofs.Numbers.{operated_number, asked_more}
@@ -76,9 +77,15 @@ done_stays w = record {
   resolves = λ method i. λ n name h. h;
 }
 
-done_after : (w : World) (events : List Event) (n name : ℕ) → is_marked w.requests.done n name ≡ true → is_marked (world_after w events).requests.done n name ≡ true
-done_after w [] n name h = h
-done_after w (e ∷ events) n name h = done_after (after w e) events n name (by_cases w (λ e a v. DoneStays w.requests v.requests) (done_stays w) e n name h)
+record DoneIn (n name : ℕ) (w : World) : Type 0 where
+  done : is_marked w.requests.done n name ≡ true
+  kept_is : IsKept w
+
+done_after : (w : World) (events : List Event) (n name : ℕ) → IsKept w → is_marked w.requests.done n name ≡ true → is_marked (world_after w events).requests.done n name ≡ true
+done_after w [] n name k h = h
+done_after w (e ∷ events) n name k h =
+    let r = in_steps (DoneIn n name) (λ v d. d.kept_is.table) (λ v d simple a. record { done = by_cases v (λ e a u. DoneStays v.requests u.requests) (done_stays v) d simple n name a.done; kept_is = kept v d a.kept_is }) w e (record { done = h; kept_is = k }) in
+    done_after (after w e) events n name r.kept_is r.done
 
 -- The operation was operated, where it is open, and isn't opened again.
 record Past (n : ℕ) (requests : Requests) (numbered : ℕ) : Type 0 where
@@ -145,9 +152,15 @@ past_kept n w k h = record {
   resolves = λ method i. h;
 }
 
+record PastIn (n : ℕ) (w : World) : Type 0 where
+  past : Past n w.requests (operations_given w.log)
+  kept_is : IsKept w
+
 past_after : (n : ℕ) (w : World) (events : List Event) → IsKept w → Past n w.requests (operations_given w.log) → Past n (world_after w events).requests (operations_given (world_after w events).log)
 past_after n w [] k h = h
-past_after n w (e ∷ events) k h = past_after n (after w e) events (kept w e k) (by_cases w (λ e a v. Past n v.requests (operations_given v.log)) (past_kept n w k h) e)
+past_after n w (e ∷ events) k h =
+    let r = in_steps (PastIn n) (λ v d. d.kept_is.table) (λ v d simple a. record { past = by_cases v (λ e a u. Past n u.requests (operations_given u.log)) (past_kept n v a.kept_is a.past) d simple; kept_is = kept v d a.kept_is }) w e (record { past = h; kept_is = k }) in
+    past_after n (after w e) events r.kept_is r.past
 
 -- An accepted Operate is of the one that is open.
 abbrev Operating : World → Event → Answer → World → Type 0
@@ -274,9 +287,15 @@ named_kept w h = record {
   resolves = λ method i. h;
 }
 
-named_after : (w : World) (events : List Event) → Named w → Named (world_after w events)
-named_after w [] h = h
-named_after w (e ∷ events) h = named_after (after w e) events (by_cases w (λ e a v. Named v) (named_kept w h) e)
+record NamedIn (w : World) : Type 0 where
+  named : Named w
+  kept_is : IsKept w
+
+named_after : (w : World) (events : List Event) → IsKept w → Named w → Named (world_after w events)
+named_after w [] k h = h
+named_after w (e ∷ events) k h =
+    let r = in_steps NamedIn (λ v d. d.kept_is.table) (λ v d simple a. record { named = by_cases v (λ e a u. Named u) (named_kept v a.named) d simple; kept_is = kept v d a.kept_is }) w e (record { named = h; kept_is = k }) in
+    named_after (after w e) events r.kept_is r.named
 
 -- The log tells which operations are open.
 abbrev LogOpen : World → Type 0
@@ -339,9 +358,15 @@ log_kept w h = record {
   resolves = λ method i. h;
 }
 
-log_after : (w : World) (events : List Event) → LogOpen w → LogOpen (world_after w events)
-log_after w [] h = h
-log_after w (e ∷ events) h = log_after (after w e) events (by_cases w (λ e a v. LogOpen v) (log_kept w h) e)
+record LogIn (w : World) : Type 0 where
+  open_is : LogOpen w
+  kept_is : IsKept w
+
+log_after : (w : World) (events : List Event) → IsKept w → LogOpen w → LogOpen (world_after w events)
+log_after w [] k h = h
+log_after w (e ∷ events) k h =
+    let r = in_steps LogIn (λ v d. d.kept_is.table) (λ v d simple a. record { open_is = by_cases v (λ e a u. LogOpen u) (log_kept v a.open_is) d simple; kept_is = kept v d a.kept_is }) w e (record { open_is = h; kept_is = k }) in
+    log_after (after w e) events r.kept_is r.open_is
 
 pub run_at_most_once : OperationsRunAtMostOnce
 run_at_most_once places slots methods events = record {
@@ -356,25 +381,25 @@ run_at_most_once places slots methods events = record {
       let marked_so : is_marked (after w (event.At p act.Finish)).requests.done operation name ≡ true =
       subst (λ k. is_marked (after w (event.At p act.Finish)).requests.done k name ≡ true) number
       (subst (λ k. is_marked (after w (event.At p act.Finish)).requests.done safe.opened.number k ≡ true) same_name marked) in
-      let later = done_after (after w (event.At p act.Finish)) between operation name marked_so in
+      let later = done_after (after w (event.At p act.Finish)) between operation name (kept w (event.At p act.Finish) (kept_after (start_world places slots methods) before (kept_start places slots methods))) marked_so in
       let there : is_marked (world_after (start_world places slots methods) (before ++ event.At p act.Finish ∷ between)).requests.done operation name ≡ true =
       subst (λ (v : World). is_marked v.requests.done operation name ≡ true) (sym (world_cut (start_world places slots methods) before (event.At p act.Finish ∷ between))) later in
       false≢true (sym second.next.not_done ∙ subst (λ k. is_marked (world_after (start_world places slots methods) (before ++ event.At p act.Finish ∷ between)).requests.done k name ≡ true) (sym second.number) there));
   operated = λ before between rest operation is first second. (
       let w = world_after (start_world places slots methods) before in
       let k = kept_after (start_world places slots methods) before (kept_start places slots methods) in
-      let a = by_cases w (λ e a v. Operating w e a v) (operating w k) event.Operate first.accepted in
+      let a = by_cases w (λ e a v. Operating w e a v) (operating w k) event.Operate tt first.accepted in
       let one : a.0 ≡ first.opened = (let e : a.0 ∷ a.1 ≡ first.opened ∷ [] = sym a.2 ∙ first.opened_is in cc) in
       let number : a.0.number ≡ operation = ap (λ (o : Opened). o.number) one ∙ first.number in
       let past = past_after a.0.number (after w event.Operate) between (kept w event.Operate k) a.4 in
       let v = world_after (start_world places slots methods) (before ++ event.Operate ∷ between) in
       let there : Past a.0.number v.requests (operations_given v.log) = subst (λ (u : World). Past a.0.number u.requests (operations_given u.log)) (sym (world_cut (start_world places slots methods) before (event.Operate ∷ between))) past in
       let kv = kept_after (start_world places slots methods) (before ++ event.Operate ∷ between) (kept_start places slots methods) in
-      let b = by_cases v (λ e a u. Operating v e a u) (operating v kv) event.Operate second.accepted in
+      let b = by_cases v (λ e a u. Operating v e a u) (operating v kv) event.Operate tt second.accepted in
       let two : b.0 ≡ second.opened = (let e : b.0 ∷ b.1 ≡ second.opened ∷ [] = sym b.2 ∙ second.opened_is in cc) in
       let still : second.opened.operated ≡ true = there.operated 0 second.opened (subst (λ (os : List Opened). slice_get os 0 ≡ Some second.opened) (sym second.opened_is) refl) (second.number ∙ sym number) in
       false≢true (sym b.3 ∙ (ap (λ (o : Opened). o.operated) two ∙ still)));
-  open_is = log_after (start_world places slots methods) events refl;
+  open_is = log_after (start_world places slots methods) events (kept_start places slots methods) refl;
   name_is = λ place t x. (let w = world_after (start_world places slots methods) events in
-      named_after (start_world places slots methods) events (each_start (λ p t. 0 ≡ t.name) places) place t (there_of w place t x));
+      named_after (start_world places slots methods) events (kept_start places slots methods) (each_start (λ p t. 0 ≡ t.name) places) place t (there_of w place t x));
 }

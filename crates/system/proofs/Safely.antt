@@ -171,7 +171,7 @@ finish_cases w k = record {
 pub handshakes_run : HandshakesRunAtSafePoints
 handshakes_run places slots methods events before rest p is accepted =
     let w = world_after (start_world places slots methods) before in
-    by_cases w (λ e a v. is_accepted a ≡ true → IsSafeFinish w e a v) (finish_cases w (kept_after (start_world places slots methods) before (kept_start places slots methods))) (event.At p act.Finish) accepted
+    by_cases w (λ e a v. is_accepted a ≡ true → IsSafeFinish w e a v) (finish_cases w (kept_after (start_world places slots methods) before (kept_start places slots methods))) (event.At p act.Finish) tt accepted
 
 -- Where all are settled, the index counts the stacks.
 pub index_is : (c : CodeId) (places : List (Option Thread)) → ((p : ℕ) (t : Thread) → slice_get places p ≡ Some (Some t) → is_settled t ≡ true) → sum_by (part_at c) places ≡ sum_by (λ (t : Thread). stack.act c t.stack) (threads places)
@@ -252,4 +252,4 @@ operate_cases w k = record {
 pub censuses_run : CensusesRunAtSafepoints
 censuses_run places slots methods events before rest is accepted =
     let w = world_after (start_world places slots methods) before in
-    by_cases w (λ e a v. is_accepted a ≡ true → IsSafeOperate w e a) (operate_cases w (kept_after (start_world places slots methods) before (kept_start places slots methods))) event.Operate accepted
+    by_cases w (λ e a v. is_accepted a ≡ true → IsSafeOperate w e a) (operate_cases w (kept_after (start_world places slots methods) before (kept_start places slots methods))) event.Operate tt accepted

@@ -11,11 +11,11 @@ use Rattle.system.specs.declared.events.Event.{Event}
 use Rattle.system.specs.declared.events.Event.TheVariants as event
 use Rattle.system.specs.declared.answers.Answer.{Answer}
 use Rattle.system.specs.declared.answers.Answer.TheVariants as answer
-use Rattle.system.specs.declared.answers.Refusal.TheVariants.{NoSuchPlace, Illegal, Publishing, Held, NoSuchMethod, Unknown, Unpublished, NotOf, NotDone, NothingOpen, AlreadyDone, SafepointOpen, PlacesFull, Spent, HasCode, TableFull, SerialsSpent, NotInUse, NotNotEntrant, NotZombie, QueueFull, NoTargets, BadTargets, AlreadyOpen, QueueEmpty, AlreadyTold, NotAllHeld}
+use Rattle.system.specs.declared.answers.Refusal.TheVariants.{NoSuchPlace, Illegal, Publishing, Held, NoSuchMethod, Unknown, Unpublished, NotOf, NotDone, NothingOpen, AlreadyDone, SafepointOpen, PlacesFull, Spent, TableFull, SerialsSpent, NotInUse, NotNotEntrant, NotZombie, QueueFull, NoTargets, BadTargets, AlreadyOpen, QueueEmpty, AlreadyTold, NotAllHeld}
 use Rattle.method_table.specs.Numbers.{last_number, below}
 use Rattle.operations.specs.Names.{is_empty}
 use Rattle.system.specs.Verdict.{Verdict, refused, accepted, unless◌refuse◌then◌}
-use Rattle.method_table.specs.Codes.{code_of, unfreed, in_use_for, id_of, is_in_use, is_not_entrant, is_zombie, free_slot, next_serial, with_code, with_state}
+use Rattle.method_table.specs.Codes.{code_of, unfreed, in_use_for, id_of, is_in_use, is_not_entrant, is_zombie, free_slot, next_serial, with_code, with_state, without_use}
 use Rattle.system.specs.Threads.{Thread, is_publishing, is_settled}
 use Rattle.system.specs.Operations.{Requests, Waiting, Opened, is_marked, with_mark, marks_of, is_safepoint}
 use Rattle.operations.specs.Requests.{is_census, kind_of, is_target, has_targets, are_targets}
@@ -55,18 +55,17 @@ start_at w (Some place) =
 abbrev pub start : World → Verdict World
 start w = unless not (is_safepoint w.requests) refuse SafepointOpen then start_at w (vacant_place w.places)
 
--- The new code gets the next serial and the slot.
+-- The new code gets the next serial and the slot; the one that it replaces is not entrant from now on.
 abbrev pub install_in : World → ℕ → Option ℕ → Verdict World
 install_in w method None = refused TableFull
 install_in w method (Some slot) =
     unless nat_le (next_serial w.codes) last_number refuse SerialsSpent then
-    accepted (record w { codes = with_code w.codes method slot }) (answer.Code (next_serial w.codes))
+    accepted (record w { codes = with_code (without_use w.codes (in_use_for w.codes method)) method slot }) (answer.Code (next_serial w.codes))
 
 -- A method has at most one code in use; a new one gets the least free slot.
 abbrev pub install : World → ℕ → Verdict World
 install w method =
     unless nat_lt method w.methods refuse NoSuchMethod then
-    unless is_none (in_use_for w.codes method) refuse HasCode then
     install_in w method (free_slot w.codes w.slots)
 
 -- With the code of a serial that was given out and isn't freed.
