@@ -2,7 +2,7 @@
 use Rattle.std.specs.Prelude.{pos, negsuc, List, [], ◌∷◌}
 use Rattle.thread_state.specs.declared.Back.TheVariants.{Java, Vm}
 use Rattle.thread_state.specs.declared.State.TheVariants.{Vacant, New, NewTrans, InJava, InVm, InNative, NativeTrans, Blocked, BlockedTrans, AtPoll, Serving}
-use Rattle.system.specs.declared.answers.Refusal.TheVariants.{NoSuchPlace, Illegal, Publishing, NotBegun, ChangesLeft, Held, NoSuchMethod, Unknown, Unpublished, DepthFull, NotOf, StackNotEmpty, OperationPending, NotDone, NothingOpen, NotTold, AlreadyDone, NotSafe, NotHeld, SafepointOpen, PlacesFull, HasCode, TableFull, NotInUse, NotNotEntrant, QueueFull, NoTargets, BadTargets, AlreadyOpen, QueueEmpty, AlreadyTold, NotAllHeld}
+use Rattle.system.specs.declared.answers.Refusal.TheVariants.{NoSuchPlace, Illegal, Publishing, NotBegun, ChangesLeft, Held, NoSuchMethod, Unknown, Unpublished, DepthFull, NotOf, StackNotEmpty, OperationPending, NotDone, NothingOpen, NotTold, AlreadyDone, NotSafe, NotHeld, SafepointOpen, PlacesFull, TableFull, NotInUse, NotNotEntrant, QueueFull, NoTargets, BadTargets, AlreadyOpen, QueueEmpty, AlreadyTold, NotAllHeld}
 use Rattle.system.specs.Log.{Entry}
 use Rattle.rows.specs.Lines.{◌⇒◌, begin, change, end, wake, cross, enter, enter_code, leave, edge, to_vm, from_vm, to_native, block, exit, take, finish, clear, hold, release, stack, start, install, invalidate, round, look, weigh, free, ask_depth, ask_top, ask_count, ask_census, open_oldest, tell, operate, close, close_of, count, state, resolve, ok, thread, exited, changes, no_change, go, stop, entered, wrong_method, reply, frames, interpreted, compiled, code, none, is_clear, late, not_looked, used, retired, asked, open_handshake, open_census, closed, told, gone, census, counted, counts, freed, refused}
 

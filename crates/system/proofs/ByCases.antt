@@ -449,3 +449,22 @@ by_cases w P c (event.CodeState serial) simple = on (code_of w.codes serial) ref
     on (Some code) e = c.says_state serial code e
 by_cases w P c (event.Resolve method) simple = chain1 (Comes w P (event.Resolve method)) (c.refuses (event.Resolve method)) (nat_lt method w.methods) refusal.NoSuchMethod (accepted w (code_or_none (in_use_for w.codes method)))
     (λ low. c.resolves method (ltb-true method w.methods low))
+
+-- An event is an Install, or one step.
+pub each_kind : (w : World) (P : Event → Type 0) → ((method : ℕ) → P (event.Install method)) → ((e : Event) → Simple w e → P e) → (e : Event) → P e
+each_kind w P installs others (event.Install method) = installs method
+each_kind w P installs others (event.At p a) = others (event.At p a) tt
+each_kind w P installs others event.Start = others event.Start tt
+each_kind w P installs others (event.Invalidate s) = others (event.Invalidate s) tt
+each_kind w P installs others event.Round = others event.Round tt
+each_kind w P installs others (event.Look s p) = others (event.Look s p) tt
+each_kind w P installs others (event.Weigh s) = others (event.Weigh s) tt
+each_kind w P installs others (event.Free s) = others (event.Free s) tt
+each_kind w P installs others (event.Ask r) = others (event.Ask r) tt
+each_kind w P installs others event.Open = others event.Open tt
+each_kind w P installs others (event.Tell n) = others (event.Tell n) tt
+each_kind w P installs others event.Operate = others event.Operate tt
+each_kind w P installs others (event.Close n) = others (event.Close n) tt
+each_kind w P installs others (event.Count s) = others (event.Count s) tt
+each_kind w P installs others (event.CodeState s) = others (event.CodeState s) tt
+each_kind w P installs others (event.Resolve m) = others (event.Resolve m) tt

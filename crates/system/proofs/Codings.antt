@@ -1,6 +1,6 @@
 -- The events of codes: what they answer, and what the system has after them.
 use Rattle.std.proofs.Common.{◌≡◌, ◌≢◌, ◌∙◌, ◌+◌, ◌<◌, sym, ap, ap₂, refl, subst, ⊎_elim, ℕ, zero, suc, Bool, true, false, ◌&&◌, cond, List, [], ◌∷◌, ◌++◌, Option, Some, None, length, arith}
-use Rattle.std.specs.Prelude.{not, slice_get, slice_set, option_map, is_some, is_none, nat_lt, nat_le, sum_by, ◌==◌}
+use Rattle.std.specs.Prelude.{not, slice_get, slice_set, option_map, is_some, nat_lt, nat_le, sum_by, ◌==◌}
 use Rattle.std.proofs.lemmas.Bool.{eqb-true, eqb-false, false≢true, not-true, and_parts, and_cases}
 use Rattle.std.proofs.lemmas.List.Sums.{sum_by-cons}
 use mathlib.Core.Logic.{dite}
@@ -35,7 +35,7 @@ use Rattle.system.specs.Facts.{IsGiven, TableIsSound, ThreadsAreSound, IsSound, 
 use Rattle.system.specs.Memory.{Accepts}
 use Rattle.system.specs.Runs.{entries, answer_to}
 use Rattle.system.specs.Safepoints.{is_accepted}
-use Rattle.system.specs.Stands.{Matches, SamePlaces, SameRecord, SameRecords, DoesIn, Does, walk_of, kept_at, SameCells}
+use Rattle.system.specs.Stands.{Matches, SamePlaces, SameRecord, SameRecords, DoesIn, Does, kept_at, SameCells}
 use Rattle.system.proofs.Lists.{found_passes, find_place, find_push, find_push_none, at_low, same_at, any_none_at, below_low, map_length, push_length}
 use Rattle.system.proofs.Cells.{count_here}
 use Rattle.system.proofs.Seats.{get_set_same, get_set_other}

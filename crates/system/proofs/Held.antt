@@ -1,19 +1,17 @@
 -- A held thread is in a safe state, whatever happened.
-use Rattle.std.proofs.Common.{ℕ, ◌+◌, List, [], ◌∷◌, Some, None, sym, ◌∙◌, ⊎_elim}
+use Rattle.std.proofs.Common.{ℕ, ◌+◌, Some, None, sym, ◌∙◌, ⊎_elim}
 use Rattle.std.specs.Prelude.{slice_set}
 use Rattle.std.proofs.lemmas.Bool.{false≢true}
-use Rattle.system.specs.declared.events.Event.{Event}
 use Rattle.system.specs.Threads.{Thread}
-use Rattle.system.specs.World.{World, start_world}
+use Rattle.system.specs.World.{World}
 use Rattle.system.specs.Places.{popped}
 use Rattle.system.specs.Step.{new_thread}
-use Rattle.system.specs.Runs.{after, world_after}
 use Rattle.system.specs.Log.{names_given}
-use Rattle.system.specs.Laws.{HeldIsSafe, AllHeldAreSafe}
+use Rattle.system.specs.Laws.{HeldIsSafe}
 use Rattle.system.proofs.Outcomes.{Stands, begun, changed_by, ended, entered, moved, held, released}
 use Rattle.method_table.specs.Codes.{id_of}
 use Rattle.system.proofs.Cases.{Cases}
-use Rattle.system.proofs.Seats.{Each, each_some, each_none, each_start, there_of}
+use Rattle.system.proofs.Seats.{Each, each_some, each_none}
 
 -- Each held thread is safe, by place.
 abbrev pub AreSafe : World → Type 0

@@ -21,7 +21,7 @@ use Rattle.system.specs.Safepoints.{is_accepted, IsNext}
 use Rattle.system.specs.Ran.{open_in, name_in, OperationsRunAtMostOnce}
 use Rattle.system.proofs.Outcomes.{Stands, begun, changed_by, ended, entered, moved, held, released, newly_opened, Opens, Operates, Closes}
 use Rattle.system.proofs.Cases.{Cases}
-use Rattle.system.proofs.ByCases.{Simple, by_cases}
+use Rattle.system.proofs.ByCases.{by_cases}
 use Rattle.system.proofs.Twice.{in_steps}
 use Rattle.system.proofs.Seats.{Each, each_some, each_none, each_other, each_start, there_of}
 use Rattle.system.proofs.Lists.{map_at, push_at, push_length, filter_at}

@@ -1,27 +1,26 @@
 -- An Install, also over code in use: that is the Invalidate of the code in use, and then the Install.
-use Rattle.std.proofs.Common.{◌≡◌, ◌∙◌, ◌<◌, ◌≤◌, sym, ap, refl, subst, ℕ, ◌+◌, Option, Some, None, List, length, arith}
+use Rattle.std.proofs.Common.{◌≡◌, ◌∙◌, ◌<◌, ◌≤◌, sym, ap, refl, subst, ℕ, ◌+◌, Option, Some, None, length, arith}
 use Rattle.std.specs.Prelude.{slice_set, option_map, IfSome, IfNone}
 use Rattle.frames.specs.declared.CodeId.{CodeId}
 use Rattle.activation_index.specs.Cells.{cell_of}
 use Rattle.method_table.specs.declared.Code.{Code}
 use Rattle.method_table.specs.declared.CodeState.TheVariants.{NotEntrant}
 use Rattle.method_table.specs.TableView.{TableView, install_fault, invalidate_fault}
-use Rattle.method_table.specs.Codes.{id_of, takes_slot, unfreed, in_use_for, free_slot, next_serial, with_code, in_state, with_state, without_use}
+use Rattle.method_table.specs.Codes.{id_of, unfreed, in_use_for, free_slot, next_serial, with_code, in_state, with_state, without_use}
 use Rattle.system.specs.declared.events.Event.TheVariants as event
 use Rattle.system.specs.declared.answers.Answer.TheVariants as answer
 use Rattle.system.specs.declared.keeping.Core.{Core}
 use Rattle.system.specs.Log.{names_given}
 use Rattle.system.specs.World.{World}
-use Rattle.system.specs.Runs.{after}
 use Rattle.system.specs.Facts.{TableIsSound, ThreadsAreSound, IsSound}
 use Rattle.system.specs.Records.{new_record}
 use Rattle.system.specs.Stands.{Matches, DoesIn, Does}
 use Rattle.system.proofs.Lists.{map_length}
-use Rattle.system.proofs.Table.{one_place, table_kept}
+use Rattle.system.proofs.Table.{table_kept}
 use Rattle.system.proofs.Threads.{threads_kept}
 use Rattle.system.proofs.ByCases.{by_cases}
-use Rattle.system.proofs.Twice.{found_only, in_use_takes, free_same, place_of, between, between_is}
-use Rattle.system.proofs.Codings.{Recodes, IsOfCodes, accepted_in, coded_matches, installed_cells, installed_records, installs, table_is, world_slot, same_some}
+use Rattle.system.proofs.Twice.{found_in_use, free_between, place_of, between, between_is}
+use Rattle.system.proofs.Codings.{Recodes, IsOfCodes, accepted_in, coded_matches, installed_cells, installed_records, installs, world_slot, same_some}
 use Rattle.system.proofs.Reclaiming.{left}
 
 is_install : (method n : ℕ) → IsOfCodes (event.Install method) (answer.Code n)
@@ -55,9 +54,7 @@ module _ (s t : Core) (method slot serial : ℕ) (allowed : install_fault s.tabl
     mid = record t { table = record s.table { codes = with_state s.table.codes old.serial NotEntrant }; index = s.index }
 
     found : unfreed s.table.codes old.serial ≡ Some old
-    found =
-        let q = place_of w method old used in
-        ap (λ cs. unfreed cs old.serial) m.codes ∙ found_only w.codes old q.0 q.1 (in_use_takes old.state q.2) (λ j a x e. one_place w.slots w.methods w.codes sound.table j q.0 a old x q.1 e)
+    found = ap (λ cs. unfreed cs old.serial) m.codes ∙ found_in_use w method old sound.table used
 
     unfaulted : invalidate_fault (unfreed s.table.codes old.serial) ≡ None
     unfaulted = let q = place_of w method old used in ap invalidate_fault found ∙ (rw q.2 refl)
@@ -81,9 +78,7 @@ module _ (s t : Core) (method slot serial : ℕ) (allowed : install_fault s.tabl
     long = map_length (in_state old.serial NotEntrant) w.codes
 
     still_free : free_slot (with_state w.codes old.serial NotEntrant) w.slots ≡ Some slot
-    still_free =
-        let q = place_of w method old used in
-        free_same w.codes old.serial w.slots (λ j a x e. ap (λ (c : Code). takes_slot c.state) (one_place w.slots w.methods w.codes sound.table j q.0 a old x q.1 e) ∙ in_use_takes old.state q.2) ∙ world_slot s w slot m least
+    still_free = free_between w method old sound.table used ∙ world_slot s w slot m least
 
     over : DoesIn (event.Install method) (answer.Code serial) t w
     over =

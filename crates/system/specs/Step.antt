@@ -1,5 +1,5 @@
 -- What each event does to the world, and its answer.
-use Rattle.std.specs.Prelude.{ℕ, ◌+◌, Bool, true, false, not, ◌&&◌, ◌||◌, nat_lt, nat_le, ◌==◌, length, List, [], ◌∷◌, ◌++◌, map, filter, find, Option, Some, None, is_none, slice_get, slice_set, if◌then◌else◌}
+use Rattle.std.specs.Prelude.{ℕ, ◌+◌, Bool, true, false, not, ◌&&◌, ◌||◌, nat_lt, nat_le, ◌==◌, length, List, [], ◌∷◌, ◌++◌, map, filter, find, Option, Some, None, slice_get, slice_set, if◌then◌else◌}
 use Rattle.std.specs.List.{list_all, list_any}
 use Rattle.thread_state.specs.declared.State.TheVariants.{Vacant, New}
 use Rattle.method_table.specs.declared.Code.{Code}

@@ -1,5 +1,5 @@
 -- The answer to an event is read off the poll word that its step met.
-use Rattle.std.proofs.Common.{◌≡◌, ℕ, ◌<◌, ◌≤◌, true, false, Option, Some, None, sym, refl, ap, ◌∙◌, inl, inr, ⊎_elim, subst, arith}
+use Rattle.std.proofs.Common.{◌≡◌, ℕ, ◌<◌, ◌≤◌, Bool, true, false, Option, Some, None, sym, refl, ap, ◌∙◌, inl, inr, ⊎_elim, subst, arith}
 use Rattle.std.specs.Prelude.{◌==◌, unwrap_or, if◌then◌else◌}
 use Rattle.std.proofs.lemmas.Bool.{false≢true, eq-eqb, ne_eqb}
 use Rattle.thread_state.specs.declared.State.{State}
@@ -15,10 +15,11 @@ use Rattle.system.specs.Places.{go_or_stop}
 use Rattle.system.specs.Step.{code_or_none}
 use Rattle.system.specs.Facts.{IsSound}
 use Rattle.system.specs.Runs.{answer_to, world_after}
+use Rattle.system.specs.Safepoints.{is_accepted}
 use Rattle.method_table.specs.Codes.{in_use_for}
 use Rattle.system.proofs.Outcomes.{Stands, Moves, ByMove, ByPoll, Clears, move_of, is_move}
 use Rattle.system.proofs.Cases.{Cases}
-use Rattle.system.proofs.ByCases.{by_cases}
+use Rattle.system.proofs.ByCases.{by_cases, each_kind}
 use Rattle.system.proofs.Worlds.{worlds_are_sound}
 use Rattle.tie.specs.PollRow.{row_of, armed_at, uncleared_at, cleared_at, clears_next, load, step_of, polls_of}
 use Rattle.tie.specs.PollAnswers.{said_by, IsAnswered, PollsAnswerTheirWords, is_poll, PollsLoadTheirWord}
@@ -109,10 +110,19 @@ said w sound h = record {
   resolves = λ method i. subst (λ b. IsAnswered (if b then None else None) (code_or_none (in_use_for w.codes method))) (sym (code_accepted (in_use_for w.codes method))) tt;
 }
 
+-- An Install makes no step.
+silent : (given : Answer) → IsAnswered (if is_accepted given then None else None) given
+silent given = by (is_accepted given)
+  where
+    by : (b : Bool) → IsAnswered (if b then None else None) given
+    by true = tt
+    by false = tt
+
 pub polls_answer_their_words : PollsAnswerTheirWords
 polls_answer_their_words places slots methods events next =
     let w : World = world_after (start_world places slots methods) events in
-    by_cases w (λ e a v. IsAnswered (polls_of w e a) a) (said w (worlds_are_sound places slots methods events).0 (row_in places slots methods events)) next
+    each_kind w (λ e. IsAnswered (polls_of w e (answer_to w e)) (answer_to w e)) (λ method. silent (answer_to w (event.Install method)))
+    (by_cases w (λ e a v. IsAnswered (polls_of w e a) a) (said w (worlds_are_sound places slots methods events).0 (row_in places slots methods events))) next
 
 -- A poll that is accepted is a load.
 loaded : (w : World) (p : ℕ) (a : Act) (given : Answer) → is_poll a ≡ true → step_of w (event.At p a) given ≡ load w p

@@ -221,7 +221,7 @@ cleared_in w p t opened sound i h = record {
     left (clears_before rest less some below) = inr (rest, some, below, subst (λ n. n < armed_at p w.requests.told w.log) (sym (cleared_stays w p (armed_at p w.requests.told w.log) rest t opened some)) d.less)
 
 -- Every other event tells and clears nothing.
-noted_in : (w : World) (e : Event) (given : Answer) → IsSilent e given → ((p : ℕ) → armed_at p w.requests.told w.log + length w.requests.waiting ≤ operations_given (record { event = e; answer = given } ∷ w.log)) → RowIn w → RowIn (noted w e given)
+pub noted_in : (w : World) (e : Event) (given : Answer) → IsSilent e given → ((p : ℕ) → armed_at p w.requests.told w.log + length w.requests.waiting ≤ operations_given (record { event = e; answer = given } ∷ w.log)) → RowIn w → RowIn (noted w e given)
 noted_in w e given silent few h = log_row w.places w.requests w.log e given silent few h
 
 operated_open : (n : ℕ) (os : List Opened) → WasOpen os (map (operated_if n) os)

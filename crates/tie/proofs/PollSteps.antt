@@ -185,7 +185,7 @@ StepsTo w e a v = RowIn v → IsPolled (length w.places) (polls_of w e a) (row_o
 seated_quiet : (w : World) (p : ℕ) (o : Option Thread) (a : Act) (given : Answer) → RowIn w → IsQuiet w w.requests (event.At p a) given → RowIn (seated w p o (event.At p a) given) → SameRow w (seated w p o (event.At p a) given)
 seated_quiet w p o a given h silent next = quiet w (slice_set w.places p o) w.requests (event.At p a) given h silent next
 
-noted_quiet : (w : World) (e : Event) (given : Answer) → RowIn w → IsQuiet w w.requests e given → RowIn (noted w e given) → SameRow w (noted w e given)
+pub noted_quiet : (w : World) (e : Event) (given : Answer) → RowIn w → IsQuiet w w.requests e given → RowIn (noted w e given) → SameRow w (noted w e given)
 noted_quiet w e given h silent next = quiet w w.places w.requests e given h silent next
 
 asked_quiet : (w : World) (requests : Requests) (e : Event) (given : Answer) → RowIn w → IsQuiet w requests e given → RowIn (asked w requests e given) → SameRow w (asked w requests e given)

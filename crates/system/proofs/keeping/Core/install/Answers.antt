@@ -1,4 +1,4 @@
-use Rattle.std.proofs.Common.{◌≡◌, ◌∙◌, refl}
+use Rattle.std.proofs.Common.{refl}
 use Rattle.method_table.specs.declared.table.InstallFault.TheVariants as fault
 use Rattle.system.specs.declared.answers.Refusal.TheVariants as refusal
 use Rattle.system.proofs.Codings.{no_install, free_for, free_within}
