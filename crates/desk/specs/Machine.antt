@@ -4,7 +4,7 @@ use Rattle.std.specs.List.{list_any, list_all}
 use Rattle.method_table.specs.declared.Code.{Code}
 use Rattle.method_table.specs.declared.CodeState.{CodeState}
 use Rattle.method_table.specs.declared.CodeState.TheVariants as state
-use Rattle.method_table.specs.Codes.{unfreed, with_code, with_state, next_serial, free_slot}
+use Rattle.method_table.specs.Codes.{in_use_for, unfreed, with_code, with_state, next_serial, free_slot}
 use Rattle.method_table.specs.TableView.{TableView, install_fault, invalidate_fault, retire_fault, free_fault}
 use Rattle.operations.specs.declared.Request.{Request}
 use Rattle.operations.specs.declared.Request.TheVariants.{Handshake, Census}
@@ -156,7 +156,7 @@ lawful s (Open n) = may_open_more s.waiting s.opened && is_first n s.waiting
 lawful s (Finish n name reply) = (passes (is_due name) (open_of n s.opened) && is_live name s.live) && is_least n name s.opened
 lawful s (Operate n) = passes may_operate (open_of n s.opened)
 lawful s (Close n) = passes (may_close s.live) (open_of n s.opened)
-lawful s (Install code method) = (code.serial == next_serial s.table.codes) && (is_free_slot code.slot (free_slot s.table.codes s.table.slots) && is_none (install_fault s.table method))
+lawful s (Install code method) = (code.serial == next_serial s.table.codes) && (is_free_slot code.slot (free_slot s.table.codes s.table.slots) && (is_none (in_use_for s.table.codes method) && is_none (install_fault s.table method)))
 lawful s (Invalidate serial) = is_none (invalidate_fault (unfreed s.table.codes serial))
 lawful s (Retire serial) = is_none (retire_fault (unfreed s.table.codes serial))
 lawful s (Free serial) = is_none (free_fault (unfreed s.table.codes serial))

@@ -149,13 +149,15 @@ impl<N: Name, J: Errand> Desk<N, J> {
         Ok(self.log.enter(Entry::Exit(name)))
     }
 
-    /// Enters a code of the method, which is stored.
-    pub fn install(&mut self, board: &Board, method: u64) -> Result<(CodeId, Receipt<N>), CodeFault>
+    /// Enters a code of the method, which is stored. Where it replaces one in use, that this one isn't entrant is entered and stored
+    /// first, in the room that was kept for it. The receipt is of the Install.
+    pub fn install(&mut self, board: &Board, method: u64) -> Result<(Installed, Receipt<N>), CodeFault>
         requires board { board.now ≡ N.board }
-        ensures ok { IfOk result (λ r. Enters self.old self.new (Entry.Install r.0 method) r.1) }
-        ensures slot { IfOk result (λ r. r.0.slot < N.board.slots) }
-        ensures stored { IfOk result (λ r. self.new.keeper ≡ entry_stored self.old.keeper r.0 (in_use r.0)) }
-        ensures reserved { OnOk result (self.new.book.reserved ≡ self.old.book.reserved + 3) }
+        ensures ok { IfOk result (λ r. EntersInstall self.old self.new r.0.replaced r.0.code method r.1) }
+        ensures replaced { IfOk result (λ r. r.0.replaced ≡ option_map id_of (in_use_for (at self.old).table.codes method)) }
+        ensures slot { IfOk result (λ r. r.0.code.slot < N.board.slots) }
+        ensures stored { IfOk result (λ r. self.new.keeper ≡ stored r.0.replaced self.old.keeper r.0.code) }
+        ensures reserved { IfOk result (λ r. self.new.book.reserved + kept_before r.0.replaced ≡ self.old.book.reserved + 3) }
         ensures jobs { self.new.jobs ≡ self.old.jobs }
         ensures err { IfErr result (λ e. (self.new ≡ self.old) × install_refused (at self.old) method self.old.book e) }
     {
@@ -168,7 +170,13 @@ impl<N: Name, J: Errand> Desk<N, J> {
             Err(RoomFault::NoMemory) => return Err(CodeFault::NoMemory),
         }
         match self.codes.install(board, method) {
-            Ok(id) => Ok((id, self.log.enter(Entry::Install(id, method)))),
+            Ok(installed) => {
+                if let Some(old) = installed.replaced {
+                    let _ = self.log.enter(Entry::Invalidate(old.serial));
+                }
+                let receipt = self.log.enter(Entry::Install(installed.code, method));
+                Ok((installed, receipt))
+            }
             Err(_) => {
                 self.log.give_back(4);
                 Err(CodeFault::NoMemory)

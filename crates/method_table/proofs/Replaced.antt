@@ -5,13 +5,13 @@ use Rattle.std.proofs.lemmas.Bool.{false≢true, eqb-true, cases_eq, and_parts}
 use Rattle.std.proofs.lemmas.Option.{same_Some, slice_get_within}
 use Rattle.frames.specs.declared.CodeId.{CodeId}
 use Rattle.method_table.specs.declared.Code.{Code}
-use Rattle.method_table.specs.declared.CodeState.{CodeState}
-use Rattle.method_table.specs.declared.CodeState.TheVariants.{InUse, NotEntrant, Zombie, Freed}
+use Rattle.method_table.specs.declared.CodeState.TheVariants.{InUse, NotEntrant}
 use Rattle.method_table.specs.Numbers.{below, last_number}
 use Rattle.method_table.specs.Codes.{unfreed, in_use_for, takes_slot, is_in_use, id_of, with_state, with_code, without_use}
 use Rattle.method_table.specs.Kept.{Puts, IsKept, holds, least_free, with_record}
 use Rattle.method_table.proofs.Searches.{find_passes, find_same}
 use Rattle.method_table.proofs.Serials.{found_is, unfreed_is, state_keeps_length}
+use Rattle.method_table.proofs.Left.{used_takes}
 use Rattle.method_table.proofs.KeptLemmas.{put_set, put_record, slot_next, slot_is_free, installed_at, record_there, dropped, current_is}
 
 -- writes to a list
@@ -40,12 +40,6 @@ with_record_where records i after new false l ne = set_apart records i new.slot 
 
 with_record_apart : (records : List Code) (i : ℕ) (after new : Code) → i < length records → (i ≡ new.slot → ⊥) → with_record (set records i after) new ≡ set (with_record records new) i after
 with_record_apart records i after new l ne = rw (length-set records i after) (with_record_where records i after new (new.slot == length records) l ne)
-
-used_takes : (state : CodeState) → is_in_use state ≡ true → takes_slot state ≡ true
-used_takes InUse h = refl
-used_takes NotEntrant h = refl
-used_takes Zombie h = refl
-used_takes Freed h = absurd (false≢true h)
 
 -- what comes out of use, by the method's entry
 pub codes_without : (codes codes' : List Code) (entry : Option CodeId) (o : Option Code) (P : Type 0) → entry ≡ option_map id_of o → IfSome entry (λ id. codes' ≡ with_state codes id.serial NotEntrant) → IfNone entry ((codes' ≡ codes) × P) → codes' ≡ without_use codes o

@@ -7,6 +7,7 @@ use Rattle.method_table.specs.declared.CodeState.{CodeState}
 use Rattle.method_table.specs.declared.CodeState.TheVariants.{InUse, NotEntrant, Zombie, Freed}
 use Rattle.method_table.specs.Numbers.{last_number, below}
 use Rattle.method_table.specs.Codes.{is_in_use, takes_slot, unfreed, in_use_for, is_taken, free_slot, next_serial, with_code, in_state, with_state}
+use Rattle.method_table.proofs.Left.{used_takes, free_left}
 use Rattle.system.specs.declared.events.Event.{Event}
 use Rattle.system.specs.declared.events.Event.TheVariants as event
 use Rattle.system.specs.declared.answers.Answer.TheVariants as answer
@@ -29,31 +30,6 @@ found_only codes k i at takes one = by (unfreed codes k.serial) refl
         let f = find_place (λ (x : Code). (x.serial == k.serial) && takes_slot x.state) codes a e in
         let p = and_parts (a.serial == k.serial) (takes_slot a.state) (found_passes (λ (x : Code). (x.serial == k.serial) && takes_slot x.state) codes a e) in
         ap (λ (x : Code). Some x) (one f.0 a f.1 (eqb-true a.serial k.serial p.0))
-
-in_use_takes : (s : CodeState) → is_in_use s ≡ true → takes_slot s ≡ true
-in_use_takes InUse h = refl
-in_use_takes NotEntrant h = refl
-in_use_takes Zombie h = refl
-in_use_takes Freed h = absurd (false≢true h)
-
--- A code that is no longer entrant keeps its slot, where no freed code has its serial.
-AllTake : List Code → ℕ → Type 0
-AllTake codes s = (j : ℕ) (a : Code) → slice_get codes j ≡ Some a → a.serial ≡ s → takes_slot a.state ≡ true
-
-taken_same : (codes : List Code) (s slot : ℕ) → ((j : ℕ) (a : Code) → slice_get codes j ≡ Some a → a.serial ≡ s → takes_slot a.state ≡ true) → is_taken (with_state codes s NotEntrant) slot ≡ is_taken codes slot
-taken_same [] s slot all = refl
-taken_same (k ∷ codes) s slot all = by (k.serial == s) refl (taken_same codes s slot (λ j a x e. all (suc j) a x e))
-  where
-    by : (b : Bool) → (k.serial == s) ≡ b → is_taken (with_state codes s NotEntrant) slot ≡ is_taken codes slot → is_taken (with_state (k ∷ codes) s NotEntrant) slot ≡ is_taken (k ∷ codes) slot
-    by true e rest = let t = all 0 k refl (eqb-true k.serial s e) in rw (e, t, rest) refl
-    by false e rest = rw (e, rest) refl
-
-find_same : (f g : ℕ → Bool) (xs : List ℕ) → ((x : ℕ) → f x ≡ g x) → find f xs ≡ find g xs
-find_same f g [] same = refl
-find_same f g (x ∷ xs) same = rw (same x, find_same f g xs same) refl
-
-free_same : (codes : List Code) (s slots : ℕ) → ((j : ℕ) (a : Code) → slice_get codes j ≡ Some a → a.serial ≡ s → takes_slot a.state ≡ true) → free_slot (with_state codes s NotEntrant) slots ≡ free_slot codes slots
-free_same codes s slots all = find_same (λ slot. not (is_taken (with_state codes s NotEntrant) slot)) (λ slot. not (is_taken codes slot)) (below slots) (λ slot. ap not (taken_same codes s slot all))
 
 -- No code of the method is in use then.
 pub none_then : (w : World) (method : ℕ) (old : Code) → TableIsSound w.slots w.methods w.codes → in_use_for w.codes method ≡ Some old → in_use_for (with_state w.codes old.serial NotEntrant) method ≡ None
@@ -116,7 +92,7 @@ place_of w method old is =
 pub found_in_use : (w : World) (method : ℕ) (old : Code) → TableIsSound w.slots w.methods w.codes → in_use_for w.codes method ≡ Some old → unfreed w.codes old.serial ≡ Some old
 found_in_use w method old table is =
     let q = place_of w method old is in
-    found_only w.codes old q.0 q.1 (in_use_takes old.state q.2) (λ j a x e. one_place w.slots w.methods w.codes table j q.0 a old x q.1 e)
+    found_only w.codes old q.0 q.1 (used_takes old.state q.2) (λ j a x e. one_place w.slots w.methods w.codes table j q.0 a old x q.1 e)
 
 pub between_is : (w : World) (method : ℕ) (old : Code) → TableIsSound w.slots w.methods w.codes → in_use_for w.codes method ≡ Some old → after w (event.Invalidate old.serial) ≡ between w old
 between_is w method old table is =
@@ -131,7 +107,7 @@ between_said w method old table is =
 pub free_between : (w : World) (method : ℕ) (old : Code) → TableIsSound w.slots w.methods w.codes → in_use_for w.codes method ≡ Some old → free_slot (with_state w.codes old.serial NotEntrant) w.slots ≡ free_slot w.codes w.slots
 free_between w method old table is =
     let q = place_of w method old is in
-    free_same w.codes old.serial w.slots (λ j a x e. ap (λ (c : Code). takes_slot c.state) (one_place w.slots w.methods w.codes table j q.0 a old x q.1 e) ∙ in_use_takes old.state q.2)
+    free_left w.codes old.serial w.slots (λ j a x e. ap (λ (c : Code). takes_slot c.state) (one_place w.slots w.methods w.codes table j q.0 a old x q.1 e) ∙ used_takes old.state q.2)
 
 -- Where it isn't refused, it is both, one after the other.
 pub twice : (w : World) (method : ℕ) (old : Code) → TableIsSound w.slots w.methods w.codes → in_use_for w.codes method ≡ Some old → Rests w method ⊎ Both w method old

@@ -31,7 +31,7 @@ use Rattle.tie.proofs.PollKept.{pending_at, IsRow, word_is, same_word, none_late
 use Rattle.tie.proofs.PollTold.{LogTells, Told, told_is, told_entry, told_marks, told_armed, told_cleared, told_waits, told_waits_other, Cleared, cleared_is, clear_entry, cleared_marks, Way, clears_last, clears_before, cleared_way, cleared_last, cleared_stays, cleared_waits, cleared_waits_other}
 use Rattle.tie.proofs.PollRows.{RowIn, move_clears_not, move_clears_none}
 
-abbrev SameRow : World → World → Type 0
+abbrev pub SameRow : World → World → Type 0
 SameRow w v = (q : ℕ) → row_of v q ≡ row_of w q
 
 -- A place is as before where the row stays kept after an entry that tells and clears nothing there.
@@ -43,11 +43,11 @@ same_place w v entry q log h waits =
     λ i. record { word = words i; armed = armed i; cleared = cleared i }
 
 -- An event that tells and clears nothing, and makes no mark of it.
-record IsQuiet (w : World) (requests : Requests) (e : Event) (a : Answer) : Type 0 where
-  tells_not : (q : ℕ) → tells q e a w.log ≡ false
-  clears_not : (q : ℕ) → clears q e ≡ false
-  told_is : told_before e a requests.told ≡ w.requests.told
-  cleared_is : cleared_before e requests.cleared ≡ w.requests.cleared
+pub record IsQuiet (w : World) (requests : Requests) (e : Event) (a : Answer) : Type 0 where
+  pub tells_not : (q : ℕ) → tells q e a w.log ≡ false
+  pub clears_not : (q : ℕ) → clears q e ≡ false
+  pub told_is : told_before e a requests.told ≡ w.requests.told
+  pub cleared_is : cleared_before e requests.cleared ≡ w.requests.cleared
 
 quiet : (w : World) (places : List (Option Thread)) (requests : Requests) (e : Event) (a : Answer) → RowIn w → IsQuiet w requests e a
     → IsRow places requests (record { event = e; answer = a } ∷ w.log) → SameRow w (record w { places = places; requests = requests; log = record { event = e; answer = a } ∷ w.log })
