@@ -1,14 +1,15 @@
 -- A history with one entry more.
-use Rattle.std.proofs.Common.{◌≡◌, ◌≢◌, ℕ, zero, suc, ◌+◌, ◌<◌, ◌≤◌, List, [], ◌∷◌, ◌++◌, Bool, true, false, not, cond, Some, None, length, map, refl, sym, ap, ◌∙◌, subst, arith, length-append}
-use Rattle.std.specs.Prelude.{◌&&◌, ◌==◌, is_none, slice_get, slice_set}
+use Rattle.std.proofs.Common.{◌≡◌, ◌≢◌, ℕ, zero, suc, ◌+◌, ◌-◌, ◌<◌, ◌≤◌, List, [], ◌∷◌, ◌++◌, Bool, true, false, not, cond, Option, Some, None, length, map, refl, sym, ap, ◌∙◌, subst, arith, length-append}
+use Rattle.std.specs.Prelude.{◌&&◌, ◌==◌, is_none, slice_get, slice_set, option_map}
 use Rattle.std.specs.List.{remove}
 use Rattle.std.proofs.lemmas.Bool.{eq-eqb, ne_eqb, and_parts}
-use Rattle.std.proofs.lemmas.List.{map-append}
+use Rattle.std.proofs.lemmas.List.{map-append, append_assoc}
 use Rattle.frames.specs.declared.CodeId.{CodeId}
 use Rattle.method_table.specs.declared.Code.{Code}
 use Rattle.method_table.specs.declared.CodeState.{CodeState}
 use Rattle.method_table.specs.declared.CodeState.TheVariants as state
-use Rattle.method_table.specs.Codes.{unfreed, with_code, with_state, in_state, next_serial, free_slot}
+use Rattle.method_table.specs.Codes.{unfreed, in_use_for, id_of, with_code, with_state, without_use, in_state, next_serial, free_slot}
+use Rattle.method_table.proofs.Left.{state_is, unfreed_here, slot_left, long_left, fault_left, none_left}
 use Rattle.method_table.specs.TableView.{TableView, IsTable, install_fault, invalidate_fault, retire_fault, free_fault}
 use Rattle.operations.specs.declared.Request.{Request}
 use Rattle.operations.specs.declared.Request.TheVariants.{Handshake, Census}
@@ -17,12 +18,12 @@ use Rattle.operations.specs.Names.{among}
 use Rattle.operations.specs.Requests.{is_census}
 use Rattle.desk.specs.CodeBoard.{with_codes}
 use Rattle.desk.specs.declared.entries.Entry.{Entry}
-use Rattle.desk.specs.declared.entries.Entry.TheVariants.{Start, Exit, Ask, Open, Finish, Operate, Close, Install}
+use Rattle.desk.specs.declared.entries.Entry.TheVariants.{Start, Exit, Ask, Open, Finish, Operate, Close, Install, Invalidate}
 use Rattle.desk.specs.declared.entries.Live.{Live}
 use Rattle.desk.specs.declared.entries.Carried.{Carried}
 use Rattle.desk.specs.declared.entries.Opened.{Opened}
 use Rattle.desk.specs.Machine.{State, step, lawful, start, after_from, legal_from, after, is_legal, needs, is_taken, is_live, without, Asked, Current, needs_of_asked, needs_of_opened, needs_of_codes, states_left, may_open_more, is_least, is_first, live_of, open_next, opened_of, rest_of, finished, as_operated, Book, has_census, passes, is_due, may_operate, may_close, at_number, without_number, steps_of, is_free_slot, Stands, stands}
-use Rattle.desk.specs.Fields.{IsKept, AreFit, state_of, asked_of, current_of, due_of, IsIndex, IsCarried, AreCarried, DeskSeen, Enters, at}
+use Rattle.desk.specs.Fields.{IsKept, AreFit, state_of, asked_of, current_of, due_of, IsIndex, IsCarried, AreCarried, DeskSeen, Enters, EntersInstall, install_entries, kept_before, at}
 use Rattle.desk.proofs.Fewer.{filter_le, filter_less}
 use Rattle.desk.proofs.CodeEntries.{unfreed_parts}
 use Rattle.desk.proofs.OpenLists.{open_at, none_at, set_at, removed_at, needs_at, needs_without, fit_of, fit_at, fit_push, fit_without, needs_push}
@@ -252,14 +253,19 @@ needs_changed first (suc i) s st (x ∷ cs) c n h e =
     let a : states_left (in_state s st x).state ≡ states_left x.state = ap (λ (z : Code). states_left z.state) (in_state_other s st x there) in
     let r = needs_changed (first + 1) i s st cs c (tail_numbered first x cs n) h e in omega arith
 
-pub install_keeps : {J : Type 0} (b b' : Book) (nn num method : ℕ) (live : List Live) (q : List (Waiting (Carried J))) (os : List (Opened J)) (t t' : TableView) (id : CodeId)
-    → IsKept t.slots t.methods b (state_of nn live num q os t) → free_slot t.codes t.slots ≡ Some id.slot → id.serial ≡ next_serial t.codes → install_fault t method ≡ None
+may_install : {J : Type 0} (nn num method : ℕ) (live : List Live) (q : List (Waiting (Carried J))) (os : List (Opened J)) (t : TableView) (id : CodeId) → free_slot t.codes t.slots ≡ Some id.slot → id.serial ≡ next_serial t.codes
+    → in_use_for t.codes method ≡ None → install_fault t method ≡ None → lawful (state_of nn live num q os t) (Install id method) ≡ true
+may_install nn num method live q os t id free serial none may =
+    both_true _ _ (eq-eqb id.serial (next_serial t.codes) serial) (both_true _ _ (ap (is_free_slot id.slot) free ∙ eq-eqb id.slot id.slot refl) (both_true _ _ (ap is_none none) (ap is_none may)))
+
+install_keeps : {J : Type 0} (b b' : Book) (nn num method : ℕ) (live : List Live) (q : List (Waiting (Carried J))) (os : List (Opened J)) (t t' : TableView) (id : CodeId)
+    → IsKept t.slots t.methods b (state_of nn live num q os t) → free_slot t.codes t.slots ≡ Some id.slot → id.serial ≡ next_serial t.codes → in_use_for t.codes method ≡ None → install_fault t method ≡ None
     → t' ≡ with_codes t (with_code t.codes method id.slot)
     → b'.history ≡ b.history ++ Install id method ∷ [] → b'.reserved ≡ b.reserved + 3 → IsKept t'.slots t'.methods b' (state_of nn live num q os t')
-install_keeps b b' nn num method live q os t t' id k free serial may is there kept =
+install_keeps b b' nn num method live q os t t' id k free serial none may is there kept =
     subst (λ (v : TableView). IsKept v.slots v.methods b' (state_of nn live num q os v)) (sym is)
     (keeps t.slots t.methods b b' (Install id method) _ _ k.legal k.state there
-    (both_true _ _ (eq-eqb id.serial (next_serial t.codes) serial) (both_true _ _ (ap (is_free_slot id.slot) free ∙ eq-eqb id.slot id.slot refl) (ap is_none may)))
+    (may_install nn num method live q os t id free serial none may)
     refl
     (let z = k.needed in let m = needs_of_codes-push t.codes (record { serial = next_serial t.codes; slot = id.slot; method = method; state = state.InUse }) in omega arith)
     k.fit)
@@ -291,6 +297,56 @@ left_invalidate c h = by c.state h
     by state.NotEntrant h = cc
     by state.Zombie h = cc
     by state.Freed h = cc
+
+-- The entries of an install, whatever code it replaces.
+pub installs_keep : {J : Type 0} (b b' : Book) (nn num method : ℕ) (live : List Live) (q : List (Waiting (Carried J))) (os : List (Opened J)) (t t' : TableView) (r : Option CodeId) (id : CodeId)
+    → IsKept t.slots t.methods b (state_of nn live num q os t) → IsTable t → free_slot t.codes t.slots ≡ Some id.slot → id.serial ≡ next_serial t.codes → install_fault t method ≡ None
+    → r ≡ option_map id_of (in_use_for t.codes method) → t' ≡ with_codes t (with_code (without_use t.codes (in_use_for t.codes method)) method id.slot)
+    → b'.history ≡ b.history ++ install_entries r id method → b'.reserved + kept_before r ≡ b.reserved + 3 → IsKept t'.slots t'.methods b' (state_of nn live num q os t')
+installs_keep b b' nn num method live q os t t' r id k table free serial may is next there kept = by (in_use_for t.codes method) refl r is next there kept
+  where
+    by : (o : Option Code) → in_use_for t.codes method ≡ o → (r : Option CodeId) → r ≡ option_map id_of o → t' ≡ with_codes t (with_code (without_use t.codes o) method id.slot)
+        → b'.history ≡ b.history ++ install_entries r id method → b'.reserved + kept_before r ≡ b.reserved + 3 → IsKept t'.slots t'.methods b' (state_of nn live num q os t')
+    by None e None same next there kept = install_keeps b b' nn num method live q os t t' id k free serial e may next there (omega arith)
+    by None e (Some a) same next there kept = let no : ◌≡◌ {A = Option CodeId} (Some a) None = same in cc
+    by (Some c) e None same next there kept = let no : ◌≡◌ {A = Option CodeId} None (Some (id_of c)) = same in cc
+    by (Some c) e (Some a) same next there kept =
+        let u = unfreed_here t table method c e in
+        let used = state_is t table method c e in
+        let fault : invalidate_fault (Some c) ≡ None = rw used refl in
+        let less = left_invalidate c fault in
+        let room = code_room b nn num c.serial live q os t c k table u in
+        let mid : Book = record { history = b.history ++ Invalidate c.serial ∷ []; reserved = b.reserved - 1 } in
+        let after_left = code_keeps b mid (Invalidate c.serial) nn num c.serial live q os t (with_codes t (with_state t.codes c.serial state.NotEntrant)) c state.NotEntrant k table u refl (ap is_none (ap invalidate_fault u ∙ fault)) refl (sym less) refl (omega arith) in
+        let serials : a.serial ≡ c.serial = (let both : a ≡ id_of c = cc in ap (λ (d : CodeId). d.serial) both) in
+        install_keeps mid b' nn num method live q os (with_codes t (with_state t.codes c.serial state.NotEntrant)) t' id after_left (slot_left t table method c e ∙ free) (serial ∙ ap (λ n. n + 1) (sym (long_left t table method c e))) (none_left t table method c e)
+        (fault_left t table method c e ∙ may) next
+        (there ∙ (ap (λ n. b.history ++ Invalidate n ∷ Install id method ∷ []) serials ∙ sym (append_assoc b.history (Invalidate c.serial ∷ []) (Install id method ∷ [])))) (omega arith)
+
+installs_are_legal : {J : Type 0} (nn num method : ℕ) (live : List Live) (q : List (Waiting (Carried J))) (os : List (Opened J)) (t : TableView) (r : Option CodeId) (id : CodeId) → IsTable t → free_slot t.codes t.slots ≡ Some id.slot
+    → id.serial ≡ next_serial t.codes → install_fault t method ≡ None → r ≡ option_map id_of (in_use_for t.codes method) → legal_from (state_of nn live num q os t) (install_entries r id method) ≡ true
+installs_are_legal nn num method live q os t r id table free serial may is = by (in_use_for t.codes method) refl r is
+  where
+    by : (o : Option Code) → in_use_for t.codes method ≡ o → (r : Option CodeId) → r ≡ option_map id_of o → legal_from (state_of nn live num q os t) (install_entries r id method) ≡ true
+    by None e None same = both_true _ _ (may_install nn num method live q os t id free serial e may) refl
+    by None e (Some a) same = let no : ◌≡◌ {A = Option CodeId} (Some a) None = same in cc
+    by (Some c) e None same = let no : ◌≡◌ {A = Option CodeId} None (Some (id_of c)) = same in cc
+    by (Some c) e (Some a) same =
+        let serials : c.serial ≡ a.serial = (let both : a ≡ id_of c = cc in ap (λ (d : CodeId). d.serial) (sym both)) in
+        let fault : invalidate_fault (Some c) ≡ None = (let used = state_is t table method c e in rw used refl) in
+        subst (λ n. legal_from (state_of nn live num q os t) (Invalidate n ∷ Install id method ∷ []) ≡ true) serials
+        (both_true _ _ (ap is_none (ap invalidate_fault (unfreed_here t table method c e) ∙ fault))
+        (both_true _ _ (may_install nn num method live q os (with_codes t (with_state t.codes c.serial state.NotEntrant)) id (slot_left t table method c e ∙ free) (serial ∙ ap (λ n. n + 1) (sym (long_left t table method c e))) (none_left t table method c e) (fault_left t table method c e ∙ may)) refl))
+
+pub enters_install : {J : Type 0} (d d' : DeskSeen) (nn num method : ℕ) (live : List Live) (q : List (Waiting (Carried J))) (os : List (Opened J)) (t : TableView) (replaced : Option CodeId) (id : CodeId) (r : Stands) → at d ≡ state_of nn live num q os t
+    → IsTable t → free_slot t.codes t.slots ≡ Some id.slot → id.serial ≡ next_serial t.codes → install_fault t method ≡ None → replaced ≡ option_map id_of (in_use_for t.codes method)
+    → d'.book.history ≡ d.book.history ++ install_entries replaced id method → r ≡ stands (length d.book.history + kept_before replaced) (Install id method) → d'.slots ≡ d.slots → d'.methods ≡ d.methods → EntersInstall d d' replaced id method r
+enters_install d d' nn num method live q os t replaced id r is table free serial may old history receipt slots methods = record {
+  legal_is = ap (λ (s : State). legal_from s (install_entries replaced id method)) is ∙ installs_are_legal nn num method live q os t replaced id table free serial may old;
+  history_is = history;
+  receipt_is = receipt;
+  sizes_stay = (slots, methods);
+}
 
 pub left_retire : (c : Code) → retire_fault (Some c) ≡ None → states_left c.state ≡ 2
 left_retire c h = by c.state h

@@ -13,7 +13,9 @@ ghost use Rattle.desk.specs.CodeBoard.{AreEntries, CodesSeen, IsCodeOf, Weighs, 
 use board::{Board, Keeper, Spent, Weighed};
 use bodies::Name;
 use frames::CodeId;
-use method_table::table::{FreeFault, InstallFault, Installed, InvalidateFault, MethodTable, RetireFault};
+use method_table::table::{
+    FreeFault, InstallFault, Installed, InvalidateFault, MethodTable, RetireFault,
+};
 use method_table::{Code, CodeState};
 use std::marker::{Model, PhantomData};
 

@@ -1,18 +1,18 @@
 //! The desk: what all threads ask of the coordinator, in one history.
-ghost use Rattle.std.specs.Prelude.{◌≡◌, ◌==◌, ◌&&◌, ℕ, ◌+◌, ◌<◌, ◌≤◌, ◌^◌, List, [], ◌∷◌, ◌++◌, length, true, false, nat_le, Some, None, IfOk, IfErr, IfSome, IfNone, OnOk, OnSome, map, OnErr, ◌≢◌, vec_len, vec_capacity};
+ghost use Rattle.std.specs.Prelude.{◌≡◌, ◌==◌, ◌&&◌, ℕ, ◌+◌, ◌<◌, ◌≤◌, ◌^◌, List, [], ◌∷◌, ◌++◌, length, true, false, nat_le, Some, None, IfOk, IfErr, IfSome, IfNone, OnOk, OnSome, map, option_map, OnErr, ◌≢◌, vec_len, vec_capacity};
 ghost use Rattle.frames.specs.ImageView.{IsSettled};
-ghost use Rattle.frames.specs.BoardViews.{went_round, looked_at, slot_of, entry_stored, in_use, not_entrant, in_state};
+ghost use Rattle.frames.specs.BoardViews.{went_round, looked_at, slot_of, entry_stored, not_entrant, in_state};
 ghost use Rattle.frames.specs.declared.board_rule.EntryState.TheVariants.{Vacant};
 ghost use Rattle.frames.specs.BoardStep.{is_late};
 ghost use Rattle.method_table.specs.declared.Code.{Code as CodeOf};
 ghost use Rattle.board.specs.Boards.{first_keeper};
 ghost use Rattle.operations.specs.Asks.{reply};
 ghost use Rattle.method_table.specs.TableView.{install_fault, invalidate_fault, retire_fault, free_fault};
-ghost use Rattle.method_table.specs.Codes.{unfreed, id_of};
-ghost use Rattle.desk.specs.CodeBoard.{AreEntries, KeeperWeighs};
+ghost use Rattle.method_table.specs.Codes.{unfreed, id_of, in_use_for};
+ghost use Rattle.desk.specs.CodeBoard.{AreEntries, KeeperWeighs, stored};
 ghost use Rattle.desk.specs.Machine.{Current as CurrentOf, is_legal, is_taken, names_of, lawful, steps_of, is_open};
 ghost use Rattle.desk.specs.Refusals.{start_refused, ask_refused, open_refused, close_refused, install_refused, operate_refused, reclaim_refused, is_idle, AreSettled, are_all, operate_said, chosen, holds_target};
-ghost use Rattle.desk.specs.Fields.{DeskSeen, at, Enters};
+ghost use Rattle.desk.specs.Fields.{DeskSeen, at, Enters, EntersInstall, kept_before};
 ghost use Rattle.desk.specs.Targets.{standing, untold, progress, next_due, next_awaited, name_at, open_kind};
 ghost use Rattle.desk.specs.Once.{replies_of};
 ghost use Rattle.desk.specs.JobsFit.{jobs_fit, left_of, has_job, job_taken, jobs_closed, jobs_opened};
@@ -32,8 +32,7 @@ use crate::log::{Log, Receipt, RoomFault};
 use crate::targets::{due_after, name_at, oldest, progress_in, standing_to, untold_in};
 use board::{Board, Keeper, Spent, Weighed};
 use bodies::{Body, Name};
-use frames::CodeId;
-use method_table::table::{FreeFault, InvalidateFault, MethodTable, RetireFault};
+use method_table::table::{FreeFault, Installed, InvalidateFault, MethodTable, RetireFault};
 use operations::Request;
 use operations::job::{Done, Errand};
 use operations::queue::{Queue, Unqueued, Waiting};
@@ -151,7 +150,11 @@ impl<N: Name, J: Errand> Desk<N, J> {
 
     /// Enters a code of the method, which is stored. Where it replaces one in use, that this one isn't entrant is entered and stored
     /// first, in the room that was kept for it. The receipt is of the Install.
-    pub fn install(&mut self, board: &Board, method: u64) -> Result<(Installed, Receipt<N>), CodeFault>
+    pub fn install(
+        &mut self,
+        board: &Board,
+        method: u64,
+    ) -> Result<(Installed, Receipt<N>), CodeFault>
         requires board { board.now ≡ N.board }
         ensures ok { IfOk result (λ r. EntersInstall self.old self.new r.0.replaced r.0.code method r.1) }
         ensures replaced { IfOk result (λ r. r.0.replaced ≡ option_map id_of (in_use_for (at self.old).table.codes method)) }
@@ -170,13 +173,7 @@ impl<N: Name, J: Errand> Desk<N, J> {
             Err(RoomFault::NoMemory) => return Err(CodeFault::NoMemory),
         }
         match self.codes.install(board, method) {
-            Ok(installed) => {
-                if let Some(old) = installed.replaced {
-                    let _ = self.log.enter(Entry::Invalidate(old.serial));
-                }
-                let receipt = self.log.enter(Entry::Install(installed.code, method));
-                Ok((installed, receipt))
-            }
+            Ok(installed) => Ok((installed, self.log.enter_install(installed, method))),
             Err(_) => {
                 self.log.give_back(4);
                 Err(CodeFault::NoMemory)
