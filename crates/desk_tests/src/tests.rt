@@ -114,7 +114,7 @@ fn install<N: Name, J: Errand>(
     desk: &mut Desk<N, J>,
     board: &Board,
     method: u64,
-) -> Result<(CodeId, Receipt<N>), CodeFault>
+) -> Result<(Installed, Receipt<N>), CodeFault>
     requires { board.now ≡ N.board }
 {
     match desk.install(board, method) {
@@ -310,12 +310,12 @@ fn reclaim_code<N: Name, J: Errand, R: Abort>(
 {
     let mut desk = small_desk::<N, J>(alloc, &board, keeper)?;
     assert!(rt;
-        matches!(install(&mut desk, &board, 0), Ok((id, _)) if id.slot == 0 && id.serial == 1)
+        matches!(install(&mut desk, &board, 0), Ok((new, _)) if new.code.slot == 0 && new.code.serial == 1)
     );
     assert!(rt;
         matches!(
             desk.install(&board, 0),
-            Err(CodeFault::Install(InstallFault::HasCode))
+            Err(CodeFault::Install(InstallFault::TableFull))
         )
     );
     assert!(rt; desk.invalidate(&board, 1).is_ok());

@@ -108,7 +108,6 @@ impl Said {
     pub fn of_code(fault: CodeFault) -> Result<Said, AllocError> {
         Ok(Said::Refused(match fault {
             CodeFault::Install(InstallFault::NoSuchMethod) => Refusal::NoSuchMethod,
-            CodeFault::Install(InstallFault::HasCode) => Refusal::HasCode,
             CodeFault::Install(InstallFault::TableFull) => Refusal::TableFull,
             CodeFault::Install(InstallFault::SerialsSpent) => Refusal::SerialsSpent,
             CodeFault::HistoryFull => return Ok(Said::HistoryFull),

@@ -225,7 +225,6 @@ release 0 => refused Publishing
 end 0 => ok
 install 2 => refused NoSuchMethod
 install 0 => code 1
-install 0 => refused HasCode
 install 1 => code 2
 invalidate 1 => ok
 install 0 => refused TableFull
