@@ -619,11 +619,45 @@ close => closed 1
 ",
 };
 
-pub const RUNS: [Transcript; 15] = [
+const INSTALL_OVER: Transcript = Transcript {
+    name: "install_over",
+    lines: "\
+size 1 4 2 => ok
+start => thread 1 place 0
+begin 0 => ok
+end 0 => ok
+wake 0 => ok
+cross 0 => go
+install 0 => code 1
+enter 0 0 1 => entered
+install 0 => code 2
+state 1 => not entrant
+resolve 0 => code 2
+enter 0 0 1 => wrong method
+enter 0 0 2 => entered
+invalidate 1 => refused NotInUse
+look 1 0 => late
+round => ok
+begin 0 => ok
+change 0 => change 1 +1
+change 0 => change 2 +1
+end 0 => ok
+look 1 0 => clear
+weigh 1 => used 1
+install 0 => code 3
+install 0 => code 4
+install 0 => refused TableFull
+state 4 => in use
+state 3 => not entrant
+",
+};
+
+pub const RUNS: [Transcript; 16] = [
     LOOK_BEFORE_A_ROUND,
     RECLAIMED_AFTER_ALL_PUBLISHED,
     PUBLICATION_BEGUN_BEFORE_THE_ROUND,
     SLOT_USED_AGAIN,
+    INSTALL_OVER,
     NEXT_CODE_OF_A_METHOD,
     PLACE_USED_AGAIN,
     TWO_OPERATIONS_IN_TURN,
