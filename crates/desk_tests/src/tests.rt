@@ -16,7 +16,7 @@ use desk::{
 };
 use frames::CodeId;
 use frames::image::Image;
-use method_table::table::{InstallFault, MethodTable};
+use method_table::table::{InstallFault, Installed, MethodTable};
 use operations::job::{Call, Errand, Job};
 use operations::{Ask, Request, Targets};
 use poll::{PollRow, Poller};
@@ -344,7 +344,10 @@ fn reclaim_code<N: Name, J: Errand, R: Abort>(
     assert!(rt; desk.free(&board, 1).is_ok());
     assert!(rt; desk.free(&board, 1).is_err());
     assert!(rt;
-        matches!(install(&mut desk, &board, 0), Ok((id, _)) if id.slot == 0 && id.serial == 2)
+        matches!(
+            install(&mut desk, &board, 0),
+            Ok((Installed { code, replaced: None }, _)) if code.slot == 0 && code.serial == 2
+        )
     );
     Ok(())
 }

@@ -32,8 +32,7 @@ fn four_open<N: Name, J: Errand, R: Abort>(
 {
     let mut desk = small_desk::<N, J>(alloc, board, keeper)?;
     assert!(rt; start(&mut desk).is_ok());
-    let mut lists = lists;
-    while let Some(jobs) = lists.pop() {
+    for jobs in lists {
         assert!(rt; ask_one(&mut desk, alloc, jobs)?.is_ok());
     }
     assert!(rt; matches!(ask(&mut desk, alloc), Ok((6, _))));
