@@ -1,5 +1,5 @@
 //! Telling a name: its job, or the mark of a census, goes into the berth of its thread, and the thread's place is armed.
-ghost use Rattle.std.specs.Prelude.{◌≡◌, ◌<◌, ◌^◌, true, false, length, slice_index, IfSome, IfNone};
+ghost use Rattle.std.specs.Prelude.{◌≡◌, ◌<◌, ◌^◌, true, false, length, slice_index, IfSome, IfNone, IfOk, IfErr};
 ghost use Rattle.thread_state.specs.PollRule.{armed_with};
 ghost use Rattle.desk.specs.Fields.{at};
 ghost use Rattle.coordinator.specs.Refused.{IsUntold, tell_said, tell_stays};
