@@ -2,3 +2,4 @@ mod Held
 mod Each
 mod Holdings
 mod Closed
+mod Staying
