@@ -13,7 +13,7 @@ ghost use Rattle.thread_list.specs.Berths.{acted};
 use crate::coordinator::Coordinator;
 use crate::faults::{DriveFault, Driven, OperateFault, Told};
 use crate::holding::is_held;
-use crate::serving::{serve_body, serve_told};
+use crate::serving::{bring_back, serve_body};
 use bodies::{Body, Name, census_of};
 use desk::{Desk, Live, Progress, Receipt};
 use operations::job::Errand;
@@ -145,13 +145,15 @@ impl<'a, N: Name, J: Errand> Coordinator<'a, N, J> {
     pub(crate) fn tell_all<R: Wait>(&mut self, rt: &R)
         ensures { (self.new.held ≡ self.old.held) × (self.new.operated ≡ self.old.operated) }
     {
-        let mut name = 0;
+        let mut above = 0;
         for _ in rt.forever() {
-            let Some(due) = self.next_due(rt, name) else {
+            let Some((name, has_more)) = self.tell_next(rt, above) else {
                 return;
             };
-            name = due.name;
-            self.tell_whole(rt, name);
+            if has_more {
+                self.tell_whole(rt, name);
+            }
+            above = name;
         }
     }
 
@@ -238,17 +240,15 @@ impl<'a, N: Name, J: Errand> Coordinator<'a, N, J> {
         ensures attended { IfOk result (λ a. IsAttended due.place due.name a.done a.back) }
         ensures absent { IfErr result (λ r. r ≡ acted due.place due.name BerthAct.Absent) }
     {
-        let berth = self.shared.berth(due.place);
-        let mut body = berth.take(rt, due.name, due.place)?;
-        let done = match berth.job(rt, due.name) {
-            Ok(job) => {
-                let first = serve_body(rt, self.shared, &mut body, job);
-                serve_told(rt, self.shared, &mut body);
-                Ok(first)
-            }
+        let (mut body, told) = self
+            .shared
+            .berth(due.place)
+            .take_told(rt, due.name, due.place)?;
+        let done = match told {
+            Ok(job) => Ok(serve_body(rt, self.shared, &mut body, job)),
             Err(none) => Err(none),
         };
-        let back = berth.release(rt, body, false);
+        let back = bring_back(rt, self.shared, body);
         Ok(Attended { done, back })
     }
 

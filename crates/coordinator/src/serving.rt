@@ -5,6 +5,7 @@ ghost use Rattle.bodies.specs.Bodies.{BodyView};
 ghost use Rattle.desk.specs.declared.entries.Entry.{Entry};
 ghost use Rattle.desk.specs.Fields.{at};
 ghost use Rattle.desk.specs.Targets.{standing, progress};
+ghost use Rattle.thread_list.specs.Berths.{acted};
 ghost use Rattle.coordinator.specs.Holding.{StandsAt, IsServed};
 ghost use Rattle.coordinator.specs.Refused.{Serves, IsServeFault, serve_fault, serve_refused};
 
@@ -16,7 +17,7 @@ use desk::{Desk, Progress, Receipt, Standing};
 use operations::job::Errand;
 use std::sync::Wait;
 use std::thread;
-use thread_list::{Shared, serve};
+use thread_list::{BerthAct, BerthReceipt, Shared, serve};
 
 // The job that was told to the thread of a held body.
 fn told_job<N: Name, J: Errand, R: Wait>(rt: &R, shared: &Shared<N, J>, body: &Body<N>) -> J
@@ -47,17 +48,26 @@ pub fn serve_body<N: Name, J: Errand, R: Wait>(
     receipt
 }
 
-/// Serves a body that was taken out of its berth, job by job in order, until nothing is told there.
-pub fn serve_told<N: Name, J: Errand, R: Wait>(rt: &R, shared: &Shared<N, J>, body: &mut Body<N>)
-    ensures same { (body.new.name ≡ body.old.name) × (body.new.seat.place ≡ body.old.seat.place) }
-    ensures stored { body.old.seat.stored ≢ 0 → body.new.seat.stored ≢ 0 }
+/// Brings a body that was taken out of its berth back, once what its thread was told meanwhile is served, job by job in order.
+pub fn bring_back<N: Name, J: Errand, R: Wait>(
+    rt: &R,
+    shared: &Shared<N, J>,
+    body: Body<N>,
+) -> BerthReceipt<N>
+    requires body { (body.seat.stored ≢ 0) × (0 < body.name) }
+    ensures { result ≡ acted body.seat.place body.name (BerthAct.Released false) }
 {
+    let mut body = body;
     for _ in rt.forever() {
-        let Ok(job) = shared.berth_of(body).job(rt, body.name()) else {
-            return;
-        };
-        let _ = serve_body(rt, shared, body, job);
+        match shared.berth_of(&body).bring(rt, body) {
+            Ok(receipt) => return receipt,
+            Err((back, job)) => {
+                body = back;
+                let _ = serve_body(rt, shared, &mut body, job);
+            }
+        }
     }
+    unreachable!()
 }
 
 // Why a held thread that stands to the open requests like this, and is so far with what it was told, isn't served.

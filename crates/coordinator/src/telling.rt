@@ -65,7 +65,20 @@ impl<'a, N: Name, J: Errand> Coordinator<'a, N, J> {
         ensures said { tell_said name self.old.armer self.new.armer result }
         ensures held { (self.new.held ≡ self.old.held) × (self.new.operated ≡ self.old.operated) }
     {
-        let mut hand: Option<J> = None;
+        self.tell_with(rt, name, None)
+    }
+
+    // The same, with a job for the name that was taken before, if any.
+    fn tell_with<R: Wait>(
+        &mut self,
+        rt: &R,
+        name: u64,
+        hand: Option<J>,
+    ) -> Result<Told, TellFault>
+        ensures said { tell_said name self.old.armer self.new.armer result }
+        ensures held { (self.new.held ≡ self.old.held) × (self.new.operated ≡ self.old.operated) }
+    {
+        let mut hand = hand;
         for _ in rt.forever() {
             if let Some(said) = self.try_tell(rt, name, &mut hand) {
                 return said;
@@ -103,6 +116,27 @@ impl<'a, N: Name, J: Errand> Coordinator<'a, N, J> {
         } else {
             None
         }
+    }
+
+    // Tells the least name above this one that is due the oldest open request that it wasn't told. Answers the name, and whether it is to
+    // be told more; None where no name is left.
+    pub(crate) fn tell_next<R: Wait>(&mut self, rt: &R, above: u64) -> Option<(u64, bool)>
+        ensures held { (self.new.held ≡ self.old.held) × (self.new.operated ≡ self.old.operated) }
+    {
+        let mut desk = self.shared.desk().lock(rt);
+        let name = desk.next_due(above)?.name;
+        let (target, number) = match look_up(&desk, &self.armer, self.places, name) {
+            Ok(Some(untold)) => untold,
+            Ok(None) | Err(_) => return Some((name, false)),
+        };
+        let has_more = desk.untold(name, number).is_some();
+        let mut hand = job_of(&mut desk, number, name, !target.is_census);
+        drop(desk);
+        if self.put(rt, name, target, number, &mut hand) {
+            return Some((name, has_more));
+        }
+        let _ = self.tell_with(rt, name, hand);
+        Some((name, true))
     }
 
     // The job in hand, or the mark of the census, goes into the berth, and the place is armed.

@@ -145,6 +145,45 @@ impl<N: Name, J: Errand> Berth<N, J> {
         unreachable!()
     }
 
+    fn try_bring<R: Wait>(&self, rt: &R, body: Body<N>) -> Result<BerthReceipt<N>, (Body<N>, Option<J>)>
+        requires body { (body.seat.stored ≢ 0) × (0 < body.name) }
+        ensures ok { IfOk result (λ r. r ≡ acted body.seat.place body.name (BerthAct.Released false)) }
+        ensures err { IfErr result (λ r. (r.0 ≡ body) × IfSome r.1 (λ j. (J.whom j ≡ body.name) × (0 < J.number j))) }
+    {
+        let mut room = self.room.lock(rt);
+        if let Ok(job) = room.job(body.name()) {
+            return Err((body, Some(job)));
+        }
+        match room.release(body, false) {
+            Ok(receipt) => {
+                let wanted = room.has_sleepers();
+                drop(room);
+                self.ring(wanted);
+                Ok(receipt)
+            }
+            Err(back) => Err((back, None)),
+        }
+    }
+
+    /// A body that was taken out to serve goes back. Where its thread was told more meanwhile it doesn't, and comes back with the oldest
+    /// job.
+    pub fn bring<R: Wait>(&self, rt: &R, body: Body<N>) -> Result<BerthReceipt<N>, (Body<N>, J)>
+        requires body { (body.seat.stored ≢ 0) × (0 < body.name) }
+        ensures ok { IfOk result (λ r. r ≡ acted body.seat.place body.name (BerthAct.Released false)) }
+        ensures told { IfErr result (λ r. (r.0 ≡ body) × (J.whom r.1 ≡ body.name) × (0 < J.number r.1)) }
+    {
+        let mut body = body;
+        for _ in rt.forever() {
+            match self.try_bring(rt, body) {
+                Ok(receipt) => return Ok(receipt),
+                Err((back, Some(job))) => return Err((back, job)),
+                Err((back, None)) => body = back,
+            }
+            thread::yield_now();
+        }
+        unreachable!()
+    }
+
     /// The seat and the poller come out for a thread that starts in this place, once no thread has them.
     pub fn start<R: Wait>(&self, rt: &R, place: usize) -> SpareSeat<N>
         ensures { result.seat.place ≡ place }
@@ -168,6 +207,25 @@ impl<N: Name, J: Errand> Berth<N, J> {
         ensures absent { IfErr result (λ r. r ≡ acted place name BerthAct.Absent) }
     {
         self.room.lock(rt).take(name, place)
+    }
+
+    /// Takes the body of the name with its oldest job, or the receipt that there was none, where the body is here; the error is the
+    /// receipt that it wasn't.
+    pub fn take_told<R: Wait>(
+        &self,
+        rt: &R,
+        name: u64,
+        place: usize,
+    ) -> Result<(Body<N>, Result<J, BerthReceipt<N>>), BerthReceipt<N>>
+        ensures body { IfOk result (λ r. (r.0.name ≡ name) × (0 < r.0.name) × (r.0.seat.place ≡ place) × (r.0.seat.stored ≢ 0)) }
+        ensures job { IfOk result (λ r. IfOk r.1 (λ j. (J.whom j ≡ name) × (0 < J.number j))) }
+        ensures no_job { IfOk result (λ r. IfErr r.1 (λ b. (b.name ≡ name) × (b.act ≡ BerthAct.NoJob))) }
+        ensures absent { IfErr result (λ r. r ≡ acted place name BerthAct.Absent) }
+    {
+        let mut room = self.room.lock(rt);
+        let body = room.take(name, place)?;
+        let job = room.job(name);
+        Ok((body, job))
     }
 
     /// Takes the body of the name out, once it is here and nobody holds it.

@@ -1,6 +1,6 @@
 use Rattle.std.proofs.Common.{◌∙◌, rules}
 use Rattle.coordinator.proofs.Each.{operated_keeps}
-use Rattle.coordinator.proofs.serving.serve_told.Goals as goal
+use Rattle.coordinator.proofs.serving.bring_back.Goals as goal
 
 pub loop-preserved : goal.loop-preserved
 loop-preserved g c =
