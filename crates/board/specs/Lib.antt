@@ -3,3 +3,4 @@ pub mod Plays
 pub mod Notes
 pub mod Closing
 pub mod Laws
+pub mod Replaced

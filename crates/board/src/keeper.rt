@@ -7,6 +7,7 @@ ghost use Rattle.frames.specs.BoardStep.{is_late};
 ghost use Rattle.frames.specs.BoardViews.{slot_of, IsIn, keeper_view, went_round, entry_stored, in_use, not_entrant, in_state, looked_at, weighed, has_place};
 ghost use Rattle.board.specs.Boards.{KeeperSeen, board_id, of_keeper, IsKeeper, keeper_of, words_at, first_keeper, KeeperSteps};
 ghost use Rattle.board.specs.Plays.{asked, asked_of};
+ghost use Rattle.board.specs.Replaced.{left_by, replaced};
 ghost use Rattle.board.specs.Notes.{AreNoted, IsLooked, IsWeighed, WeighSteps, WeighStamps, WeighTells, blank};
 
 use crate::board::Board;
@@ -171,6 +172,24 @@ impl Keeper {
     {
         self.has_slots();
         self.store_not_entrant::<Brand>(board, code);
+    }
+
+    /// Replaces a code in use by another one, in a vacant slot: makes the old one not entrant, at the board's moment, and puts the new
+    /// one in use. Two stores in this order, each with the board's rule after it; between them neither is in use.
+    pub fn replace(&mut self, board: &Board, old: CodeId, code: CodeId)
+        requires board { self.old.board ≡ board.now }
+        requires old { (old.slot < self.old.board.slots) × IsIn self.old.seen old InUse }
+        requires slot { code.slot < self.old.board.slots }
+        requires vacant { (slot_of self.old.seen code.slot).state ≡ Vacant }
+        requires later { (slot_of self.old.seen code.slot).serial < code.serial }
+        requires small { code.serial < 2 ^ 40 }
+        ensures board { self.new.board ≡ self.old.board }
+        ensures step { self.new.seen ≡ replaced self.old.seen old code }
+        ensures made { KeeperSteps self.old.board self.old.seen (left_by self.old.seen old) × KeeperSteps self.old.board (left_by self.old.seen old) self.new.seen }
+        ensures stamp { self.old.stamp + 1 < self.new.stamp }
+    {
+        self.invalidate(board, old);
+        self.install(board, code);
     }
 
     fn add_moment<A: About>(&mut self, board: &Board)

@@ -1,3 +1,5 @@
 mod Held
 mod Each
 mod Holdings
+mod Closed
+mod Staying

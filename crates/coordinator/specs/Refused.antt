@@ -6,15 +6,16 @@ use Rattle.bodies.specs.Bodies.{BodyView}
 use Rattle.desk.specs.declared.entries.Target.{Target}
 use Rattle.desk.specs.declared.entries.Standing.{Standing}
 use Rattle.desk.specs.declared.entries.Standing.TheVariants as stand
+use Rattle.desk.specs.declared.entries.Progress.{Progress}
+use Rattle.desk.specs.declared.entries.Progress.TheVariants as is
 use Rattle.desk.specs.declared.faults.CloseFault.{CloseFault}
-use Rattle.desk.specs.Machine.{State}
-use Rattle.desk.specs.Targets.{standing, name_at}
-use Rattle.desk.specs.declared.faults.CloseFault.TheVariants as close
+use Rattle.desk.specs.Machine.{State, Current}
+use Rattle.desk.specs.Targets.{standing, untold, progress, name_at}
 use Rattle.desk.specs.declared.entries.Entry.{Entry}
 use Rattle.desk.specs.declared.entries.Entry.TheVariants as entry
 use Rattle.operations.specs.declared.Ask.{Ask}
 use Rattle.operations.specs.Asks.{reply}
-use Rattle.desk.specs.Refusals.{close_refused, operate_refused, MayOperate, HasOpen}
+use Rattle.desk.specs.Refusals.{chosen, holds_target, close_refused, operate_refused, MayOperate}
 use Rattle.coordinator.specs.declared.faults.Told.{Told}
 use Rattle.coordinator.specs.declared.faults.Told.TheVariants as told
 use Rattle.coordinator.specs.declared.faults.TellFault.{TellFault}
@@ -27,41 +28,51 @@ use Rattle.coordinator.specs.declared.faults.OperateFault.{OperateFault}
 use Rattle.coordinator.specs.declared.faults.OperateFault.TheVariants as operate
 use Rattle.coordinator.specs.Holding.{Holding, is_held, StandsAt, IsServed}
 
--- The name stands to the open request as this target.
+-- The name stands to the open requests as this target.
 abbrev pub IsAsked : State → ℕ → Target → Type 0
 IsAsked s name t = standing s name ≡ stand.Asked t
 
--- The place was armed with the number of the target's request, or a later one.
-abbrev pub WasTold : Arming → Target → Type 0
-WasTold armer t = t.number ≤ slice_index armer.armed t.place
+-- The oldest open request that is of the target and wasn't told to it: its number is greater than what the target's place was armed
+-- with last.
+abbrev pub IsUntold : State → ℕ → Arming → Target → ℕ → Type 0
+IsUntold s name armer t number = IsAsked s name t × (untold s name (slice_index armer.armed t.place) ≡ Some number)
 
-abbrev pub IsUntold : Arming → Target → Type 0
-IsUntold armer t = slice_index armer.armed t.place < t.number
+-- All of them were told.
+abbrev pub WasTold : State → ℕ → Arming → Target → Type 0
+WasTold s name armer t = IsAsked s name t × (untold s name (slice_index armer.armed t.place) ≡ None)
 
--- Telling arms the place of a target that wasn't told, and no other.
+-- Telling arms the place of a target with the oldest that it wasn't told, and no other place.
 abbrev pub tells : State → ℕ → Arming → Arming → Told → Type 0
-tells s name old new told.Told = (t : Target) × IsAsked s name t × IsUntold old t × (new ≡ armed_with old t.place t.number)
+tells s name old new told.Told = (t : Target) × (number : ℕ) × IsUntold s name old t number × (new ≡ armed_with old t.place number)
 tells s name old new told.Gone = (standing s name ≡ stand.Gone) × (new ≡ old)
 
 abbrev pub tell_refused : State → ℕ → Arming → TellFault → Type 0
 tell_refused s name armer tell.NothingOpen = standing s name ≡ stand.NothingOpen
 tell_refused s name armer tell.NotOf = standing s name ≡ stand.NotOf
-tell_refused s name armer tell.AlreadyTold = (t : Target) × IsAsked s name t × WasTold armer t
+tell_refused s name armer tell.AlreadyTold = (t : Target) × WasTold s name armer t
 
 abbrev pub tell_said : ℕ → Arming → Arming → Result Told TellFault → Type 0
 tell_said name old new (Ok told) = (s : State) × tells s name old new told
 tell_said name old new (Err fault) = (s : State) × tell_refused s name old fault × (new ≡ old)
 
--- Why a thread that stands to the open request like this, and whose place was last armed with this number, isn't held.
-abbrev pub hold_fault : Standing → ℕ → Option HoldFault
-hold_fault stand.NothingOpen last = Some hold.NothingOpen
-hold_fault stand.NotOf last = Some hold.NotOf
-hold_fault stand.Gone last = Some hold.NotTold
-hold_fault (stand.Asked t) last = if nat_lt last t.number then Some hold.NotTold else if t.is_done then Some hold.AlreadyDone else None
+-- What telling comes to where nothing is armed.
+abbrev pub tell_stays : State → ℕ → Arming → Result Told TellFault → Type 0
+tell_stays s name armer (Ok told.Told) = true ≡ false
+tell_stays s name armer (Ok told.Gone) = standing s name ≡ stand.Gone
+tell_stays s name armer (Err fault) = tell_refused s name armer fault
 
--- The thread that is live at the place may be held, or not for this reason, as far as the open request goes.
+-- Why a thread that stands to the open requests like this, and is so far with what it was told, isn't held.
+abbrev pub hold_fault : Standing → Progress → Option HoldFault
+hold_fault stand.NothingOpen p = Some hold.NothingOpen
+hold_fault stand.NotOf p = Some hold.NotOf
+hold_fault stand.Gone p = Some hold.NotTold
+hold_fault (stand.Asked t) is.NotTold = Some hold.NotTold
+hold_fault (stand.Asked t) is.Done = Some hold.AlreadyDone
+hold_fault (stand.Asked t) (is.Undone number) = None
+
+-- The thread that is live at the place may be held, or not for this reason, as far as the open requests go.
 abbrev pub IsFaultOf : Holding → ℕ → Option HoldFault → Type 0
-IsFaultOf c place fault = (s : State) × (name : ℕ) × (name_at place s.live ≡ Some name) × (hold_fault (standing s name) (slice_index c.armer.armed place) ≡ fault)
+IsFaultOf c place fault = (s : State) × (name : ℕ) × (name_at place s.live ≡ Some name) × (hold_fault (standing s name) (progress s name (slice_index c.armer.armed place)) ≡ fault)
 
 abbrev pub hold_refused : Holding → ℕ → ℕ → HoldFault → Type 0
 hold_refused c places place hold.NoSuchPlace = places ≤ place
@@ -76,21 +87,26 @@ hold_refused c places place hold.NotSafe = (place < places) × IsFaultOf c place
 -- Holding takes the body of the place, behind those that are held.
 abbrev pub Holds : Holding → Holding → ℕ → Type 0
 Holds old new place
-    = (s : State) × (body : BodyView) × (name_at place s.live ≡ Some body.name) × (hold_fault (standing s body.name) (slice_index old.armer.armed place) ≡ None)
+    = (s : State) × (body : BodyView) × (name_at place s.live ≡ Some body.name) × (hold_fault (standing s body.name) (progress s body.name (slice_index old.armer.armed place)) ≡ None)
     × (is_held place old.held ≡ false) × (body.seat.place ≡ place) × (new ≡ record old { held = old.held ++ body ∷ [] })
 
--- Why a held thread that stands to the open request like this, and whose place was last armed with this number, isn't served.
-abbrev pub serve_fault : Standing → ℕ → Option ServeFault
-serve_fault stand.NothingOpen last = Some serve.NothingOpen
-serve_fault stand.NotOf last = Some serve.NotOf
-serve_fault stand.Gone last = Some serve.NotTold
-serve_fault (stand.Asked t) last =
-    if t.is_census then Some serve.NotOf else if nat_lt last t.number then Some serve.NotTold else if t.is_done then Some serve.AlreadyDone else None
+-- How far a held thread is with what it was told says why it isn't served.
+abbrev pub serve_fault_at : Progress → Option ServeFault
+serve_fault_at is.NotTold = Some serve.NotTold
+serve_fault_at is.Done = Some serve.AlreadyDone
+serve_fault_at (is.Undone number) = None
+
+-- Why a held thread that stands to the open requests like this, and is so far with what it was told, isn't served.
+abbrev pub serve_fault : Standing → Progress → Option ServeFault
+serve_fault stand.NothingOpen p = Some serve.NothingOpen
+serve_fault stand.NotOf p = Some serve.NotOf
+serve_fault stand.Gone p = Some serve.NotTold
+serve_fault (stand.Asked t) p = if t.is_census then Some serve.NotOf else serve_fault_at p
 
 -- What the desk says of the held thread at the index.
 abbrev pub IsServeFault : Holding → ℕ → ℕ → Option ServeFault → Type 0
 IsServeFault c index place fault
-    = (s : State) × (body : BodyView) × (slice_get c.held index ≡ Some body) × (serve_fault (standing s body.name) (slice_index c.armer.armed place) ≡ fault)
+    = (s : State) × (body : BodyView) × (slice_get c.held index ≡ Some body) × (serve_fault (standing s body.name) (progress s body.name (slice_index c.armer.armed place)) ≡ fault)
 
 -- Why the thread of a place isn't served: it isn't held, or else the desk says so.
 abbrev pub serve_refused : Holding → ℕ → ServeFault → Type 0
@@ -108,8 +124,10 @@ abbrev pub census_refused : State → List BodyView → OperateFault → Type 0
 census_refused s bs (operate.Refused fault) = operate_refused s bs fault
 census_refused s bs operate.NoMemory = MayOperate s bs
 
--- Why the open request isn't closed.
-abbrev pub not_closed : Holding → CloseFault → Type 0
-not_closed c close.NothingOpen = (s : State) × (s.opened ≡ [])
-not_closed c close.Held = (c.held ≢ []) × ((s : State) × HasOpen s)
-not_closed c close.NotDone = (c.held ≡ []) × ((s : State) × close_refused s false close.NotDone)
+-- The open request of the number, or without one the oldest, had this number, and no held thread is its target.
+abbrev pub MayClose : Holding → Option ℕ → ℕ → Type 0
+MayClose c number closed = (s : State) × (o : Current) × (chosen number s.opened ≡ Some o) × (closed ≡ o.number) × (holds_target o.request c.held ≡ false)
+
+-- Why it isn't closed.
+abbrev pub not_closed : Holding → Option ℕ → CloseFault → Type 0
+not_closed c number fault = (s : State) × close_refused s number c.held fault

@@ -1,11 +1,11 @@
 //! The coordinator: what it keeps, and how it opens and closes requests.
-ghost use Rattle.std.specs.Prelude.{◌≡◌, [], false, IfOk, IfErr, OnOk};
+ghost use Rattle.std.specs.Prelude.{◌≡◌, false, Some, None, IfOk, IfErr, OnOk};
 ghost use Rattle.poll.specs.Rows.{full_armer};
 ghost use Rattle.desk.specs.declared.entries.Entry.{Entry};
 ghost use Rattle.desk.specs.Machine.{State as DeskState};
 ghost use Rattle.desk.specs.Refusals.{open_refused};
 ghost use Rattle.coordinator.specs.Holding.{held_nothing};
-ghost use Rattle.coordinator.specs.Refused.{not_closed};
+ghost use Rattle.coordinator.specs.Refused.{MayClose, not_closed};
 
 use crate::teller::Teller;
 use bodies::{Body, Name};
@@ -80,28 +80,57 @@ impl<'a, N: Name, J: Errand> Coordinator<'a, N, J> {
         Ok(opened)
     }
 
-    /// Closes the open request, and drops the jobs of targets that are gone. Answers the number of the operation, with the receipt
-    /// of its Close.
+    /// Closes the oldest open request, and drops the jobs of targets that are gone. Answers the number of the operation, with the
+    /// receipt of its Close.
     pub fn close<R: Wait>(&mut self, rt: &R) -> Result<(u64, Receipt<N>), CloseFault>
-        ensures closed { IfOk result (λ r. r.1.entry ≡ Entry.Close r.0) }
-        ensures free { OnOk result ((self.old.held ≡ []) × (self.new ≡ record self.old { operated = false })) }
-        ensures refused { IfErr result (λ e. not_closed self.old e × (self.new ≡ self.old)) }
+        ensures closed { IfOk result (λ r. (r.1.entry ≡ Entry.Close r.0) × MayClose self.old None r.0) }
+        ensures same { OnOk result (self.new ≡ record self.old { operated = false }) }
+        ensures refused { IfErr result (λ e. not_closed self.old None e × (self.new ≡ self.old)) }
     {
-        let closed = self.try_close(rt)?;
+        self.close_chosen(rt, None)
+    }
+
+    /// The same of the open request of the number.
+    pub fn close_of<R: Wait>(&mut self, rt: &R, number: u64) -> Result<Receipt<N>, CloseFault>
+        ensures closed { IfOk result (λ r. (r.entry ≡ Entry.Close number) × MayClose self.old (Some number) number) }
+        ensures same { OnOk result (self.new ≡ record self.old { operated = false }) }
+        ensures refused { IfErr result (λ e. not_closed self.old (Some number) e × (self.new ≡ self.old)) }
+    {
+        let (closed, receipt) = self.close_chosen(rt, Some(number))?;
+        let _ = closed;
+        Ok(receipt)
+    }
+
+    fn close_chosen<R: Wait>(
+        &mut self,
+        rt: &R,
+        number: Option<u64>,
+    ) -> Result<(u64, Receipt<N>), CloseFault>
+        ensures closed { IfOk result (λ r. (r.1.entry ≡ Entry.Close r.0) × MayClose self.old number r.0) }
+        ensures same { OnOk result (self.new ≡ record self.old { operated = false }) }
+        ensures refused { IfErr result (λ e. not_closed self.old number e × (self.new ≡ self.old)) }
+    {
+        let closed = self.try_close(rt, number)?;
         self.operated = false;
         Ok(closed)
     }
 
-    fn try_close<R: Wait>(&self, rt: &R) -> Result<(u64, Receipt<N>), CloseFault>
-        ensures closed { IfOk result (λ r. r.1.entry ≡ Entry.Close r.0) }
-        ensures free { OnOk result (self.now.held ≡ []) }
-        ensures refused { IfErr result (not_closed self.now) }
+    fn try_close<R: Wait>(
+        &self,
+        rt: &R,
+        number: Option<u64>,
+    ) -> Result<(u64, Receipt<N>), CloseFault>
+        ensures closed { IfOk result (λ r. (r.1.entry ≡ Entry.Close r.0) × MayClose self.now number r.0) }
+        ensures refused { IfErr result (not_closed self.now number) }
     {
-        let held = !self.bodies.is_empty();
         let mut desk = self.shared.desk().lock(rt);
-        let (number, jobs, receipt) = desk.close(held)?;
+        let closed = match desk.close(number, self.bodies.as_slice()) {
+            Ok(closed) => closed,
+            Err(fault) => return Err(fault),
+        };
+        let (op, jobs, receipt) = closed;
         drop(desk);
         drop(jobs);
-        Ok((number, receipt))
+        Ok((op, receipt))
     }
 }

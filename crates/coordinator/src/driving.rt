@@ -11,32 +11,32 @@ ghost use Rattle.coordinator.specs.Receipts.{IsAttended};
 ghost use Rattle.thread_list.specs.Berths.{acted};
 
 use crate::coordinator::Coordinator;
-use crate::faults::{DriveFault, Driven, OperateFault};
+use crate::faults::{DriveFault, Driven, OperateFault, Told};
 use crate::holding::is_held;
-use crate::serving::serve_body;
+use crate::serving::{serve_body, serve_told};
 use bodies::{Body, Name, census_of};
-use desk::{CloseFault, Desk, Live, Receipt};
+use desk::{Desk, Live, Progress, Receipt};
 use operations::job::Errand;
 use std::sync::Wait;
 use std::{hint, thread};
 use thread_list::{BerthAct, BerthReceipt, Shared};
 
-// How often a `drive` looks at poll words without a lock before it sleeps: about as long as a thread takes to its next poll.
-const SPINS: u32 = 500;
+/// How often a `drive` looks at poll words without a lock before it sleeps: about as long as a thread takes to its next poll.
+pub const SPINS: u32 = 500;
 
-// The receipts of a target that was served where its body was: of what its job answered, or that it had none, and that its body went
-// back.
+// The receipts of a target that was served where its body was: of what its oldest job answered, or that it had none, and that its body
+// went back.
 #[derive(Drop)]
 struct Attended<N: Name> {
     done: Result<Receipt<N>, BerthReceipt<N>>,
     back: BerthReceipt<N>,
 }
 
-// Nothing is open and nothing waits.
+/// Nothing is open and nothing waits.
 #[derive(Drop)]
-struct QueueEmpty;
+pub struct QueueEmpty;
 
-// Whether the open request is a census. Where nothing is open the oldest request is opened, and None says to look again.
+// Whether the oldest open request is a census. Where nothing is open the oldest that waits is opened, and None says to look again.
 fn open_or_go_on<N: Name, J: Errand>(desk: &mut Desk<N, J>) -> Result<Option<bool>, QueueEmpty>
     ensures open { IfOk result (λ r. IfSome r (λ kind. (desk.new ≡ desk.old) × (open_kind (at desk.old) ≡ Some kind))) }
     ensures empty { OnErr result ((desk.new ≡ desk.old) × ((at desk.old).opened ≡ []) × ((at desk.old).waiting ≡ [])) }
@@ -50,9 +50,39 @@ fn open_or_go_on<N: Name, J: Errand>(desk: &mut Desk<N, J>) -> Result<Option<boo
     }
 }
 
+// A thread that is due, and the number of the oldest open request where it is due for that, else 0.
+#[derive(Drop)]
+struct Due {
+    who: Live,
+    number: u64,
+}
+
+// The least name above this one that is due for an open request, or for the oldest of them alone.
+fn due_above<N: Name, J: Errand>(desk: &Desk<N, J>, name: u64, of_oldest: bool) -> Option<Due> {
+    let who = if of_oldest {
+        desk.next_awaited(name)?
+    } else {
+        desk.next_due(name)?
+    };
+    let number = match desk.progress(who.name, u64::MAX) {
+        Progress::Undone(number) if of_oldest || is_awaited(desk, who.name) => number,
+        _ => 0,
+    };
+    Some(Due { who, number })
+}
+
+// Whether the thread of the name is due for the oldest open request.
+fn is_awaited<N: Name, J: Errand>(desk: &Desk<N, J>, name: u64) -> bool {
+    match desk.next_awaited(name.saturating_sub(1)) {
+        Some(first) => first.name == name,
+        None => false,
+    }
+}
+
 impl<'a, N: Name, J: Errand> Coordinator<'a, N, J> {
-    /// Works the open request, or where nothing is open the oldest, to its Close: tells all targets before it serves any, and of a
-    /// handshake holds one thread at a time. Answers what it was, with the receipt of its Close; nothing is held then.
+    /// Works the oldest open request, or where nothing is open the oldest that waits, to its Close: tells all targets before it serves
+    /// any, and of a handshake holds one thread at a time. Answers what it was, with the receipt of its Close; nothing is held then.
+    /// Where several are open, it tells all of them and closes the oldest alone.
     ///
     /// A census whose list finds no memory stays open, its threads told and held, and the next `drive` goes on with it. Where the
     /// caller has operated the census, the list is over the threads that are still held.
@@ -65,16 +95,29 @@ impl<'a, N: Name, J: Errand> Coordinator<'a, N, J> {
         let Ok(is_census) = self.begin(rt) else {
             return Err(DriveFault::QueueEmpty);
         };
-        self.tell_all(rt);
         if is_census {
-            self.drive_census(rt)
-        } else {
-            Ok(self.drive_handshake(rt))
+            return self.work_census(rt);
         }
+        self.tell_all(rt);
+        Ok(self.drive_handshake(rt))
+    }
+
+    // Tells all live threads the open census, and works it to its Close.
+    pub(crate) fn work_census<R: Wait>(
+        &mut self,
+        rt: &R,
+    ) -> Result<(Driven, Receipt<N>), DriveFault>
+        ensures closed { IfOk result (λ r. r.1.entry ≡ Entry.Close (number_of r.0)) }
+        ensures listed { IfOk result (λ r. IsListed r.0) }
+        ensures free { OnOk result ((self.new.held ≡ []) × (self.new.operated ≡ false)) }
+        ensures refused { IfErr result (drive_refused self.old self.new) }
+    {
+        self.tell_all(rt);
+        self.drive_census(rt)
     }
 
     // Opens the oldest request where nothing is open, and answers whether the open one is a census.
-    fn begin<R: Wait>(&self, rt: &R) -> Result<bool, QueueEmpty>
+    pub(crate) fn begin<R: Wait>(&self, rt: &R) -> Result<bool, QueueEmpty>
         ensures empty { OnErr result ((s : DeskState) × (s.opened ≡ []) × (s.waiting ≡ [])) }
     {
         for _ in rt.forever() {
@@ -94,14 +137,21 @@ impl<'a, N: Name, J: Errand> Coordinator<'a, N, J> {
         Ok(begun)
     }
 
-    // The least name above this one that is due, with its place.
+    // The least name above this one that is due for an open request, with its place.
     fn next_due<R: Wait>(&self, rt: &R, name: u64) -> Option<Live> {
         let _ = &self.bodies;
         self.shared.desk().lock(rt).next_due(name)
     }
 
-    // Tells each target.
-    fn tell_all<R: Wait>(&mut self, rt: &R)
+    // The same, or for the oldest open request alone, with the number of that where it is due for it.
+    fn next_undone<R: Wait>(&self, rt: &R, name: u64, of_oldest: bool) -> Option<Due> {
+        let _ = &self.bodies;
+        let desk = self.shared.desk().lock(rt);
+        due_above(&desk, name, of_oldest)
+    }
+
+    // Tells each target of each open request.
+    pub(crate) fn tell_all<R: Wait>(&mut self, rt: &R)
         ensures { (self.new.held ≡ self.old.held) × (self.new.operated ≡ self.old.operated) }
     {
         let mut name = 0;
@@ -110,11 +160,22 @@ impl<'a, N: Name, J: Errand> Coordinator<'a, N, J> {
                 return;
             };
             name = due.name;
-            let _ = self.tell(rt, name);
+            self.tell_whole(rt, name);
         }
     }
 
-    // Serves the targets of the open handshake, one at a time, until it is closed.
+    // Tells a name all that it wasn't told.
+    fn tell_whole<R: Wait>(&mut self, rt: &R, name: u64)
+        ensures { (self.new.held ≡ self.old.held) × (self.new.operated ≡ self.old.operated) }
+    {
+        for _ in rt.forever() {
+            let Ok(Told::Told) = self.tell(rt, name) else {
+                return;
+            };
+        }
+    }
+
+    // Serves the targets, one at a time, until the oldest open handshake is closed.
     fn drive_handshake<R: Wait>(&mut self, rt: &R) -> (Driven, Receipt<N>)
         ensures closed { result.1.entry ≡ Entry.Close (number_of result.0) }
         ensures listed { IsListed result.0 }
@@ -133,35 +194,38 @@ impl<'a, N: Name, J: Errand> Coordinator<'a, N, J> {
         unreachable!()
     }
 
-    // Serves each target that is due, in the order of their names. Answers how many spins are left.
-    fn serve_all<R: Wait>(&self, rt: &R, spins: u32, to_the_end: bool) -> u32 {
+    // Serves each target that is due for an open request, or to the end for the oldest, in the order of their names. Answers how many
+    // spins are left.
+    pub(crate) fn serve_all<R: Wait>(&self, rt: &R, spins: u32, to_the_end: bool) -> u32 {
         let mut left = spins;
         let mut name = 0;
         for _ in rt.forever() {
-            let Some(due) = self.next_due(rt, name) else {
+            let Some(due) = self.next_undone(rt, name, to_the_end) else {
                 return left;
             };
-            name = due.name;
+            name = due.who.name;
             left = self.serve_due(rt, due, left, to_the_end);
         }
         unreachable!()
     }
 
-    // Serves a target at once where its body is in its berth, and else once it is there. A target that comes for what it was told serves
-    // itself, and is waited for only to the end: what another runs until then may wait for those that come after it. It waits without
-    // a lock as far as the spins that are left go, and then asleep. Answers how many are left.
-    fn serve_due<R: Wait>(&self, rt: &R, due: Live, spins: u32, to_the_end: bool) -> u32 {
-        if due.place >= self.places || self.serve_at(rt, due).is_ok() {
+    // Serves a target at once where its body is in its berth, and else, where the oldest open request is of it, once it is there. A
+    // target that comes for what it was told serves itself, and is waited for only to the end: what another runs until then may wait
+    // for those that come after it. It waits without a lock as far as the spins that are left go, and then asleep. Answers how many
+    // are left.
+    fn serve_due<R: Wait>(&self, rt: &R, due: Due, spins: u32, to_the_end: bool) -> u32 {
+        let Due { who, number } = due;
+        if who.place >= self.places || self.serve_at(rt, who).is_ok() || number == 0 {
             return spins;
         }
-        let left = self.spin(due.place, spins);
+        let left = self.spin(who.place, spins);
         if left > 0 {
             return left;
         }
-        if self.shared.berth(due.place).wait_for(rt, due.name) {
-            let _ = self.serve_at(rt, due);
+        if self.shared.berth(who.place).wait_for(rt, who.name, number) {
+            let _ = self.serve_at(rt, who);
         } else if to_the_end {
-            self.shared.wait_finished(rt, due.name);
+            self.shared.wait_finished(rt, who.name);
         }
         0
     }
@@ -177,7 +241,8 @@ impl<'a, N: Name, J: Errand> Coordinator<'a, N, J> {
         left
     }
 
-    // Takes the body of a target out of its berth, serves it, and brings it back; the error is the receipt that it isn't there.
+    // Takes the body of a target out of its berth, serves all its jobs in order, and brings it back; the error is the receipt that it
+    // isn't there.
     fn serve_at<R: Wait>(&self, rt: &R, due: Live) -> Result<Attended<N>, BerthReceipt<N>>
         requires { due.place < N.board.places }
         ensures attended { IfOk result (λ a. IsAttended due.place due.name a.done a.back) }
@@ -186,7 +251,11 @@ impl<'a, N: Name, J: Errand> Coordinator<'a, N, J> {
         let berth = self.shared.berth(due.place);
         let mut body = berth.take(rt, due.name, due.place)?;
         let done = match berth.job(rt, due.name) {
-            Ok(job) => Ok(serve_body(rt, self.shared, &mut body, job)),
+            Ok(job) => {
+                let first = serve_body(rt, self.shared, &mut body, job);
+                serve_told(rt, self.shared, &mut body);
+                Ok(first)
+            }
             Err(none) => Err(none),
         };
         let back = berth.release(rt, body, false);
@@ -262,7 +331,7 @@ impl<'a, N: Name, J: Errand> Coordinator<'a, N, J> {
     }
 
     // Brings all held bodies back.
-    fn release_all<R: Wait>(&mut self, rt: &R)
+    pub(crate) fn release_all<R: Wait>(&mut self, rt: &R)
         ensures { self.new ≡ record self.old { held = [] } }
     {
         put_back(rt, self.shared, &mut self.bodies, self.operated);

@@ -8,7 +8,7 @@ use desk::Receipt;
 pub enum Told {
     /// The thread stops at its next poll.
     Told,
-    /// No thread of the name was live at the Open and is live; nothing was done.
+    /// No thread of the name was live at the Open of a request that is of it, and is live; nothing was done.
     Gone,
 }
 
@@ -17,9 +17,9 @@ pub enum Told {
 pub enum TellFault {
     /// No request is open.
     NothingOpen,
-    /// The open handshake doesn't list the name, or the name was never given out.
+    /// No open handshake lists the name, or a census is open and the name was never given out.
     NotOf,
-    /// The thread was told.
+    /// The thread was told all open requests that are of it.
     AlreadyTold,
 }
 
@@ -31,11 +31,11 @@ pub enum HoldFault {
     Vacant,
     /// No request is open.
     NothingOpen,
-    /// The open request isn't of the thread.
+    /// No open request is of the thread.
     NotOf,
-    /// The thread wasn't told.
+    /// The thread was told none of them.
     NotTold,
-    /// The thread is done with the open request.
+    /// The thread is done with all that it was told.
     AlreadyDone,
     /// The thread is held.
     Held,
@@ -54,11 +54,11 @@ pub enum ServeFault {
     NotHeld,
     /// No request is open.
     NothingOpen,
-    /// A census is open, or the open handshake isn't of the thread.
+    /// A census is open, or no open handshake is of the thread.
     NotOf,
-    /// The thread wasn't told.
+    /// The thread was told none of them.
     NotTold,
-    /// The thread is done with the open handshake.
+    /// The thread is done with all that it was told.
     AlreadyDone,
 }
 

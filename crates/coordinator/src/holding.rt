@@ -1,7 +1,7 @@
 //! Holding a thread: the coordinator takes its body out of its berth, and brings it back.
 ghost use Rattle.std.specs.Prelude.{◌≡◌, ◌≢◌, ◌<◌, ◌++◌, ◌∷◌, [], ℕ, false, IfSome, IfNone, IfOk, OnOk, IfErr, OnErr, length};
 ghost use Rattle.bodies.specs.Bodies.{BodyView};
-ghost use Rattle.desk.specs.Targets.{standing, name_at};
+ghost use Rattle.desk.specs.Targets.{standing, progress, name_at};
 ghost use Rattle.desk.specs.Fields.{at};
 ghost use Rattle.coordinator.specs.Holding.{is_held, StandsAt};
 ghost use Rattle.coordinator.specs.Receipts.{Releases};
@@ -10,7 +10,7 @@ ghost use Rattle.coordinator.specs.Refused.{Holds, hold_fault, hold_refused};
 use crate::coordinator::Coordinator;
 use crate::faults::{HoldFault, NotHeld};
 use bodies::{Body, Name};
-use desk::{Desk, Standing};
+use desk::{Desk, Progress, Standing};
 use operations::job::Errand;
 use std::sync::Wait;
 use thread_list::BerthReceipt;
@@ -36,36 +36,40 @@ pub fn is_held<N: Name>(bodies: &[Body<N>], place: usize) -> bool
     bodies.iter().any(|b| b.place() == place)
 }
 
-// Why a thread that stands to the open request like this isn't held, where its place was last armed with the number.
-fn hold_fault(said: Standing, last: u64) -> Option<HoldFault>
-    ensures { result ≡ hold_fault said last }
+// Why a thread that stands to the open requests like this, and is so far with what it was told, isn't held.
+fn hold_fault(said: Standing, progress: Progress) -> Option<HoldFault>
+    ensures { result ≡ hold_fault said progress }
 {
-    let target = match said {
-        Standing::NothingOpen => return Some(HoldFault::NothingOpen),
-        Standing::NotOf => return Some(HoldFault::NotOf),
-        Standing::Gone => return Some(HoldFault::NotTold),
-        Standing::Asked(target) => target,
-    };
-    if last < target.number {
-        return Some(HoldFault::NotTold);
+    match said {
+        Standing::NothingOpen => Some(HoldFault::NothingOpen),
+        Standing::NotOf => Some(HoldFault::NotOf),
+        Standing::Gone => Some(HoldFault::NotTold),
+        Standing::Asked(_) => match progress {
+            Progress::NotTold => Some(HoldFault::NotTold),
+            Progress::Done => Some(HoldFault::AlreadyDone),
+            Progress::Undone(_) => None,
+        },
     }
-    if target.is_done {
-        return Some(HoldFault::AlreadyDone);
-    }
-    None
 }
 
-// Who is live at the place, and how the name stands to the open request.
-fn standing_at<N: Name, J: Errand>(desk: &Desk<N, J>, place: usize) -> Option<(u64, Standing)>
-    ensures some { IfSome result (λ r. (name_at place (at desk.now).live ≡ Some r.0) × (standing (at desk.now) r.0 ≡ r.1)) }
+// Who is live at the place, and why the thread isn't held as far as the desk goes, where the place was armed last with the number.
+fn fault_at<N: Name, J: Errand>(
+    desk: &Desk<N, J>,
+    place: usize,
+    last: u64,
+) -> Option<(u64, Option<HoldFault>)>
+    ensures some { IfSome result (λ r. (name_at place (at desk.now).live ≡ Some r.0) × (hold_fault (standing (at desk.now) r.0) (progress (at desk.now) r.0 last) ≡ r.1)) }
     ensures none { IfNone result (name_at place (at desk.now).live ≡ None) }
 {
     let name = desk.name_at(place)?;
-    Some((name, desk.standing(name)))
+    Some((
+        name,
+        hold_fault(desk.standing(name), desk.progress(name, last)),
+    ))
 }
 
 impl<'a, N: Name, J: Errand> Coordinator<'a, N, J> {
-    /// Holds the thread of a place, which was told the open request and isn't done with it: takes its body out of its berth.
+    /// Holds the thread of a place, which was told an open request and isn't done with it: takes its body out of its berth.
     pub fn hold<R: Wait>(&mut self, rt: &R, place: usize) -> Result<(), HoldFault>
         ensures held { OnOk result (Holds self.old self.new place) }
         ensures refused { IfErr result (λ e. hold_refused self.old N.board.places place e × (self.new ≡ self.old)) }
@@ -73,13 +77,14 @@ impl<'a, N: Name, J: Errand> Coordinator<'a, N, J> {
         if place >= self.places {
             return Err(HoldFault::NoSuchPlace);
         }
+        let last = self.armer.last(place);
         let desk = self.shared.desk().lock(rt);
-        let found = standing_at(&desk, place);
+        let found = fault_at(&desk, place, last);
         drop(desk);
-        let Some((name, said)) = found else {
+        let Some((name, fault)) = found else {
             return Err(HoldFault::Vacant);
         };
-        if let Some(fault) = hold_fault(said, self.armer.last(place)) {
+        if let Some(fault) = fault {
             return Err(fault);
         }
         if is_held(self.bodies.as_slice(), place) {

@@ -1,8 +1,8 @@
 //! The coordinator of a running system: it opens requests, tells and holds threads, serves those that it holds, operates censuses,
 //! closes requests, and reclaims codes.
 //!
-//! `open`, `tell`, `hold`, `serve`, `operate`, `release` and `close` are a step of a request each; `drive` works one request from its
-//! Open to its Close; `reclaim` does all that it takes to free a code. `docs/STEPS.md` says which lock each call takes. No call holds
+//! `open`, `tell`, `hold`, `serve`, `operate`, `release`, `close` and `close_of` are a step of a request each; `drive` works one request
+//! from its Open to its Close, and `drive_four` up to four handshakes at once; `reclaim` does all that it takes to free a code. `docs/STEPS.md` says which lock each call takes. No call holds
 //! two locks.
 #![tactic(auto)]
 
@@ -10,6 +10,7 @@ mod censuses;
 mod coordinator;
 mod driving;
 mod faults;
+mod four;
 mod holding;
 mod reclaiming;
 mod serving;

@@ -1,8 +1,10 @@
 //! Serving a held thread: its job runs on its body.
-ghost use Rattle.std.specs.Prelude.{◌≡◌, ◌<◌, ℕ, None, length, IfOk, IfErr};
+ghost use Rattle.std.specs.Prelude.{◌≡◌, ◌≢◌, ◌<◌, ℕ, None, length, IfOk, IfErr};
 ghost use Rattle.operations.specs.Asks.{reply};
 ghost use Rattle.bodies.specs.Bodies.{BodyView};
 ghost use Rattle.desk.specs.declared.entries.Entry.{Entry};
+ghost use Rattle.desk.specs.Fields.{at};
+ghost use Rattle.desk.specs.Targets.{standing, progress};
 ghost use Rattle.coordinator.specs.Holding.{StandsAt, IsServed};
 ghost use Rattle.coordinator.specs.Refused.{Serves, IsServeFault, serve_fault, serve_refused};
 
@@ -10,7 +12,7 @@ use crate::coordinator::Coordinator;
 use crate::faults::ServeFault;
 use crate::holding::index_of;
 use bodies::{Body, Name};
-use desk::{Receipt, Standing};
+use desk::{Desk, Progress, Receipt, Standing};
 use operations::job::Errand;
 use std::sync::Wait;
 use std::thread;
@@ -45,9 +47,22 @@ pub fn serve_body<N: Name, J: Errand, R: Wait>(
     receipt
 }
 
-// Why a held thread that stands to the open request like this isn't served, where its place was last armed with the number.
-fn serve_fault(said: Standing, last: u64) -> Option<ServeFault>
-    ensures { result ≡ serve_fault said last }
+/// Serves a body that was taken out of its berth, job by job in order, until nothing is told there.
+pub fn serve_told<N: Name, J: Errand, R: Wait>(rt: &R, shared: &Shared<N, J>, body: &mut Body<N>)
+    ensures same { (body.new.name ≡ body.old.name) × (body.new.seat.place ≡ body.old.seat.place) }
+    ensures stored { body.old.seat.stored ≢ 0 → body.new.seat.stored ≢ 0 }
+{
+    for _ in rt.forever() {
+        let Ok(job) = shared.berth_of(body).job(rt, body.name()) else {
+            return;
+        };
+        let _ = serve_body(rt, shared, body, job);
+    }
+}
+
+// Why a held thread that stands to the open requests like this, and is so far with what it was told, isn't served.
+fn serve_fault(said: Standing, progress: Progress) -> Option<ServeFault>
+    ensures { result ≡ serve_fault said progress }
 {
     let target = match said {
         Standing::NothingOpen => return Some(ServeFault::NothingOpen),
@@ -58,18 +73,23 @@ fn serve_fault(said: Standing, last: u64) -> Option<ServeFault>
     if target.is_census {
         return Some(ServeFault::NotOf);
     }
-    if last < target.number {
-        return Some(ServeFault::NotTold);
+    match progress {
+        Progress::NotTold => Some(ServeFault::NotTold),
+        Progress::Done => Some(ServeFault::AlreadyDone),
+        Progress::Undone(_) => None,
     }
-    if target.is_done {
-        return Some(ServeFault::AlreadyDone);
-    }
-    None
+}
+
+// The same of the name, whose place was armed last with the number.
+fn fault_of<N: Name, J: Errand>(desk: &Desk<N, J>, name: u64, last: u64) -> Option<ServeFault>
+    ensures { result ≡ serve_fault (standing (at desk.now) name) (progress (at desk.now) name last) }
+{
+    serve_fault(desk.standing(name), desk.progress(name, last))
 }
 
 impl<'a, N: Name, J: Errand> Coordinator<'a, N, J> {
-    /// Serves the held thread of a place, which was told the open handshake and isn't done with it: publishes its stack, runs its job
-    /// on it, enters what the job answered, and clears the operation. Answers the receipt of the entry.
+    /// Serves the held thread of a place, which was told an open handshake and isn't done with it: publishes its stack, runs its oldest
+    /// job on it, enters what the job answered, and clears the operation. Answers the receipt of the entry.
     pub fn serve<R: Wait>(&mut self, rt: &R, place: usize) -> Result<Receipt<N>, ServeFault>
         ensures served { IfOk result (λ r. (index : ℕ) × (body : BodyView) × StandsAt self.old.held index place body × IsServeFault self.old index place None × Serves self.old self.new index r.entry) }
         ensures refused { IfErr result (λ e. serve_refused self.old place e × (self.new ≡ self.old)) }
@@ -90,10 +110,11 @@ impl<'a, N: Name, J: Errand> Coordinator<'a, N, J> {
         ensures { IsServeFault self.now index place result }
     {
         let name = self.bodies[index].name();
+        let last = self.armer.last(place);
         let desk = self.shared.desk().lock(rt);
-        let said = desk.standing(name);
+        let fault = fault_of(&desk, name, last);
         drop(desk);
-        serve_fault(said, self.armer.last(place))
+        fault
     }
 
     // Serves the held thread at the index.

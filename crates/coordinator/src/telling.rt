@@ -1,47 +1,66 @@
 //! Telling a name: its job, or the mark of a census, goes into the berth of its thread, and the thread's place is armed.
-ghost use Rattle.std.specs.Prelude.{◌≡◌, ◌<◌, ◌^◌, true, false, length, slice_index, IfSome, IfNone};
+ghost use Rattle.std.specs.Prelude.{◌≡◌, ◌<◌, ◌^◌, true, false, length, slice_index, IfSome, IfNone, IfOk, IfErr};
 ghost use Rattle.thread_state.specs.PollRule.{armed_with};
-ghost use Rattle.desk.specs.Targets.{standing};
 ghost use Rattle.desk.specs.Fields.{at};
-ghost use Rattle.coordinator.specs.Refused.{tell_said};
+ghost use Rattle.coordinator.specs.Refused.{IsUntold, tell_said, tell_stays};
 
 use crate::coordinator::Coordinator;
 use crate::faults::{TellFault, Told};
+use crate::teller::Teller;
 use bodies::Name;
 use desk::{Desk, Standing, Target};
 use operations::job::Errand;
 use std::sync::Wait;
 use std::thread;
 
-// How the name stands to the open request, and, where it is a target that may have one and it is wanted, its job.
+// The oldest open request that is of the name and wasn't told to its thread, with how the name stands to it; or what telling the
+// name comes to without. None where the desk names a place that there isn't.
 fn look_up<N: Name, J: Errand>(
-    desk: &mut Desk<N, J>,
+    desk: &Desk<N, J>,
+    armer: &Teller,
+    places: usize,
     name: u64,
-    wants_job: bool,
-) -> (Standing, Option<J>)
-    ensures standing { result.0 ≡ standing (at desk.old) name }
-    ensures job { IfSome result.1 (λ j. (J.whom j ≡ name) × (0 < J.number j)) }
-    ensures same { (desk.new.book ≡ desk.old.book) × (desk.new.keeper ≡ desk.old.keeper) }
+) -> Result<Option<(Target, u64)>, Result<Told, TellFault>>
+    requires places { places ≡ length armer.now.seen.armed }
+    ensures said { IfErr result (tell_stays (at desk.now) name armer.now.seen) }
+    ensures untold { IfOk result (λ o. IfSome o (λ t. IsUntold (at desk.now) name armer.now.seen t.0 t.1)) }
+    ensures bounds { IfOk result (λ o. IfSome o (λ t. (t.0.place < length armer.now.seen.armed) × (slice_index armer.now.seen.armed t.0.place < t.1))) }
 {
-    let said = desk.standing(name);
-    if !wants_job || !is_owed_a_job(said) {
-        return (said, None);
+    let target = match desk.standing(name) {
+        Standing::NothingOpen => return Err(Err(TellFault::NothingOpen)),
+        Standing::NotOf => return Err(Err(TellFault::NotOf)),
+        Standing::Gone => return Err(Ok(Told::Gone)),
+        Standing::Asked(target) => target,
+    };
+    if target.place >= places {
+        return Ok(None);
     }
-    let job = desk.take_job(name);
-    (said, job)
+    match desk.untold(name, armer.last(target.place)) {
+        Some(number) => Ok(Some((target, number))),
+        None => Err(Err(TellFault::AlreadyTold)),
+    }
 }
 
-// Whether the name is a target of a handshake that has no Finish.
-fn is_owed_a_job(said: Standing) -> bool {
-    match said {
-        Standing::Asked(target) => !target.is_census && !target.is_done,
-        Standing::NothingOpen | Standing::NotOf | Standing::Gone => false,
+// The job of the name in an operation, where it is wanted.
+fn job_of<N: Name, J: Errand>(
+    desk: &mut Desk<N, J>,
+    number: u64,
+    name: u64,
+    is_wanted: bool,
+) -> Option<J>
+    ensures job { IfSome result (λ j. (J.whom j ≡ name) × (J.number j ≡ number)) }
+    ensures same { (desk.new.book ≡ desk.old.book) × (desk.new.keeper ≡ desk.old.keeper) }
+{
+    if is_wanted {
+        desk.take_job(number, name)
+    } else {
+        None
     }
 }
 
 impl<'a, N: Name, J: Errand> Coordinator<'a, N, J> {
-    /// Tells a name of the open request: the thread finds it at its next poll. A name without a live thread is gone, and nothing is
-    /// done.
+    /// Tells a name of the oldest open request that is of it and wasn't told to its thread, which finds it at its next poll. A name
+    /// without a live thread is gone, and nothing is done.
     pub fn tell<R: Wait>(&mut self, rt: &R, name: u64) -> Result<Told, TellFault>
         ensures said { tell_said name self.old.armer self.new.armer result }
         ensures held { (self.new.held ≡ self.old.held) × (self.new.operated ≡ self.old.operated) }
@@ -56,8 +75,8 @@ impl<'a, N: Name, J: Errand> Coordinator<'a, N, J> {
         unreachable!()
     }
 
-    // One try: a look at the desk, and a step at the berth where the name is a live target that wasn't told. None where the berth
-    // bears another name or none: then its thread is starting or exiting. A job that was taken stays in the hand until then.
+    // One try: a look at the desk, and a step at the berth where there is a request that wasn't told. None where the berth bears
+    // another name or none: then its thread is starting or exiting. A job that was taken stays in the hand until then.
     fn try_tell<R: Wait>(
         &mut self,
         rt: &R,
@@ -69,24 +88,17 @@ impl<'a, N: Name, J: Errand> Coordinator<'a, N, J> {
         ensures held { (self.new.held ≡ self.old.held) × (self.new.operated ≡ self.old.operated) }
     {
         let mut desk = self.shared.desk().lock(rt);
-        let (said, job) = look_up(&mut desk, name, hand.is_none());
+        let (target, number) = match look_up(&desk, &self.armer, self.places, name) {
+            Ok(Some(untold)) => untold,
+            Ok(None) => return None,
+            Err(said) => return Some(said),
+        };
+        let job = job_of(&mut desk, number, name, hand.is_none() && !target.is_census);
         drop(desk);
         if job.is_some() {
             *hand = job;
         }
-        let target = match said {
-            Standing::NothingOpen => return Some(Err(TellFault::NothingOpen)),
-            Standing::NotOf => return Some(Err(TellFault::NotOf)),
-            Standing::Gone => return Some(Ok(Told::Gone)),
-            Standing::Asked(target) => target,
-        };
-        if target.place >= self.places || target.number >= 1 << 40 {
-            return None;
-        }
-        if self.armer.last(target.place) >= target.number {
-            return Some(Err(TellFault::AlreadyTold));
-        }
-        if self.put(rt, name, target, hand) {
+        if self.put(rt, name, target, number, hand) {
             Some(Ok(Told::Told))
         } else {
             None
@@ -94,28 +106,32 @@ impl<'a, N: Name, J: Errand> Coordinator<'a, N, J> {
     }
 
     // The job in hand, or the mark of the census, goes into the berth, and the place is armed.
-    fn put<R: Wait>(&mut self, rt: &R, name: u64, target: Target, hand: &mut Option<J>) -> bool
+    fn put<R: Wait>(
+        &mut self,
+        rt: &R,
+        name: u64,
+        target: Target,
+        number: u64,
+        hand: &mut Option<J>,
+    ) -> bool
         requires place { target.place < length self.old.armer.armed }
-        requires later { slice_index self.old.armer.armed target.place < target.number }
-        requires small { target.number < 2 ^ 40 }
-        ensures armed { result ≡ true → self.new.armer ≡ armed_with self.old.armer target.place target.number }
+        requires later { slice_index self.old.armer.armed target.place < number }
+        ensures armed { result ≡ true → self.new.armer ≡ armed_with self.old.armer target.place number }
         ensures refused { result ≡ false → self.new.armer ≡ self.old.armer }
         ensures held { (self.new.held ≡ self.old.held) × (self.new.operated ≡ self.old.operated) }
     {
         let shared = self.shared;
         let mut room = shared.berth(target.place).room().lock(rt);
-        if room.place() != target.place {
+        if room.place() != target.place || number >= 1 << 40 {
             return false;
         }
         if target.is_census {
-            return self
-                .armer
-                .mark(&mut room, shared.row(), name, target.number);
+            return self.armer.mark(&mut room, shared.row(), name, number);
         }
         let Some(job) = hand.take() else {
             return false;
         };
-        if job.op_of() != target.number {
+        if job.op_of() != number {
             return false;
         }
         match self.armer.tell(&mut room, shared.row(), job) {

@@ -10,6 +10,7 @@ use thread_list::{Mutator, Poll, Shared};
 
 mod census;
 mod exits;
+mod four;
 mod invalidated;
 mod leaving;
 mod many;

@@ -1,7 +1,7 @@
 -- The codes stay the keeper's view.
-use Rattle.std.proofs.Common.{◌≡◌, ◌≢◌, ℕ, ◌<◌, Bool, true, false, not, cond, List, [], length, Option, Some, None, sym, refl, ap, ◌∙◌, ⊎_elim, subst, arith, length-set, get_or, get_or-set_same, get_or-set_other}
+use Rattle.std.proofs.Common.{◌≡◌, ◌≢◌, ℕ, ◌+◌, ◌<◌, Bool, true, false, not, cond, List, [], length, Option, Some, None, sym, refl, ap, ◌∙◌, ⊎_elim, subst, arith, length-set, get_or, get_or-set_same, get_or-set_other}
 use Rattle.std.proofs.lemmas.List.{length-replicate, get_or-replicate}
-use Rattle.std.specs.Prelude.{◌&&◌, ◌==◌, slice_get, option_map}
+use Rattle.std.specs.Prelude.{◌&&◌, ◌==◌, slice_get, option_map, IfSome}
 use Rattle.std.proofs.lemmas.Bool.{false≢true, not-true, and_parts, and_cases, eqb-true, eqb-false, eq-eqb, ne_eqb}
 use mathlib.Core.Logic.{dite}
 use native.Mathlib.Decide.{ℕ_discrete}
@@ -11,16 +11,18 @@ use Rattle.frames.specs.declared.board_rule.EntryState.TheVariants as entry
 use Rattle.frames.specs.declared.board_rule.StepMade.{StepMade}
 use Rattle.frames.specs.declared.board_rule.SlotView.{SlotView}
 use Rattle.frames.specs.declared.board_rule.KeeperView.{KeeperView}
-use Rattle.frames.specs.BoardViews.{slot_of, IsIn, with_slot, in_use, empty_slot, keeper_view}
+use Rattle.frames.specs.BoardViews.{slot_of, IsIn, with_slot, in_use, not_entrant, empty_slot, keeper_view}
+use Rattle.board.specs.Replaced.{left_by, replaced}
 use Rattle.method_table.specs.declared.Code.{Code}
 use Rattle.method_table.specs.declared.CodeState.{CodeState}
 use Rattle.method_table.specs.declared.CodeState.TheVariants as state
 use Rattle.method_table.specs.Numbers.{below}
-use Rattle.method_table.specs.Codes.{unfreed, is_taken, takes_slot, with_code, in_state, with_state, free_slot, next_serial, id_of}
+use Rattle.method_table.specs.Codes.{unfreed, in_use_for, is_taken, takes_slot, with_code, in_state, with_state, without_use, free_slot, next_serial, id_of}
+use Rattle.method_table.proofs.Left.{state_is, unfreed_here, slot_left, long_left}
 use Rattle.method_table.specs.TableView.{TableView, IsTable, invalidate_fault, retire_fault, free_fault}
 use Rattle.board.specs.declared.weighed.Weighed.{Weighed}
 use Rattle.board.specs.declared.weighed.Weighed.TheVariants.{NotLooked, Used, Clear}
-use Rattle.desk.specs.CodeBoard.{CodesSeen, Weighs, KeeperWeighs, AreEntries, IsEntry, with_codes}
+use Rattle.desk.specs.CodeBoard.{CodesSeen, Weighs, KeeperWeighs, AreEntries, IsEntry, with_codes, stored}
 use Rattle.method_table.specs.Entries.{entry_state, first_of, newest_in}
 use Rattle.desk.proofs.Newest.{map_at, push_at, at_low, same_at, found_passes, find_place, any_none_at, newest_push, newest_with, newest_place, in_state_slot}
 
@@ -87,9 +89,9 @@ none_yet t k slots split no_code size is = record {
     nothing i c h = cc
 
 -- a code is installed
-pub installed : (t t' : TableView) (k k' : KeeperView) (method slot : ℕ) (id : CodeId) (made : StepMade) → AreEntries t k → IsTable t → free_slot t.codes t.slots ≡ Some slot → slot < t.slots
+installed : (t t' : TableView) (k k' : KeeperView) (method slot : ℕ) (id : CodeId) (made : StepMade) → AreEntries t k → free_slot t.codes t.slots ≡ Some slot → slot < t.slots
     → t' ≡ with_codes t (with_code t.codes method slot) → id.slot ≡ slot → id.serial ≡ next_serial t.codes → k' ≡ with_slot k id.slot (in_use id) made → AreEntries t' k'
-installed t t' k k' method slot id made are table free low is at serial view = subst (λ v. AreEntries v k') (sym is) (subst (AreEntries (with_codes t (with_code t.codes method slot))) (sym view) (record {
+installed t t' k k' method slot id made are free low is at serial view = subst (λ v. AreEntries v k') (sym is) (subst (AreEntries (with_codes t (with_code t.codes method slot))) (sym view) (record {
   sizes = length-set k.slots id.slot (in_use id) ∙ are.sizes;
   entries = λ j l. entry_at j l (j == slot) refl;
   newest = λ i c x takes. ⊎_elim (λ old. kept i c old takes) (λ last. fresh c last.1) (push_at t.codes _ i c x);
@@ -250,3 +252,33 @@ pub keeper_weighs : (places serial : ℕ) (id : CodeId) (old new : CodesSeen) (s
 keeper_weighs places serial id old new (NotLooked p) w = w.0
 keeper_weighs places serial id old new (Used n) w = w.0
 keeper_weighs places serial id old new Clear w = (w.0, w.1, w.2)
+
+-- Two options that are one.
+same_id : (a : CodeId) (c : Code) → ◌≡◌ {A = Option CodeId} (Some a) (Some (id_of c)) → a ≡ id_of c
+same_id a c e = cc
+
+-- The code that an install replaces is in use in its entry.
+pub replaced_in : (t : TableView) (k : KeeperView) (method : ℕ) (r : Option CodeId) → AreEntries t k → IsTable t → r ≡ option_map id_of (in_use_for t.codes method) → IfSome r (λ old. (old.slot < t.slots) × IsIn k old entry.InUse)
+replaced_in t k method r are table is = by (in_use_for t.codes method) refl r is
+  where
+    by : (o : Option Code) → in_use_for t.codes method ≡ o → (r : Option CodeId) → r ≡ option_map id_of o → IfSome r (λ old. (old.slot < t.slots) × IsIn k old entry.InUse)
+    by o e None same = tt
+    by None e (Some a) same = let no : ◌≡◌ {A = Option CodeId} (Some a) None = same in cc
+    by (Some c) e (Some a) same =
+        let u = unfreed_here t table method c e in
+        let state_in : entry_state c.state ≡ entry.InUse = may_invalidate c (let used = state_is t table method c e in rw used refl) in
+        subst (λ (d : CodeId). (d.slot < t.slots) × IsIn k d entry.InUse) (sym (same_id a c same)) (is_in t k c.serial c entry.InUse are table u state_in)
+
+-- The codes are the keeper's view after an install, whatever code it replaces.
+pub installed_over : (t t' : TableView) (k k' : KeeperView) (method slot : ℕ) (id : CodeId) (r : Option CodeId) → AreEntries t k → IsTable t → free_slot t.codes t.slots ≡ Some slot → slot < t.slots → r ≡ option_map id_of (in_use_for t.codes method)
+    → t' ≡ with_codes t (with_code (without_use t.codes (in_use_for t.codes method)) method slot) → id.slot ≡ slot → id.serial ≡ next_serial t.codes → k' ≡ stored r k id → AreEntries t' k'
+installed_over t t' k k' method slot id r are table free low is next at serial view = by (in_use_for t.codes method) refl r is next view
+  where
+    by : (o : Option Code) → in_use_for t.codes method ≡ o → (r : Option CodeId) → r ≡ option_map id_of o → t' ≡ with_codes t (with_code (without_use t.codes o) method slot) → k' ≡ stored r k id → AreEntries t' k'
+    by None e None same next view = installed t t' k k' method slot id _ are free low next at serial view
+    by None e (Some a) same next view = let no : ◌≡◌ {A = Option CodeId} (Some a) None = same in cc
+    by (Some c) e None same next view = let no : ◌≡◌ {A = Option CodeId} None (Some (id_of c)) = same in cc
+    by (Some c) e (Some a) same next view =
+        let left = changed t (with_codes t (with_state t.codes c.serial state.NotEntrant)) k (left_by k (id_of c)) c.serial c state.NotEntrant (not_entrant (id_of c) k.moment) _ are table (unfreed_here t table method c e) refl refl refl refl in
+        installed (with_codes t (with_state t.codes c.serial state.NotEntrant)) t' (left_by k (id_of c)) k' method slot id _ left (slot_left t table method c e ∙ free) low next at
+        (serial ∙ ap (λ n. n + 1) (sym (long_left t table method c e))) (view ∙ ap (λ (d : CodeId). replaced k d id) (same_id a c same))

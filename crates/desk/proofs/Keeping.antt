@@ -1,13 +1,15 @@
 -- A history with one entry more.
-use Rattle.std.proofs.Common.{◌≡◌, ◌≢◌, ℕ, zero, suc, ◌+◌, ◌<◌, ◌≤◌, List, [], ◌∷◌, ◌++◌, Bool, true, false, not, cond, Some, None, length, map, refl, sym, ap, ◌∙◌, subst, arith, length-append}
-use Rattle.std.specs.Prelude.{◌&&◌, ◌==◌, is_none, slice_get, slice_set}
+use Rattle.std.proofs.Common.{◌≡◌, ◌≢◌, ℕ, zero, suc, ◌+◌, ◌-◌, ◌<◌, ◌≤◌, List, [], ◌∷◌, ◌++◌, Bool, true, false, not, cond, Option, Some, None, length, map, refl, sym, ap, ◌∙◌, subst, arith, length-append}
+use Rattle.std.specs.Prelude.{◌&&◌, ◌==◌, is_none, slice_get, slice_set, option_map}
+use Rattle.std.specs.List.{remove}
 use Rattle.std.proofs.lemmas.Bool.{eq-eqb, ne_eqb, and_parts}
-use Rattle.std.proofs.lemmas.List.{map-append}
+use Rattle.std.proofs.lemmas.List.{map-append, append_assoc}
 use Rattle.frames.specs.declared.CodeId.{CodeId}
 use Rattle.method_table.specs.declared.Code.{Code}
 use Rattle.method_table.specs.declared.CodeState.{CodeState}
 use Rattle.method_table.specs.declared.CodeState.TheVariants as state
-use Rattle.method_table.specs.Codes.{unfreed, with_code, with_state, in_state, next_serial, free_slot}
+use Rattle.method_table.specs.Codes.{unfreed, in_use_for, id_of, with_code, with_state, without_use, in_state, next_serial, free_slot}
+use Rattle.method_table.proofs.Left.{state_is, unfreed_here, slot_left, long_left, fault_left, none_left}
 use Rattle.method_table.specs.TableView.{TableView, IsTable, install_fault, invalidate_fault, retire_fault, free_fault}
 use Rattle.operations.specs.declared.Request.{Request}
 use Rattle.operations.specs.declared.Request.TheVariants.{Handshake, Census}
@@ -16,16 +18,15 @@ use Rattle.operations.specs.Names.{among}
 use Rattle.operations.specs.Requests.{is_census}
 use Rattle.desk.specs.CodeBoard.{with_codes}
 use Rattle.desk.specs.declared.entries.Entry.{Entry}
-use Rattle.desk.specs.declared.entries.Entry.TheVariants.{Start, Exit, Ask, Open, Finish, Operate, Close, Install}
+use Rattle.desk.specs.declared.entries.Entry.TheVariants.{Start, Exit, Ask, Open, Finish, Operate, Close, Install, Invalidate}
 use Rattle.desk.specs.declared.entries.Live.{Live}
 use Rattle.desk.specs.declared.entries.Carried.{Carried}
 use Rattle.desk.specs.declared.entries.Opened.{Opened}
-use Rattle.desk.specs.Machine.{State, step, lawful, start, after_from, legal_from, after, is_legal, needs, is_taken, is_live, without, Asked, Current, needs_of_asked, needs_of_opened, needs_of_codes, states_left, may_open_more, is_first, live_of, open_next, opened_of, rest_of, finished, as_operated, Book, has_census, open_of, passes, is_due, may_operate, may_close, at_number, without_number, steps_of, is_free_slot, Stands, stands}
-use Rattle.desk.specs.Fields.{IsKept, AreFit, state_of, asked_of, current_of, due_of, IsIndex, IsCarried, AreCarried, DeskSeen, Enters, at}
+use Rattle.desk.specs.Machine.{State, step, lawful, start, after_from, legal_from, after, is_legal, needs, is_taken, is_live, without, Asked, Current, needs_of_asked, needs_of_opened, needs_of_codes, states_left, may_open_more, is_least, is_first, live_of, open_next, opened_of, rest_of, finished, as_operated, Book, has_census, passes, is_due, may_operate, may_close, at_number, without_number, steps_of, is_free_slot, Stands, stands}
+use Rattle.desk.specs.Fields.{IsKept, AreFit, state_of, asked_of, current_of, due_of, IsIndex, IsCarried, AreCarried, DeskSeen, Enters, EntersInstall, install_entries, kept_before, at}
 use Rattle.desk.proofs.Fewer.{filter_le, filter_less}
-use Rattle.desk.proofs.Newest.{same_at}
 use Rattle.desk.proofs.CodeEntries.{unfreed_parts}
-use Rattle.desk.proofs.OpenLists.{open_at, none_at, set_at, needs_at, needs_without, fit_of, fit_at, fit_push, needs_push}
+use Rattle.desk.proofs.OpenLists.{open_at, none_at, set_at, removed_at, needs_at, needs_without, fit_of, fit_at, fit_push, fit_without, needs_push}
 
 after_from-push : (s : State) (h : List Entry) (e : Entry) → after_from s (h ++ e ∷ []) ≡ step (after_from s h) e
 after_from-push s [] e = refl
@@ -103,10 +104,6 @@ pub carried_push : {J : Type 0} (whom : J → ℕ) (q : List (Waiting (Carried J
 carried_push whom [] w are new = (new, tt)
 carried_push whom (x ∷ q) w are new = (are.0, carried_push whom q w are.1 new)
 
-more_of : (cs : List Current) → may_open_more cs ≡ true → cs ≡ []
-more_of [] h = refl
-more_of (c ∷ cs) h = cc
-
 due_opened : (before : ℕ) (ls : List Live) (a : Asked) → due_of (opened_of before ls a) ≤ steps_of a.request
 due_opened before ls a = by a.request
   where
@@ -115,7 +112,7 @@ due_opened before ls a = by a.request
     by (Handshake targets ask) = let l = filter_le (λ (t : ℕ). is_live t ls) targets in omega arith
 
 pub open_keeps : {J : Type 0} (whom : J → ℕ) (slots methods : ℕ) (b b' : Book) (nn num : ℕ) (live : List Live) (q q' : List (Waiting (Carried J))) (w : Waiting (Carried J)) (os os' : List (Opened J)) (o : Opened J) (t : TableView)
-    → IsKept slots methods b (state_of nn live num q os t) → AreCarried whom q → may_open_more (map current_of os) ≡ true → q ≡ w ∷ q' → os' ≡ os ++ o ∷ []
+    → IsKept slots methods b (state_of nn live num q os t) → AreCarried whom q → may_open_more (map asked_of q) (map current_of os) ≡ true → q ≡ w ∷ q' → os' ≡ os ++ o ∷ []
     → o.number ≡ w.number → o.request ≡ w.request → o.before ≡ nn → o.left ≡ steps_of w.request → o.due.items ≡ live_of live w.load.due.items → o.operated ≡ false
     → b'.history ≡ b.history ++ Open w.number ∷ [] → b'.reserved + 1 ≡ b.reserved → IsKept slots methods b' (state_of nn live num q' os' t) × AreCarried whom q'
 open_keeps whom slots methods b b' nn num live q q' w os os' o t k are none is there_is number request before left due operated there kept =
@@ -162,15 +159,19 @@ due_left name c h fit =
     let less = filter_less (λ (x : ℕ). x == name) c.due h in
     (omega arith, omega arith)
 
+-- where one is due, an entry is left
+pub due_entry : (name : ℕ) (c : Current) → is_due name c ≡ true → due_of c ≤ c.left → 0 < c.left
+due_entry name c h fit = let d = due_left name c h fit in omega (arith, d.0)
+
 pub finish_keeps : {J : Type 0} (slots methods : ℕ) (b b' : Book) (nn num n name reply i : ℕ) (live : List Live) (q : List (Waiting (Carried J))) (os os' : List (Opened J)) (o o' : Opened J) (t : TableView)
     → IsKept slots methods b (state_of nn live num q os t) → IsIndex n os (Some i) → slice_get os i ≡ Some o → os' ≡ slice_set os i o' → current_of o' ≡ finished name (current_of o)
-    → among name o.due.items ≡ true → is_live name live ≡ true
+    → among name o.due.items ≡ true → is_live name live ≡ true → is_least n name (map current_of os) ≡ true
     → b'.history ≡ b.history ++ Finish n name reply ∷ [] → b'.reserved + 1 ≡ b.reserved → IsKept slots methods b' (state_of nn live num q os' t)
-finish_keeps slots methods b b' nn num n name reply i live q os os' o o' t k at here is new due lives there kept =
+finish_keeps slots methods b b' nn num n name reply i live q os os' o o' t k at here is new due lives least there kept =
     let found = open_at n i os o at here in
     let d = due_left name (current_of o) due (fit_of n (map current_of os) (current_of o) k.fit found).1 in
     changes slots methods b b' (Finish n name reply) (finished name) nn num n i live q os os' o o' t k at here is new
-    (both_true _ _ (ap (passes (is_due name)) found ∙ due) lives) refl refl d.0 d.1 there kept
+    (both_true _ _ (both_true _ _ (ap (passes (is_due name)) found ∙ due) lives) least) refl refl d.0 d.1 there kept
 
 operate_left : (c : Current) → may_operate c ≡ true → due_of c ≤ c.left → ((as_operated c).left + 1 ≡ c.left) × (due_of (as_operated c) ≤ (as_operated c).left)
 operate_left c h fit =
@@ -192,21 +193,30 @@ operate_keeps slots methods b b' nn num n i live q os os' o o' t k at here is ne
     changes slots methods b b' (Operate n) as_operated nn num n i live q os os' o o' t k at here is new
     (ap (passes may_operate) found ∙ may) refl refl d.0 d.1 there kept
 
-pub close_keeps : {J : Type 0} (slots methods : ℕ) (b b' : Book) (nn num : ℕ) (live : List Live) (q : List (Waiting (Carried J))) (os os' : List (Opened J)) (o : Opened J) (t : TableView)
-    → IsKept slots methods b (state_of nn live num q os t) → os ≡ o ∷ os' → may_close live (current_of o) ≡ true
+pub close_keeps : {J : Type 0} (slots methods : ℕ) (b b' : Book) (nn num i : ℕ) (live : List Live) (q : List (Waiting (Carried J))) (os os' : List (Opened J)) (o : Opened J) (t : TableView)
+    → IsKept slots methods b (state_of nn live num q os t) → IsIndex o.number os (Some i) → slice_get os i ≡ Some o → os' ≡ remove os i → may_close live (current_of o) ≡ true
     → b'.history ≡ b.history ++ Close o.number ∷ [] → b'.reserved + (1 + o.left) ≡ b.reserved → IsKept slots methods b' (state_of nn live num q os' t)
-close_keeps slots methods b b' nn num live q os os' o t k is may there kept =
-    let cs : map current_of os ≡ current_of o ∷ map current_of os' = ap (map current_of) is in
-    let found : open_of o.number (map current_of os) ≡ Some (current_of o) =
-    ap (open_of o.number) cs ∙ ap (λ x. cond x (Some (current_of o)) (open_of o.number (map current_of os'))) (eq-eqb o.number o.number refl) in
-    let gone : without_number o.number (map current_of os) ≡ map current_of os' =
-    ap (without_number o.number) cs ∙ ap (λ x. cond x (map current_of os') (current_of o ∷ without_number o.number (map current_of os'))) (eq-eqb o.number o.number refl) in
-    let m : needs_of_opened (map current_of os) ≡ (1 + o.left) + needs_of_opened (map current_of os') = ap needs_of_opened cs in
-    let fit : AreFit (current_of o ∷ map current_of os') = subst AreFit cs k.fit in
+close_keeps slots methods b b' nn num i live q os os' o t k at here is may there kept =
+    let found = open_at o.number i os o at here in
+    let gone : map current_of os' ≡ without_number o.number (map current_of os) = ap (map current_of) is ∙ removed_at o.number i os at in
+    let m = needs_without o.number (map current_of os) (current_of o) found in
+    let m' : needs_of_opened (map current_of os') ≡ needs_of_opened (without_number o.number (map current_of os)) = ap needs_of_opened gone in
     keeps slots methods b b' (Close o.number) _ _ k.legal k.state there
     (ap (passes (may_close live)) found ∙ may)
-    (ap (λ (cs : List Current). record { next_name = nn; live = live; next_number = num; waiting = map asked_of q; opened = cs; table = t }) gone)
-    (let z = k.needed in omega arith) fit.2
+    (ap (λ (cs : List Current). record { next_name = nn; live = live; next_number = num; waiting = map asked_of q; opened = cs; table = t }) (sym gone))
+    (let z = k.needed in omega arith)
+    (subst AreFit (sym gone) (fit_without o.number (map current_of os) k.fit))
+
+-- the Close of one that may be closed is lawful
+pub close_is : {J : Type 0} (nn num i : ℕ) (live : List Live) (q : List (Waiting (Carried J))) (os : List (Opened J)) (o : Opened J) (t : TableView)
+    → IsIndex o.number os (Some i) → slice_get os i ≡ Some o → may_close live (current_of o) ≡ true → lawful (state_of nn live num q os t) (Close o.number) ≡ true
+close_is nn num i live q os o t at here may = ap (passes (may_close live)) (open_at o.number i os o at here) ∙ may
+
+-- what stays is kept
+pub same_keeps : {J : Type 0} (slots methods : ℕ) (b : Book) (nn num : ℕ) (live : List Live) (q : List (Waiting (Carried J))) (os os' : List (Opened J)) (t : TableView)
+    → IsKept slots methods b (state_of nn live num q os t) → map current_of os' ≡ map current_of os → IsKept slots methods b (state_of nn live num q os' t)
+same_keeps slots methods b nn num live q os os' t k same =
+    subst (λ (cs : List Current). IsKept slots methods b (record { next_name = nn; live = live; next_number = num; waiting = map asked_of q; opened = cs; table = t })) (sym same) k
 
 -- entries that codes can still make
 needs_of_codes-push : (cs : List Code) (c : Code) → needs_of_codes (cs ++ c ∷ []) ≡ needs_of_codes cs + states_left c.state
@@ -243,14 +253,19 @@ needs_changed first (suc i) s st (x ∷ cs) c n h e =
     let a : states_left (in_state s st x).state ≡ states_left x.state = ap (λ (z : Code). states_left z.state) (in_state_other s st x there) in
     let r = needs_changed (first + 1) i s st cs c (tail_numbered first x cs n) h e in omega arith
 
-pub install_keeps : {J : Type 0} (b b' : Book) (nn num method : ℕ) (live : List Live) (q : List (Waiting (Carried J))) (os : List (Opened J)) (t t' : TableView) (id : CodeId)
-    → IsKept t.slots t.methods b (state_of nn live num q os t) → free_slot t.codes t.slots ≡ Some id.slot → id.serial ≡ next_serial t.codes → install_fault t method ≡ None
+may_install : {J : Type 0} (nn num method : ℕ) (live : List Live) (q : List (Waiting (Carried J))) (os : List (Opened J)) (t : TableView) (id : CodeId) → free_slot t.codes t.slots ≡ Some id.slot → id.serial ≡ next_serial t.codes
+    → in_use_for t.codes method ≡ None → install_fault t method ≡ None → lawful (state_of nn live num q os t) (Install id method) ≡ true
+may_install nn num method live q os t id free serial none may =
+    both_true _ _ (eq-eqb id.serial (next_serial t.codes) serial) (both_true _ _ (ap (is_free_slot id.slot) free ∙ eq-eqb id.slot id.slot refl) (both_true _ _ (ap is_none none) (ap is_none may)))
+
+install_keeps : {J : Type 0} (b b' : Book) (nn num method : ℕ) (live : List Live) (q : List (Waiting (Carried J))) (os : List (Opened J)) (t t' : TableView) (id : CodeId)
+    → IsKept t.slots t.methods b (state_of nn live num q os t) → free_slot t.codes t.slots ≡ Some id.slot → id.serial ≡ next_serial t.codes → in_use_for t.codes method ≡ None → install_fault t method ≡ None
     → t' ≡ with_codes t (with_code t.codes method id.slot)
     → b'.history ≡ b.history ++ Install id method ∷ [] → b'.reserved ≡ b.reserved + 3 → IsKept t'.slots t'.methods b' (state_of nn live num q os t')
-install_keeps b b' nn num method live q os t t' id k free serial may is there kept =
+install_keeps b b' nn num method live q os t t' id k free serial none may is there kept =
     subst (λ (v : TableView). IsKept v.slots v.methods b' (state_of nn live num q os v)) (sym is)
     (keeps t.slots t.methods b b' (Install id method) _ _ k.legal k.state there
-    (both_true _ _ (eq-eqb id.serial (next_serial t.codes) serial) (both_true _ _ (ap (is_free_slot id.slot) free ∙ eq-eqb id.slot id.slot refl) (ap is_none may)))
+    (may_install nn num method live q os t id free serial none may)
     refl
     (let z = k.needed in let m = needs_of_codes-push t.codes (record { serial = next_serial t.codes; slot = id.slot; method = method; state = state.InUse }) in omega arith)
     k.fit)
@@ -283,6 +298,56 @@ left_invalidate c h = by c.state h
     by state.Zombie h = cc
     by state.Freed h = cc
 
+-- The entries of an install, whatever code it replaces.
+pub installs_keep : {J : Type 0} (b b' : Book) (nn num method : ℕ) (live : List Live) (q : List (Waiting (Carried J))) (os : List (Opened J)) (t t' : TableView) (r : Option CodeId) (id : CodeId)
+    → IsKept t.slots t.methods b (state_of nn live num q os t) → IsTable t → free_slot t.codes t.slots ≡ Some id.slot → id.serial ≡ next_serial t.codes → install_fault t method ≡ None
+    → r ≡ option_map id_of (in_use_for t.codes method) → t' ≡ with_codes t (with_code (without_use t.codes (in_use_for t.codes method)) method id.slot)
+    → b'.history ≡ b.history ++ install_entries r id method → b'.reserved + kept_before r ≡ b.reserved + 3 → IsKept t'.slots t'.methods b' (state_of nn live num q os t')
+installs_keep b b' nn num method live q os t t' r id k table free serial may is next there kept = by (in_use_for t.codes method) refl r is next there kept
+  where
+    by : (o : Option Code) → in_use_for t.codes method ≡ o → (r : Option CodeId) → r ≡ option_map id_of o → t' ≡ with_codes t (with_code (without_use t.codes o) method id.slot)
+        → b'.history ≡ b.history ++ install_entries r id method → b'.reserved + kept_before r ≡ b.reserved + 3 → IsKept t'.slots t'.methods b' (state_of nn live num q os t')
+    by None e None same next there kept = install_keeps b b' nn num method live q os t t' id k free serial e may next there (omega arith)
+    by None e (Some a) same next there kept = let no : ◌≡◌ {A = Option CodeId} (Some a) None = same in cc
+    by (Some c) e None same next there kept = let no : ◌≡◌ {A = Option CodeId} None (Some (id_of c)) = same in cc
+    by (Some c) e (Some a) same next there kept =
+        let u = unfreed_here t table method c e in
+        let used = state_is t table method c e in
+        let fault : invalidate_fault (Some c) ≡ None = rw used refl in
+        let less = left_invalidate c fault in
+        let room = code_room b nn num c.serial live q os t c k table u in
+        let mid : Book = record { history = b.history ++ Invalidate c.serial ∷ []; reserved = b.reserved - 1 } in
+        let after_left = code_keeps b mid (Invalidate c.serial) nn num c.serial live q os t (with_codes t (with_state t.codes c.serial state.NotEntrant)) c state.NotEntrant k table u refl (ap is_none (ap invalidate_fault u ∙ fault)) refl (sym less) refl (omega arith) in
+        let serials : a.serial ≡ c.serial = (let both : a ≡ id_of c = cc in ap (λ (d : CodeId). d.serial) both) in
+        install_keeps mid b' nn num method live q os (with_codes t (with_state t.codes c.serial state.NotEntrant)) t' id after_left (slot_left t table method c e ∙ free) (serial ∙ ap (λ n. n + 1) (sym (long_left t table method c e))) (none_left t table method c e)
+        (fault_left t table method c e ∙ may) next
+        (there ∙ (ap (λ n. b.history ++ Invalidate n ∷ Install id method ∷ []) serials ∙ sym (append_assoc b.history (Invalidate c.serial ∷ []) (Install id method ∷ [])))) (omega arith)
+
+installs_are_legal : {J : Type 0} (nn num method : ℕ) (live : List Live) (q : List (Waiting (Carried J))) (os : List (Opened J)) (t : TableView) (r : Option CodeId) (id : CodeId) → IsTable t → free_slot t.codes t.slots ≡ Some id.slot
+    → id.serial ≡ next_serial t.codes → install_fault t method ≡ None → r ≡ option_map id_of (in_use_for t.codes method) → legal_from (state_of nn live num q os t) (install_entries r id method) ≡ true
+installs_are_legal nn num method live q os t r id table free serial may is = by (in_use_for t.codes method) refl r is
+  where
+    by : (o : Option Code) → in_use_for t.codes method ≡ o → (r : Option CodeId) → r ≡ option_map id_of o → legal_from (state_of nn live num q os t) (install_entries r id method) ≡ true
+    by None e None same = both_true _ _ (may_install nn num method live q os t id free serial e may) refl
+    by None e (Some a) same = let no : ◌≡◌ {A = Option CodeId} (Some a) None = same in cc
+    by (Some c) e None same = let no : ◌≡◌ {A = Option CodeId} None (Some (id_of c)) = same in cc
+    by (Some c) e (Some a) same =
+        let serials : c.serial ≡ a.serial = (let both : a ≡ id_of c = cc in ap (λ (d : CodeId). d.serial) (sym both)) in
+        let fault : invalidate_fault (Some c) ≡ None = (let used = state_is t table method c e in rw used refl) in
+        subst (λ n. legal_from (state_of nn live num q os t) (Invalidate n ∷ Install id method ∷ []) ≡ true) serials
+        (both_true _ _ (ap is_none (ap invalidate_fault (unfreed_here t table method c e) ∙ fault))
+        (both_true _ _ (may_install nn num method live q os (with_codes t (with_state t.codes c.serial state.NotEntrant)) id (slot_left t table method c e ∙ free) (serial ∙ ap (λ n. n + 1) (sym (long_left t table method c e))) (none_left t table method c e) (fault_left t table method c e ∙ may)) refl))
+
+pub enters_install : {J : Type 0} (d d' : DeskSeen) (nn num method : ℕ) (live : List Live) (q : List (Waiting (Carried J))) (os : List (Opened J)) (t : TableView) (replaced : Option CodeId) (id : CodeId) (r : Stands) → at d ≡ state_of nn live num q os t
+    → IsTable t → free_slot t.codes t.slots ≡ Some id.slot → id.serial ≡ next_serial t.codes → install_fault t method ≡ None → replaced ≡ option_map id_of (in_use_for t.codes method)
+    → d'.book.history ≡ d.book.history ++ install_entries replaced id method → r ≡ stands (length d.book.history + kept_before replaced) (Install id method) → d'.slots ≡ d.slots → d'.methods ≡ d.methods → EntersInstall d d' replaced id method r
+enters_install d d' nn num method live q os t replaced id r is table free serial may old history receipt slots methods = record {
+  legal_is = ap (λ (s : State). legal_from s (install_entries replaced id method)) is ∙ installs_are_legal nn num method live q os t replaced id table free serial may old;
+  history_is = history;
+  receipt_is = receipt;
+  sizes_stay = (slots, methods);
+}
+
 pub left_retire : (c : Code) → retire_fault (Some c) ≡ None → states_left c.state ≡ 2
 left_retire c h = by c.state h
   where
@@ -306,20 +371,15 @@ pub enters_by : (d d' : DeskSeen) (s : State) (e : Entry) (r : Stands) → at d 
 enters_by d d' s e r is may history receipt slots methods = record { lawful_is = ap (λ (t : State). lawful t e) is ∙ may; history_is = history; receipt_is = receipt; sizes_stay = (slots, methods) }
 
 -- a Finish is lawful, or not
-pub finish_is : {J : Type 0} (n name reply nn num i : ℕ) (live : List Live) (q : List (Waiting (Carried J))) (os : List (Opened J)) (o : Opened J) (t : TableView) (b : Bool)
-    → IsIndex n os (Some i) → slice_get os i ≡ Some o → b ≡ (is_due name (current_of o) && is_live name live) → lawful (state_of nn live num q os t) (Finish n name reply) ≡ b
-finish_is n name reply nn num i live q os o t b at here is = ap (λ x. passes (is_due name) x && is_live name live) (open_at n i os o at here) ∙ sym is
+pub finish_is : {J : Type 0} (n name reply nn num i : ℕ) (live : List Live) (q : List (Waiting (Carried J))) (os : List (Opened J)) (o : Opened J) (t : TableView) (b least : Bool)
+    → IsIndex n os (Some i) → slice_get os i ≡ Some o → b ≡ (is_due name (current_of o) && is_live name live) → least ≡ is_least n name (map current_of os)
+    → lawful (state_of nn live num q os t) (Finish n name reply) ≡ (b && least)
+finish_is n name reply nn num i live q os o t b least at here is least_is =
+    ap (λ x. (passes (is_due name) x && is_live name live) && is_least n name (map current_of os)) (open_at n i os o at here) ∙ (λ k. sym is k && sym least_is k)
 
 pub finish_not : {J : Type 0} (n name reply nn num : ℕ) (live : List Live) (q : List (Waiting (Carried J))) (os : List (Opened J)) (t : TableView)
     → IsIndex n os None → lawful (state_of nn live num q os t) (Finish n name reply) ≡ false
-finish_not n name reply nn num live q os t none = ap (λ x. passes (is_due name) x && is_live name live) (none_at n os none)
-
-pub may_more : {J : Type 0} (os : List (Opened J)) → length os ≡ 0 → may_open_more (map current_of os) ≡ true
-may_more [] e = refl
-may_more (o ∷ os) e = absurd (omega arith)
-
-pub first_index : {J : Type 0} (os : List (Opened J)) (o : Opened J) → slice_get os 0 ≡ Some o → 0 < length os → IsIndex o.number os (Some 0)
-first_index os o here low = (low, (λ k x l h. absurd (omega arith)), (λ x h. ap (λ (z : Opened _). z.number) (same_at os 0 x o h here)))
+finish_not n name reply nn num live q os t none = ap (λ x. (passes (is_due name) x && is_live name live) && is_least n name (map current_of os)) (none_at n os none)
 
 pub may_operate_is : {J : Type 0} (a b o : Opened J) → a ≡ o → b ≡ o → is_census a.request ≡ true → b.operated ≡ false → may_operate (current_of o) ≡ true
 may_operate_is a b o p q census fresh =

@@ -8,7 +8,7 @@ use Rattle.operations.specs.Names.{among}
 use Rattle.desk.specs.declared.entries.Entry.{Entry}
 use Rattle.desk.specs.declared.entries.Entry.TheVariants.{Start, Exit, Ask, Open, Finish, Operate, Close, Install, Invalidate, Retire, Free}
 use Rattle.desk.specs.declared.entries.Live.{Live}
-use Rattle.desk.specs.Machine.{State, Asked, Current, step, lawful, start, legal_from, is_legal, others, is_first, is_due, passes, open_of, at_number, without_number, rest_of, open_next, opened_of, finished, as_operated, live_of, targets_of}
+use Rattle.desk.specs.Machine.{State, Asked, Current, step, lawful, start, legal_from, is_legal, others, is_first, is_open, is_due, passes, open_of, at_number, without_number, rest_of, open_next, opened_of, finished, as_operated, live_of, targets_of}
 use Rattle.desk.specs.Once.{is_finish, finishes, AtMostOnce}
 
 and_true : (a b : Bool) → (a && b) ≡ true → (a ≡ true) × (b ≡ true)
@@ -69,9 +69,6 @@ any_pushed p P (y ∷ xs) x f g e = by (p y) refl (any_pushed p P xs x (λ w. f 
 
 abbrev waits : ℕ → List Asked → Bool
 waits n ws = list_any (λ a. a.number == n) ws
-
-abbrev is_open : ℕ → List Current → Bool
-is_open n cs = list_any (λ c. c.number == n) cs
 
 abbrev owes_one : ℕ → ℕ → Current → Bool
 owes_one n name c = (c.number == n) && among name c.due
@@ -304,7 +301,7 @@ is_not s (Open m) n name l k = refl
 is_not s (Finish m who reply) n name l k =
     not_true _ (λ t.
     let q = and_true (m == n) (who == name) t in
-    let owed : owes m who s.opened ≡ true = passes_owes m who s.opened (and_true _ _ l).0 in
+    let owed : owes m who s.opened ≡ true = passes_owes m who s.opened (and_true _ _ (and_true _ _ l).0).0 in
     let here : owes n name s.opened ≡ true = (λ i. owes (sym (same m n q.0) i) (sym (same who name q.1) i) s.opened) ∙ owed in
     sym k.owes_not ∙ here)
 is_not s (Operate m) n name l k = refl
@@ -336,7 +333,7 @@ spends_here s (Ask m r) n name i l k = absurd (let h : false ≡ true = i in cc)
 spends_here s (Open m) n name i l k = absurd (let h : false ≡ true = i in cc)
 spends_here s (Finish m who reply) n name i l k =
     let q = and_true (m == n) (who == name) i in
-    let owed : owes m who s.opened ≡ true = passes_owes m who s.opened (and_true _ _ l).0 in
+    let owed : owes m who s.opened ≡ true = passes_owes m who s.opened (and_true _ _ (and_true _ _ l).0).0 in
     let r : Spent m who s.next_number s.waiting (at_number (finished who) m s.opened) = spends m who s.next_number s.waiting s.opened k owed in
     subst (λ (x : ℕ). Spent x name s.next_number s.waiting (at_number (finished who) m s.opened)) (same m n q.0)
     (subst (λ (x : ℕ). Spent m x s.next_number s.waiting (at_number (finished who) m s.opened)) (same who name q.1) r)

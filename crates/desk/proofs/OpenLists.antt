@@ -1,11 +1,18 @@
 -- Open requests, by their numbers.
-use Rattle.std.proofs.Common.{◌≡◌, ◌≢◌, ℕ, zero, suc, ◌+◌, ◌<◌, ◌≤◌, Bool, true, false, cond, List, [], ◌∷◌, ◌++◌, map, Option, Some, None, sym, refl, ap, ◌∙◌, subst, arith}
-use Rattle.std.specs.Prelude.{◌||◌, ◌==◌, slice_get, slice_set}
-use Rattle.std.specs.List.{list_any}
-use Rattle.std.proofs.lemmas.Bool.{eq-eqb, ne_eqb}
+use Rattle.std.proofs.Common.{◌≡◌, ◌≢◌, ℕ, zero, suc, ◌+◌, ◌<◌, ◌≤◌, Bool, true, false, cond, List, [], ◌∷◌, ◌++◌, length, map, Option, Some, None, sym, refl, ap, ◌∙◌, subst, arith}
+use Rattle.std.specs.Prelude.{◌||◌, ◌==◌, nat_lt, IfSome, IfNone, slice_get, slice_set}
+use Rattle.std.specs.List.{list_any, remove}
+use Rattle.std.proofs.lemmas.Bool.{eq-eqb, ne_eqb, and_parts}
+use Rattle.std.proofs.lemmas.Bool.Decides.{nat_tests}
+use Rattle.std.proofs.lemmas.List.{length-map}
+use Rattle.operations.specs.declared.queue.Waiting.{Waiting}
+use Rattle.operations.specs.Requests.{is_census}
+use Rattle.desk.specs.declared.entries.Carried.{Carried}
 use Rattle.desk.specs.declared.entries.Opened.{Opened}
-use Rattle.desk.specs.Machine.{Current, open_of, at_number, without_number, needs_of_opened}
-use Rattle.desk.specs.Fields.{current_of, IsIndex, AreFit, due_of}
+use Rattle.desk.specs.Machine.{Current, awaits_census, may_open_more, is_open, open_of, at_number, without_number, needs_of_opened}
+use Rattle.desk.specs.Refusals.{oldest_of, chosen}
+use Rattle.desk.proofs.Newest.{same_at}
+use Rattle.desk.specs.Fields.{asked_of, current_of, IsIndex, AreFit, due_of}
 
 pub any_map : {A B : Type 0} (p : B → Bool) (f : A → B) (xs : List A) → list_any p (map f xs) ≡ list_any (λ x. p (f x)) xs
 any_map p f [] = refl
@@ -89,3 +96,80 @@ fit_push (x ∷ cs) c fit low new = (fit.0, fit.1, fit_push cs c fit.2 low new)
 pub needs_push : (cs : List Current) (c : Current) → needs_of_opened (cs ++ c ∷ []) ≡ needs_of_opened cs + (1 + c.left)
 needs_push [] c = omega arith
 needs_push (x ∷ cs) c = let r = needs_push cs c in omega arith
+
+-- the open request at the place goes
+pub removed_at : {J : Type 0} (n i : ℕ) (os : List (Opened J)) → IsIndex n os (Some i) → map current_of (remove os i) ≡ without_number n (map current_of os)
+removed_at n i [] is = absurd (let a = is.0 in omega arith)
+removed_at n zero (x ∷ os) is = sym (ap (λ b. cond b (map current_of os) (current_of x ∷ without_number n (map current_of os))) (eq-eqb x.number n (is.2 x refl)))
+removed_at n (suc i) (x ∷ os) is =
+    ap (λ cs. current_of x ∷ cs) (removed_at n i os (later n i x os is))
+    ∙ sym (there_is n x.number (map current_of os) (current_of x ∷ without_number n (map current_of os)) (is.1 0 x (omega arith) refl))
+
+-- where an open request stands, by its own number
+pub own_index : {J : Type 0} (n i : ℕ) (os : List (Opened J)) (o : Opened J) → IsIndex n os (Some i) → slice_get os i ≡ Some o → IsIndex o.number os (Some i)
+own_index n i os o is h = subst (λ k. IsIndex k os (Some i)) (sym (is.2 o h)) is
+
+pub first_index : {J : Type 0} (os : List (Opened J)) (o : Opened J) → slice_get os 0 ≡ Some o → 0 < length os → IsIndex o.number os (Some 0)
+first_index os o here low = (low, (λ k x l h. absurd (omega arith)), (λ x h. ap (λ (z : Opened _). z.number) (same_at os 0 x o h here)))
+
+-- one that stands there is open
+pub open_is : {J : Type 0} (n i : ℕ) (os : List (Opened J)) (o : Opened J) → IsIndex n os (Some i) → slice_get os i ≡ Some o → is_open n (map current_of os) ≡ true
+open_is n i [] o is h = cc
+open_is n zero (x ∷ os) o is h = ap (λ b. b || is_open n (map current_of os)) (eq-eqb x.number n (is.2 x refl))
+open_is n (suc i) (x ∷ os) o is h = or_true (x.number == n) (is_open n (map current_of os)) (open_is n i os o (later n i x os is) h)
+  where
+    or_true : (a b : Bool) → b ≡ true → (a || b) ≡ true
+    or_true true b e = refl
+    or_true false b e = e
+
+-- the oldest
+pub oldest_is : {J : Type 0} (os : List (Opened J)) (o : Opened J) → slice_get os 0 ≡ Some o → oldest_of (map current_of os) ≡ Some (current_of o)
+oldest_is [] o h = cc
+oldest_is (x ∷ os) o h = let same : x ≡ o = cc in ap (λ (z : Opened _). Some (current_of z)) same
+
+-- the one at the place is chosen
+abbrev pub IsChosen : {J : Type 0} → Option ℕ → List (Opened J) → ℕ → Type 0
+IsChosen number os i = (i < length os) × ((o : Opened _) → slice_get os i ≡ Some o → IsIndex o.number os (Some i) × (chosen number (map current_of os) ≡ Some (current_of o)))
+
+-- which one is chosen by its number
+pub chosen_some : {J : Type 0} (n : ℕ) (os : List (Opened J)) (found : Option ℕ) → IsIndex n os found
+    → IfSome found (λ i. (i < length os) × ((o : Opened J) → slice_get os i ≡ Some o → IsIndex o.number os (Some i) × (chosen (Some n) (map current_of os) ≡ Some (current_of o))))
+chosen_some n os None is = tt
+chosen_some n os (Some i) is = (is.0, λ o h. (own_index n i os o is h, open_at n i os o is h))
+
+pub chosen_none : {J : Type 0} (n : ℕ) (os : List (Opened J)) (found : Option ℕ) → IsIndex n os found → IfNone found (chosen (Some n) (map current_of os) ≡ None)
+chosen_none n os None is = none_at n os is
+chosen_none n os (Some i) is = tt
+
+-- the oldest request that waits
+pub awaits_at : {J : Type 0} (q : List (Waiting (Carried J))) (w : Waiting (Carried J)) → slice_get q 0 ≡ Some w → awaits_census (map asked_of q) ≡ is_census w.request
+awaits_at [] w h = cc
+awaits_at (x ∷ q) w h = let same : x ≡ w = cc in ap (λ (z : Waiting (Carried _)). is_census z.request) same
+
+pub awaits_none : {J : Type 0} (q : List (Waiting (Carried J))) → slice_get q 0 ≡ None → awaits_census (map asked_of q) ≡ false
+awaits_none [] h = refl
+awaits_none (x ∷ q) h = cc
+
+-- where one more may be opened, few are
+pub few_open : {J : Type 0} (q : List (Waiting (Carried J))) (os : List (Opened J)) → may_open_more (map asked_of q) (map current_of os) ≡ true → length os < 4
+few_open q os h =
+    let n : length (map current_of os) ≡ length os = length-map os current_of in
+    let low = lt_is (length (map current_of os)) 4 (and_parts (nat_lt (length (map current_of os)) 4) _ h).0 in omega arith
+  where
+    lt_is : (a b : ℕ) → nat_lt a b ≡ true → a < b
+    lt_is a b e = grind (arith, nat_tests)
+
+-- something stands below the length
+pub there_at : {X : Type 0} (xs : List X) (i : ℕ) → i < length xs → (x : X) × (slice_get xs i ≡ Some x)
+there_at [] i low = absurd (omega arith)
+there_at (x ∷ xs) zero low = (x, refl)
+there_at (x ∷ xs) (suc i) low = there_at xs i (omega arith)
+
+-- one less to fit
+pub fit_without : (n : ℕ) (cs : List Current) → AreFit cs → AreFit (without_number n cs)
+fit_without n [] fit = tt
+fit_without n (x ∷ cs) fit = by (x.number == n) (fit_without n cs fit.2)
+  where
+    by : (b : Bool) → AreFit (without_number n cs) → AreFit (cond b cs (x ∷ without_number n cs))
+    by true rest = fit.2
+    by false rest = (fit.0, fit.1, rest)

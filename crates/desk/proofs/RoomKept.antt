@@ -3,7 +3,7 @@ use Rattle.std.proofs.Common.{◌≡◌, ◌≢◌, ℕ, zero, suc, ◌+◌, ◌
 use Rattle.std.specs.Prelude.{◌==◌}
 use Rattle.std.proofs.lemmas.Bool.{eq-eqb, ne_eqb, eqb-true, eqb-false}
 use Rattle.operations.specs.Names.{among}
-use Rattle.desk.specs.Machine.{Asked, Current, targets_of, open_of, at_number, finished, as_operated}
+use Rattle.desk.specs.Machine.{Asked, Current, targets_of, open_of, at_number, without_number, finished, as_operated}
 use Rattle.desk.specs.Replies.{Said, nothing_said, of_number, HasLess, owed_waiting, owed_opened, HaveRoom}
 use Rattle.desk.proofs.Fewer.{filter_less}
 
@@ -162,8 +162,16 @@ operate_room num n q cs cs' c lists have found is = subst (λ l. HaveRoom num q 
   enough = λ m. (let at = owed_at as_operated m n cs c found (λ d. refl) in let o = have.enough m in omega arith);
 })
 
-pub close_room : (num : ℕ) (q : List Asked) (cs cs' : List Current) (c : Current) (lists : List Said) → HaveRoom num q cs lists → cs ≡ c ∷ cs' → HaveRoom num q cs' lists
-close_room num q cs cs' c lists have is = record {
+owed_without : (n m : ℕ) (cs : List Current) → owed_opened n (without_number m cs) ≤ owed_opened n cs
+owed_without n m [] = omega arith
+owed_without n m (x ∷ cs) = by (x.number == m) (owed_without n m cs)
+  where
+    by : (b : Bool) → owed_opened n (without_number m cs) ≤ owed_opened n cs → owed_opened n (cond b cs (x ∷ without_number m cs)) ≤ owed_opened n (x ∷ cs)
+    by true rest = omega arith
+    by false rest = omega arith
+
+pub close_room : (num m : ℕ) (q : List Asked) (cs cs' : List Current) (lists : List Said) → HaveRoom num q cs lists → cs' ≡ without_number m cs → HaveRoom num q cs' lists
+close_room num m q cs cs' lists have is = record {
   count = have.count;
-  enough = λ n. (let o = have.enough n in let a = ap (owed_opened n) is in omega arith);
+  enough = λ n. (let o = have.enough n in let a = ap (owed_opened n) is in let l = owed_without n m cs in omega arith);
 }

@@ -1,6 +1,7 @@
 -- The room that is kept for replies, through each change of the desk's fields.
 use Rattle.std.proofs.Common.{◌≡◌, ℕ, ◌+◌, ◌<◌, ◌≤◌, List, [], ◌∷◌, ◌++◌, true, Some, length, map, ap, ◌∙◌, subst, arith}
 use Rattle.std.specs.Prelude.{slice_get, slice_set}
+use Rattle.std.specs.List.{remove}
 use Rattle.std.proofs.lemmas.List.{map-append}
 use Rattle.operations.specs.declared.queue.Waiting.{Waiting}
 use Rattle.operations.specs.Names.{among}
@@ -11,7 +12,7 @@ use Rattle.desk.specs.Machine.{is_live, live_of, targets_of, finished, as_operat
 use Rattle.desk.specs.Fields.{asked_of, current_of, IsIndex, IsCarried, AreCarried}
 use Rattle.desk.specs.Replies.{Said, of_number, HasLess, HaveRoom}
 use Rattle.desk.proofs.Fewer.{filter_le}
-use Rattle.desk.proofs.OpenLists.{open_at, set_at}
+use Rattle.desk.proofs.OpenLists.{open_at, set_at, removed_at}
 use Rattle.desk.proofs.RoomKept.{ask_room, open_room, due_room, finish_room, operate_room, close_room}
 
 abbrev HasRoom : {J : Type 0} → ℕ → List (Waiting (Carried J)) → List (Opened J) → List Said → Type 0
@@ -52,5 +53,6 @@ pub operate_has_room : {J : Type 0} (num n i : ℕ) (q : List (Waiting (Carried 
 operate_has_room num n i q os os' o o' lists have at here is new =
     operate_room num n (map asked_of q) (map current_of os) (map current_of os') (current_of o) lists have (open_at n i os o at here) (ap (map current_of) is ∙ set_at as_operated n i os o o' at here new)
 
-pub close_has_room : {J : Type 0} (num : ℕ) (q : List (Waiting (Carried J))) (os os' : List (Opened J)) (o : Opened J) (lists : List Said) → HasRoom num q os lists → os ≡ o ∷ os' → HasRoom num q os' lists
-close_has_room num q os os' o lists have is = close_room num (map asked_of q) (map current_of os) (map current_of os') (current_of o) lists have (ap (map current_of) is)
+pub close_has_room : {J : Type 0} (num n i : ℕ) (q : List (Waiting (Carried J))) (os os' : List (Opened J)) (lists : List Said)
+    → HasRoom num q os lists → IsIndex n os (Some i) → os' ≡ remove os i → HasRoom num q os' lists
+close_has_room num n i q os os' lists have at is = close_room num n (map asked_of q) (map current_of os) (map current_of os') lists have (ap (map current_of) is ∙ removed_at n i os at)

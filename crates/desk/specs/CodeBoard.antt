@@ -4,7 +4,8 @@ use Rattle.frames.specs.declared.CodeId.{CodeId}
 use Rattle.frames.specs.declared.board_rule.EntryState.TheVariants as entry
 use Rattle.frames.specs.declared.board_rule.SlotView.{SlotView}
 use Rattle.frames.specs.declared.board_rule.KeeperView.{KeeperView}
-use Rattle.frames.specs.BoardViews.{slot_of, entry_stored, in_state}
+use Rattle.frames.specs.BoardViews.{slot_of, entry_stored, in_use, in_state}
+use Rattle.board.specs.Replaced.{replaced}
 use Rattle.board.specs.Notes.{IsWeighed}
 use Rattle.board.specs.declared.weighed.Weighed.{Weighed}
 use Rattle.board.specs.declared.weighed.Weighed.TheVariants.{NotLooked, Used, Clear}
@@ -36,6 +37,11 @@ IsCodeOf seen serial code = unfreed seen.table.codes serial ≡ Some code
 
 abbrev pub with_codes : TableView → List Code → TableView
 with_codes table codes = record { codes = codes; slots = table.slots; methods = table.methods }
+
+-- What the keeper knows after an install: the new code is in use, and where there was one for its method, that one is not entrant.
+abbrev pub stored : Option CodeId → KeeperView → CodeId → KeeperView
+stored None k code = entry_stored k code (in_use code)
+stored (Some old) k code = replaced k old code
 
 -- What the keeper knows after a weighing: where it was clear, the entry is a zombie's.
 abbrev pub KeeperWeighs : ℕ → CodeId → KeeperView → KeeperView → Weighed → Type 0

@@ -3,11 +3,14 @@ use Rattle.std.specs.Prelude.{◌≢◌, ◌<◌, Option, Some, None, slice_get,
 use Rattle.frames.specs.declared.board_rule.KeeperView.{KeeperView}
 use Rattle.method_table.specs.TableView.{TableView}
 use Rattle.operations.specs.declared.queue.Waiting.{Waiting}
+use Rattle.frames.specs.declared.CodeId.{CodeId}
 use Rattle.desk.specs.declared.entries.Entry.{Entry}
+use Rattle.desk.specs.declared.entries.Entry.TheVariants.{Install, Invalidate}
 use Rattle.desk.specs.declared.entries.Live.{Live}
 use Rattle.desk.specs.declared.entries.Carried.{Carried}
 use Rattle.desk.specs.declared.entries.Opened.{Opened}
-use Rattle.desk.specs.Machine.{Asked, Current, State, Book, after, is_legal, needs, targets_of, Stands, stands, lawful, may_operate}
+use Rattle.desk.specs.JobsFit.{JobsLeft}
+use Rattle.desk.specs.Machine.{Asked, Current, State, Book, after, is_legal, legal_from, needs, targets_of, Stands, stands, lawful, may_operate}
 
 abbrev pub asked_of : {J : Type 0} → Waiting (Carried J) → Asked
 asked_of w = record { number = w.number; request = w.request }
@@ -33,6 +36,9 @@ AreCarried whom (w ∷ ws) = IsCarried whom w × AreCarried whom ws
 abbrev pub names_left : {J : Type 0} → (J → ℕ) → Opened J → List ℕ
 names_left whom o = map whom o.jobs.items
 
+abbrev pub jobs_left : {J : Type 0} → (J → ℕ) → Opened J → JobsLeft
+jobs_left whom o = record { number = o.number; names = names_left whom o }
+
 -- how many entries an open request must still make
 abbrev pub due_of : Current → ℕ
 due_of c = (if may_operate c then 1 else 0) + length c.due
@@ -56,7 +62,7 @@ pub record DeskSeen : Type 0 where
   pub slots : ℕ
   pub methods : ℕ
   pub keeper : KeeperView
-  pub jobs : List (List ℕ)
+  pub jobs : List JobsLeft
 
 -- the state that its history comes to
 abbrev pub at : DeskSeen → State
@@ -67,6 +73,23 @@ pub record Enters (old new : DeskSeen) (entry : Entry) (receipt : Stands) : Type
   pub lawful_is : lawful (at old) entry ≡ true
   pub history_is : new.book.history ≡ old.book.history ++ entry ∷ []
   pub receipt_is : receipt ≡ stands (length old.book.history) entry
+  pub sizes_stay : (new.slots ≡ old.slots) × (new.methods ≡ old.methods)
+
+-- The entries of an install: where a code in use is replaced its Invalidate, and then the Install.
+abbrev pub install_entries : Option CodeId → CodeId → ℕ → List Entry
+install_entries None code method = Install code method ∷ []
+install_entries (Some old) code method = Invalidate old.serial ∷ Install code method ∷ []
+
+-- How many of them use room that was kept before.
+abbrev pub kept_before : Option CodeId → ℕ
+kept_before None = 0
+kept_before (Some old) = 1
+
+-- The desk appends the entries of an install, each lawful behind those before it, and the receipt is of the last.
+pub record EntersInstall (old new : DeskSeen) (replaced : Option CodeId) (code : CodeId) (method : ℕ) (receipt : Stands) : Type 0 where
+  pub legal_is : legal_from (at old) (install_entries replaced code method) ≡ true
+  pub history_is : new.book.history ≡ old.book.history ++ install_entries replaced code method
+  pub receipt_is : receipt ≡ stands (length old.book.history + kept_before replaced) (Install code method)
   pub sizes_stay : (new.slots ≡ old.slots) × (new.methods ≡ old.methods)
 
 -- where the open request of the number stands

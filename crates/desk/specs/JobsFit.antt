@@ -34,17 +34,31 @@ abbrev pub without_first : ℕ → List ℕ → List ℕ
 without_first name [] = []
 without_first name (n ∷ ns) = if n == name then ns else n ∷ without_first name ns
 
--- whether the oldest open request has a job for the name
-abbrev pub has_job : ℕ → List (List ℕ) → Bool
-has_job name [] = false
-has_job name (names ∷ rest) = among name names
+-- the names for which an open request still has jobs, in the order of its targets
+pub record JobsLeft : Type 0 where
+  pub number : ℕ
+  pub names : List ℕ
+
+-- those of the open request of the number
+abbrev pub left_of : ℕ → List JobsLeft → List ℕ
+left_of n [] = []
+left_of n (j ∷ js) = if j.number == n then j.names else left_of n js
+
+-- whether it has a job for the name
+abbrev pub has_job : ℕ → ℕ → List JobsLeft → Bool
+has_job n name js = among name (left_of n js)
 
 -- and what is left once it is taken
-abbrev pub job_taken : ℕ → List (List ℕ) → List (List ℕ)
-job_taken name [] = []
-job_taken name (names ∷ rest) = without_first name names ∷ rest
+abbrev pub job_taken : ℕ → ℕ → List JobsLeft → List JobsLeft
+job_taken n name [] = []
+job_taken n name (j ∷ js) = if j.number == n then record { number = j.number; names = without_first name j.names } ∷ js else j ∷ job_taken n name js
+
+-- what is left once it is closed
+abbrev pub jobs_closed : ℕ → List JobsLeft → List JobsLeft
+jobs_closed n [] = []
+jobs_closed n (j ∷ js) = if j.number == n then js else j ∷ jobs_closed n js
 
 -- what is left of all open requests once the oldest that waits is opened: it has a job for each target
-abbrev pub jobs_opened : List Asked → List (List ℕ) → List (List ℕ)
+abbrev pub jobs_opened : List Asked → List JobsLeft → List JobsLeft
 jobs_opened [] left = left
-jobs_opened (a ∷ rest) left = left ++ targets_of a.request ∷ []
+jobs_opened (a ∷ rest) left = left ++ record { number = a.number; names = targets_of a.request } ∷ []

@@ -1,14 +1,14 @@
 -- The list machine of the desk: entries, the state after them, and when a history is legal.
-use Rattle.std.specs.Prelude.{ℕ, ◌+◌, ◌-◌, ◌≡◌, List, [], ◌∷◌, ◌++◌, Bool, true, false, ◌&&◌, not, ◌==◌, nat_le, Option, Some, None, is_none, length, map, filter, find, if◌then◌else◌}
+use Rattle.std.specs.Prelude.{ℕ, ◌+◌, ◌-◌, ◌≡◌, List, [], ◌∷◌, ◌++◌, Bool, true, false, ◌&&◌, not, ◌==◌, nat_le, nat_lt, Option, Some, None, is_none, length, map, filter, find, if◌then◌else◌}
 use Rattle.std.specs.List.{list_any, list_all}
 use Rattle.method_table.specs.declared.Code.{Code}
 use Rattle.method_table.specs.declared.CodeState.{CodeState}
 use Rattle.method_table.specs.declared.CodeState.TheVariants as state
-use Rattle.method_table.specs.Codes.{unfreed, with_code, with_state, next_serial, free_slot}
+use Rattle.method_table.specs.Codes.{in_use_for, unfreed, with_code, with_state, next_serial, free_slot}
 use Rattle.method_table.specs.TableView.{TableView, install_fault, invalidate_fault, retire_fault, free_fault}
 use Rattle.operations.specs.declared.Request.{Request}
 use Rattle.operations.specs.declared.Request.TheVariants.{Handshake, Census}
-use Rattle.operations.specs.Names.{among}
+use Rattle.operations.specs.Names.{among, is_empty}
 use Rattle.operations.specs.Requests.{is_census}
 use Rattle.desk.specs.CodeBoard.{with_codes}
 use Rattle.desk.specs.declared.entries.Live.{Live}
@@ -87,14 +87,21 @@ rest_of (a ∷ rest) = rest
 abbrev pub has_census : List Current → Bool
 has_census cs = list_any (λ c. is_census c.request) cs
 
--- one request is open at a time
-abbrev pub may_open_more : List Current → Bool
-may_open_more [] = true
-may_open_more (c ∷ cs) = false
+-- the oldest request that waits is a census
+abbrev pub awaits_census : List Asked → Bool
+awaits_census [] = false
+awaits_census (a ∷ rest) = is_census a.request
+
+-- up to four handshakes are open, or one census alone
+abbrev pub may_open_more : List Asked → List Current → Bool
+may_open_more waiting cs = nat_lt (length cs) 4 && (not (has_census cs) && not (awaits_census waiting && not (is_empty cs)))
 
 -- the open request of the number
 abbrev pub open_of : ℕ → List Current → Option Current
 open_of n cs = find (λ c. c.number == n) cs
+
+abbrev pub is_open : ℕ → List Current → Bool
+is_open n cs = list_any (λ c. c.number == n) cs
 
 abbrev pub passes : (Current → Bool) → Option Current → Bool
 passes test None = false
@@ -102,6 +109,10 @@ passes test (Some c) = test c
 
 abbrev pub is_due : ℕ → Current → Bool
 is_due name c = among name c.due
+
+-- no open request with a lesser number is due for the name: each is answered in the order of the numbers
+abbrev pub is_least : ℕ → ℕ → List Current → Bool
+is_least n name cs = list_all (λ c. not (nat_lt c.number n && is_due name c)) cs
 
 abbrev pub may_operate : Current → Bool
 may_operate c = is_census c.request && not c.operated
@@ -141,11 +152,11 @@ abbrev pub lawful : State → Entry → Bool
 lawful s (Start name place) = (name == s.next_name) && (not (is_taken place s.live) && not (has_census s.opened))
 lawful s (Exit name) = is_live name s.live
 lawful s (Ask n request) = n == s.next_number
-lawful s (Open n) = may_open_more s.opened && is_first n s.waiting
-lawful s (Finish n name reply) = passes (is_due name) (open_of n s.opened) && is_live name s.live
+lawful s (Open n) = may_open_more s.waiting s.opened && is_first n s.waiting
+lawful s (Finish n name reply) = (passes (is_due name) (open_of n s.opened) && is_live name s.live) && is_least n name s.opened
 lawful s (Operate n) = passes may_operate (open_of n s.opened)
 lawful s (Close n) = passes (may_close s.live) (open_of n s.opened)
-lawful s (Install code method) = (code.serial == next_serial s.table.codes) && (is_free_slot code.slot (free_slot s.table.codes s.table.slots) && is_none (install_fault s.table method))
+lawful s (Install code method) = (code.serial == next_serial s.table.codes) && (is_free_slot code.slot (free_slot s.table.codes s.table.slots) && (is_none (in_use_for s.table.codes method) && is_none (install_fault s.table method)))
 lawful s (Invalidate serial) = is_none (invalidate_fault (unfreed s.table.codes serial))
 lawful s (Retire serial) = is_none (retire_fault (unfreed s.table.codes serial))
 lawful s (Free serial) = is_none (free_fault (unfreed s.table.codes serial))

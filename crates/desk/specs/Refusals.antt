@@ -5,7 +5,7 @@ use Rattle.frames.specs.ImageView.{IsSettled}
 use Rattle.bodies.specs.Bodies.{BodyView}
 use Rattle.desk.specs.declared.entries.Live.{Live}
 use Rattle.operations.specs.declared.Request.{Request}
-use Rattle.operations.specs.Requests.{has_targets, are_targets}
+use Rattle.operations.specs.Requests.{has_targets, are_targets, is_target}
 use Rattle.method_table.specs.TableView.{install_fault, retire_fault}
 use Rattle.method_table.specs.Codes.{unfreed}
 use Rattle.desk.specs.declared.faults.ReclaimFault.{ReclaimFault}
@@ -24,7 +24,7 @@ use Rattle.desk.specs.declared.faults.CodeFault.{CodeFault}
 use Rattle.desk.specs.declared.faults.CodeFault.TheVariants as code
 use Rattle.desk.specs.declared.log.RoomFault.{RoomFault}
 use Rattle.desk.specs.declared.log.RoomFault.TheVariants as room
-use Rattle.desk.specs.Machine.{State, Current, Book, is_taken, has_room, has_census, may_open_more, may_close, steps_of}
+use Rattle.desk.specs.Machine.{State, Current, Book, is_taken, has_room, has_census, may_open_more, may_close, steps_of, open_of}
 use Rattle.operations.specs.Requests.{is_census}
 
 abbrev pub AllTaken : State → ℕ → Type 0
@@ -53,8 +53,8 @@ ask_refused s r fits b ask.HistoryFull = (s.next_number < 2 ^ 40) × (length s.w
 ask_refused s r fits b ask.NoMemory = (s.next_number < 2 ^ 40) × (length s.waiting < 64) × (has_targets r ≡ true) × (are_targets r && fits ≡ true) × (room_for b (3 + steps_of r) ≡ true)
 
 abbrev pub open_refused : State → OpenFault → Type 0
-open_refused s opens.AlreadyOpen = may_open_more s.opened ≡ false
-open_refused s opens.QueueEmpty = (may_open_more s.opened ≡ true) × (s.waiting ≡ [])
+open_refused s opens.AlreadyOpen = may_open_more s.waiting s.opened ≡ false
+open_refused s opens.QueueEmpty = (may_open_more s.waiting s.opened ≡ true) × (s.waiting ≡ [])
 
 -- the oldest open request
 abbrev pub front_is : (Current → Bool) → List Current → Bool → Type 0
@@ -64,10 +64,25 @@ front_is test (c ∷ cs) b = test c ≡ b
 abbrev pub HasOpen : State → Type 0
 HasOpen s = 0 < length s.opened
 
-abbrev pub close_refused : State → Bool → CloseFault → Type 0
-close_refused s held close.NothingOpen = s.opened ≡ []
-close_refused s held close.Held = HasOpen s × (held ≡ true)
-close_refused s held close.NotDone = front_is (may_close s.live) s.opened false × (held ≡ false)
+-- the oldest open request
+abbrev pub oldest_of : List Current → Option Current
+oldest_of [] = None
+oldest_of (c ∷ cs) = Some c
+
+-- the open request of the number, and without a number the oldest
+abbrev pub chosen : Option ℕ → List Current → Option Current
+chosen None cs = oldest_of cs
+chosen (Some n) cs = open_of n cs
+
+-- a body is of a target, live or not; a census is of all threads
+abbrev pub holds_target : Request → List BodyView → Bool
+holds_target request bs = list_any (λ b. is_target request b.name) bs
+
+abbrev pub close_refused : State → Option ℕ → List BodyView → CloseFault → Type 0
+close_refused s number bs close.NothingOpen = s.opened ≡ []
+close_refused s number bs close.NotOf = HasOpen s × (chosen number s.opened ≡ None)
+close_refused s number bs close.Held = (c : Current) × (chosen number s.opened ≡ Some c) × (holds_target c.request bs ≡ true)
+close_refused s number bs close.NotDone = (c : Current) × (chosen number s.opened ≡ Some c) × (holds_target c.request bs ≡ false) × (may_close s.live c ≡ false)
 
 abbrev pub install_refused : State → ℕ → Book → CodeFault → Type 0
 install_refused s m b (code.Install fault) = install_fault s.table m ≡ Some fault

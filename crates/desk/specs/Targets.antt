@@ -1,13 +1,16 @@
--- How names stand to the oldest open request.
-use Rattle.std.specs.Prelude.{ℕ, List, [], ◌∷◌, Bool, ◌==◌, ◌&&◌, not, nat_lt, Option, Some, None, if◌then◌else◌}
+-- How names stand to the open requests.
+use Rattle.std.specs.Prelude.{ℕ, List, [], ◌∷◌, Bool, ◌==◌, ◌&&◌, not, nat_lt, nat_le, true, false, find, Option, Some, None, if◌then◌else◌}
 use Rattle.operations.specs.declared.Request.{Request}
 use Rattle.operations.specs.declared.Request.TheVariants.{Handshake, Census}
-use Rattle.operations.specs.Names.{among}
+use Rattle.std.specs.List.{list_any}
+use Rattle.operations.specs.Names.{among, is_empty}
 use Rattle.operations.specs.Requests.{is_census}
 use Rattle.desk.specs.declared.entries.Live.{Live}
 use Rattle.desk.specs.declared.entries.Standing.{Standing}
 use Rattle.desk.specs.declared.entries.Standing.TheVariants.{NothingOpen, NotOf, Gone, Asked}
-use Rattle.desk.specs.Machine.{State, Current, place_of}
+use Rattle.desk.specs.declared.entries.Progress.{Progress}
+use Rattle.desk.specs.declared.entries.Progress.TheVariants.{NotTold, Done, Undone}
+use Rattle.desk.specs.Machine.{State, Current, place_of, has_census}
 
 -- a handshake is of its targets, a census of all names that were given out
 abbrev pub is_asked : ℕ → ℕ → Request → Bool
@@ -19,36 +22,77 @@ abbrev pub is_owed : ℕ → Current → Bool
 is_owed name c = if is_census c.request then not c.operated else among name c.due
 
 -- a thread that is live was live at the Open where its name was given out before
-abbrev pub standing_at : ℕ → Current → Option ℕ → Standing
-standing_at name c None = Gone
-standing_at name c (Some place) = if nat_lt name c.before then Asked record { number = c.number; place = place; is_census = is_census c.request; is_done = not (is_owed name c) } else Gone
+abbrev pub is_target_of : ℕ → ℕ → Current → Bool
+is_target_of next name c = is_asked next name c.request && nat_lt name c.before
 
-abbrev pub standing_to : ℕ → List Live → ℕ → Current → Standing
-standing_to next ls name c = if is_asked next name c.request then standing_at name c (place_of name ls) else NotOf
+-- the same of a name by its place, where it is live
+abbrev pub standing_at : Option ℕ → Bool → Bool → Standing
+standing_at None has is_census = Gone
+standing_at (Some place) has is_census = if has then Asked record { place = place; is_census = is_census } else Gone
 
-abbrev pub front_standing : ℕ → List Live → ℕ → List Current → Standing
-front_standing next ls name [] = NothingOpen
-front_standing next ls name (c ∷ cs) = standing_to next ls name c
+-- how a name stands to the open requests
+abbrev pub standing_to : ℕ → List Live → ℕ → List Current → Standing
+standing_to next ls name cs =
+    if is_empty cs then NothingOpen else if list_any (λ c. is_asked next name c.request) cs
+    then standing_at (place_of name ls) (list_any (is_target_of next name) cs) (has_census cs) else NotOf
 
--- how a name stands to the oldest open request
 abbrev pub standing : State → ℕ → Standing
-standing s name = front_standing s.next_name s.live name s.opened
+standing s name = standing_to s.next_name s.live name s.opened
+
+-- The next clauses speak of a live thread whose poll word was armed last with the number `last`: it was told those of its requests
+-- that have no greater number.
+abbrev pub is_untold : ℕ → ℕ → ℕ → Current → Bool
+is_untold next name last c = is_target_of next name c && nat_lt last c.number
+
+abbrev pub is_told : ℕ → ℕ → ℕ → Current → Bool
+is_told next name last c = is_target_of next name c && nat_le c.number last
+
+abbrev pub is_undone : ℕ → ℕ → ℕ → Current → Bool
+is_undone next name last c = is_told next name last c && is_owed name c
+
+abbrev pub number_of : Option Current → Option ℕ
+number_of None = None
+number_of (Some c) = Some c.number
+
+-- the oldest request that is of the thread and wasn't told to it
+abbrev pub untold_in : ℕ → ℕ → ℕ → List Current → Option ℕ
+untold_in next name last cs = number_of (find (is_untold next name last) cs)
+
+abbrev pub untold : State → ℕ → ℕ → Option ℕ
+untold s name last = untold_in s.next_name name last s.opened
+
+-- how far the thread is with what it was told: the oldest that it isn't done with
+abbrev pub progress_by : Bool → Option Current → Progress
+progress_by told (Some c) = Undone c.number
+progress_by true None = Done
+progress_by false None = NotTold
+
+abbrev pub progress_in : ℕ → ℕ → ℕ → List Current → Progress
+progress_in next name last cs = progress_by (list_any (is_told next name last) cs) (find (is_undone next name last) cs)
+
+abbrev pub progress : State → ℕ → ℕ → Progress
+progress s name last = progress_in s.next_name name last s.opened
 
 -- whether a live thread was live at the Open and is owed
 abbrev pub is_due_target : Live → Current → Bool
 is_due_target l c = nat_lt l.name c.before && is_owed l.name c
 
--- the first live thread with a greater name that is due
-abbrev pub due_after : ℕ → Current → List Live → Option Live
-due_after name c [] = None
-due_after name c (l ∷ ls) = if nat_lt name l.name && is_due_target l c then Some l else due_after name c ls
+-- the first live thread with a greater name that is due for one of the requests
+abbrev pub due_after : ℕ → List Current → List Live → Option Live
+due_after name cs [] = None
+due_after name cs (l ∷ ls) = if nat_lt name l.name && list_any (is_due_target l) cs then Some l else due_after name cs ls
 
-abbrev pub front_due : ℕ → List Live → List Current → Option Live
-front_due name ls [] = None
-front_due name ls (c ∷ cs) = due_after name c ls
-
+-- for any open request
 abbrev pub next_due : State → ℕ → Option Live
-next_due s name = front_due name s.live s.opened
+next_due s name = due_after name s.opened s.live
+
+abbrev pub oldest : List Current → List Current
+oldest [] = []
+oldest (c ∷ cs) = c ∷ []
+
+-- for the oldest open request
+abbrev pub next_awaited : State → ℕ → Option Live
+next_awaited s name = due_after name (oldest s.opened) s.live
 
 -- the name that is live at a place
 abbrev pub name_at : ℕ → List Live → Option ℕ

@@ -1,19 +1,21 @@
 //! The method table and the keeper's view, which agree.
-ghost use Rattle.std.specs.Prelude.{◌≡◌, ◌≢◌, ℕ, ◌+◌, ◌<◌, ◌≤◌, ◌^◌, [], true, false, length, Some, None, IfOk, OnOk, OnErr, IfErr, IfSome, IfNone, nat_le};
-ghost use Rattle.frames.specs.BoardViews.{slot_of, IsIn, entry_stored, in_use, not_entrant, in_state, looked_at, went_round, keeper_view};
+ghost use Rattle.std.specs.Prelude.{◌≡◌, ◌≢◌, ℕ, ◌+◌, ◌<◌, ◌≤◌, ◌^◌, [], true, false, length, Some, None, IfOk, OnOk, OnErr, IfErr, IfSome, IfNone, option_map, nat_le};
+ghost use Rattle.frames.specs.BoardViews.{slot_of, IsIn, entry_stored, not_entrant, in_state, looked_at, went_round, keeper_view};
 ghost use Rattle.frames.specs.BoardStep.{is_late};
-ghost use Rattle.frames.specs.declared.board_rule.EntryState.TheVariants.{Vacant, Zombie};
+ghost use Rattle.frames.specs.declared.board_rule.EntryState.TheVariants.{InUse, Vacant, Zombie};
 ghost use Rattle.board.specs.Boards.{first_keeper};
 ghost use Rattle.method_table.specs.declared.Code.{Code as CodeOf};
 ghost use Rattle.method_table.specs.declared.CodeState.TheVariants.{NotEntrant, Freed};
-ghost use Rattle.method_table.specs.Codes.{id_of, unfreed, with_code, with_state, next_serial, free_slot};
+ghost use Rattle.method_table.specs.Codes.{id_of, unfreed, in_use_for, with_code, with_state, without_use, next_serial, free_slot};
 ghost use Rattle.method_table.specs.TableView.{IsTable, install_fault, reason, invalidate_fault, retire_fault, free_fault};
-ghost use Rattle.desk.specs.CodeBoard.{AreEntries, CodesSeen, IsCodeOf, Weighs, with_codes};
+ghost use Rattle.desk.specs.CodeBoard.{AreEntries, CodesSeen, IsCodeOf, Weighs, with_codes, stored};
 
 use board::{Board, Keeper, Spent, Weighed};
 use bodies::Name;
 use frames::CodeId;
-use method_table::table::{FreeFault, InstallFault, InvalidateFault, MethodTable, RetireFault};
+use method_table::table::{
+    FreeFault, InstallFault, Installed, InvalidateFault, MethodTable, RetireFault,
+};
 use method_table::{Code, CodeState};
 use std::marker::{Model, PhantomData};
 
@@ -45,17 +47,22 @@ fn id_of(code: Code) -> CodeId
     }
 }
 
-// The entry of a vacant slot says that the code is in use.
-fn store_new(keeper: &mut Keeper, board: &Board, id: CodeId)
+// The entry of a vacant slot says that the new code is in use; before that, the entry of the code that it replaces says that it isn't
+// entrant.
+fn store_new(keeper: &mut Keeper, board: &Board, installed: Installed)
     requires board { keeper.old.board ≡ board.now }
-    requires slot { id.slot < keeper.old.board.slots }
-    requires vacant { (slot_of keeper.old.seen id.slot).state ≡ Vacant }
-    requires later { (slot_of keeper.old.seen id.slot).serial < id.serial }
-    requires small { id.serial < 2 ^ 40 }
+    requires old { IfSome installed.replaced (λ old. (old.slot < keeper.old.board.slots) × IsIn keeper.old.seen old InUse) }
+    requires slot { installed.code.slot < keeper.old.board.slots }
+    requires vacant { (slot_of keeper.old.seen installed.code.slot).state ≡ Vacant }
+    requires later { (slot_of keeper.old.seen installed.code.slot).serial < installed.code.serial }
+    requires small { installed.code.serial < 2 ^ 40 }
     ensures board { keeper.new.board ≡ keeper.old.board }
-    ensures entry { keeper.new.seen ≡ entry_stored keeper.old.seen id (in_use id) }
+    ensures entry { keeper.new.seen ≡ stored installed.replaced keeper.old.seen installed.code }
 {
-    keeper.install(board, id);
+    match installed.replaced {
+        Some(old) => keeper.replace(board, old, installed.code),
+        None => keeper.install(board, installed.code),
+    }
 }
 
 // The entry of a zombie says that its slot is free.
@@ -91,23 +98,25 @@ impl<N: Name> Codes<N> {
         self.table.refusal(method)
     }
 
-    /// A new code for the method: it joins the table, and its entry is stored.
-    pub fn install(&mut self, board: &Board, method: u64) -> Result<CodeId, InstallFault>
+    /// A new code for the method: it joins the table, and its entry is stored. The code that was in use for the method is not entrant
+    /// from now on, in the table and in its entry, which is stored first.
+    pub fn install(&mut self, board: &Board, method: u64) -> Result<Installed, InstallFault>
         requires board { board.now ≡ N.board }
         ensures sound { OnOk result (IsTable self.old.table) }
-        ensures slot { IfOk result (λ id. free_slot self.old.table.codes self.old.table.slots ≡ Some id.slot) }
-        ensures bound { IfOk result (λ id. id.slot < N.board.slots) }
-        ensures serial { IfOk result (λ id. id.serial ≡ next_serial self.old.table.codes) }
-        ensures codes { IfOk result (λ id. self.new.table ≡ with_codes self.old.table (with_code self.old.table.codes method id.slot)) }
-        ensures entry { IfOk result (λ id. self.new.keeper ≡ entry_stored self.old.keeper id (in_use id)) }
+        ensures slot { IfOk result (λ r. free_slot self.old.table.codes self.old.table.slots ≡ Some r.code.slot) }
+        ensures bound { IfOk result (λ r. r.code.slot < N.board.slots) }
+        ensures serial { IfOk result (λ r. r.code.serial ≡ next_serial self.old.table.codes) }
+        ensures replaced { IfOk result (λ r. r.replaced ≡ option_map id_of (in_use_for self.old.table.codes method)) }
+        ensures codes { IfOk result (λ r. self.new.table ≡ with_codes self.old.table (with_code (without_use self.old.table.codes (in_use_for self.old.table.codes method)) method r.code.slot)) }
+        ensures entry { IfOk result (λ r. self.new.keeper ≡ stored r.replaced self.old.keeper r.code) }
         ensures accepted { OnOk result (install_fault self.old.table method ≡ None) }
         ensures refused { IfErr result (λ fault. install_fault self.old.table method ≡ reason fault) }
         ensures unchanged { OnErr result (self.new ≡ self.old) }
     {
         let _slots = self.table.slots();
-        let id = self.table.install(method)?;
-        store_new(&mut self.keeper, board, id);
-        Ok(id)
+        let installed = self.table.install(method)?;
+        store_new(&mut self.keeper, board, installed);
+        Ok(installed)
     }
 
     /// The code is not entrant from now on, in the table and in its entry.

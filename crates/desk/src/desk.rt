@@ -1,38 +1,38 @@
 //! The desk: what all threads ask of the coordinator, in one history.
-ghost use Rattle.std.specs.Prelude.{◌≡◌, ◌==◌, ◌&&◌, ℕ, ◌+◌, ◌<◌, ◌≤◌, ◌^◌, List, [], ◌∷◌, ◌++◌, length, true, false, nat_le, Some, None, IfOk, IfErr, IfSome, IfNone, OnOk, OnSome, map, OnErr, ◌≢◌, vec_len, vec_capacity};
+ghost use Rattle.std.specs.Prelude.{◌≡◌, ◌==◌, ◌&&◌, ℕ, ◌+◌, ◌<◌, ◌≤◌, ◌^◌, List, [], ◌∷◌, ◌++◌, length, true, false, nat_le, Some, None, IfOk, IfErr, IfSome, IfNone, OnOk, OnSome, map, option_map, OnErr, ◌≢◌, vec_len, vec_capacity};
 ghost use Rattle.frames.specs.ImageView.{IsSettled};
-ghost use Rattle.frames.specs.BoardViews.{went_round, looked_at, slot_of, entry_stored, in_use, not_entrant, in_state};
+ghost use Rattle.frames.specs.BoardViews.{went_round, looked_at, slot_of, entry_stored, not_entrant, in_state};
 ghost use Rattle.frames.specs.declared.board_rule.EntryState.TheVariants.{Vacant};
 ghost use Rattle.frames.specs.BoardStep.{is_late};
 ghost use Rattle.method_table.specs.declared.Code.{Code as CodeOf};
 ghost use Rattle.board.specs.Boards.{first_keeper};
 ghost use Rattle.operations.specs.Asks.{reply};
 ghost use Rattle.method_table.specs.TableView.{install_fault, invalidate_fault, retire_fault, free_fault};
-ghost use Rattle.method_table.specs.Codes.{unfreed, id_of};
-ghost use Rattle.desk.specs.CodeBoard.{AreEntries, KeeperWeighs};
-ghost use Rattle.desk.specs.Machine.{is_legal, is_taken, names_of, lawful, needs_of_opened, steps_of};
-ghost use Rattle.desk.specs.Refusals.{start_refused, ask_refused, open_refused, close_refused, install_refused, operate_refused, reclaim_refused, is_idle, front_is, AreSettled, are_all, operate_said};
-ghost use Rattle.desk.specs.Fields.{DeskSeen, at, Enters};
-ghost use Rattle.desk.specs.Targets.{standing, next_due, name_at, open_kind};
+ghost use Rattle.method_table.specs.Codes.{unfreed, id_of, in_use_for};
+ghost use Rattle.desk.specs.CodeBoard.{AreEntries, KeeperWeighs, stored};
+ghost use Rattle.desk.specs.Machine.{Current as CurrentOf, is_legal, is_taken, names_of, lawful, steps_of, is_open};
+ghost use Rattle.desk.specs.Refusals.{start_refused, ask_refused, open_refused, close_refused, install_refused, operate_refused, reclaim_refused, is_idle, AreSettled, are_all, operate_said, chosen, holds_target};
+ghost use Rattle.desk.specs.Fields.{DeskSeen, at, Enters, EntersInstall, kept_before};
+ghost use Rattle.desk.specs.Targets.{standing, untold, progress, next_due, next_awaited, name_at, open_kind};
 ghost use Rattle.desk.specs.Once.{replies_of};
-ghost use Rattle.desk.specs.JobsFit.{jobs_fit, has_job, job_taken, jobs_opened};
+ghost use Rattle.desk.specs.JobsFit.{jobs_fit, left_of, has_job, job_taken, jobs_closed, jobs_opened};
 
 use crate::codes::Codes;
-use crate::entries::{Carried, Entry, Live, Opened, Standing};
+use crate::entries::{Carried, Entry, Live, Opened, Progress, Standing};
 use crate::faults::{
     AskFault, CloseFault, CodeFault, NotLive, NotReclaimed, OpenFault, OperateFault, ReclaimFault,
     Refused, StartFault, start_fault,
 };
 use crate::lists::{
-    are_all, due_after, finish_at, index_of, is_census, is_census_open, is_idle, job_of, jobs_fit,
-    keep_live, least_free, leave, lives, make_room, may_close, may_finish, name_at, names_of,
-    operate_at, standing_to, steps_of, targets_of,
+    OPEN, are_all, finish_at, holds_target, index_of, is_census, is_census_open, is_idle, is_least,
+    job_of, jobs_fit, keep_live, least_free, leave, lives, make_room, may_close, may_finish,
+    may_open_more, names_of, operate_at, place_chosen, steps_of, targets_of,
 };
 use crate::log::{Log, Receipt, RoomFault};
+use crate::targets::{due_after, name_at, oldest, progress_in, standing_to, untold_in};
 use board::{Board, Keeper, Spent, Weighed};
 use bodies::{Body, Name};
-use frames::CodeId;
-use method_table::table::{FreeFault, InvalidateFault, MethodTable, RetireFault};
+use method_table::table::{FreeFault, Installed, InvalidateFault, MethodTable, RetireFault};
 use operations::Request;
 use operations::job::{Done, Errand};
 use operations::queue::{Queue, Unqueued, Waiting};
@@ -59,14 +59,14 @@ pub struct Desk<N: Name, J: Errand> {
 impl<N: Name, J: Errand> Model for Desk<N, J> {
     ghost use Rattle.std.specs.Prelude.{◌≡◌, ◌<◌, ◌≤◌, vec_len, vec_capacity};
     ghost use Rattle.std.specs.Prelude.{map};
-    ghost use Rattle.desk.specs.Fields.{DeskSeen, state_of, IsKept, AreCarried, asked_of, current_of, names_left};
+    ghost use Rattle.desk.specs.Fields.{DeskSeen, state_of, IsKept, AreCarried, asked_of, current_of, jobs_left};
     ghost use Rattle.desk.specs.Replies.{HaveRoom};
 
     ghost Value = { DeskSeen };
 
-    ghost view = { λ d. record { book = d.log.book; slots = d.codes.table.slots; methods = d.codes.table.methods; keeper = d.codes.keeper; jobs = map (names_left J.whom) d.opened.items } };
+    ghost view = { λ d. record { book = d.log.book; slots = d.codes.table.slots; methods = d.codes.table.methods; keeper = d.codes.keeper; jobs = map (jobs_left J.whom) d.opened.items } };
 
-    ghost invariant = { λ d. IsKept d.codes.table.slots d.codes.table.methods d.log.book (state_of d.next_name d.live.items d.next_number d.queue d.opened.items d.codes.table) × AreCarried J.whom d.queue × (vec_len d.opened ≤ 1) × (1 ≤ vec_capacity d.opened) × (d.places ≡ N.board.places) × (0 < d.next_name) × HaveRoom d.next_number (map asked_of d.queue) (map current_of d.opened.items) d.log.lists };
+    ghost invariant = { λ d. IsKept d.codes.table.slots d.codes.table.methods d.log.book (state_of d.next_name d.live.items d.next_number d.queue d.opened.items d.codes.table) × AreCarried J.whom d.queue × (vec_len d.opened ≤ 4) × (4 ≤ vec_capacity d.opened) × (d.places ≡ N.board.places) × (0 < d.next_name) × HaveRoom d.next_number (map asked_of d.queue) (map current_of d.opened.items) d.log.lists };
 }
 
 impl<N: Name, J: Errand> Desk<N, J> {
@@ -87,7 +87,7 @@ impl<N: Name, J: Errand> Desk<N, J> {
         ensures jobs { IfOk result (λ d. d.jobs ≡ []) }
         ensures handed_back { IfErr result (λ k. k ≡ keeper) }
     {
-        let Ok(opened) = Vec::with_capacity(alloc, 1) else {
+        let Ok(opened) = Vec::with_capacity(alloc, OPEN) else {
             return Err(keeper);
         };
         Ok(Desk {
@@ -148,13 +148,19 @@ impl<N: Name, J: Errand> Desk<N, J> {
         Ok(self.log.enter(Entry::Exit(name)))
     }
 
-    /// Enters a code of the method, which is stored.
-    pub fn install(&mut self, board: &Board, method: u64) -> Result<(CodeId, Receipt<N>), CodeFault>
+    /// Enters a code of the method, which is stored. Where it replaces one in use, that this one isn't entrant is entered and stored
+    /// first, in the room that was kept for it. The receipt is of the Install.
+    pub fn install(
+        &mut self,
+        board: &Board,
+        method: u64,
+    ) -> Result<(Installed, Receipt<N>), CodeFault>
         requires board { board.now ≡ N.board }
-        ensures ok { IfOk result (λ r. Enters self.old self.new (Entry.Install r.0 method) r.1) }
-        ensures slot { IfOk result (λ r. r.0.slot < N.board.slots) }
-        ensures stored { IfOk result (λ r. self.new.keeper ≡ entry_stored self.old.keeper r.0 (in_use r.0)) }
-        ensures reserved { OnOk result (self.new.book.reserved ≡ self.old.book.reserved + 3) }
+        ensures ok { IfOk result (λ r. EntersInstall self.old self.new r.0.replaced r.0.code method r.1) }
+        ensures replaced { IfOk result (λ r. r.0.replaced ≡ option_map id_of (in_use_for (at self.old).table.codes method)) }
+        ensures slot { IfOk result (λ r. r.0.code.slot < N.board.slots) }
+        ensures stored { IfOk result (λ r. self.new.keeper ≡ stored r.0.replaced self.old.keeper r.0.code) }
+        ensures reserved { IfOk result (λ r. self.new.book.reserved + kept_before r.0.replaced ≡ self.old.book.reserved + 3) }
         ensures jobs { self.new.jobs ≡ self.old.jobs }
         ensures err { IfErr result (λ e. (self.new ≡ self.old) × install_refused (at self.old) method self.old.book e) }
     {
@@ -167,7 +173,7 @@ impl<N: Name, J: Errand> Desk<N, J> {
             Err(RoomFault::NoMemory) => return Err(CodeFault::NoMemory),
         }
         match self.codes.install(board, method) {
-            Ok(id) => Ok((id, self.log.enter(Entry::Install(id, method)))),
+            Ok(installed) => Ok((installed, self.log.enter_install(installed, method))),
             Err(_) => {
                 self.log.give_back(4);
                 Err(CodeFault::NoMemory)
@@ -297,14 +303,14 @@ impl<N: Name, J: Errand> Desk<N, J> {
         Ok((number, self.log.enter_ask(number, copy, list)))
     }
 
-    /// Opens the oldest request.
+    /// Opens the oldest request that waits, where with it up to four handshakes are open, or one census alone.
     pub fn open(&mut self) -> Result<(u64, Receipt<N>), OpenFault>
         ensures ok { IfOk result (λ r. Enters self.old self.new (Entry.Open r.0) r.1) }
         ensures reserved { OnOk result ((self.new.book.reserved + 1 ≡ self.old.book.reserved) × (self.new.keeper ≡ self.old.keeper)) }
         ensures jobs { OnOk result (self.new.jobs ≡ jobs_opened (at self.old).waiting self.old.jobs) }
         ensures err { IfErr result (λ e. (self.new ≡ self.old) × open_refused (at self.old) e) }
     {
-        if !self.opened.is_empty() {
+        if !may_open_more(&self.queue, self.opened.as_slice()) {
             return Err(OpenFault::AlreadyOpen);
         }
         let Some(first) = self.queue.pop() else {
@@ -330,7 +336,8 @@ impl<N: Name, J: Errand> Desk<N, J> {
         Ok((number, self.log.enter(Entry::Open(number))))
     }
 
-    /// Enters what a job gave on a settled body, or hands it back where it isn't lawful.
+    /// Enters what a job gave on a settled body, or hands it back where it isn't lawful: the operation is open and the body's thread a
+    /// live target that has no Finish, and has one for each open operation with a lesser number of which it is a live target.
     pub fn finish(&mut self, body: &Body<N>, done: Done) -> Result<Receipt<N>, Done>
         requires name { body.now.name ≡ done.target }
         requires settled { IsSettled body.now.image }
@@ -347,6 +354,9 @@ impl<N: Name, J: Errand> Desk<N, J> {
         if !may_finish(&self.opened[place], self.live.as_slice(), done.target()) {
             return Err(done);
         }
+        if !is_least(self.opened.as_slice(), done.op(), done.target()) {
+            return Err(done);
+        }
         finish_at(&mut self.opened, place, done.target());
         Ok(
             self.log
@@ -354,21 +364,30 @@ impl<N: Name, J: Errand> Desk<N, J> {
         )
     }
 
-    /// Closes the oldest open request, and gives back the jobs that were not taken.
-    pub fn close(&mut self, held: bool) -> Result<(u64, Vec<J>, Receipt<N>), CloseFault>
+    /// Closes the open request of the number, or without one the oldest, and gives back its jobs that were not taken. The bodies are
+    /// those that are held.
+    pub fn close(
+        &mut self,
+        number: Option<u64>,
+        held: &[Body<N>],
+    ) -> Result<(u64, Vec<J>, Receipt<N>), CloseFault>
         ensures ok { IfOk result (λ r. Enters self.old self.new (Entry.Close r.0) r.2) }
-        ensures reserved { OnOk result ((self.new.book.reserved + needs_of_opened (at self.old).opened ≡ self.old.book.reserved) × (self.new.keeper ≡ self.old.keeper)) }
-        ensures jobs { IfOk result (λ r. self.old.jobs ≡ map J.whom r.1.items ∷ self.new.jobs) }
-        ensures held { OnOk result (held ≡ false) }
-        ensures err { IfErr result (λ e. (self.new ≡ self.old) × close_refused (at self.old) held e) }
+        ensures chosen { IfOk result (λ r. (c : CurrentOf) × (chosen number (at self.old).opened ≡ Some c) × (r.0 ≡ c.number) × (holds_target c.request held.now ≡ false) × (self.new.book.reserved + (1 + c.left) ≡ self.old.book.reserved)) }
+        ensures keeper { OnOk result (self.new.keeper ≡ self.old.keeper) }
+        ensures handed_back { IfOk result (λ r. map J.whom r.1.items ≡ left_of r.0 self.old.jobs) }
+        ensures jobs { IfOk result (λ r. self.new.jobs ≡ jobs_closed r.0 self.old.jobs) }
+        ensures err { IfErr result (λ e. (self.new ≡ self.old) × close_refused (at self.old) number held.now e) }
     {
         if self.opened.is_empty() {
             return Err(CloseFault::NothingOpen);
         }
-        if held {
+        let Some(place) = place_chosen(self.opened.as_slice(), number) else {
+            return Err(CloseFault::NotOf);
+        };
+        if holds_target(&self.opened[place].request, held) {
             return Err(CloseFault::Held);
         }
-        if !may_close(&self.opened[0], self.live.as_slice()) {
+        if !may_close(&self.opened[place], self.live.as_slice()) {
             return Err(CloseFault::NotDone);
         }
         let Opened {
@@ -379,7 +398,7 @@ impl<N: Name, J: Errand> Desk<N, J> {
             due: _,
             operated: _,
             jobs,
-        } = self.opened.remove(0);
+        } = self.opened.remove(place);
         self.log.give_back(left);
         Ok((number, jobs, self.log.enter(Entry::Close(number))))
     }
@@ -534,22 +553,19 @@ impl<N: Name, J: Errand> Desk<N, J> {
         self.codes.look(board, serial, place)
     }
 
-    /// The job of a target of the oldest open request, with the number of the operation, where it wasn't taken.
-    pub fn take_job(&mut self, name: u64) -> Option<J>
-        ensures some { IfSome result (λ j. (J.whom j ≡ name) × (0 < J.number j) × front_is (λ c. c.number == J.number j) (at self.old).opened true) }
-        ensures there { OnSome result (has_job name self.old.jobs ≡ true) }
-        ensures none { IfNone result (has_job name self.old.jobs ≡ false) }
-        ensures left { self.new.jobs ≡ job_taken name self.old.jobs }
+    /// The job of a target of an open request, with the number of the operation, where it wasn't taken.
+    pub fn take_job(&mut self, number: u64, name: u64) -> Option<J>
+        ensures some { IfSome result (λ j. (J.whom j ≡ name) × (J.number j ≡ number) × (0 < number)) }
+        ensures open { OnSome result (is_open number (at self.old).opened ≡ true) }
+        ensures there { OnSome result (has_job number name self.old.jobs ≡ true) }
+        ensures none { IfNone result (has_job number name self.old.jobs ≡ false) }
+        ensures left { self.new.jobs ≡ job_taken number name self.old.jobs }
         ensures same { (self.new.book ≡ self.old.book) × (self.new.slots ≡ self.old.slots) × (self.new.methods ≡ self.old.methods) × (self.new.keeper ≡ self.old.keeper) }
     {
-        if self.opened.is_empty() {
+        let Some(place) = index_of(self.opened.as_slice(), number) else {
             return None;
-        }
-        let number = self.opened[0].number;
-        match job_of(&mut self.opened, name) {
-            Some(job) => Some(job.numbered(number)),
-            None => None,
-        }
+        };
+        job_of(&mut self.opened, place, name)
     }
 
     /// The live names, in the order in which they started. Refused only for want of memory.
@@ -575,27 +591,52 @@ impl<N: Name, J: Errand> Desk<N, J> {
         let _ = &self.log;
     }
 
-    /// How a name stands to the oldest open request: what telling it, or holding its thread, is answered or refused with.
+    /// How a name stands to the open requests: what telling it, or holding its thread, is answered or refused with.
     pub fn standing(&self, name: u64) -> Standing
         ensures { result ≡ standing (at self.now) name }
     {
         let _ = &self.log;
-        if self.opened.is_empty() {
-            return Standing::NothingOpen;
-        }
-        standing_to(&self.opened[0], self.next_name, self.live.as_slice(), name)
+        standing_to(
+            self.opened.as_slice(),
+            self.next_name,
+            self.live.as_slice(),
+            name,
+        )
     }
 
-    /// The least name above this one, with its place, whose thread was live at the Open of the oldest open request, is live, and has
-    /// no Finish, or whose census isn't operated.
+    /// The number of the oldest open request that is of a live thread and wasn't told to it, where `last` is the last number that it
+    /// was told.
+    pub fn untold(&self, name: u64, last: u64) -> Option<u64>
+        ensures value { result ≡ untold (at self.now) name last }
+        ensures later { IfSome result (λ number. last < number) }
+    {
+        let _ = &self.log;
+        untold_in(self.opened.as_slice(), self.next_name, name, last)
+    }
+
+    /// How far a live thread is with the open requests that it was told, where `last` is the last number that it was told.
+    pub fn progress(&self, name: u64, last: u64) -> Progress
+        ensures { result ≡ progress (at self.now) name last }
+    {
+        let _ = &self.log;
+        progress_in(self.opened.as_slice(), self.next_name, name, last)
+    }
+
+    /// The least name above this one, with its place, whose thread was live at the Open of an open request, is live, and has no Finish
+    /// for it, or whose census isn't operated.
     pub fn next_due(&self, name: u64) -> Option<Live>
         ensures { result ≡ next_due (at self.now) name }
     {
         let _ = &self.log;
-        if self.opened.is_empty() {
-            return None;
-        }
-        due_after(&self.opened[0], self.live.as_slice(), name)
+        due_after(self.opened.as_slice(), self.live.as_slice(), name)
+    }
+
+    /// The same for the oldest open request.
+    pub fn next_awaited(&self, name: u64) -> Option<Live>
+        ensures { result ≡ next_awaited (at self.now) name }
+    {
+        let _ = &self.log;
+        due_after(oldest(self.opened.as_slice()), self.live.as_slice(), name)
     }
 
     /// The name that is live at the place.

@@ -9,29 +9,37 @@ pub struct Live {
     pub place: usize,
 }
 
-/// How a name stands to the oldest open request.
+/// How a name stands to the open requests.
 #[derive(Clone, Copy, PartialEq, Eq, Debug)]
 pub enum Standing {
     /// No request is open.
     NothingOpen,
-    /// The request isn't of the name: it is no target of the handshake, or was never given out.
+    /// No open request is of the name: it is no target of a handshake, and in a census it was never given out.
     NotOf,
-    /// The thread wasn't live at the Open, or is live no more.
+    /// The thread is live no more, or wasn't live at the Open of any that is of the name.
     Gone,
-    /// The thread was live at the Open and is live.
+    /// The thread is live, and was at the Open of one that is of the name.
     Asked(Target),
 }
 
-/// A live thread that the oldest open request is of.
+/// A live thread that an open request is of.
 #[derive(Clone, Copy, PartialEq, Eq, Debug)]
 pub struct Target {
-    /// The number of the request.
-    pub number: u64,
     /// The thread's place.
     pub place: usize,
+    /// Whether the request is a census, which is open alone.
     pub is_census: bool,
-    /// Whether the thread has a Finish for the handshake, or the census is operated.
-    pub is_done: bool,
+}
+
+/// How far a live thread is with what it was told of the open requests.
+#[derive(Clone, Copy, PartialEq, Eq, Debug)]
+pub enum Progress {
+    /// It was told nothing.
+    NotTold,
+    /// It has a Finish for each handshake that it was told, or the census is operated.
+    Done,
+    /// The least number that it was told and isn't done with.
+    Undone(u64),
 }
 
 /// An entry of the history.

@@ -51,18 +51,20 @@ pub struct Refused<J> {
 /// Why no request is opened.
 #[derive(Drop, Clone, Copy, PartialEq, Eq, Debug)]
 pub enum OpenFault {
-    /// One is open.
+    /// Four handshakes are open, or a census is, or the oldest that waits is a census and something is open.
     AlreadyOpen,
     /// None waits.
     QueueEmpty,
 }
 
-/// Why the open request isn't closed.
+/// Why an open request isn't closed.
 #[derive(Drop, Clone, Copy, PartialEq, Eq, Debug)]
 pub enum CloseFault {
     /// No request is open.
     NothingOpen,
-    /// A thread is held.
+    /// None of the number is open.
+    NotOf,
+    /// The thread of a target is held.
     Held,
     /// The census isn't operated, or a live target of the handshake has no Finish.
     NotDone,

@@ -12,9 +12,10 @@ mod law;
 mod lists;
 mod log;
 mod replies;
+mod targets;
 
 pub use desk::Desk;
-pub use entries::{Entry, Live, Standing, Target};
+pub use entries::{Entry, Live, Progress, Standing, Target};
 pub use faults::{
     AskFault, CloseFault, CodeFault, NotLive, NotReclaimed, OpenFault, OperateFault, ReclaimFault,
     Refused, StartFault,

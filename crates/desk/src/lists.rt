@@ -1,21 +1,23 @@
 // Steps on the desk's lists.
-ghost use Rattle.std.specs.Prelude.{◌≡◌, ◌&&◌, ◌==◌, ◌<◌, ◌≤◌, ◌+◌, ℕ, length, true, false, not, map, Some, IfOk, vec_capacity, vec_len, IfSome, IfNone, OnSome, slice_get, slice_set};
+ghost use Rattle.std.specs.Prelude.{◌≡◌, ◌&&◌, ◌==◌, ◌<◌, ◌≤◌, ◌+◌, ℕ, length, true, false, not, map, Some, None, IfOk, vec_capacity, vec_len, IfSome, IfNone, OnSome, slice_get, slice_set};
 ghost use Rattle.std.specs.List.{list_any, list_all};
 ghost use Rattle.operations.specs.Names.{among};
 ghost use Rattle.operations.specs.Requests.{is_census};
 ghost use Rattle.desk.specs.declared.entries.Opened.{Opened as OpenedOf};
-ghost use Rattle.desk.specs.Machine.{names_of, place_of, is_live, is_taken, without, others, live_of, none_live, has_census, may_close, finished, as_operated, is_due, targets_of, steps_of};
-ghost use Rattle.desk.specs.Targets.{is_asked, is_owed, standing_to, is_due_target, due_after, name_at};
-ghost use Rattle.desk.specs.Refusals.{has_body, are_all};
-ghost use Rattle.desk.specs.JobsFit.{same_ask, are_for, jobs_fit, without_first, has_job, job_taken};
-ghost use Rattle.desk.specs.Fields.{current_of, names_left, IsIndex};
+ghost use Rattle.desk.specs.Machine.{names_of, is_live, is_taken, without, others, live_of, none_live, has_census, awaits_census, may_open_more, may_close, finished, as_operated, is_due, is_least, targets_of, steps_of};
+ghost use Rattle.desk.specs.Refusals.{has_body, are_all, chosen, holds_target};
+ghost use Rattle.desk.specs.JobsFit.{same_ask, are_for, jobs_fit, without_first};
+ghost use Rattle.desk.specs.Fields.{asked_of, current_of, names_left, IsIndex};
 
-use crate::entries::{Carried, Live, Opened, Standing, Target};
+use crate::entries::{Carried, Live, Opened};
 use bodies::{Body, Name};
 use operations::job::Errand;
 use operations::queue::Queue;
 use operations::{Ask, Request};
 use std::alloc::{AllocError, Global};
+
+/// How many handshakes are open at most.
+pub const OPEN: usize = 4;
 
 /// Whether a name is live.
 pub fn lives(live: &[Live], name: u64) -> bool
@@ -133,6 +135,23 @@ pub fn is_census_open<J>(opened: &[Opened<J>]) -> bool
     has_census(opened)
 }
 
+/// Whether the oldest request that waits is a census.
+fn awaits_census<J>(queue: &Queue<Carried<J>>) -> bool
+    ensures { result ≡ awaits_census (map asked_of queue.now) }
+{
+    match queue.front() {
+        Some(first) => is_census(&first.request),
+        None => false,
+    }
+}
+
+/// Whether one more may be opened: up to four handshakes are open, or one census alone.
+pub fn may_open_more<J>(queue: &Queue<Carried<J>>, opened: &[Opened<J>]) -> bool
+    ensures { result ≡ may_open_more (map asked_of queue.now) (map current_of opened.now) }
+{
+    opened.len() < OPEN && !is_census_open(opened) && !(awaits_census(queue) && !opened.is_empty())
+}
+
 /// Where the open request of the number stands.
 pub fn index_of<J>(opened: &[Opened<J>], number: u64) -> Option<usize>
     ensures { IsIndex number opened.now result }
@@ -161,6 +180,39 @@ pub fn may_finish<J>(request: &Opened<J>, live: &[Live], name: u64) -> bool
     ensures { result ≡ (is_due name (current_of request.now) && is_live name live.now) }
 {
     is_among(request.due.as_slice(), name) && lives(live, name)
+}
+
+/// Whether no open request with a lesser number is due for the name.
+pub fn is_least<J>(opened: &[Opened<J>], number: u64, name: u64) -> bool
+    ensures { result ≡ is_least number name (map current_of opened.now) }
+{
+    let mut rest = opened;
+    while let Some((one, others)) = rest.split_first() {
+        if one.number < number && is_among(one.due.as_slice(), name) {
+            return false;
+        }
+        rest = others;
+    }
+    true
+}
+
+/// Where the open request of the number stands, and without a number the oldest.
+pub fn place_chosen<J>(opened: &[Opened<J>], number: Option<u64>) -> Option<usize>
+    ensures some { IfSome result (λ i. (i < length opened.now) × ((o : OpenedOf J) → slice_get opened.now i ≡ Some o → IsIndex o.number opened.now (Some i) × (chosen number (map current_of opened.now) ≡ Some (current_of o)))) }
+    ensures none { IfNone result (chosen number (map current_of opened.now) ≡ None) }
+{
+    match number {
+        Some(number) => index_of(opened, number),
+        None if opened.is_empty() => None,
+        None => Some(0),
+    }
+}
+
+/// Whether a body is of a target of the request.
+pub fn holds_target<N: Name>(request: &Request, bodies: &[Body<N>]) -> bool
+    ensures { result ≡ holds_target request.now bodies.now }
+{
+    bodies.iter().any(|b| request.is_target(b.name()))
 }
 
 fn finish<J>(request: &mut Opened<J>, name: u64)
@@ -239,97 +291,6 @@ pub fn names_of(live: &[Live], alloc: Global) -> Result<Vec<u64>, AllocError>
     Ok(names)
 }
 
-/// Where the name is live.
-pub fn place_of(live: &[Live], name: u64) -> Option<usize>
-    ensures { result ≡ place_of name live.now }
-{
-    let mut rest = live;
-    while let Some((one, others)) = rest.split_first() {
-        if one.name == name {
-            return Some(one.place);
-        }
-        rest = others;
-    }
-    None
-}
-
-/// Who is live at the place.
-pub fn name_at(live: &[Live], place: usize) -> Option<u64>
-    ensures { result ≡ name_at place live.now }
-{
-    let mut rest = live;
-    while let Some((one, others)) = rest.split_first() {
-        if one.place == place {
-            return Some(one.name);
-        }
-        rest = others;
-    }
-    None
-}
-
-// Whether the request is of the name.
-fn is_asked(next: u64, name: u64, request: &Request) -> bool
-    ensures { result ≡ is_asked next name request.now }
-{
-    match request {
-        Request::Census => 0 < name && name < next,
-        Request::Handshake { targets, .. } => is_among(targets.as_slice(), name),
-    }
-}
-
-// Whether a Finish of the name, or the Operate, is still to come.
-fn is_owed<J>(request: &Opened<J>, name: u64) -> bool
-    ensures { result ≡ is_owed name (current_of request.now) }
-{
-    if is_census(&request.request) {
-        !request.operated
-    } else {
-        is_among(request.due.as_slice(), name)
-    }
-}
-
-/// How a name stands to an open request.
-pub fn standing_to<J>(request: &Opened<J>, next: u64, live: &[Live], name: u64) -> Standing
-    ensures { result ≡ standing_to next live.now name (current_of request.now) }
-{
-    if !is_asked(next, name, &request.request) {
-        return Standing::NotOf;
-    }
-    let Some(place) = place_of(live, name) else {
-        return Standing::Gone;
-    };
-    if name >= request.before {
-        return Standing::Gone;
-    }
-    Standing::Asked(Target {
-        number: request.number,
-        place,
-        is_census: is_census(&request.request),
-        is_done: !is_owed(request, name),
-    })
-}
-
-// Whether the thread was live at the Open and is owed.
-fn is_due_target<J>(one: Live, request: &Opened<J>) -> bool
-    ensures { result ≡ is_due_target one (current_of request.now) }
-{
-    one.name < request.before && is_owed(request, one.name)
-}
-
-/// The first live thread with a greater name that is due.
-pub fn due_after<J>(request: &Opened<J>, live: &[Live], name: u64) -> Option<Live>
-    ensures { result ≡ due_after name (current_of request.now) live.now }
-{
-    let mut rest = live;
-    while let Some((one, others)) = rest.split_first() {
-        if name < one.name && is_due_target(*one, request) {
-            return Some(*one);
-        }
-        rest = others;
-    }
-    None
-}
-
 // Takes a job out of the list.
 fn take_of<J: Errand>(jobs: &mut Vec<J>, name: u64) -> Option<J>
     ensures job { IfSome result (λ j. J.whom j ≡ name) }
@@ -346,13 +307,16 @@ fn take_of<J: Errand>(jobs: &mut Vec<J>, name: u64) -> Option<J>
 }
 
 fn job_in<J: Errand>(request: &mut Opened<J>, name: u64) -> Option<J>
-    ensures job { IfSome result (λ j. J.whom j ≡ name) }
+    ensures job { IfSome result (λ j. (J.whom j ≡ name) × (J.number j ≡ request.old.number)) }
     ensures some { OnSome result (among name (names_left J.whom request.old) ≡ true) }
     ensures none { IfNone result (among name (names_left J.whom request.old) ≡ false) }
     ensures left { names_left J.whom request.new ≡ without_first name (names_left J.whom request.old) }
     ensures same { current_of request.new ≡ current_of request.old }
 {
-    take_of(&mut request.jobs, name)
+    match take_of(&mut request.jobs, name) {
+        Some(job) => Some(job.numbered(request.number)),
+        None => None,
+    }
 }
 
 // Whether two asks are the same.
@@ -398,15 +362,14 @@ pub fn jobs_fit<J: Errand>(request: &Request, jobs: &[J]) -> bool
     }
 }
 
-/// The job for the name, out of the oldest open request.
-pub fn job_of<J: Errand>(opened: &mut Vec<Opened<J>>, name: u64) -> Option<J>
-    requires { 0 < length opened.old.items }
-    ensures job { IfSome result (λ j. J.whom j ≡ name) }
-    ensures some { OnSome result (has_job name (map (names_left J.whom) opened.old.items) ≡ true) }
-    ensures none { IfNone result (has_job name (map (names_left J.whom) opened.old.items) ≡ false) }
-    ensures left { map (names_left J.whom) opened.new.items ≡ job_taken name (map (names_left J.whom) opened.old.items) }
-    ensures same { map current_of opened.new.items ≡ map current_of opened.old.items }
+/// The job for the name, out of an open request, with its number.
+pub fn job_of<J: Errand>(opened: &mut Vec<Opened<J>>, place: usize, name: u64) -> Option<J>
+    requires { place < length opened.old.items }
+    ensures job { IfSome result (λ j. (J.whom j ≡ name) × ((o : OpenedOf J) → slice_get opened.old.items place ≡ Some o → J.number j ≡ o.number)) }
+    ensures some { OnSome result ((o : OpenedOf J) → slice_get opened.old.items place ≡ Some o → among name (names_left J.whom o) ≡ true) }
+    ensures none { IfNone result ((o : OpenedOf J) → slice_get opened.old.items place ≡ Some o → among name (names_left J.whom o) ≡ false) }
+    ensures step { (o : OpenedOf J) → slice_get opened.old.items place ≡ Some o → (after : OpenedOf J) × (current_of after ≡ current_of o) × (opened.new.items ≡ slice_set opened.old.items place after) × (names_left J.whom after ≡ without_first name (names_left J.whom o)) }
     ensures room { (length opened.new.items ≡ length opened.old.items) × (vec_capacity opened.new ≡ vec_capacity opened.old) }
 {
-    job_in(&mut opened[0], name)
+    job_in(&mut opened[place], name)
 }

@@ -1,5 +1,7 @@
 //! The history with the room that is kept in it and the replies by operation, and receipts of its entries.
 ghost use Rattle.std.specs.Prelude.{◌≡◌, ℕ, ◌+◌, ◌<◌, ◌≤◌, [], ◌∷◌, ◌++◌, length, true, false, None, OnOk, IfOk, IfErr, vec_len, vec_capacity};
+ghost use Rattle.desk.specs.declared.entries.Entry.{Entry as EntryOf};
+ghost use Rattle.desk.specs.Fields.{install_entries, kept_before};
 ghost use Rattle.desk.specs.Once.{reply_in, replies_of};
 ghost use Rattle.desk.specs.Machine.{has_room, stands, room_fault};
 ghost use Rattle.desk.specs.Replies.{of_number, HasLess};
@@ -7,6 +9,7 @@ ghost use Rattle.desk.specs.Replies.{of_number, HasLess};
 use crate::entries::Entry;
 use crate::replies::{ReplyList, place_of};
 use bodies::Name;
+use method_table::table::Installed;
 use operations::Request;
 use std::alloc::{AllocError, Global};
 use std::marker::{Model, PhantomData};
@@ -160,6 +163,20 @@ impl<N: Name> Log<N> {
     {
         self.reserved -= 1;
         append(&mut self.entries, entry)
+    }
+
+    /// Enters an install: where it replaced a code, that this one isn't entrant, and then the Install, of which the receipt is.
+    pub fn enter_install(&mut self, installed: Installed, method: u64) -> Receipt<N>
+        requires reserved { 1 < self.old.book.reserved }
+        ensures history { self.new.book.history ≡ self.old.book.history ++ install_entries installed.replaced installed.code method }
+        ensures reserved { self.new.book.reserved + 1 + kept_before installed.replaced ≡ self.old.book.reserved }
+        ensures lists { self.new.lists ≡ self.old.lists }
+        ensures receipt { result ≡ stands (length self.old.book.history + kept_before installed.replaced) (EntryOf.Install installed.code method) }
+    {
+        if let Some(old) = installed.replaced {
+            let _ = self.enter(Entry::Invalidate(old.serial));
+        }
+        self.enter(Entry::Install(installed.code, method))
     }
 
     /// Puts an Ask to the end, in room that was kept, with the list for its replies.

@@ -11,12 +11,12 @@ ghost use Rattle.frames.specs.ImageView.{IsSettled};
 use board::{Board, Keeper, ThreadSeat, Weighed};
 use bodies::{Body, Name, SpareSeat};
 use desk::{
-    AskFault, CloseFault, CodeFault, Desk, Live, NotReclaimed, OpenFault, OperateFault, Receipt,
-    ReclaimFault, Refused, Standing, StartFault, Target,
+    AskFault, CloseFault, CodeFault, Desk, Live, NotReclaimed, OpenFault, OperateFault, Progress,
+    Receipt, ReclaimFault, Refused, Standing, StartFault, Target,
 };
 use frames::CodeId;
 use frames::image::Image;
-use method_table::table::{InstallFault, MethodTable};
+use method_table::table::{InstallFault, Installed, MethodTable};
 use operations::job::{Call, Errand, Job};
 use operations::{Ask, Request, Targets};
 use poll::{PollRow, Poller};
@@ -24,6 +24,8 @@ use std::alloc::{AllocError, Global};
 use std::marker::Brand;
 use std::process::Abort;
 use std::test::*;
+
+mod four;
 
 // A board of one place and one slot.
 fn small_board(alloc: Global) -> Result<(Board, Keeper, ThreadSeat), AllocError>
@@ -112,7 +114,7 @@ fn install<N: Name, J: Errand>(
     desk: &mut Desk<N, J>,
     board: &Board,
     method: u64,
-) -> Result<(CodeId, Receipt<N>), CodeFault>
+) -> Result<(Installed, Receipt<N>), CodeFault>
     requires { board.now ≡ N.board }
 {
     match desk.install(board, method) {
@@ -158,8 +160,9 @@ fn ask_census<N: Name, J: Errand, R: Abort>(
     assert!(rt; matches!(desk.open(), Ok((1, _))));
     assert!(rt; matches!(desk.open(), Err(OpenFault::AlreadyOpen)));
     assert!(rt; matches!(desk.start(true), Err(StartFault::SafepointOpen)));
-    assert!(rt; matches!(desk.close(false), Err(CloseFault::NotDone)));
     let none: Vec<Body<N>> = Vec::new(alloc);
+    assert!(rt; matches!(desk.close(None, none.as_slice()), Err(CloseFault::NotDone)));
+    assert!(rt; matches!(desk.close(Some(2), none.as_slice()), Err(CloseFault::NotOf)));
     assert!(rt; matches!(desk.operate(none.as_slice()), Ok((1, _))));
     assert!(rt;
         matches!(
@@ -167,8 +170,7 @@ fn ask_census<N: Name, J: Errand, R: Abort>(
             Err(OperateFault::AlreadyDone)
         )
     );
-    assert!(rt; matches!(desk.close(true), Err(CloseFault::Held)));
-    assert!(rt; matches!(desk.close(false), Ok((1, _, _))));
+    assert!(rt; matches!(desk.close(Some(1), none.as_slice()), Ok((1, _, _))));
     assert!(rt; matches!(ask(&mut desk, alloc), Ok((65, _))));
     Ok(())
 }
@@ -197,10 +199,10 @@ fn answer<N: Name, J: Errand, R: Abort>(rt: &R, desk: &mut Desk<N, J>, body: &Bo
     requires name { body.now.name ≡ 1 }
     requires settled { IsSettled body.now.image }
 {
-    let Some(job) = desk.take_job(1) else {
+    let Some(job) = desk.take_job(1, 1) else {
         panic!(rt; "no job")
     };
-    assert!(rt; desk.take_job(1).is_none());
+    assert!(rt; desk.take_job(1, 1).is_none());
     let done = body.run(job);
     assert!(rt; desk.finish(body, done).is_ok());
 }
@@ -238,13 +240,15 @@ fn asked_desk<N: Name, J: Errand, R: Abort>(
 
 // The desk tells how thread 1 stands, and what it answered.
 fn look_up<N: Name, J: Errand, R: Abort>(rt: &R, desk: &Desk<N, J>) -> Result<(), AllocError> {
-    let answered = Target {
-        number: 1,
-        place: 0,
-        is_census: false,
-        is_done: true,
-    };
-    assert!(rt; desk.standing(1) == Standing::Asked(answered));
+    assert!(rt;
+        desk.standing(1)
+            == Standing::Asked(Target {
+                place: 0,
+                is_census: false,
+            })
+    );
+    assert!(rt; desk.untold(1, 0) == Some(1) && desk.progress(1, 0) == Progress::NotTold);
+    assert!(rt; desk.untold(1, 1).is_none() && desk.progress(1, 1) == Progress::Done);
     let replies = match desk.replies(1) {
         Ok(replies) => replies,
         Err(_) => desk.replies(1)?,
@@ -279,11 +283,16 @@ fn ask_depth<N: Name, J: Errand, R: Abort>(
     let mut desk = asked_desk::<N, J, R>(rt, alloc, &board, keeper, jobs)?;
     assert!(rt; desk.standing(2) == Standing::NotOf);
     assert!(rt; desk.next_due(0) == Some(Live { name: 1, place: 0 }) && desk.next_due(1).is_none());
-    assert!(rt; matches!(desk.close(false), Err(CloseFault::NotDone)));
+    assert!(rt; desk.next_awaited(0) == desk.next_due(0));
+    let mut held: Vec<Body<N>> = Vec::new(alloc);
+    assert!(rt; matches!(desk.close(None, held.as_slice()), Err(CloseFault::NotDone)));
     let body = first_body::<N>(alloc, &board, seat, poller)?;
     answer(rt, &mut desk, &body);
     look_up(rt, &desk)?;
-    assert!(rt; matches!(desk.close(false), Ok((1, _, _))));
+    held.push(body).map_err(|_| AllocError)?;
+    assert!(rt; matches!(desk.close(None, held.as_slice()), Err(CloseFault::Held)));
+    held.clear();
+    assert!(rt; matches!(desk.close(None, held.as_slice()), Ok((1, _, _))));
     assert!(rt; desk.exit(1).is_ok() && desk.exit(1).is_err());
     Ok(())
 }
@@ -301,12 +310,12 @@ fn reclaim_code<N: Name, J: Errand, R: Abort>(
 {
     let mut desk = small_desk::<N, J>(alloc, &board, keeper)?;
     assert!(rt;
-        matches!(install(&mut desk, &board, 0), Ok((id, _)) if id.slot == 0 && id.serial == 1)
+        matches!(install(&mut desk, &board, 0), Ok((new, _)) if new.code.slot == 0 && new.code.serial == 1)
     );
     assert!(rt;
         matches!(
             desk.install(&board, 0),
-            Err(CodeFault::Install(InstallFault::HasCode))
+            Err(CodeFault::Install(InstallFault::TableFull))
         )
     );
     assert!(rt; desk.invalidate(&board, 1).is_ok());
@@ -335,7 +344,10 @@ fn reclaim_code<N: Name, J: Errand, R: Abort>(
     assert!(rt; desk.free(&board, 1).is_ok());
     assert!(rt; desk.free(&board, 1).is_err());
     assert!(rt;
-        matches!(install(&mut desk, &board, 0), Ok((id, _)) if id.slot == 0 && id.serial == 2)
+        matches!(
+            install(&mut desk, &board, 0),
+            Ok((Installed { code, replaced: None }, _)) if code.slot == 0 && code.serial == 2
+        )
     );
     Ok(())
 }

@@ -1,10 +1,10 @@
 -- What the fields of a table answer is what its codes say, and each edit keeps it so.
-use Rattle.std.proofs.Common.{◌≡◌, ℕ, zero, suc, ◌+◌, ◌^◌, ◌<◌, ◌≤◌, ◌∙◌, sym, Bool, true, false, not, ◌&&◌, List, [], ◌∷◌, ◌++◌, length, set, Option, Some, None, refl, ap, subst, cond, arith, inl, inr, ◌⊎◌, ⊎_elim, length-append, length-set, replicate}
-use Rattle.std.specs.Prelude.{find, slice_get, is_some, is_none, option_map, nat_lt, nat_le, ◌==◌}
+use Rattle.std.proofs.Common.{◌≡◌, ℕ, zero, suc, ◌+◌, ◌^◌, ◌<◌, ◌≤◌, ◌∙◌, sym, Bool, true, false, not, ◌&&◌, List, [], ◌∷◌, ◌++◌, length, set, Option, Some, None, refl, ap, subst, cond, arith, inl, inr, ◌⊎◌, length-append, length-set, replicate}
+use Rattle.std.specs.Prelude.{find, slice_get, is_some, option_map, nat_lt, nat_le, ◌==◌}
 use Rattle.std.specs.Option.{option_or}
 use Rattle.std.proofs.lemmas.Bool.{false≢true, eqb-true, eq-eqb, ne_eqb, cases_eq, cases_lt, cases_Bool, lt-ltb, le-ltb, lt-leb, le-leb, ltb-true, leb-true, and_parts, and_from}
 use Rattle.std.proofs.lemmas.List.{length-replicate}
-use Rattle.std.proofs.lemmas.Option.{none-some, same_Some, cond_some, slice_get_within, slice_get_past, slice_get_cases}
+use Rattle.std.proofs.lemmas.Option.{none-some, same_Some, cond_some, slice_get_within, slice_get_past}
 use Rattle.std.proofs.lemmas.List.Folds.{find-append}
 use Rattle.frames.specs.declared.CodeId.{CodeId}
 use Rattle.method_table.specs.declared.Code.{Code}
@@ -108,49 +108,32 @@ module _ (table : TableView) (method : ℕ) where
   no_such_method l = rw (le-ltb method table.methods l) refl
 
   module _ (within : method < table.methods) where
-    pub has_code : is_none (in_use_for table.codes method) ≡ false → install_fault table method ≡ Some install.HasCode
-    has_code h = rw (lt-ltb method table.methods within) (rw h refl)
+    pub table_full : free_slot table.codes table.slots ≡ None → install_fault table method ≡ Some install.TableFull
+    table_full f = rw (lt-ltb method table.methods within) (rw f refl)
 
-    module _ (none : is_none (in_use_for table.codes method) ≡ true) where
-      pub table_full : free_slot table.codes table.slots ≡ None → install_fault table method ≡ Some install.TableFull
-      table_full f = rw (lt-ltb method table.methods within) (rw none (rw f refl))
+    module _ (slot : ℕ) (free : free_slot table.codes table.slots ≡ Some slot) where
+      pub serials_spent : last_number < next_serial table.codes → install_fault table method ≡ Some install.SerialsSpent
+      serials_spent l = rw (lt-ltb method table.methods within) (rw free (rw (lt-leb (next_serial table.codes) last_number l) refl))
 
-      module _ (slot : ℕ) (free : free_slot table.codes table.slots ≡ Some slot) where
-        pub serials_spent : last_number < next_serial table.codes → install_fault table method ≡ Some install.SerialsSpent
-        serials_spent l = rw (lt-ltb method table.methods within) (rw none (rw free (rw (lt-leb (next_serial table.codes) last_number l) refl)))
-
-        pub no_fault : next_serial table.codes ≤ last_number → install_fault table method ≡ None
-        no_fault l = rw (lt-ltb method table.methods within) (rw none (rw free (rw (le-leb (next_serial table.codes) last_number l) refl)))
+      pub no_fault : next_serial table.codes ≤ last_number → install_fault table method ≡ None
+      no_fault l = rw (lt-ltb method table.methods within) (rw free (rw (le-leb (next_serial table.codes) last_number l) refl))
 
 -- where there is no such reason, no test failed
-accepted_where : (a b c d : Bool) → cond a (cond b (cond c (cond d None (Some install.SerialsSpent)) (Some install.TableFull)) (Some install.HasCode)) (Some install.NoSuchMethod) ≡ None → (a ≡ true) × (b ≡ true) × (c ≡ true) × (d ≡ true)
-accepted_where true true true true h = (refl, refl, refl, refl)
-accepted_where true true true false h = cc
-accepted_where true true false d h = cc
-accepted_where true false c d h = cc
-accepted_where false b c d h = cc
+accepted_where : (a b c : Bool) → cond a (cond b (cond c None (Some install.SerialsSpent)) (Some install.TableFull)) (Some install.NoSuchMethod) ≡ None → (a ≡ true) × (b ≡ true) × (c ≡ true)
+accepted_where true true true h = (refl, refl, refl)
+accepted_where true true false h = cc
+accepted_where true false c h = cc
+accepted_where false b c h = cc
 
 module _ (table : TableView) (method : ℕ) where
-  accepted : install_fault table method ≡ None → (nat_lt method table.methods ≡ true) × (is_none (in_use_for table.codes method) ≡ true) × (is_some (free_slot table.codes table.slots) ≡ true) × (nat_le (next_serial table.codes) last_number ≡ true)
-  accepted h = accepted_where (nat_lt method table.methods) (is_none (in_use_for table.codes method)) (is_some (free_slot table.codes table.slots)) (nat_le (next_serial table.codes) last_number) h
+  accepted : install_fault table method ≡ None → (nat_lt method table.methods ≡ true) × (is_some (free_slot table.codes table.slots) ≡ true) × (nat_le (next_serial table.codes) last_number ≡ true)
+  accepted h = accepted_where (nat_lt method table.methods) (is_some (free_slot table.codes table.slots)) (nat_le (next_serial table.codes) last_number) h
 
-  pub accepted_within : install_fault table method ≡ None → method < table.methods
+  accepted_within : install_fault table method ≡ None → method < table.methods
   accepted_within h = ltb-true method table.methods (accepted h).0
 
-  pub accepted_serial : install_fault table method ≡ None → next_serial table.codes ≤ last_number
-  accepted_serial h = leb-true (next_serial table.codes) last_number (accepted h).3
-
-  pub accepted_none : install_fault table method ≡ None → in_use_for table.codes method ≡ None
-  accepted_none h = none_of (in_use_for table.codes method) (accepted h).1
-    where
-      none_of : (o : Option Code) → is_none o ≡ true → o ≡ None
-      none_of None e = refl
-      none_of (Some c) e = let no : false ≡ true = e in cc
-
--- an entry is empty where the method has no code in use
-pub none_in_use : (entry : Option CodeId) (o : Option Code) (b : Bool) → entry ≡ option_map id_of o → is_some entry ≡ b → is_none o ≡ not b
-none_in_use entry None b e h = (let none : is_some entry ≡ false = rw e refl in rw (sym h ∙ none) refl)
-none_in_use entry (Some c) b e h = (let some : is_some entry ≡ true = rw e refl in rw (sym h ∙ some) refl)
+  accepted_serial : install_fault table method ≡ None → next_serial table.codes ≤ last_number
+  accepted_serial h = leb-true (next_serial table.codes) last_number (accepted h).2
 
 -- an empty table
 none_current : (n method : ℕ) (id : CodeId) → slice_get (replicate {A = Option CodeId} n None) method ≡ Some (Some id) → ⊥
@@ -349,7 +332,7 @@ module _ (codes : List Code) (slots next : ℕ) (records : List Code) (slot_of :
       }
 
   -- an install
-  module _ (method slot : ℕ) (empty : slice_get current method ≡ Some None) (free : least_free records slots ≡ Some slot) where
+  module _ (slot : ℕ) (free : least_free records slots ≡ Some slot) where
     pub found_free : IsLeastBelow (λ slot. not (holds (slice_get records slot))) slots slot
     found_free = below_found (λ slot. not (holds (slice_get records slot))) slots slot free
 
@@ -366,6 +349,7 @@ module _ (codes : List Code) (slots next : ℕ) (records : List Code) (slot_of :
             let none : slice_get records (length records) ≡ None = slice_get_past records (length records) (omega arith) in
             let no : true ≡ false = rw none at misses in cc
 
+  module _ (method slot : ℕ) (empty : slice_get current method ≡ Some None) (free : least_free records slots ≡ Some slot) where
     abbrev new : Code
     new = record { serial = length codes + 1; slot = slot; method = method; state = InUse }
 
@@ -373,11 +357,11 @@ module _ (codes : List Code) (slots next : ℕ) (records : List Code) (slot_of :
     no_such = not_past 1 (length codes + 1) codes kept.numbered (omega arith)
 
     full_where : (k : ℕ) → k < slot + 1 → (k ≡ slot) ⊎ (k ≡ slot → ⊥) → holds (slice_get (with_record records new) k) ≡ true
-    full_where k l (inl e) = rw e (rw (put_record records new slot_next).here refl)
+    full_where k l (inl e) = rw e (rw (put_record records new (slot_next slot free)).here refl)
     full_where k l (inr ne) =
         let less : k < slot = grind arith in
-        let was = Rattle.std.proofs.lemmas.Bool.not-false (holds (slice_get records k)) (found_free.least k less) in
-        rw ((put_record records new slot_next).others k ne) was
+        let was = Rattle.std.proofs.lemmas.Bool.not-false (holds (slice_get records k)) ((found_free slot free).least k less) in
+        rw ((put_record records new (slot_next slot free)).others k ne) was
 
     indexed_where : (slot_of' : ℕ → Option ℕ) → Puts slot_of slot_of' (length codes + 1) (Some slot) → (serial : ℕ) → (serial ≡ length codes + 1) ⊎ (serial ≡ length codes + 1 → ⊥) → slot_of' serial ≡ kept_slot (code_of (with_code codes method slot) serial)
     indexed_where slot_of' noted serial (inl e) = rw e (noted.here ∙ rw (put_code codes new kept.numbered refl).here refl)
@@ -387,7 +371,7 @@ module _ (codes : List Code) (slots next : ℕ) (records : List Code) (slot_of :
     none_there : (serial : ℕ) (code : Code) → code_of codes serial ≡ Some code → takes_slot code.state ≡ true → code.slot ≡ slot → ⊥
     none_there serial code h takes e =
         let there : slice_get records slot ≡ Some code = rw (← e) (kept.tied.recorded serial code h takes) in
-        let held : holds (slice_get records slot) ≡ true = rw there takes in false≢true (sym slot_is_free ∙ held)
+        let held : holds (slice_get records slot) ≡ true = rw there takes in false≢true (sym (slot_is_free slot free) ∙ held)
 
     pub installed : (slot_of' : ℕ → Option ℕ) → next ≤ last_number → Puts slot_of slot_of' (length codes + 1) (Some slot) → IsKept (with_code codes method slot) slots (length codes + 1 + 1) (with_record records new) slot_of' (set current method (Some (id_of new))) (slot + 1)
     installed slot_of' below_last noted =
@@ -397,10 +381,10 @@ module _ (codes : List Code) (slots next : ℕ) (records : List Code) (slot_of :
           numbered = numbered_push 1 codes new kept.numbered (omega arith);
           next_is = omega (arith, length-append codes (new ∷ []));
           not_spent = omega (arith, length-append codes (new ∷ []), kept.next_is, below_last);
-          few = few_records records new slots kept.few found_free.within;
+          few = few_records records new slots kept.few (found_free slot free).within;
           few_methods = omega (arith, kept.few_methods, length-set current method (Some (id_of new)));
-          tied = tied_put (code_of codes) (code_of (with_code codes method slot)) (slice_get records) (slice_get (with_record records new)) new kept.tied codes_put (put_record records new slot_next)
-              (λ c e takes. (let held : holds (slice_get records slot) ≡ true = rw e takes in absurd (false≢true (sym slot_is_free ∙ held))))
+          tied = tied_put (code_of codes) (code_of (with_code codes method slot)) (slice_get records) (slice_get (with_record records new)) new kept.tied codes_put (put_record records new (slot_next slot free))
+              (λ c e takes. (let held : holds (slice_get records slot) ≡ true = rw e takes in absurd (false≢true (sym (slot_is_free slot free) ∙ held))))
               (λ c e takes. (let no : None ≡ Some c = sym no_such ∙ e in cc));
           indexed = λ serial. indexed_where slot_of' noted serial (cases_eq serial (length codes + 1));
           entries = current_added (code_of codes) (code_of (with_code codes method slot)) (slice_get current) (slice_get (set current method (Some (id_of new)))) new kept.entries codes_put no_such refl (put_set current method (Some (id_of new)) within) empty;
@@ -452,33 +436,19 @@ module _ (codes : List Code) (slots next : ℕ) (records : List Code) (slot_of :
   abbrev table : TableView
   table = record { codes = codes; slots = slots; methods = length current }
 
-  module _ (method : ℕ) (entry : Option CodeId) (at_method : slice_get current method ≡ Some entry) where
-    within : method < length current
-    within = slice_get_within current method entry at_method
+  module _ (method : ℕ) (within : method < length current) where
+    pub why_full : least_free records slots ≡ None → install_fault table method ≡ Some install.TableFull
+    why_full f = table_full table method within (sym free_is ∙ f)
 
-    pub why_has_code : is_some entry ≡ true → install_fault table method ≡ Some install.HasCode
-    why_has_code e = has_code table method within (none_in_use entry (in_use_for codes method) true (current_is method entry at_method) e)
+    pub why_spent : (slot : ℕ) → least_free records slots ≡ Some slot → last_number < next → install_fault table method ≡ Some install.SerialsSpent
+    why_spent slot f l = serials_spent table method within slot (sym free_is ∙ f) (rw (← kept.next_is) l)
 
-    module _ (no_entry : is_some entry ≡ false) where
-      no_code : is_none (in_use_for codes method) ≡ true
-      no_code = none_in_use entry (in_use_for codes method) false (current_is method entry at_method) no_entry
+    pub why_not : (slot : ℕ) → least_free records slots ≡ Some slot → next ≤ last_number → install_fault table method ≡ None
+    why_not slot f l = no_fault table method within slot (sym free_is ∙ f) (rw (← kept.next_is) l)
 
-      pub why_full : least_free records slots ≡ None → install_fault table method ≡ Some install.TableFull
-      why_full f = table_full table method within no_code (sym free_is ∙ f)
-
-      pub why_spent : (slot : ℕ) → least_free records slots ≡ Some slot → last_number < next → install_fault table method ≡ Some install.SerialsSpent
-      why_spent slot f l = serials_spent table method within no_code slot (sym free_is ∙ f) (rw (← kept.next_is) l)
-
-      pub why_not : (slot : ℕ) → least_free records slots ≡ Some slot → next ≤ last_number → install_fault table method ≡ None
-      why_not slot f l = no_fault table method within no_code slot (sym free_is ∙ f) (rw (← kept.next_is) l)
-
-  -- a method that gets a code has no entry
-  pub empty_entry : (method : ℕ) → install_fault table method ≡ None → slice_get current method ≡ Some None
-  empty_entry method h =
-      ⊎_elim
-      (λ there. there.2 ∙ ap Some (current_is method there.0 there.2 ∙ ap (option_map id_of) (accepted_none table method h)))
-      (λ past. (let within_methods = accepted_within table method h in absurd (omega (arith, within_methods, past.0))))
-      (slice_get_cases current method).1
+  -- a method that gets a code is one
+  pub is_method : (method : ℕ) → install_fault table method ≡ None → method < length current
+  is_method method h = accepted_within table method h
 
   pub below_last : (method : ℕ) → install_fault table method ≡ None → next ≤ last_number
   below_last method h = omega (arith, kept.next_is, accepted_serial table method h)
@@ -574,10 +544,6 @@ unused_zombie InUse h = absurd (false≢true h)
 unused_zombie NotEntrant h = refl
 unused_zombie Zombie h = refl
 unused_zombie Freed h = refl
-
-pub is_empty_entry : (entry : Option CodeId) → is_some entry ≡ false → entry ≡ None
-is_empty_entry None h = refl
-is_empty_entry (Some id) h = let no : true ≡ false = h in cc
 
 pub some_of : {A B : Type 0} (f : A → B) (x : B) (o : Option A) → Some x ≡ option_map f o → is_some o ≡ true
 some_of f x None h = let no : Some x ≡ None = h in cc

@@ -3,5 +3,7 @@ pub mod Searches
 pub mod Serials
 pub mod Newest
 pub mod Ties
+pub mod Left
 pub mod KeptLemmas
+pub mod Replaced
 pub mod Forward

@@ -1,5 +1,5 @@
 -- All codes that were ever installed, in rising serial, with their states. (nmethod states: in use, not entrant, zombie)
-use Rattle.std.specs.Prelude.{ℕ, ◌+◌, Bool, true, false, not, ◌&&◌, ◌==◌, length, List, [], ◌∷◌, ◌++◌, map, find, Option, if◌then◌else◌}
+use Rattle.std.specs.Prelude.{ℕ, ◌+◌, Bool, true, false, not, ◌&&◌, ◌==◌, length, List, [], ◌∷◌, ◌++◌, map, find, Option, None, Some, if◌then◌else◌}
 use Rattle.std.specs.List.{list_any}
 use Rattle.frames.specs.declared.CodeId.{CodeId}
 use Rattle.method_table.specs.declared.Code.{Code}
@@ -66,3 +66,8 @@ in_state serial state code = if code.serial == serial then record code { state =
 -- The code of the serial comes into the state.
 abbrev pub with_state : List Code → ℕ → CodeState → List Code
 with_state codes serial state = map (in_state serial state) codes
+
+-- The code that was in use, where there was one, is not entrant.
+abbrev pub without_use : List Code → Option Code → List Code
+without_use codes None = codes
+without_use codes (Some old) = with_state codes old.serial NotEntrant

@@ -1,8 +1,8 @@
 -- The method table as contracts see it: all codes that were ever installed, and its sizes.
-use Rattle.std.specs.Prelude.{◌≡◌, ℕ, ◌<◌, ◌≤◌, nat_lt, nat_le, true, List, Option, None, Some, is_none, is_some, slice_get, ◌+◌, ◌==◌, if◌then◌else◌}
+use Rattle.std.specs.Prelude.{◌≡◌, ℕ, ◌<◌, ◌≤◌, nat_lt, nat_le, true, List, Option, None, Some, is_some, slice_get, ◌+◌, ◌==◌, if◌then◌else◌}
 use Rattle.method_table.specs.declared.Code.{Code}
 use Rattle.method_table.specs.declared.table.InstallFault.{InstallFault}
-use Rattle.method_table.specs.declared.table.InstallFault.TheVariants.{NoSuchMethod, HasCode, TableFull, SerialsSpent, NoMemory}
+use Rattle.method_table.specs.declared.table.InstallFault.TheVariants.{NoSuchMethod, TableFull, SerialsSpent, NoMemory}
 use Rattle.method_table.specs.declared.table.InvalidateFault.{InvalidateFault}
 use Rattle.method_table.specs.declared.table.InvalidateFault.TheVariants as invalidate
 use Rattle.method_table.specs.declared.table.RetireFault.{RetireFault}
@@ -25,11 +25,9 @@ pub record TableView : Type 0 where
 abbrev pub install_fault : TableView → ℕ → Option InstallFault
 install_fault table method =
     if nat_lt method table.methods then
-    (if is_none (in_use_for table.codes method) then
     (if is_some (free_slot table.codes table.slots) then
     (if nat_le (next_serial table.codes) last_number then None else Some SerialsSpent)
     else Some TableFull)
-    else Some HasCode)
     else Some NoSuchMethod
 
 -- A want of memory is none of these reasons: it is answered only where none of them holds.

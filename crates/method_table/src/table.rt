@@ -1,6 +1,6 @@
 // The table: a record for each slot, and the code in use for each method.
-ghost use Rattle.std.specs.Prelude.{◌≡◌, ℕ, ◌+◌, ◌<◌, ◌≤◌, List, [], ◌∷◌, length, true, false, not, Some, None, Option, option_map, slice_get, slice_set, IfOk, OnOk, OnErr, IfErr, find, ◌==◌, ◌&&◌};
-ghost use Rattle.method_table.specs.Codes.{takes_slot, id_of, code_of, unfreed, in_use_for, free_slot, next_serial, with_code, with_state};
+ghost use Rattle.std.specs.Prelude.{◌≡◌, ℕ, ◌+◌, ◌<◌, ◌≤◌, List, [], ◌∷◌, length, true, false, not, Some, None, Option, option_map, slice_get, slice_set, IfOk, OnOk, OnErr, IfErr, IfSome, IfNone, find, ◌==◌, ◌&&◌};
+ghost use Rattle.method_table.specs.Codes.{takes_slot, id_of, code_of, unfreed, in_use_for, free_slot, next_serial, with_code, with_state, without_use};
 ghost use Rattle.method_table.specs.Kept.{holds, least_free, with_record};
 ghost use Rattle.method_table.specs.Numbers.{below};
 ghost use Rattle.method_table.specs.declared.Code.{Code};
@@ -22,10 +22,16 @@ pub const LAST_SERIAL: u64 = (1 << 40) - 1;
 #[derive(Clone, Copy, Debug, PartialEq, Eq, Drop)]
 pub enum InstallFault {
     NoSuchMethod,
-    HasCode,
     TableFull,
     SerialsSpent,
     NoMemory,
+}
+
+/// What an install came to: the new code, and the one that was in use for the method until then, which is not entrant from now on.
+#[derive(Clone, Copy, Debug, PartialEq, Eq, Drop)]
+pub struct Installed {
+    pub code: CodeId,
+    pub replaced: Option<CodeId>,
 }
 
 /// Why a code is not invalidated, in the order of the tests.
@@ -122,6 +128,22 @@ fn set_state(records: &mut Vec<Code>, slot: u32, state: CodeState)
     records[slot as usize].state = state;
 }
 
+// The code that was in use, where there was one, is not entrant.
+fn replace(records: &mut Vec<Code>, history: &mut History, old: Option<CodeId>)
+    requires { IfSome old (λ id. id.slot < length records.old.items) }
+    ensures codes { IfSome old (λ id. history.new.codes ≡ with_state history.old.codes id.serial NotEntrant) }
+    ensures record { IfSome old (λ id. (code : Code) → slice_get records.old.items id.slot ≡ Some code → records.new.items ≡ slice_set records.old.items id.slot (record code { state = NotEntrant })) }
+    ensures none { IfNone old ((history.new.codes ≡ history.old.codes) × (records.new.items ≡ records.old.items)) }
+{
+    if let Some(id) = old {
+        set_state(records, id.slot, CodeState::NotEntrant);
+        *history = history.then(&Edit::Become {
+            serial: id.serial,
+            state: CodeState::NotEntrant,
+        });
+    }
+}
+
 impl MethodTable {
     /// An empty table, with as many slots and methods as are given.
     pub fn new(alloc: Global, slots: u32, methods: u32) -> Result<MethodTable, AllocError>
@@ -154,9 +176,6 @@ impl MethodTable {
         if method >= self.current.len() as u64 {
             return Err(InstallFault::NoSuchMethod);
         }
-        if self.current[method as usize].is_some() {
-            return Err(InstallFault::HasCode);
-        }
         let Some(slot) = least_free(&self.records, self.slots, self.taken) else {
             return Err(InstallFault::TableFull);
         };
@@ -166,12 +185,14 @@ impl MethodTable {
         Ok(slot)
     }
 
-    /// A new code for the method, in use: it has the next serial and the least free slot.
-    pub fn install(&mut self, method: u64) -> Result<CodeId, InstallFault>
-        ensures slot { IfOk result (λ id. free_slot self.old.codes self.old.slots ≡ Some id.slot) }
-        ensures in_slots { IfOk result (λ id. id.slot < self.old.slots) }
-        ensures serial { IfOk result (λ id. id.serial ≡ next_serial self.old.codes) }
-        ensures codes { IfOk result (λ id. self.new ≡ record self.old { codes = with_code self.old.codes method id.slot }) }
+    /// A new code for the method, in use: it has the next serial and the least free slot. The code that was in use for the method is not
+    /// entrant from now on.
+    pub fn install(&mut self, method: u64) -> Result<Installed, InstallFault>
+        ensures slot { IfOk result (λ r. free_slot self.old.codes self.old.slots ≡ Some r.code.slot) }
+        ensures in_slots { IfOk result (λ r. r.code.slot < self.old.slots) }
+        ensures serial { IfOk result (λ r. r.code.serial ≡ next_serial self.old.codes) }
+        ensures replaced { IfOk result (λ r. r.replaced ≡ option_map id_of (in_use_for self.old.codes method)) }
+        ensures codes { IfOk result (λ r. self.new ≡ record self.old { codes = with_code (without_use self.old.codes (in_use_for self.old.codes method)) method r.code.slot }) }
         ensures accepted { OnOk result (install_fault self.old method ≡ None) }
         ensures refused { IfErr result (λ fault. install_fault self.old method ≡ reason fault) }
         ensures sound { IsTable self.new }
@@ -187,6 +208,7 @@ impl MethodTable {
             method: method as u32,
             state: CodeState::InUse,
         };
+        let replaced = self.current[method as usize];
         let Ok(()) = note(&mut self.index, code.serial, slot) else {
             return Err(InstallFault::NoMemory);
         };
@@ -194,6 +216,7 @@ impl MethodTable {
             forget(&mut self.index, code.serial);
             return Err(InstallFault::NoMemory);
         };
+        replace(&mut self.records, &mut self.history, replaced);
         let id = CodeId {
             slot,
             serial: code.serial,
@@ -205,7 +228,7 @@ impl MethodTable {
             method: code.method,
             slot,
         });
-        Ok(id)
+        Ok(Installed { code: id, replaced })
     }
 
     /// No new activation of the code from now on: it is not entrant.

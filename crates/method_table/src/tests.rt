@@ -1,8 +1,18 @@
-use crate::table::{Entry, FreeFault, InstallFault, InvalidateFault, MethodTable, RetireFault};
+use crate::table::{
+    Entry, FreeFault, InstallFault, Installed, InvalidateFault, MethodTable, RetireFault,
+};
 use crate::{Code, CodeState};
 use frames::CodeId;
 use std::process::Abort;
 use std::test::*;
+
+// A new code where no other was in use.
+fn installed(slot: u32, serial: u64) -> Result<Installed, InstallFault> {
+    Ok(Installed {
+        code: CodeId { slot, serial },
+        replaced: None,
+    })
+}
 
 // The code goes through all its states.
 fn purge(rt: &impl Abort, table: &mut MethodTable, serial: u64) {
@@ -16,17 +26,17 @@ fn installs_take_the_least_free_slot(rt: HostRuntime) -> Result<(), Fail> {
     let mut table = MethodTable::new(rt.alloc(), 3, 4)?;
     assert_eq!(rt; table.slots(), 3);
     assert_eq!(rt; table.methods(), 4);
-    assert_eq!(rt; table.install(0), Ok(CodeId { slot: 0, serial: 1 }));
-    assert_eq!(rt; table.install(1), Ok(CodeId { slot: 1, serial: 2 }));
+    assert_eq!(rt; table.install(0), installed(0, 1));
+    assert_eq!(rt; table.install(1), installed(1, 2));
     purge(&rt, &mut table, 1);
     // A slot was never used, but a freed one is less.
-    assert_eq!(rt; table.install(2), Ok(CodeId { slot: 0, serial: 3 }));
-    assert_eq!(rt; table.install(3), Ok(CodeId { slot: 2, serial: 4 }));
+    assert_eq!(rt; table.install(2), installed(0, 3));
+    assert_eq!(rt; table.install(3), installed(2, 4));
     assert_eq!(rt; table.install(0), Err(InstallFault::TableFull));
     purge(&rt, &mut table, 4);
     purge(&rt, &mut table, 2);
-    assert_eq!(rt; table.install(3), Ok(CodeId { slot: 1, serial: 5 }));
-    assert_eq!(rt; table.install(1), Ok(CodeId { slot: 2, serial: 6 }));
+    assert_eq!(rt; table.install(3), installed(1, 5));
+    assert_eq!(rt; table.install(1), installed(2, 6));
     assert_eq!(rt; table.install(0), Err(InstallFault::TableFull));
     Ok(())
 }
@@ -35,18 +45,55 @@ fn installs_take_the_least_free_slot(rt: HostRuntime) -> Result<(), Fail> {
 fn installs_are_refused_in_order(rt: HostRuntime) -> Result<(), Fail> {
     let mut table = MethodTable::new(rt.alloc(), 1, 2)?;
     assert_eq!(rt; table.install(2), Err(InstallFault::NoSuchMethod));
-    assert_eq!(rt; table.install(0), Ok(CodeId { slot: 0, serial: 1 }));
+    assert_eq!(rt; table.install(0), installed(0, 1));
     // The table is full too.
     assert_eq!(rt; table.install(u64::MAX), Err(InstallFault::NoSuchMethod));
-    assert_eq!(rt; table.install(0), Err(InstallFault::HasCode));
     assert_eq!(rt; table.install(1), Err(InstallFault::TableFull));
+    // A refusal leaves the code that would be replaced in use.
+    assert_eq!(rt; table.install(0), Err(InstallFault::TableFull));
+    assert_eq!(rt; table.state(1), Some(CodeState::InUse));
     // Neither code that is not entrant nor a zombie gives its slot back.
     assert_eq!(rt; table.invalidate(1), Ok(()));
     assert_eq!(rt; table.install(0), Err(InstallFault::TableFull));
     assert_eq!(rt; table.retire(1), Ok(()));
     assert_eq!(rt; table.install(0), Err(InstallFault::TableFull));
     assert_eq!(rt; table.free(1), Ok(()));
-    assert_eq!(rt; table.install(0), Ok(CodeId { slot: 0, serial: 2 }));
+    assert_eq!(rt; table.install(0), installed(0, 2));
+    Ok(())
+}
+
+#[test]
+fn a_new_code_replaces_the_one_in_use(rt: HostRuntime) -> Result<(), Fail> {
+    let mut table = MethodTable::new(rt.alloc(), 3, 2)?;
+    let first = CodeId { slot: 0, serial: 1 };
+    assert_eq!(rt; table.install(0), installed(0, 1));
+    assert_eq!(rt; table.install(1), installed(1, 2));
+    let second = CodeId { slot: 2, serial: 3 };
+    assert_eq!(rt;
+        table.install(0),
+        Ok(Installed {
+            code: second,
+            replaced: Some(first)
+        })
+    );
+    assert_eq!(rt; table.current(0), Some(second));
+    assert_eq!(rt; table.state(1), Some(CodeState::NotEntrant));
+    assert_eq!(rt; table.state(2), Some(CodeState::InUse));
+    assert_eq!(rt; table.entry(0, 1), Some(Entry::WrongMethod));
+    assert_eq!(rt; table.entry(0, 3), Some(Entry::Enters(second)));
+    assert_eq!(rt; table.invalidate(1), Err(InvalidateFault::NotInUse));
+    assert_eq!(rt; table.install(0), Err(InstallFault::TableFull));
+    assert_eq!(rt; table.current(0), Some(second));
+    assert_eq!(rt; table.retire(1), Ok(()));
+    assert_eq!(rt; table.free(1), Ok(()));
+    let third = CodeId { slot: 0, serial: 4 };
+    assert_eq!(rt;
+        table.install(0),
+        Ok(Installed {
+            code: third,
+            replaced: Some(second)
+        })
+    );
     Ok(())
 }
 
@@ -105,7 +152,7 @@ fn codes_are_found_until_they_are_freed(rt: HostRuntime) -> Result<(), Fail> {
     assert_eq!(rt; table.find(1), None);
     assert_eq!(rt; table.find(3), None);
     // The slot of the freed code has another one now.
-    assert_eq!(rt; table.install(0), Ok(CodeId { slot: 0, serial: 3 }));
+    assert_eq!(rt; table.install(0), installed(0, 3));
     assert_eq!(rt; table.find(1), None);
     assert_eq!(rt; table.state(1), Some(CodeState::Freed));
     Ok(())
@@ -116,7 +163,7 @@ fn calls_enter_code_in_use_of_their_method(rt: HostRuntime) -> Result<(), Fail> 
     let mut table = MethodTable::new(rt.alloc(), 4, 2)?;
     let first = CodeId { slot: 0, serial: 1 };
     assert_eq!(rt; table.current(0), None);
-    assert_eq!(rt; table.install(0), Ok(first));
+    assert_eq!(rt; table.install(0), installed(0, 1));
     assert_eq!(rt; table.current(0), Some(first));
     assert_eq!(rt; table.entry(0, 1), Some(Entry::Enters(first)));
     assert_eq!(rt; table.entry(1, 1), Some(Entry::NotOf));
@@ -134,7 +181,7 @@ fn calls_enter_code_in_use_of_their_method(rt: HostRuntime) -> Result<(), Fail> 
         );
     }
     let second = CodeId { slot: 1, serial: 2 };
-    assert_eq!(rt; table.install(0), Ok(second));
+    assert_eq!(rt; table.install(0), installed(1, 2));
     assert_eq!(rt; table.current(0), Some(second));
     assert_eq!(rt; table.current(2), None);
     assert_eq!(rt; table.retire(1), Ok(()));
@@ -154,12 +201,18 @@ fn the_greatest_table_fills(rt: HostRuntime) -> Result<(), Fail> {
     for slot in 0..1024u32 {
         let method = slot as u64 % 256;
         let serial = slot as u64 + 1;
-        if slot >= 256 {
-            assert_eq!(rt; table.refusal(method), Some(InstallFault::HasCode));
-            assert_eq!(rt; table.invalidate(serial - 256), Ok(()));
-        }
+        // From the second round on each takes the place of the one before it.
+        let replaced = if slot >= 256 {
+            Some(CodeId {
+                slot: slot - 256,
+                serial: serial - 256,
+            })
+        } else {
+            None
+        };
+        let code = CodeId { slot, serial };
         assert_eq!(rt; table.refusal(method), None);
-        assert_eq!(rt; table.install(method), Ok(CodeId { slot, serial }));
+        assert_eq!(rt; table.install(method), Ok(Installed { code, replaced }));
     }
     assert_eq!(rt; table.invalidate(1024), Ok(()));
     assert_eq!(rt; table.refusal(255), Some(InstallFault::TableFull));
@@ -171,7 +224,7 @@ fn the_greatest_table_fills(rt: HostRuntime) -> Result<(), Fail> {
         slot: 299,
         serial: 1025,
     };
-    assert_eq!(rt; table.install(255), Ok(last));
+    assert_eq!(rt; table.install(255), installed(299, 1025));
     assert_eq!(rt; table.current(255), Some(last));
     Ok(())
 }
@@ -186,10 +239,25 @@ fn want_of_memory_changes_nothing(rt: HostRuntime) -> Result<(), Fail> {
     if table.install(0) == Err(InstallFault::NoMemory) {
         assert_eq!(rt; table.state(1), None);
         assert_eq!(rt; table.current(0), None);
-        assert_eq!(rt; table.install(0), Ok(first));
+        assert_eq!(rt; table.install(0), installed(0, 1));
     }
     assert_eq!(rt; table.current(0), Some(first));
     assert_eq!(rt; table.state(1), Some(CodeState::InUse));
     assert_eq!(rt; table.state(2), None);
+    let second = CodeId { slot: 1, serial: 2 };
+    if table.install(0) == Err(InstallFault::NoMemory) {
+        assert_eq!(rt; table.current(0), Some(first));
+        assert_eq!(rt; table.state(1), Some(CodeState::InUse));
+        assert_eq!(rt; table.state(2), None);
+        assert_eq!(rt;
+            table.install(0),
+            Ok(Installed {
+                code: second,
+                replaced: Some(first)
+            })
+        );
+    }
+    assert_eq!(rt; table.current(0), Some(second));
+    assert_eq!(rt; table.state(1), Some(CodeState::NotEntrant));
     Ok(())
 }

@@ -20,7 +20,7 @@ use Rattle.replay.specs.declared.keywords.AskWord.{AskWord}
 use Rattle.replay.specs.declared.keywords.AskWord.TheVariants as ask
 use Rattle.replay.specs.Words.{words, spaced, number}
 use Rattle.replay.specs.Keywords.{word_text, keywords, word_of, ask_text, ask_of, act_text}
-use Rattle.replay.specs.Grammar.{took, none_after, last_number, numbers, alone, of_one, of_two, entered, enter_of, size_of, handshake, asked, asking, of_word, of_words, command_of}
+use Rattle.replay.specs.Grammar.{took, none_after, last_number, numbers, alone, of_one, of_two, entered, enter_of, close_of, size_of, handshake, asked, asking, of_word, of_words, command_of}
 use Rattle.replay.specs.Spelling.{act_numbers, ask_words, request_words, event_words, command_words, request_numbers, event_numbers, command_numbers, AreSmall, IsSpelledBy}
 use Rattle.replay.proofs.Spellings.{IsWord, decimal_word, number_of_decimal, decimal_of_number, spaced_words, words_spaced, decimals_words}
 
@@ -118,6 +118,15 @@ enter_reads args c h = option_and_then_some (λ place. option_and_then (λ metho
     let spells = entered_reads x.0 y.0 y.1 c first.1 second.1 f2 in
     subst (λ (z : List (List ℕ)). Spells (codes "enter" ∷ z) c) (sym (first.0 ∙ ap (λ z. decimal x.0 ∷ z) second.0)) spells))
 
+close_reads : (args : List (List ℕ)) (c : Command) → close_of args ≡ Some c → Spells (codes "close" ∷ args) c
+close_reads [] c h =
+    let e = same_Some (command.Do (event.Close None)) c h in
+    subst (λ (z : Command). Spells (codes "close" ∷ []) z) e (record { words = refl; small = tt })
+close_reads (w ∷ ws) c h =
+    let m = map_some (λ n. command.Do (event.Close (Some n))) (last_number (w ∷ ws)) c h in
+    let last = last_reads (w ∷ ws) m.0 m.1 in
+    subst (λ (z : Command). Spells (codes "close" ∷ w ∷ ws) z) m.2 (record { words = ap (λ z. codes "close" ∷ z) last.0; small = (last.1, tt) })
+
 small_both : (ms ns : List ℕ) → AreSmall ms → AreSmall ns → AreSmall (ms ++ ns)
 small_both [] ns h k = k
 small_both (m ∷ ms) ns h k = (h.0, small_both ms ns h.1 k)
@@ -180,7 +189,7 @@ word_reads Ask args c listed h = asking_reads args c h
 word_reads Open args c listed h = alone_reads event.Open (codes "open") args c refl refl h
 word_reads Tell args c listed h = one_reads event.Tell (codes "tell") args c (λ n. refl) (λ n. refl) h
 word_reads Operate args c listed h = alone_reads event.Operate (codes "operate") args c refl refl h
-word_reads Close args c listed h = alone_reads event.Close (codes "close") args c refl refl h
+word_reads Close args c listed h = close_reads args c h
 word_reads Count args c listed h = one_reads event.Count (codes "count") args c (λ n. refl) (λ n. refl) h
 word_reads State args c listed h = one_reads event.CodeState (codes "state") args c (λ n. refl) (λ n. refl) h
 word_reads Resolve args c listed h = one_reads event.Resolve (codes "resolve") args c (λ n. refl) (λ n. refl) h
@@ -263,7 +272,8 @@ event_back (event.Ask request) h = ask_back request h
 event_back event.Open h = refl
 event_back (event.Tell n) h = one_read event.Tell n h.0
 event_back event.Operate h = refl
-event_back event.Close h = refl
+event_back (event.Close None) h = refl
+event_back (event.Close (Some n)) h = ap (option_map (λ k. command.Do (event.Close (Some k)))) (last_back n h.0)
 event_back (event.Count n) h = one_read event.Count n h.0
 event_back (event.CodeState n) h = one_read event.CodeState n h.0
 event_back (event.Resolve n) h = one_read event.Resolve n h.0
@@ -297,7 +307,8 @@ event_cut (event.Ask request) h = words_spaced (codes "ask") (request_words requ
 event_cut event.Open h = refl
 event_cut (event.Tell n) h = one_word (codes "tell") n refl h.0
 event_cut event.Operate h = refl
-event_cut event.Close h = refl
+event_cut (event.Close None) h = refl
+event_cut (event.Close (Some n)) h = one_word (codes "close") n refl h.0
 event_cut (event.Count n) h = one_word (codes "count") n refl h.0
 event_cut (event.CodeState n) h = one_word (codes "state") n refl h.0
 event_cut (event.Resolve n) h = one_word (codes "resolve") n refl h.0

@@ -1,24 +1,29 @@
 -- A reply that finds no room comes from a line that takes memory.
 use Rattle.std.proofs.Common.{◌≡◌, ◌∙◌, sym, ap, subst, refl, ℕ, Bool, true, false, cond, List, Option, Some, None, ⊎_elim, inr, take}
 use Rattle.std.proofs.lemmas.Bool.{false≢true, false_from_ne_true}
-use Rattle.std.specs.Prelude.{OnErr, Result, Ok, Err}
+use Rattle.std.specs.Prelude.{OnErr, Result, Ok, Err, nat_lt, nat_le}
 use Rattle.system.specs.declared.events.Event.{Event}
+use Rattle.system.specs.declared.events.Event.TheVariants as event
 use Rattle.system.specs.declared.events.Act.{Act}
 use Rattle.system.specs.declared.answers.Answer.{Answer}
 use Rattle.system.specs.declared.answers.Answer.TheVariants.{Done}
+use Rattle.system.specs.declared.answers.Answer.TheVariants as answer
+use Rattle.system.specs.declared.answers.Refusal.TheVariants as refusal
 use Rattle.thread_state.specs.declared.State.{State}
 use Rattle.method_table.specs.declared.Code.{Code}
-use Rattle.method_table.specs.Codes.{in_use_for}
+use Rattle.method_table.specs.Numbers.{last_number}
+use Rattle.method_table.specs.Codes.{in_use_for, free_slot, next_serial, with_code, without_use}
 use Rattle.system.specs.Operations.{poll_of}
 use Rattle.system.specs.Memory.{NeedsMemory}
 use Rattle.system.specs.Places.{go_or_stop}
-use Rattle.system.specs.Runs.{answer_to}
+use Rattle.system.specs.Runs.{answer_of, answer_to}
 use Rattle.system.specs.Safepoints.{is_accepted}
 use Rattle.system.specs.Stands.{StandsFor, takes_no_memory, world_by, are_sizes}
-use Rattle.system.specs.Step.{code_or_none}
+use Rattle.system.specs.Step.{code_or_none, install_in}
+use Rattle.system.specs.Verdict.{accepted, unless◌refuse◌then◌}
 use Rattle.system.specs.Threads.{Thread}
 use Rattle.system.specs.World.{World}
-use Rattle.system.proofs.ByCases.{by_cases}
+use Rattle.system.proofs.ByCases.{Simple, by_cases, each_kind}
 use Rattle.system.proofs.Cases.{Cases}
 use Rattle.system.proofs.Outcomes.{Moves, ByMove, ByPoll}
 use Rattle.replay.specs.declared.engine.Reply.{Reply}
@@ -89,14 +94,27 @@ list_cases w = record {
   tells = λ name opened i. λ long. absurd (short long);
   finds_gone = λ name i. λ long. absurd (short long);
   operates = λ opened others i. λ long. (refl, refl);
-  closes = λ opened i. λ long. absurd (short long);
+  closes = λ number opened i. λ long. absurd (short long);
   counts = λ serial code i. λ long. absurd (short long);
   says_state = λ serial code i. λ long. absurd (short long);
   resolves = λ method i. λ long. absurd (short (sym (code_short (in_use_for w.codes method)) ∙ long));
 }
 
+install_short : (w : World) (method : ℕ) → is_short (answer_to w (event.Install method)) ≡ true
+install_short w method = by (nat_lt method w.methods) (free_slot w.codes w.slots)
+  where
+    room : (slot : ℕ) (b : Bool) → is_short (answer_of (unless b refuse refusal.SerialsSpent then accepted (record w { codes = with_code (without_use w.codes (in_use_for w.codes method)) method slot }) (answer.Code (next_serial w.codes)))) ≡ true
+    room slot true = refl
+    room slot false = refl
+
+    by : (b : Bool) (o : Option ℕ) → is_short (answer_of (unless b refuse refusal.NoSuchMethod then install_in w method o)) ≡ true
+    by false o = refl
+    by true None = refl
+    by true (Some slot) = room slot (nat_le (next_serial w.codes) last_number)
+
 long_event : (w : World) (e : Event) → is_short (answer_to w e) ≡ false → NeedsMemory w e
-long_event w e long = let of = by_cases w (λ e a v. Lists e a) (list_cases w) e long in record { takes = of.0; accepted = of.1 }
+long_event w e = each_kind w (λ e. is_short (answer_to w e) ≡ false → NeedsMemory w e) (λ method long. absurd (false≢true (sym long ∙ install_short w method)))
+    (λ e simple long. (let of = by_cases w (λ e a v. Lists e a) (list_cases w) e simple long in record { takes = of.0; accepted = of.1 })) e
 
 sized : (b : Bool) → is_short_reply (cond b (Answered Done) BadSize) ≡ true
 sized true = refl

@@ -54,6 +54,12 @@ entered place method args =
 abbrev pub enter_of : List (List ℕ) → Option Command
 enter_of args = option_and_then (λ place. option_and_then (λ method. entered place.0 method.0 method.1) (took place.1)) (took args)
 
+-- The oldest open operation is closed, or that of a number.
+abbrev pub close_of : List (List ℕ) → Option Command
+close_of args =
+    if is_nil args then Some (command.Do (event.Close None))
+    else option_map (λ number. command.Do (event.Close (Some number))) (last_number args)
+
 abbrev pub size_of : List (List ℕ) → Option Command
 size_of args = option_and_then (λ x. option_and_then (λ y. option_map (λ z. command.Size x.0 y.0 z) (last_number y.1)) (took x.1)) (took args)
 
@@ -87,7 +93,7 @@ of_word Ask args = asking args
 of_word Open args = alone event.Open args
 of_word Tell args = of_one event.Tell args
 of_word Operate args = alone event.Operate args
-of_word Close args = alone event.Close args
+of_word Close args = close_of args
 of_word Count args = of_one event.Count args
 of_word State args = of_one event.CodeState args
 of_word Resolve args = of_one event.Resolve args

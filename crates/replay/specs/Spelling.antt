@@ -14,14 +14,14 @@ use Rattle.replay.specs.declared.grammar.Command.TheVariants.{Size, Do}
 use Rattle.replay.specs.Words.{spaced}
 use Rattle.replay.specs.Keywords.{act_text}
 
--- A code may be left out.
-abbrev pub code_numbers : Option ℕ → List ℕ
-code_numbers None = []
-code_numbers (Some serial) = serial ∷ []
+-- A code that is entered, and the operation that is closed, may be left out.
+abbrev pub given_numbers : Option ℕ → List ℕ
+given_numbers None = []
+given_numbers (Some n) = n ∷ []
 
 -- What stands behind the place of an act.
 abbrev pub act_numbers : Act → List ℕ
-act_numbers (Enter method code) = method ∷ code_numbers code
+act_numbers (Enter method code) = method ∷ given_numbers code
 act_numbers other = []
 
 -- The words of what is asked, but the targets.
@@ -48,7 +48,7 @@ event_words (Ask request) = codes "ask" ∷ request_words request
 event_words Open = codes "open" ∷ []
 event_words (Tell name) = codes "tell" ∷ decimal name ∷ []
 event_words Operate = codes "operate" ∷ []
-event_words Close = codes "close" ∷ []
+event_words (Close number) = codes "close" ∷ map decimal (given_numbers number)
 event_words (Count serial) = codes "count" ∷ decimal serial ∷ []
 event_words (CodeState serial) = codes "state" ∷ decimal serial ∷ []
 event_words (Resolve method) = codes "resolve" ∷ decimal method ∷ []
@@ -83,7 +83,7 @@ event_numbers (Ask request) = request_numbers request
 event_numbers Open = []
 event_numbers (Tell name) = name ∷ []
 event_numbers Operate = []
-event_numbers Close = []
+event_numbers (Close number) = given_numbers number
 event_numbers (Count serial) = serial ∷ []
 event_numbers (CodeState serial) = serial ∷ []
 event_numbers (Resolve method) = method ∷ []

@@ -2,7 +2,7 @@
 ghost use Rattle.std.specs.Prelude.{◌≡◌, ◌≢◌, true, IfOk, OnErr, option_map, is_some};
 ghost use Rattle.replay.specs.Room.{is_handshake};
 ghost use Rattle.replay.specs.Words.{words_after};
-ghost use Rattle.replay.specs.Grammar.{command_of, of_word, size_of, enter_of, asking, handshake, alone, of_one, of_two, numbers};
+ghost use Rattle.replay.specs.Grammar.{command_of, of_word, size_of, enter_of, close_of, asking, handshake, alone, of_one, of_two, numbers};
 
 use crate::keywords::{AskWord, Word, ask_of, word_of};
 use crate::words::{cut, is_end, last, next};
@@ -57,7 +57,7 @@ fn plain(word: Word, tail: &[u8]) -> Option<Command>
         Word::Open => alone(Event::Open, tail),
         Word::Tell => Some(Command::Do(Event::Tell(last(tail)?))),
         Word::Operate => alone(Event::Operate, tail),
-        Word::Close => alone(Event::Close, tail),
+        Word::Close => close(tail),
         Word::Count => Some(Command::Do(Event::Count(last(tail)?))),
         Word::State => Some(Command::Do(Event::CodeState(last(tail)?))),
         Word::Resolve => Some(Command::Do(Event::Resolve(last(tail)?))),
@@ -84,6 +84,16 @@ fn enter(tail: &[u8]) -> Option<Command>
     }
     let serial = last(tail)?;
     Some(Command::Do(Event::At(place as usize, Act::Enter(method, Some(serial)))))
+}
+
+fn close(tail: &[u8]) -> Option<Command>
+    ensures { result ≡ close_of (words_after tail.now) }
+{
+    if is_end(tail) {
+        return Some(Command::Do(Event::Close(None)));
+    }
+    let number = last(tail)?;
+    Some(Command::Do(Event::Close(Some(number))))
 }
 
 fn look(tail: &[u8]) -> Option<Command>

@@ -112,7 +112,6 @@ fn put_refusal(text: &mut Vec<u8>, refusal: Refusal) -> Result<(), AllocError>
         Refusal::SafepointOpen => text.extend_from_slice(b"SafepointOpen"),
         Refusal::PlacesFull => text.extend_from_slice(b"PlacesFull"),
         Refusal::Spent => text.extend_from_slice(b"Spent"),
-        Refusal::HasCode => text.extend_from_slice(b"HasCode"),
         Refusal::TableFull => text.extend_from_slice(b"TableFull"),
         Refusal::SerialsSpent => text.extend_from_slice(b"SerialsSpent"),
         Refusal::NotInUse => text.extend_from_slice(b"NotInUse"),

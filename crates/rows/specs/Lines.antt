@@ -99,7 +99,10 @@ abbrev pub operate : Event
 operate = event.Operate
 
 abbrev pub close : Event
-close = event.Close
+close = event.Close None
+
+abbrev pub close_of : ℕ → Event
+close_of n = event.Close (Some n)
 
 abbrev pub install : ℕ → Event
 install n = event.Install n

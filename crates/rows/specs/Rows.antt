@@ -2,9 +2,9 @@
 use Rattle.std.specs.Prelude.{pos, negsuc, List, [], ◌∷◌}
 use Rattle.thread_state.specs.declared.Back.TheVariants.{Java, Vm}
 use Rattle.thread_state.specs.declared.State.TheVariants.{Vacant, InJava, InVm, InNative, Blocked, BlockedTrans, AtPoll}
-use Rattle.system.specs.declared.answers.Refusal.TheVariants.{NoSuchPlace, Illegal, Publishing, ChangesLeft, Held, NoSuchMethod, Unknown, Unpublished, DepthFull, NotOf, EmptyStack, StackNotEmpty, OperationPending, NotDone, NothingOpen, NotTold, AlreadyDone, NotSafe, SafepointOpen, HasCode, TableFull, NotInUse, NotZombie, QueueFull, NoTargets, BadTargets, AlreadyOpen, QueueEmpty, NotAllHeld}
+use Rattle.system.specs.declared.answers.Refusal.TheVariants.{NoSuchPlace, Illegal, Publishing, ChangesLeft, Held, NoSuchMethod, Unknown, Unpublished, DepthFull, NotOf, EmptyStack, StackNotEmpty, OperationPending, NotDone, NothingOpen, NotTold, AlreadyDone, NotSafe, SafepointOpen, TableFull, NotInUse, NotZombie, QueueFull, NoTargets, BadTargets, AlreadyOpen, QueueEmpty, AlreadyTold, NotAllHeld}
 use Rattle.system.specs.Log.{Entry}
-use Rattle.rows.specs.Lines.{◌⇒◌, begin, change, end, wake, cross, enter, enter_code, leave, edge, to_vm, from_vm, to_native, block, exit, take, finish, clear, hold, release, stack, start, install, invalidate, round, look, weigh, free, ask_depth, ask_top, ask_count, ask_census, open_oldest, tell, operate, close, count, state, resolve, ok, thread, exited, changes, no_change, go, stop, entered, wrong_method, reply, frames, interpreted, compiled, code, none, is_clear, late, not_looked, used, retired, asked, open_handshake, open_census, closed, told, gone, census, counted, counts, in_use, not_entrant, zombie, freed, refused}
+use Rattle.rows.specs.Lines.{◌⇒◌, begin, change, end, wake, cross, enter, enter_code, leave, edge, to_vm, from_vm, to_native, block, exit, take, finish, clear, hold, release, stack, start, install, invalidate, round, look, weigh, free, ask_depth, ask_top, ask_count, ask_census, open_oldest, tell, operate, close, close_of, count, state, resolve, ok, thread, exited, changes, no_change, go, stop, entered, wrong_method, reply, frames, interpreted, compiled, code, none, is_clear, late, not_looked, used, retired, asked, open_handshake, open_census, closed, told, gone, census, counted, counts, in_use, not_entrant, zombie, freed, refused}
 
 -- A publication can't end while a code is left to change; the count moves with the change. (1 place, 4 slots, 2 methods)
 abbrev pub one_publication : List Entry
@@ -55,9 +55,9 @@ publication_begun_before_the_round =
 abbrev pub slot_used_again : List Entry
 slot_used_again =
     start ⇒ thread 1 0 ∷ begin 0 ⇒ ok ∷ end 0 ⇒ ok ∷ wake 0 ⇒ ok ∷ cross 0 ⇒ go ∷ install 0 ⇒ code 1 ∷
-    install 0 ⇒ refused HasCode ∷ invalidate 1 ⇒ ok ∷ install 0 ⇒ refused TableFull ∷ round ⇒ ok ∷ begin 0 ⇒ ok ∷ end 0 ⇒ ok ∷
-    look 1 0 ⇒ is_clear ∷ weigh 1 ⇒ retired ∷ free 1 ⇒ ok ∷ install 0 ⇒ code 2 ∷ enter_code 0 0 1 ⇒ wrong_method ∷
-    enter_code 0 0 2 ⇒ entered ∷ enter_code 0 0 3 ⇒ refused Unknown ∷ resolve 0 ⇒ code 2 ∷ []
+    install 0 ⇒ refused TableFull ∷ invalidate 1 ⇒ ok ∷ install 0 ⇒ refused TableFull ∷ round ⇒ ok ∷ begin 0 ⇒ ok ∷
+    end 0 ⇒ ok ∷ look 1 0 ⇒ is_clear ∷ weigh 1 ⇒ retired ∷ free 1 ⇒ ok ∷ install 0 ⇒ code 2 ∷
+    enter_code 0 0 1 ⇒ wrong_method ∷ enter_code 0 0 2 ⇒ entered ∷ enter_code 0 0 3 ⇒ refused Unknown ∷ resolve 0 ⇒ code 2 ∷ []
 
 -- A method has its next code while a frame of the old one stands; a call of the old code is sent away. (1 place, 4 slots, 2 methods)
 abbrev pub next_code_of_a_method : List Entry
@@ -74,14 +74,14 @@ place_used_again =
     exit 0 ⇒ exited 1 ∷ start ⇒ thread 2 0 ∷ open_oldest ⇒ open_handshake 1 ∷ tell 1 ⇒ gone ∷ tell 2 ⇒ refused NotOf ∷
     close ⇒ closed 1 ∷ []
 
--- Two handshakes, one after the other, served by the thread itself. (1 place, 4 slots, 2 methods)
+-- Two handshakes are open, told and served one after the other by the thread itself. (1 place, 4 slots, 2 methods)
 abbrev pub two_operations_in_turn : List Entry
 two_operations_in_turn =
     start ⇒ thread 1 0 ∷ begin 0 ⇒ ok ∷ end 0 ⇒ ok ∷ wake 0 ⇒ ok ∷ cross 0 ⇒ go ∷ ask_depth (1 ∷ []) ⇒ asked 1 ∷
-    ask_top (1 ∷ []) ⇒ asked 2 ∷ open_oldest ⇒ open_handshake 1 ∷ open_oldest ⇒ refused AlreadyOpen ∷ tell 1 ⇒ told ∷
+    ask_top (1 ∷ []) ⇒ asked 2 ∷ open_oldest ⇒ open_handshake 1 ∷ open_oldest ⇒ open_handshake 2 ∷ tell 1 ⇒ told ∷
     exit 0 ⇒ refused OperationPending ∷ edge 0 ⇒ stop 1 ∷ clear 0 ⇒ refused (Illegal (AtPoll Java)) ∷ take 0 ⇒ ok ∷
     clear 0 ⇒ refused NotDone ∷ finish 0 ⇒ reply 0 ∷ finish 0 ⇒ refused AlreadyDone ∷ close ⇒ refused NotDone ∷ clear 0 ⇒ ok ∷
-    cross 0 ⇒ go ∷ close ⇒ closed 1 ∷ open_oldest ⇒ open_handshake 2 ∷ tell 1 ⇒ told ∷ edge 0 ⇒ stop 2 ∷ take 0 ⇒ ok ∷
+    cross 0 ⇒ go ∷ close ⇒ closed 1 ∷ open_oldest ⇒ refused QueueEmpty ∷ tell 1 ⇒ told ∷ edge 0 ⇒ stop 2 ∷ take 0 ⇒ ok ∷
     finish 0 ⇒ reply 0 ∷ clear 0 ⇒ ok ∷ cross 0 ⇒ go ∷ close ⇒ closed 2 ∷ []
 
 -- A thread in native code is held, published and served, and can't wake meanwhile. (1 place, 4 slots, 2 methods)
@@ -281,3 +281,34 @@ started_after_open =
     start ⇒ thread 1 0 ∷ begin 0 ⇒ ok ∷ end 0 ⇒ ok ∷ wake 0 ⇒ ok ∷ cross 0 ⇒ go ∷ ask_depth (1 ∷ 2 ∷ []) ⇒ asked 1 ∷
     open_oldest ⇒ open_handshake 1 ∷ tell 1 ⇒ told ∷ edge 0 ⇒ stop 1 ∷ take 0 ⇒ ok ∷ finish 0 ⇒ reply 0 ∷ clear 0 ⇒ ok ∷
     cross 0 ⇒ go ∷ exit 0 ⇒ exited 1 ∷ start ⇒ thread 2 0 ∷ tell 2 ⇒ gone ∷ close ⇒ closed 1 ∷ []
+
+-- Four handshakes are open; the least told one is done and cleared first, each closes for itself. (1 place, 4 slots, 2 methods)
+abbrev pub four_handshakes : List Entry
+four_handshakes =
+    start ⇒ thread 1 0 ∷ begin 0 ⇒ ok ∷ end 0 ⇒ ok ∷ wake 0 ⇒ ok ∷ cross 0 ⇒ go ∷ enter 0 1 ⇒ entered ∷
+    ask_depth (1 ∷ []) ⇒ asked 1 ∷ ask_top (1 ∷ []) ⇒ asked 2 ∷ ask_depth (1 ∷ []) ⇒ asked 3 ∷ ask_depth (2 ∷ []) ⇒ asked 4 ∷
+    ask_census ⇒ asked 5 ∷ open_oldest ⇒ open_handshake 1 ∷ open_oldest ⇒ open_handshake 2 ∷ open_oldest ⇒ open_handshake 3 ∷
+    open_oldest ⇒ open_handshake 4 ∷ open_oldest ⇒ refused AlreadyOpen ∷ tell 1 ⇒ told ∷ tell 1 ⇒ told ∷ edge 0 ⇒ stop 2 ∷
+    take 0 ⇒ ok ∷ finish 0 ⇒ reply 1 ∷ clear 0 ⇒ ok ∷ cross 0 ⇒ stop 2 ∷ close_of 3 ⇒ refused NotDone ∷ close ⇒ closed 1 ∷
+    take 0 ⇒ ok ∷ tell 1 ⇒ told ∷ finish 0 ⇒ reply 0 ∷ clear 0 ⇒ ok ∷ finish 0 ⇒ reply 1 ∷ clear 0 ⇒ ok ∷
+    tell 1 ⇒ refused AlreadyTold ∷ cross 0 ⇒ go ∷ close_of 3 ⇒ closed 3 ∷ open_oldest ⇒ refused AlreadyOpen ∷
+    close ⇒ closed 2 ∷ close_of 1 ⇒ refused NotOf ∷ tell 1 ⇒ refused NotOf ∷ tell 2 ⇒ gone ∷ close ⇒ closed 4 ∷
+    open_oldest ⇒ open_census 5 ∷ []
+
+-- A handshake of a name that is yet to start doesn't keep the next one waiting. (1 place, 4 slots, 2 methods)
+abbrev pub second_told_alone : List Entry
+second_told_alone =
+    start ⇒ thread 1 0 ∷ begin 0 ⇒ ok ∷ end 0 ⇒ ok ∷ wake 0 ⇒ ok ∷ cross 0 ⇒ go ∷ ask_depth (2 ∷ []) ⇒ asked 1 ∷
+    ask_depth (1 ∷ []) ⇒ asked 2 ∷ open_oldest ⇒ open_handshake 1 ∷ open_oldest ⇒ open_handshake 2 ∷ tell 1 ⇒ told ∷
+    edge 0 ⇒ stop 2 ∷ take 0 ⇒ ok ∷ finish 0 ⇒ reply 0 ∷ clear 0 ⇒ ok ∷ cross 0 ⇒ go ∷ exit 0 ⇒ exited 1 ∷
+    start ⇒ thread 2 0 ∷ tell 2 ⇒ gone ∷ close ⇒ closed 1 ∷ close ⇒ closed 2 ∷ []
+
+-- Code in use is replaced. (1 place, 4 slots, 2 methods)
+abbrev pub install_over : List Entry
+install_over =
+    start ⇒ thread 1 0 ∷ begin 0 ⇒ ok ∷ end 0 ⇒ ok ∷ wake 0 ⇒ ok ∷ cross 0 ⇒ go ∷ install 0 ⇒ code 1 ∷
+    enter_code 0 0 1 ⇒ entered ∷ install 0 ⇒ code 2 ∷ state 1 ⇒ not_entrant ∷ resolve 0 ⇒ code 2 ∷
+    enter_code 0 0 1 ⇒ wrong_method ∷ enter_code 0 0 2 ⇒ entered ∷ invalidate 1 ⇒ refused NotInUse ∷ look 1 0 ⇒ late ∷
+    round ⇒ ok ∷ begin 0 ⇒ ok ∷ change 0 ⇒ changes 1 (pos 1) ∷ change 0 ⇒ changes 2 (pos 1) ∷ end 0 ⇒ ok ∷
+    look 1 0 ⇒ is_clear ∷ weigh 1 ⇒ used 1 ∷ install 0 ⇒ code 3 ∷ install 0 ⇒ code 4 ∷ install 0 ⇒ refused TableFull ∷
+    state 4 ⇒ in_use ∷ state 3 ⇒ not_entrant ∷ []

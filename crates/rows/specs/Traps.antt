@@ -2,9 +2,9 @@
 use Rattle.std.specs.Prelude.{pos, negsuc, List, [], ◌∷◌}
 use Rattle.thread_state.specs.declared.Back.TheVariants.{Java, Vm}
 use Rattle.thread_state.specs.declared.State.TheVariants.{Vacant, New, NewTrans, InJava, InVm, InNative, NativeTrans, Blocked, BlockedTrans, AtPoll, Serving}
-use Rattle.system.specs.declared.answers.Refusal.TheVariants.{NoSuchPlace, Illegal, Publishing, NotBegun, ChangesLeft, Held, NoSuchMethod, Unknown, Unpublished, DepthFull, NotOf, StackNotEmpty, OperationPending, NotDone, NothingOpen, NotTold, AlreadyDone, NotSafe, NotHeld, SafepointOpen, PlacesFull, HasCode, TableFull, NotInUse, NotNotEntrant, QueueFull, NoTargets, BadTargets, AlreadyOpen, QueueEmpty, AlreadyTold, NotAllHeld}
+use Rattle.system.specs.declared.answers.Refusal.TheVariants.{NoSuchPlace, Illegal, Publishing, NotBegun, ChangesLeft, Held, NoSuchMethod, Unknown, Unpublished, DepthFull, NotOf, StackNotEmpty, OperationPending, NotDone, NothingOpen, NotTold, AlreadyDone, NotSafe, NotHeld, SafepointOpen, PlacesFull, TableFull, NotInUse, NotNotEntrant, QueueFull, NoTargets, BadTargets, AlreadyOpen, QueueEmpty, AlreadyTold, NotAllHeld}
 use Rattle.system.specs.Log.{Entry}
-use Rattle.rows.specs.Lines.{◌⇒◌, begin, change, end, wake, cross, enter, enter_code, leave, edge, to_vm, from_vm, to_native, block, exit, take, finish, clear, hold, release, stack, start, install, invalidate, round, look, weigh, free, ask_depth, ask_top, ask_count, ask_census, open_oldest, tell, operate, close, count, state, resolve, ok, thread, exited, changes, no_change, go, stop, entered, wrong_method, reply, frames, interpreted, compiled, code, none, is_clear, late, not_looked, used, retired, asked, open_handshake, open_census, closed, told, gone, census, counted, counts, freed, refused}
+use Rattle.rows.specs.Lines.{◌⇒◌, begin, change, end, wake, cross, enter, enter_code, leave, edge, to_vm, from_vm, to_native, block, exit, take, finish, clear, hold, release, stack, start, install, invalidate, round, look, weigh, free, ask_depth, ask_top, ask_count, ask_census, open_oldest, tell, operate, close, close_of, count, state, resolve, ok, thread, exited, changes, no_change, go, stop, entered, wrong_method, reply, frames, interpreted, compiled, code, none, is_clear, late, not_looked, used, retired, asked, open_handshake, open_census, closed, told, gone, census, counted, counts, freed, refused}
 
 -- A full queue is named before targets; no targets before bad ones. (1 place, 1 slot, 1 method)
 abbrev pub ask_order : List Entry
@@ -205,7 +205,7 @@ hold_order =
 -- Code in use is named before a full table; a zombie still takes its slot. (1 place, 2 slots, 2 methods)
 abbrev pub install_order : List Entry
 install_order =
-    install 0 ⇒ code 1 ∷ install 1 ⇒ code 2 ∷ install 0 ⇒ refused HasCode ∷ invalidate 1 ⇒ ok ∷
+    install 0 ⇒ code 1 ∷ install 1 ⇒ code 2 ∷ install 0 ⇒ refused TableFull ∷ invalidate 1 ⇒ ok ∷
     install 0 ⇒ refused TableFull ∷ look 1 0 ⇒ is_clear ∷ weigh 1 ⇒ retired ∷ install 0 ⇒ refused TableFull ∷
     resolve 0 ⇒ none ∷ free 1 ⇒ ok ∷ install 0 ⇒ code 3 ∷ resolve 0 ⇒ code 3 ∷ []
 
@@ -237,11 +237,15 @@ publication_of_a_held_thread =
     tell 1 ⇒ told ∷ finish 0 ⇒ refused (Illegal (InNative Java)) ∷ hold 0 ⇒ ok ∷ begin 0 ⇒ ok ∷
     finish 0 ⇒ refused Publishing ∷ end 0 ⇒ ok ∷ finish 0 ⇒ reply 0 ∷ finish 0 ⇒ refused AlreadyDone ∷ []
 
--- The refusals of Open, Operate and Close where nothing or another kind is open. (1 place, 1 slot, 1 method)
+-- The refusals of Open, Operate and Close where nothing or another kind is open; an open census, or a waiting one where a handshake
+-- is open, is named before an empty queue. (1 place, 1 slot, 1 method)
 abbrev pub open_order : List Entry
 open_order =
     open_oldest ⇒ refused QueueEmpty ∷ ask_depth (1 ∷ []) ⇒ asked 1 ∷ open_oldest ⇒ open_handshake 1 ∷
-    open_oldest ⇒ refused AlreadyOpen ∷ operate ⇒ refused NotOf ∷ close ⇒ closed 1 ∷ operate ⇒ refused NothingOpen ∷ []
+    open_oldest ⇒ refused QueueEmpty ∷ operate ⇒ refused NotOf ∷ ask_census ⇒ asked 2 ∷ ask_depth (1 ∷ []) ⇒ asked 3 ∷
+    open_oldest ⇒ refused AlreadyOpen ∷ close ⇒ closed 1 ∷ operate ⇒ refused NothingOpen ∷ open_oldest ⇒ open_census 2 ∷
+    open_oldest ⇒ refused AlreadyOpen ∷ operate ⇒ census [] ∷ close_of 2 ⇒ closed 2 ∷ open_oldest ⇒ open_handshake 3 ∷
+    close_of 2 ⇒ refused NotOf ∷ close_of 3 ⇒ closed 3 ∷ close_of 3 ⇒ refused NothingOpen ∷ []
 
 -- The common tests in their order: place, vacancy, publication, state. (2 places, 1 slot, 1 method)
 abbrev pub publishing_before_state : List Entry
@@ -487,3 +491,49 @@ acts_while_publishing =
     take 0 ⇒ refused Publishing ∷ finish 0 ⇒ refused Publishing ∷ clear 0 ⇒ refused Publishing ∷ hold 0 ⇒ refused Publishing ∷
     release 0 ⇒ refused Publishing ∷ stack 0 ⇒ frames [] ∷ change 0 ⇒ no_change ∷ end 0 ⇒ ok ∷ end 0 ⇒ refused NotBegun ∷
     release 0 ⇒ refused NotHeld ∷ []
+
+-- Four are open, and a handshake is closed by its number. (1 place, 1 slot, 1 method)
+abbrev pub open_order_of_four : List Entry
+open_order_of_four =
+    ask_depth (1 ∷ []) ⇒ asked 1 ∷ ask_depth (1 ∷ []) ⇒ asked 2 ∷ ask_depth (1 ∷ []) ⇒ asked 3 ∷
+    ask_depth (1 ∷ []) ⇒ asked 4 ∷ open_oldest ⇒ open_handshake 1 ∷ open_oldest ⇒ open_handshake 2 ∷
+    open_oldest ⇒ open_handshake 3 ∷ open_oldest ⇒ open_handshake 4 ∷ open_oldest ⇒ refused AlreadyOpen ∷
+    operate ⇒ refused NotOf ∷ close_of 4 ⇒ closed 4 ∷ open_oldest ⇒ refused QueueEmpty ∷ close ⇒ closed 1 ∷ close ⇒ closed 2 ∷
+    close ⇒ closed 3 ∷ ask_census ⇒ asked 5 ∷ open_oldest ⇒ open_census 5 ∷ open_oldest ⇒ refused AlreadyOpen ∷ []
+
+-- A held thread keeps open those alone that it is a target of. (2 places, 4 slots, 2 methods)
+abbrev pub held_target_of_another : List Entry
+held_target_of_another =
+    start ⇒ thread 1 0 ∷ begin 0 ⇒ ok ∷ end 0 ⇒ ok ∷ wake 0 ⇒ ok ∷ cross 0 ⇒ go ∷ start ⇒ thread 2 1 ∷ begin 1 ⇒ ok ∷
+    end 1 ⇒ ok ∷ wake 1 ⇒ ok ∷ cross 1 ⇒ go ∷ ask_depth (1 ∷ []) ⇒ asked 1 ∷ ask_depth (2 ∷ []) ⇒ asked 2 ∷
+    open_oldest ⇒ open_handshake 1 ∷ open_oldest ⇒ open_handshake 2 ∷ tell 1 ⇒ told ∷ tell 2 ⇒ told ∷ edge 0 ⇒ stop 1 ∷
+    edge 1 ⇒ stop 2 ∷ take 0 ⇒ ok ∷ finish 0 ⇒ reply 0 ∷ clear 0 ⇒ ok ∷ hold 1 ⇒ ok ∷ close_of 2 ⇒ refused Held ∷
+    close_of 1 ⇒ closed 1 ∷ finish 0 ⇒ refused NotOf ∷ finish 1 ⇒ reply 0 ∷ clear 1 ⇒ ok ∷ release 1 ⇒ ok ∷ close ⇒ closed 2 ∷ []
+
+-- A held target by name, live or not, keeps its operation open. (2 places, 4 slots, 2 methods)
+abbrev pub held_target_started_later : List Entry
+held_target_started_later =
+    start ⇒ thread 1 0 ∷ begin 0 ⇒ ok ∷ end 0 ⇒ ok ∷ wake 0 ⇒ ok ∷ cross 0 ⇒ go ∷ ask_depth (1 ∷ 2 ∷ []) ⇒ asked 1 ∷
+    open_oldest ⇒ open_handshake 1 ∷ start ⇒ thread 2 1 ∷ ask_depth (2 ∷ []) ⇒ asked 2 ∷ open_oldest ⇒ open_handshake 2 ∷
+    tell 1 ⇒ told ∷ tell 2 ⇒ told ∷ edge 0 ⇒ stop 1 ∷ take 0 ⇒ ok ∷ finish 0 ⇒ reply 0 ∷ clear 0 ⇒ ok ∷ hold 1 ⇒ ok ∷
+    close_of 1 ⇒ refused Held ∷ []
+
+-- Finish and Clear go by the least number that is told. (1 place, 4 slots, 2 methods)
+abbrev pub least_first : List Entry
+least_first =
+    start ⇒ thread 1 0 ∷ begin 0 ⇒ ok ∷ end 0 ⇒ ok ∷ wake 0 ⇒ ok ∷ cross 0 ⇒ go ∷ ask_depth (1 ∷ []) ⇒ asked 1 ∷
+    ask_count 1 (1 ∷ []) ⇒ asked 2 ∷ ask_top (1 ∷ []) ⇒ asked 3 ∷ open_oldest ⇒ open_handshake 1 ∷
+    open_oldest ⇒ open_handshake 2 ∷ tell 1 ⇒ told ∷ edge 0 ⇒ stop 1 ∷ tell 1 ⇒ told ∷ take 0 ⇒ ok ∷
+    open_oldest ⇒ open_handshake 3 ∷ tell 1 ⇒ told ∷ tell 1 ⇒ refused AlreadyTold ∷ clear 0 ⇒ refused NotDone ∷
+    finish 0 ⇒ reply 0 ∷ finish 0 ⇒ reply 0 ∷ clear 0 ⇒ ok ∷ close_of 3 ⇒ refused NotDone ∷ close_of 2 ⇒ refused NotDone ∷
+    cross 0 ⇒ stop 3 ∷ close ⇒ closed 1 ∷ hold 0 ⇒ ok ∷ clear 0 ⇒ ok ∷ clear 0 ⇒ refused NotDone ∷ finish 0 ⇒ reply 0 ∷
+    finish 0 ⇒ refused AlreadyDone ∷ close_of 2 ⇒ refused Held ∷ release 0 ⇒ ok ∷ close_of 2 ⇒ closed 2 ∷ hold 0 ⇒ ok ∷
+    clear 0 ⇒ ok ∷ release 0 ⇒ ok ∷ hold 0 ⇒ refused AlreadyDone ∷ take 0 ⇒ ok ∷ cross 0 ⇒ go ∷ close ⇒ closed 3 ∷ []
+
+-- Each open operation has its own live targets. (1 place, 1 slot, 1 method)
+abbrev pub own_live_targets : List Entry
+own_live_targets =
+    ask_depth (1 ∷ []) ⇒ asked 1 ∷ open_oldest ⇒ open_handshake 1 ∷ start ⇒ thread 1 0 ∷ tell 1 ⇒ gone ∷
+    ask_depth (1 ∷ []) ⇒ asked 2 ∷ open_oldest ⇒ open_handshake 2 ∷ tell 1 ⇒ told ∷ tell 1 ⇒ refused AlreadyTold ∷
+    close_of 1 ⇒ closed 1 ∷ close ⇒ refused NotDone ∷ hold 0 ⇒ ok ∷ finish 0 ⇒ reply 0 ∷ finish 0 ⇒ refused AlreadyDone ∷
+    clear 0 ⇒ ok ∷ release 0 ⇒ ok ∷ close ⇒ closed 2 ∷ []

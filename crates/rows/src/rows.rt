@@ -47,7 +47,7 @@ pub fn place_used_again()
     ensures { Plays 1 4 2 Rows.place_used_again }
 {}
 
-/// Two handshakes, one after the other, served by the thread itself.
+/// Two handshakes are open, told and served one after the other by the thread itself.
 pub fn two_operations_in_turn()
     ensures { Plays 1 4 2 Rows.two_operations_in_turn }
 {}
@@ -115,4 +115,19 @@ pub fn asks_of_a_stack()
 /// A listed thread that starts after the opening is no live target.
 pub fn started_after_open()
     ensures { Plays 1 4 2 Rows.started_after_open }
+{}
+
+/// Four handshakes are open at once, and each closes for itself.
+pub fn four_handshakes()
+    ensures { Plays 1 4 2 Rows.four_handshakes }
+{}
+
+/// A second handshake is told where the first has no live target.
+pub fn second_told_alone()
+    ensures { Plays 1 4 2 Rows.second_told_alone }
+{}
+
+/// Code in use is replaced: the old is not entrant, and the new one is in use.
+pub fn install_over()
+    ensures { Plays 1 4 2 Rows.install_over }
 {}

@@ -211,3 +211,28 @@ pub fn acts_by_state()
 pub fn acts_while_publishing()
     ensures { Plays 1 1 1 Traps.acts_while_publishing }
 {}
+
+/// Four are open, and one is closed by its number.
+pub fn open_order_of_four()
+    ensures { Plays 1 1 1 Traps.open_order_of_four }
+{}
+
+/// A held thread keeps open those operations alone that it is a target of.
+pub fn held_target_of_another()
+    ensures { Plays 2 4 2 Traps.held_target_of_another }
+{}
+
+/// A held target by name, live or not, keeps its operation open.
+pub fn held_target_started_later()
+    ensures { Plays 2 4 2 Traps.held_target_started_later }
+{}
+
+/// Finish and Clear go by the least number that is told.
+pub fn least_first()
+    ensures { Plays 1 4 2 Traps.least_first }
+{}
+
+/// Each open operation has its own live targets.
+pub fn own_live_targets()
+    ensures { Plays 1 1 1 Traps.own_live_targets }
+{}

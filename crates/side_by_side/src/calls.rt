@@ -63,10 +63,12 @@ pub enum RequestCall {
     Submit(Handshake),
     Open,
     Close,
+    CloseOf(u64),
     Drive,
+    DriveFour,
 }
 
-/// A step of the open request, for a name, for a place, or for all.
+/// A step of the open requests, for a name, for a place, or for all.
 #[derive(Clone, Copy, PartialEq, Eq, Debug, Drop)]
 pub enum StepCall {
     Tell(u64),

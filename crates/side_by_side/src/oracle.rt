@@ -19,6 +19,9 @@ use thread_state::State;
 /// A publication has at most so many changes: each of 256 frames may be gone, and another in its place.
 const CHANGES: usize = 512;
 
+/// How many handshakes are open at most.
+const OPEN: usize = 4;
+
 /// A live thread.
 #[derive(Clone, Copy, PartialEq, Eq, Debug, Drop)]
 pub struct Live {
@@ -33,7 +36,7 @@ pub struct Waiting {
     pub targets: Option<Vec<u64>>,
 }
 
-/// The open request, with the names that were given out at its Open and those that are done.
+/// An open request, with the names that were given out at its Open and those that are done.
 #[derive(Drop)]
 pub struct Opened {
     pub number: u64,
@@ -69,10 +72,13 @@ pub struct Oracle {
     pub live: Vec<Live>,
     pub names: u64,
     pub waiting: Vec<Waiting>,
-    pub open: Option<Opened>,
+    /// The oldest first.
+    pub open: Vec<Opened>,
     /// The places whose threads are held, in the order in which they were.
     pub held: Vec<usize>,
-    /// By place, the number that was told there and isn't cleared; 0 for none.
+    /// By place, the last number that was told there.
+    told: Vec<u64>,
+    /// By place, the same where it isn't cleared; 0 for none.
     pub armed: Vec<u64>,
     /// By slot, the serial of the code there; 0 for none.
     pub slots: Vec<u64>,
@@ -101,8 +107,9 @@ impl Oracle {
             live: Vec::new(alloc),
             names: 0,
             waiting: Vec::new(alloc),
-            open: None,
+            open: Vec::new(alloc),
             held: Vec::new(alloc),
+            told: vec![in alloc; 0; places]?,
             armed: vec![in alloc; 0; places]?,
             slots: vec![in alloc; 0; slots as usize]?,
             hints: vec![in alloc; None; methods as usize]?,
@@ -180,7 +187,7 @@ impl Oracle {
         }
     }
 
-    /// The number that was told at the place and isn't cleared; 0 for none.
+    /// The last number that was told at the place, where it isn't cleared; 0 for none.
     pub fn armed_at(&self, place: usize) -> u64 {
         self.armed.get(place).copied().unwrap_or(0)
     }
@@ -194,6 +201,18 @@ impl Oracle {
         if let Some(word) = self.armed.get_mut(place) {
             *word = number;
         }
+        if let Some(last) = self.told.get_mut(place) {
+            *last = number;
+        }
+    }
+
+    // A number is cleared: a greater one that was told stays.
+    fn disarm(&mut self, place: usize, number: u64) {
+        if let Some(word) = self.armed.get_mut(place) {
+            if *word == number {
+                *word = 0;
+            }
+        }
     }
 
     fn place_of(&self, name: u64) -> Option<usize> {
@@ -205,25 +224,58 @@ impl Oracle {
         None
     }
 
-    fn name_at(&self, place: usize) -> Option<u64> {
-        for live in &self.live {
-            if live.place == place {
-                return Some(live.name);
+    fn is_held(&self, place: usize) -> bool {
+        self.held.contains(&place)
+    }
+
+    /// Whether a census is open.
+    pub fn is_census(&self) -> bool {
+        match self.open.first() {
+            Some(open) => open.targets.is_none(),
+            None => false,
+        }
+    }
+
+    /// Whether a live thread is due for an open request.
+    pub fn is_due(&self, name: u64) -> bool {
+        for open in &self.open {
+            if open.is_due(name) {
+                return true;
+            }
+        }
+        false
+    }
+
+    /// The oldest open request that is of a live thread and wasn't told to it.
+    pub fn untold(&self, live: Live) -> Option<u64> {
+        let last = self.told.get(live.place).copied().unwrap_or(0);
+        for open in &self.open {
+            if open.is_of(live.name) && open.number > last {
+                return Some(open.number);
             }
         }
         None
     }
 
-    fn is_held(&self, place: usize) -> bool {
-        self.held.contains(&place)
+    /// The oldest open request that was told to a live thread and that it isn't done with.
+    pub fn undone(&self, live: Live) -> Option<u64> {
+        let last = self.told.get(live.place).copied().unwrap_or(0);
+        for open in &self.open {
+            if open.is_due(live.name) && open.number <= last {
+                return Some(open.number);
+            }
+        }
+        None
     }
 
-    /// Whether the open request is a census.
-    pub fn is_census(&self) -> bool {
-        match &self.open {
-            Some(open) => open.targets.is_none(),
-            None => false,
+    // The live thread at the place.
+    fn live_at(&self, place: usize) -> Option<Live> {
+        for live in &self.live {
+            if live.place == place {
+                return Some(*live);
+            }
         }
+        None
     }
 
     /// Whether a census was told to the thread at the place and isn't operated: then it doesn't go on past a stop.

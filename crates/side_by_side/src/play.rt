@@ -35,6 +35,8 @@ pub struct Tally {
     pub replies: u64,
     pub censuses: u64,
     pub freed: u64,
+    /// Opens beside others that were open.
+    pub beside: u64,
 }
 
 /// Why a schedule isn't played to its end.
@@ -54,8 +56,8 @@ impl From<AllocError> for Stopped {
 // How many draws there are for a call that has nothing to wait for.
 const DRAWS: u32 = 1000;
 
-// How many requests there can be at the end: those that wait, and the open one.
-const REQUESTS: u32 = 66;
+// How many requests there can be at the end: those that wait, and those that are open.
+const REQUESTS: u32 = 69;
 
 // How many returns empty a stack, with the one that is refused.
 const RETURNS: u32 = 257;
@@ -148,6 +150,7 @@ impl Tally {
             replies: 0,
             censuses: 0,
             freed: 0,
+            beside: 0,
         }
     }
 
@@ -159,6 +162,7 @@ impl Tally {
         self.replies = self.replies.saturating_add(other.replies);
         self.censuses = self.censuses.saturating_add(other.censuses);
         self.freed = self.freed.saturating_add(other.freed);
+        self.beside = self.beside.saturating_add(other.beside);
     }
 
     fn note(&mut self, said: &Said) -> Made {
@@ -187,6 +191,9 @@ impl<'a, N: Name, J: Errand> Pair<'a, N, J> {
         };
         let said = self.running.answer(rt, self.alloc, sizes, &call)?;
         let made = self.tally.note(&said);
+        if matches!(said, Said::Opened(_)) && self.oracle.open.len() > 1 {
+            self.tally.beside = self.tally.beside.saturating_add(1);
+        }
         match self.unlike(rt, sizes, core, said)? {
             None => Ok(made),
             Some(found) => Err(Stopped::Differ(self.tally.calls, call, found)),
@@ -302,8 +309,13 @@ impl<'a, N: Name, J: Errand> Pair<'a, N, J> {
     fn drive_all<R: Wait>(&mut self, rt: &R, sizes: Sizes) -> Result<bool, Stopped>
         requires sizes { (sizes.places ≡ N.board.places) × (sizes.slots ≡ N.board.slots) }
     {
-        for _request in 0..REQUESTS {
-            match self.make(rt, sizes, Call::Request(RequestCall::Drive))? {
+        for request in 0..REQUESTS {
+            let call = if request % 2 == 0 {
+                RequestCall::DriveFour
+            } else {
+                RequestCall::Drive
+            };
+            match self.make(rt, sizes, Call::Request(call))? {
                 Made::Waits => return Ok(false),
                 Made::Refused => break,
                 Made::Done => {}

@@ -108,7 +108,6 @@ impl Said {
     pub fn of_code(fault: CodeFault) -> Result<Said, AllocError> {
         Ok(Said::Refused(match fault {
             CodeFault::Install(InstallFault::NoSuchMethod) => Refusal::NoSuchMethod,
-            CodeFault::Install(InstallFault::HasCode) => Refusal::HasCode,
             CodeFault::Install(InstallFault::TableFull) => Refusal::TableFull,
             CodeFault::Install(InstallFault::SerialsSpent) => Refusal::SerialsSpent,
             CodeFault::HistoryFull => return Ok(Said::HistoryFull),
@@ -218,6 +217,7 @@ pub fn of_open(fault: OpenFault) -> Refusal {
 pub fn of_close(fault: CloseFault) -> Refusal {
     match fault {
         CloseFault::NothingOpen => Refusal::NothingOpen,
+        CloseFault::NotOf => Refusal::NotOf,
         CloseFault::Held => Refusal::Held,
         CloseFault::NotDone => Refusal::NotDone,
     }

@@ -30,13 +30,13 @@ pub struct Scene<'s, 'a, N: Name, J: Errand> {
 // Whom a step of a request is for.
 #[derive(Clone, Copy, PartialEq, Eq, Debug, Drop)]
 enum Want {
-    /// Of the open request, and not told.
+    /// Of an open request, and not told.
     Untold,
-    /// Told and not held.
+    /// Told what isn't done, and not held.
     Unheld,
     /// Held, and told what isn't done.
     Unserved,
-    /// Held, and done.
+    /// Held, and done with what was told.
     Served,
 }
 
@@ -183,9 +183,9 @@ impl<N: Name, J: Errand> Scene<'_, '_, N, J> {
 
     // Where a request is open or waits, that is mostly worked on first.
     fn reclaim(&self, draw: &mut Draw) -> Result<Call, AllocError> {
-        let idle = self.oracle.open.is_none() && self.oracle.waiting.is_empty();
+        let idle = self.oracle.open.is_empty() && self.oracle.waiting.is_empty();
         if !idle && !draw.one_in(8) {
-            return Ok(Call::Request(RequestCall::Drive));
+            return Ok(self.drive(draw));
         }
         if draw.one_in(2) {
             return Ok(Call::Code(CodeCall::Reclaim(self.serial(draw), None)));
@@ -245,13 +245,10 @@ impl<N: Name, J: Errand> Scene<'_, '_, N, J> {
     }
 
     fn is_wanted(&self, want: Want, live: Live) -> bool {
-        let Some(open) = &self.oracle.open else {
-            return false;
-        };
-        let told = self.oracle.armed_at(live.place) != 0;
+        let told = self.oracle.undone(live).is_some();
         let held = self.oracle.held.contains(&live.place);
         match want {
-            Want::Untold => open.is_due(live.name) && !told,
+            Want::Untold => self.oracle.untold(live).is_some(),
             Want::Unheld => told && !held && self.is_away(live.name),
             Want::Unserved => told && held,
             Want::Served => held && !told,
@@ -315,18 +312,48 @@ impl<N: Name, J: Errand> Scene<'_, '_, N, J> {
         if self.habits.greedy && self.phase == Phase::Stay && !draw.one_in(8) {
             return self.submit(draw);
         }
-        if self.oracle.open.is_some() || draw.one_in(8) {
+        if !self.oracle.open.is_empty() && draw.one_in(3) {
+            return self.open_more(draw);
+        }
+        if !self.oracle.open.is_empty() || draw.one_in(8) {
             return self.step_of_request(draw);
         }
         match draw.below(12) {
             0..=3 => self.submit(draw),
-            4..=6 => Ok(Call::Request(RequestCall::Drive)),
+            4..=6 => Ok(self.drive(draw)),
             7 => self.reclaim(draw),
             _ => Ok(Call::Request(RequestCall::Open)),
         }
     }
 
-    // A step of the open request that is lawful, from a drawn kind on; now and then any, and where there is none any too.
+    fn drive(&self, draw: &mut Draw) -> Call {
+        if draw.one_in(2) {
+            return Call::Request(RequestCall::DriveFour);
+        }
+        Call::Request(RequestCall::Drive)
+    }
+
+    // One more is opened, or where none waits asked for.
+    fn open_more(&self, draw: &mut Draw) -> Result<Call, AllocError> {
+        if self.oracle.waiting.is_empty() {
+            return self.submit(draw);
+        }
+        Ok(Call::Request(RequestCall::Open))
+    }
+
+    // The oldest is closed, or that of a number, which may be open or not.
+    fn close(&self, draw: &mut Draw) -> Call {
+        if draw.one_in(2) {
+            return Call::Request(RequestCall::Close);
+        }
+        let index = draw.index(self.oracle.open.len().saturating_add(1));
+        match self.oracle.open.get(index) {
+            Some(open) => Call::Request(RequestCall::CloseOf(open.number)),
+            None => Call::Request(RequestCall::CloseOf(draw.below(9))),
+        }
+    }
+
+    // A step of the open requests that is lawful, from a drawn kind on; now and then any, and where there is none any too.
     fn step_of_request(&self, draw: &mut Draw) -> Result<Call, AllocError> {
         if draw.one_in(5) {
             return self.any_step(draw);
@@ -338,7 +365,7 @@ impl<N: Name, J: Errand> Scene<'_, '_, N, J> {
             }
         }
         if self.oracle.held.is_empty() && draw.one_in(2) {
-            return Ok(Call::Request(RequestCall::Close));
+            return Ok(self.close(draw));
         }
         self.any_step(draw)
     }
@@ -368,10 +395,10 @@ impl<N: Name, J: Errand> Scene<'_, '_, N, J> {
             5 | 6 => Call::Step(StepCall::Serve(self.place_of_thread(draw))),
             7 | 8 => Call::Step(StepCall::Operate),
             9 => Call::Step(StepCall::Release(self.place_of_thread(draw))),
-            10 | 11 => Call::Request(RequestCall::Close),
+            10 | 11 => self.close(draw),
             12 => Call::Request(RequestCall::Open),
             13 => self.submit(draw)?,
-            _ => Call::Request(RequestCall::Drive),
+            _ => self.drive(draw),
         })
     }
 }

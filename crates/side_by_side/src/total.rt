@@ -51,9 +51,10 @@ impl fmt::Display for Total {
         let replies = all.replies;
         let censuses = all.censuses;
         let freed = all.freed;
+        let beside = all.beside;
         write!(
             f,
-            "{seeds} seeds from {first}: no difference in {calls} calls, of which {refused} were refused; {exits} exits, {replies} replies, {censuses} censuses, {freed} codes reclaimed"
+            "{seeds} seeds from {first}: no difference in {calls} calls, of which {refused} were refused; {exits} exits, {replies} replies, {censuses} censuses, {freed} codes reclaimed, {beside} handshakes opened beside others"
         )
     }
 }

@@ -105,11 +105,13 @@ impl<'a, N: Name, J: Errand, R: Wait> Driver<'a, N, J, R> {
                 self.invalidate(method)?;
             }
         }
-        match self.choices.below(6) {
-            0 | 1 => self.ask_and_drive(),
-            2 => self.count_by_hand(),
-            3 => self.shake_by_hand(),
-            4 => self.reclaim_with_jobs(),
+        match self.choices.below(8) {
+            0 => self.ask_and_drive(),
+            1 | 2 => self.ask_and_drive_four(),
+            3 => self.count_by_hand(),
+            4 => self.shake_by_hand(),
+            5 => self.shake_four_by_hand(),
+            6 => self.reclaim_with_jobs(),
             _ => self.reclaim(),
         }?;
         self.reclaim()
@@ -122,14 +124,18 @@ impl<'a, N: Name, J: Errand, R: Wait> Driver<'a, N, J, R> {
         }
     }
 
-    // Installs a code for the method, which is refused where it has one or no slot is free.
+    // Installs a code for the method, which is refused where no slot is free. Where the method has one, that is out of use then.
     fn install(&mut self, method: u32) -> Result<(), Wrong> {
-        let has_code = self.codes.current(method).is_some();
+        let replaced = self.codes.current(method);
         let are_full = self.codes.are_full();
         match self.shared.install(self.rt, method) {
             Ok((serial, _receipt)) => {
-                if has_code || are_full {
+                if are_full {
                     return Err(Wrong::Answer(Step::Install));
+                }
+                if let Some(old) = replaced {
+                    self.signals.note_invalidated(method, old);
+                    self.codes.note_invalidated(method, old)?;
                 }
                 self.codes.note_installed(method)?;
                 self.tally.installed = self.tally.installed.saturating_add(1);
@@ -138,8 +144,7 @@ impl<'a, N: Name, J: Errand, R: Wait> Driver<'a, N, J, R> {
                 }
                 Ok(())
             }
-            Err(CodeFault::Install(InstallFault::HasCode)) if has_code => Ok(()),
-            Err(CodeFault::Install(InstallFault::TableFull)) if are_full && !has_code => Ok(()),
+            Err(CodeFault::Install(InstallFault::TableFull)) if are_full => Ok(()),
             Err(_) => Err(Wrong::Answer(Step::Install)),
         }
     }

@@ -41,6 +41,9 @@ const METHODS: u32 = 5;
 // How many threads exit for another in a round at most.
 const RENEWALS: u64 = 2;
 
+// How many lists of jobs there are for a round: one round takes none, another as many as four.
+const LISTS: u64 = 2;
+
 const MOST_THREADS: u64 = 64;
 
 // The history of a run has room for so many, and so has memory for their jobs.
@@ -111,9 +114,10 @@ fn make_run<R: Threads + Wait + Sync>(
         return Err(Wrong::NoMemory);
     };
     let names = threads.saturating_add(rounds.saturating_mul(RENEWALS));
+    let lists = rounds.saturating_mul(LISTS);
     let mut jobs = Vec::new(alloc);
-    for before in 0..rounds {
-        let ask = ask_of(rounds.saturating_sub(before));
+    for before in 0..lists {
+        let ask = ask_of(lists.saturating_sub(before));
         let mut list = Vec::new(alloc);
         for name in 0..names {
             let call: Call = Box::new(
@@ -143,6 +147,6 @@ fn ask_of(behind: u64) -> Ask {
     match behind % 3 {
         0 => Ask::Depth,
         1 => Ask::Top,
-        _ => Ask::CountOf(behind - behind / 4),
+        _ => Ask::CountOf(behind / LISTS),
     }
 }

@@ -14,6 +14,9 @@ use std::thread;
 // How many requests wait at most beside each other.
 const BATCH: u64 = 3;
 
+// The same where they are worked on at once: some stay for a second time.
+const FOUR: u64 = 6;
+
 /// A request that waits, or is worked on: what it asks of which names, None for a census.
 #[derive(Drop)]
 pub struct Asked {
@@ -57,14 +60,58 @@ impl<'a, N: Name, J: Errand, R: Wait> Driver<'a, N, J, R> {
         }
     }
 
+    /// Some requests wait, and are worked on up to four at once, or a census alone, until none is left.
+    pub fn ask_and_drive_four(&mut self) -> Result<(), Wrong> {
+        let mut waiting = Vec::new(self.alloc);
+        let count = self.choices.below(FOUR) + 1;
+        for _ in 0..count {
+            let asked = self.submit()?;
+            waiting.push(asked).map_err(|_| AllocError)?;
+        }
+        let closed = self.drive_all()?;
+        if closed != count {
+            return Err(Wrong::Answer(Step::Drive));
+        }
+        for asked in waiting {
+            if asked.ask.is_some() {
+                self.check_handshake(&asked)?;
+            } else {
+                self.tally.censuses = self.tally.censuses.saturating_add(1);
+            }
+        }
+        Ok(())
+    }
+
+    // Works on all that waits, up to four at once. Answers how many requests were closed.
+    fn drive_all(&mut self) -> Result<u64, Wrong> {
+        let rt = self.rt;
+        let mut closed: u64 = 0;
+        for _ in rt.forever() {
+            match self.coordinator.drive_four(rt) {
+                Ok(count) => closed = closed.saturating_add(count as u64),
+                Err(DriveFault::QueueEmpty) => return Ok(closed),
+                Err(DriveFault::NoMemory) => return Err(Wrong::NoMemory),
+            }
+        }
+        unreachable!()
+    }
+
     // A handshake of all live threads waits, or a census.
     fn submit(&mut self) -> Result<Asked, Wrong> {
         if self.choices.one_in(3) {
             return self.submit_census();
         }
+        match self.submit_handshake()? {
+            Some(asked) => Ok(asked),
+            None => self.submit_census(),
+        }
+    }
+
+    // A handshake of all live threads waits. None where no jobs are left.
+    fn submit_handshake(&mut self) -> Result<Option<Asked>, Wrong> {
         let jobs = self.jobs_for_live()?;
         let Some((first, _)) = jobs.as_slice().split_first() else {
-            return self.submit_census();
+            return Ok(None);
         };
         let ask = first.ask_of();
         let targets = targets_of(self.alloc, jobs.as_slice())?;
@@ -74,7 +121,7 @@ impl<'a, N: Name, J: Errand, R: Wait> Driver<'a, N, J, R> {
             ask,
         };
         match self.shared.submit(self.rt, request, jobs) {
-            Ok((op, _receipt)) => self.note_asked(op, Some(ask), targets),
+            Ok((op, _receipt)) => Ok(Some(self.note_asked(op, Some(ask), targets)?)),
             Err(_) => Err(Wrong::Answer(Step::Submit)),
         }
     }
@@ -152,7 +199,7 @@ impl<'a, N: Name, J: Errand, R: Wait> Driver<'a, N, J, R> {
         check_replies(asked.op, ask, &self.codes, replies.as_slice())
     }
 
-    // Opens the one request that waits.
+    // Opens the oldest request that waits.
     fn open(&mut self, op: u64) -> Result<(), Wrong> {
         match self.coordinator.open(self.rt) {
             Ok((opened, _receipt)) => {
@@ -241,7 +288,47 @@ impl<'a, N: Name, J: Errand, R: Wait> Driver<'a, N, J, R> {
         self.check_handshake(&asked)
     }
 
-    // Holds each thread that can be held, serves it and lets it go.
+    /// Up to four handshakes at once, step by step, closed in any order.
+    pub fn shake_four_by_hand(&mut self) -> Result<(), Wrong> {
+        let mut left = Vec::new(self.alloc);
+        for _ in 0..4 {
+            if let Some(asked) = self.submit_handshake()? {
+                left.push(asked).map_err(|_| AllocError)?;
+            }
+        }
+        for asked in &left {
+            self.open(asked.op)?;
+        }
+        for asked in &left {
+            self.tell_all(asked.targets.as_slice())?;
+        }
+        let rt = self.rt;
+        for _ in rt.forever() {
+            if left.is_empty() {
+                return Ok(());
+            }
+            self.serve_held()?;
+            left = self.close_some(left)?;
+            thread::yield_now();
+        }
+        unreachable!()
+    }
+
+    // Closes those that can be closed. Answers the others, the other way round.
+    fn close_some(&mut self, asked: Vec<Asked>) -> Result<Vec<Asked>, Wrong> {
+        let mut left = Vec::new(self.alloc);
+        let mut rest = asked;
+        while let Some(asked) = rest.pop() {
+            match self.coordinator.close_of(self.rt, asked.op) {
+                Ok(_) => self.check_handshake(&asked)?,
+                Err(CloseFault::NotDone) => left.push(asked).map_err(|_| AllocError)?,
+                Err(_) => return Err(Wrong::Answer(Step::Close)),
+            }
+        }
+        Ok(left)
+    }
+
+    // Holds each thread that can be held, serves all that it was told and lets it go.
     fn serve_held(&mut self) -> Result<(), Wrong> {
         let rt = self.rt;
         for place in 0..self.places {
@@ -255,14 +342,24 @@ impl<'a, N: Name, J: Errand, R: Wait> Driver<'a, N, J, R> {
                 ) => continue,
                 Err(_) => return Err(Wrong::Answer(Step::Hold)),
             }
-            match self.coordinator.serve(rt, place) {
-                Ok(_) | Err(ServeFault::AlreadyDone) => {}
-                Err(_) => return Err(Wrong::Answer(Step::Serve)),
-            }
+            self.serve_told(place)?;
             if self.coordinator.release(rt, place).is_err() {
                 return Err(Wrong::Answer(Step::Release));
             }
         }
         Ok(())
+    }
+
+    // Serves a held thread until it is done with all that it was told.
+    fn serve_told(&mut self, place: usize) -> Result<(), Wrong> {
+        let rt = self.rt;
+        for _ in rt.forever() {
+            match self.coordinator.serve(rt, place) {
+                Ok(_) => {}
+                Err(ServeFault::AlreadyDone) => return Ok(()),
+                Err(_) => return Err(Wrong::Answer(Step::Serve)),
+            }
+        }
+        unreachable!()
     }
 }

@@ -1,5 +1,5 @@
 -- Each event comes to one of the cases.
-use Rattle.std.proofs.Common.{◌≡◌, ◌⊎◌, ℕ, suc, ◌+◌, ◌<◌, Bool, true, false, cond, List, [], ◌∷◌, length, Option, Some, None, sym, refl, ap, inl, inr, subst, arith}
+use Rattle.std.proofs.Common.{◌≡◌, ◌⊎◌, ℕ, suc, ◌+◌, ◌<◌, Bool, true, false, cond, List, [], ◌∷◌, ◌++◌, length, Option, Some, None, sym, refl, ap, inl, inr, subst, arith}
 use Rattle.std.specs.Prelude.{not, ◌||◌, ◌&&◌, ◌==◌, is_some, is_none, nat_lt, nat_le, slice_get, slice_set, option_map, find, filter}
 use Rattle.std.specs.List.{list_any}
 use Rattle.std.proofs.lemmas.Bool.{false≢true, and_parts, not-true, ltb-true, leb-true, eqb-true, eqb-false}
@@ -23,7 +23,7 @@ use Rattle.system.specs.declared.answers.Refusal.TheVariants as refusal
 use Rattle.system.specs.Verdict.{Verdict, refused, accepted, unless◌refuse◌then◌}
 use Rattle.thread_state.specs.States.{step, cross, is_safe, may_cross, is_in_java, is_in_vm}
 use Rattle.method_table.specs.Numbers.{last_number}
-use Rattle.method_table.specs.Codes.{id_of, is_in_use, is_not_entrant, is_zombie, takes_slot, code_of, unfreed, in_use_for, free_slot, next_serial, with_code, with_state}
+use Rattle.method_table.specs.Codes.{id_of, is_in_use, is_not_entrant, is_zombie, takes_slot, code_of, unfreed, in_use_for, free_slot, next_serial, with_code, with_state, without_use}
 use Rattle.operations.specs.Names.{is_empty}
 use Rattle.operations.specs.Requests.{is_census, lists, is_target, has_targets, are_targets, reply_to}
 use Rattle.system.specs.Threads.{Thread, is_publishing, next_change, is_settled}
@@ -31,9 +31,9 @@ use Rattle.system.specs.Operations.{Waiting, Opened, is_marked, with_mark, poll_
 use Rattle.system.specs.Log.{names_given, operations_given, moment}
 use Rattle.system.specs.World.{World, is_live_target, vacant_place, walk, covered, census}
 use Rattle.system.specs.Places.{Effect, becomes, leaves, marks, does, is_lawful, may_while_publishing, to_state, move_by, crosses, polls, changes, pushed, enters, calls, is_known, popped, was_told, is_undone, is_uncleared, in_found, finish_in, clear_in, in_open, go_or_stop}
-use Rattle.system.specs.Step.{lands, at, new_thread, start_at, start, install_in, install, of_code, invalidate, clear_or_late, look, unlooked, weigh_all, weigh, free, open_oldest, may_open, may_tell, tell_in, tell_oldest, all_threads, operate, is_over, close, count, code_or_none}
-use Rattle.system.specs.Runs.{world_of, answer_of, after, answer_to}
-use Rattle.system.proofs.Outcomes.{coded, with_request, with_operated, without_opened, Stands, Acts, is_move, move_of, IsCode, Calls}
+use Rattle.system.specs.Step.{lands, at, new_thread, start_at, start, install_in, install, of_code, invalidate, clear_or_late, look, unlooked, weigh_all, weigh, free, open_oldest, awaits_safepoint, may_open, may_tell, tell_in, tell_oldest, all_threads, operate, is_over, close, count, code_or_none}
+use Rattle.system.specs.Runs.{replaced, world_of, answer_of, after, answer_to}
+use Rattle.system.proofs.Outcomes.{coded, with_request, with_operated, without_opened, Opens, Stands, Acts, is_move, move_of, IsCode, Calls}
 use Rattle.system.proofs.Cases.{Cases}
 use Rattle.system.proofs.Lists.{found_passes, find_place, any_at, filter_at}
 
@@ -330,15 +330,21 @@ start_case w P c = chain1 (Comes w P event.Start) (c.refuses event.Start) (not (
         (accepted (record w { places = slice_set w.places p (Some (new_thread (names_given w.log + 1))) }) (answer.Thread (names_given w.log + 1) p))
         (λ room. let v = vacant_is w.places p e in c.starts p (record { no_safepoint = s; least = e; vacant = v.1; low = v.0; room = ltb-true (names_given w.log) last_number room }))
 
-install_case : (w : World) (P : Event → Answer → World → Type 0) → Cases w P → (method : ℕ) → Comes w P (event.Install method) (install w method)
-install_case w P c method = chain2 (Comes w P (event.Install method)) (c.refuses (event.Install method)) (nat_lt method w.methods) refusal.NoSuchMethod (is_none (in_use_for w.codes method)) refusal.HasCode
-    (install_in w method (free_slot w.codes w.slots)) (λ low none. on (ltb-true method w.methods low) (none_of (in_use_for w.codes method) none) (free_slot w.codes w.slots) refl)
+-- An event that is one step: an Install where the method has no code in use, and every other event.
+abbrev pub Simple : World → Event → Type 0
+Simple w (event.Install method) = in_use_for w.codes method ≡ None
+Simple w e = Unit {0}
+
+install_case : (w : World) (P : Event → Answer → World → Type 0) → Cases w P → (method : ℕ) → in_use_for w.codes method ≡ None → Comes w P (event.Install method) (install w method)
+install_case w P c method none = chain1 (Comes w P (event.Install method)) (c.refuses (event.Install method)) (nat_lt method w.methods) refusal.NoSuchMethod
+    (install_in w method (free_slot w.codes w.slots)) (λ low. on (ltb-true method w.methods low) (free_slot w.codes w.slots) refl)
   where
-    on : method < w.methods → in_use_for w.codes method ≡ None → (o : Option ℕ) → free_slot w.codes w.slots ≡ o → Comes w P (event.Install method) (install_in w method o)
-    on low none None e = c.refuses (event.Install method) refusal.TableFull
-    on low none (Some slot) e = chain1 (Comes w P (event.Install method)) (c.refuses (event.Install method)) (nat_le (next_serial w.codes) last_number) refusal.SerialsSpent
-        (accepted (record w { codes = with_code w.codes method slot }) (answer.Code (next_serial w.codes)))
-        (λ room. c.installs method slot (record { low_method = low; none_in_use = none; least = e; room = leb-true (next_serial w.codes) last_number room }))
+    on : method < w.methods → (o : Option ℕ) → free_slot w.codes w.slots ≡ o → Comes w P (event.Install method) (install_in w method o)
+    on low None e = c.refuses (event.Install method) refusal.TableFull
+    on low (Some slot) e = chain1 (Comes w P (event.Install method)) (c.refuses (event.Install method)) (nat_le (next_serial w.codes) last_number) refusal.SerialsSpent
+        (accepted (record w { codes = with_code (without_use w.codes (in_use_for w.codes method)) method slot }) (answer.Code (next_serial w.codes)))
+        (λ room. subst (λ o. P (event.Install method) (answer.Code (next_serial w.codes)) (record w { codes = with_code (without_use w.codes o) method slot; log = record { event = event.Install method; answer = answer.Code (next_serial w.codes) } ∷ replaced o ++ w.log }))
+        (sym none) (c.installs method slot (record { low_method = low; none_in_use = none; least = e; room = leb-true (next_serial w.codes) last_number room })))
 
 -- An event of a code that isn't freed, or was given out.
 code_case : (w : World) (Q : Verdict World → Type 0) → Q (refused refusal.Unknown) → (serial : ℕ) (work : Code → Verdict World)
@@ -349,24 +355,49 @@ code_case w Q stop serial work h = on (unfreed w.codes serial) refl
     on None e = stop
     on (Some code) e = h code e (eqb-true code.serial serial (and_parts (code.serial == serial) (takes_slot code.state) (found_passes (λ (x : Code). (x.serial == serial) && takes_slot x.state) w.codes code e)).0)
 
+-- A census is opened alone.
+alone_of : (os : List Opened) (b : Bool) → b ≡ true → not (b && not (is_empty os)) ≡ true → os ≡ []
+alone_of [] b h k = refl
+alone_of (o ∷ os) true h k = absurd (false≢true k)
+alone_of (o ∷ os) false h k = absurd (false≢true h)
+
+-- The oldest request that waits may be opened.
+pub opens_of : (w : World) (oldest : Waiting) (others : List Waiting) → may_open w.requests ≡ true → w.requests.waiting ≡ oldest ∷ others → Opens w oldest others
+opens_of w oldest others may e =
+    let a = and_parts (nat_lt (length w.requests.opened) 4 && not (is_safepoint w.requests)) (not (awaits_safepoint w.requests.waiting && not (is_empty w.requests.opened))) may in
+    let b = and_parts (nat_lt (length w.requests.opened) 4) (not (is_safepoint w.requests)) a.0 in
+    record {
+      few = ltb-true (length w.requests.opened) 4 b.0;
+      no_safepoint = not-true (is_safepoint w.requests) b.1;
+      alone = λ census. alone_of w.requests.opened (is_census oldest.request) census (subst (λ ws. not (awaits_safepoint ws && not (is_empty w.requests.opened)) ≡ true) e a.1);
+      waiting_is = e;
+    }
+
+-- A Close of an open operation.
+close_case : (w : World) (P : Event → Answer → World → Type 0) → Cases w P → (number : Option ℕ) (o : Opened) → ((i : ℕ) × (slice_get w.requests.opened i ≡ Some o)) → Comes w P (event.Close number) (close w o)
+close_case w P c number o at =
+    chain2 (Comes w P (event.Close number)) (c.refuses (event.Close number)) (all_threads (λ t. not (t.held && is_target o.request t.name)) w) refusal.Held (is_over w o) refusal.NotDone
+    (accepted (record w { requests = without_opened w o }) (answer.Closed o.number))
+    (λ held over. c.closes number o (record { open_is = record { position = at.0; here = at.1 }; none_held = held; over = over }))
+
 -- Each event, by its cases.
-pub by_cases : (w : World) (P : Event → Answer → World → Type 0) → Cases w P → (e : Event) → P e (answer_to w e) (after w e)
-by_cases w P c (event.At p a) = at_case w P c p a (slice_get w.places p) refl
-by_cases w P c event.Start = start_case w P c
-by_cases w P c (event.Install method) = install_case w P c method
-by_cases w P c (event.Invalidate serial) = code_case w (Comes w P (event.Invalidate serial)) (c.refuses (event.Invalidate serial) refusal.Unknown) serial (invalidate w) (λ code found same.
+pub by_cases : (w : World) (P : Event → Answer → World → Type 0) → Cases w P → (e : Event) → Simple w e → P e (answer_to w e) (after w e)
+by_cases w P c (event.At p a) simple = at_case w P c p a (slice_get w.places p) refl
+by_cases w P c event.Start simple = start_case w P c
+by_cases w P c (event.Install method) simple = install_case w P c method simple
+by_cases w P c (event.Invalidate serial) simple = code_case w (Comes w P (event.Invalidate serial)) (c.refuses (event.Invalidate serial) refusal.Unknown) serial (invalidate w) (λ code found same.
     chain1 (Comes w P (event.Invalidate serial)) (c.refuses (event.Invalidate serial)) (is_in_use code.state) refusal.NotInUse (accepted (record w { codes = with_state w.codes code.serial NotEntrant }) answer.Done)
     (λ used. subst (λ n. P (event.Invalidate serial) answer.Done (coded w (with_state w.codes n NotEntrant) (event.Invalidate serial) answer.Done)) (sym same)
     (c.invalidates serial code (record { found = found; serial_is = same; state_is = used_of code.state used }))))
-by_cases w P c event.Round = chain1 (Comes w P event.Round) (c.refuses event.Round) (nat_lt (moment w.log) last_number) refusal.Spent (accepted w answer.Done) (λ room. c.goes_round (ltb-true (moment w.log) last_number room))
-by_cases w P c (event.Look serial p) = code_case w (Comes w P (event.Look serial p)) (c.refuses (event.Look serial p) refusal.Unknown) serial (look w p) (λ code found same.
+by_cases w P c event.Round simple = chain1 (Comes w P event.Round) (c.refuses event.Round) (nat_lt (moment w.log) last_number) refusal.Spent (accepted w answer.Done) (λ room. c.goes_round (ltb-true (moment w.log) last_number room))
+by_cases w P c (event.Look serial p) simple = code_case w (Comes w P (event.Look serial p)) (c.refuses (event.Look serial p) refusal.Unknown) serial (look w p) (λ code found same.
     chain2 (Comes w P (event.Look serial p)) (c.refuses (event.Look serial p)) (is_not_entrant code.state) refusal.NotNotEntrant (nat_lt p (length w.places)) refusal.NoSuchPlace
     (accepted w (clear_or_late (covered w p code.serial))) (λ left low. on code found same (not_entrant_of code.state left) (ltb-true p (length w.places) low) (covered w p code.serial) refl))
   where
     on : (code : Code) → unfreed w.codes serial ≡ Some code → code.serial ≡ serial → code.state ≡ NotEntrant → p < length w.places → (b : Bool) → covered w p code.serial ≡ b → Comes w P (event.Look serial p) (accepted w (clear_or_late b))
     on code found same left low true e = c.looks_clear serial p code (record { code_is = record { found = found; serial_is = same; state_is = left }; low = low; covered_is = subst (λ n. covered w p n ≡ true) same e })
     on code found same left low false e = c.looks_late serial p code (record { code_is = record { found = found; serial_is = same; state_is = left }; low = low; covered_is = subst (λ n. covered w p n ≡ false) same e })
-by_cases w P c (event.Weigh serial) = code_case w (Comes w P (event.Weigh serial)) (c.refuses (event.Weigh serial) refusal.Unknown) serial (weigh w) (λ code found same.
+by_cases w P c (event.Weigh serial) simple = code_case w (Comes w P (event.Weigh serial)) (c.refuses (event.Weigh serial) refusal.Unknown) serial (weigh w) (λ code found same.
     chain1 (Comes w P (event.Weigh serial)) (c.refuses (event.Weigh serial)) (is_not_entrant code.state) refusal.NotNotEntrant (weigh_all w code (unlooked w code.serial))
     (λ left. on code (record { found = found; serial_is = same; state_is = not_entrant_of code.state left }) (unlooked w code.serial) refl))
   where
@@ -377,27 +408,19 @@ by_cases w P c (event.Weigh serial) = code_case w (Comes w P (event.Weigh serial
         (λ z. subst (λ n. P (event.Weigh serial) answer.Retired (coded w (with_state w.codes n Zombie) (event.Weigh serial) answer.Retired)) (sym i.serial_is)
         (c.retires serial code (record { code_is = i; all_looked = subst (λ n. unlooked w n ≡ None) i.serial_is e; unused = eqb-true (walk w (id_of code)) 0 z })))
         (λ z. c.finds_used serial code (record { code_is = i; all_looked = subst (λ n. unlooked w n ≡ None) i.serial_is e; used = eqb-false (walk w (id_of code)) 0 z }))
-by_cases w P c (event.Free serial) = code_case w (Comes w P (event.Free serial)) (c.refuses (event.Free serial) refusal.Unknown) serial (free w) (λ code found same.
+by_cases w P c (event.Free serial) simple = code_case w (Comes w P (event.Free serial)) (c.refuses (event.Free serial) refusal.Unknown) serial (free w) (λ code found same.
     chain1 (Comes w P (event.Free serial)) (c.refuses (event.Free serial)) (is_zombie code.state) refusal.NotZombie (accepted (record w { codes = with_state w.codes code.serial Freed }) answer.Done)
     (λ z. subst (λ n. P (event.Free serial) answer.Done (coded w (with_state w.codes n Freed) (event.Free serial) answer.Done)) (sym same)
     (c.frees serial code (record { found = found; serial_is = same; state_is = zombie_of code.state z }))))
-by_cases w P c (event.Ask request) = chain4 (Comes w P (event.Ask request)) (c.refuses (event.Ask request)) (nat_lt (operations_given w.log) last_number) refusal.Spent (nat_lt (length w.requests.waiting) 64) refusal.QueueFull
+by_cases w P c (event.Ask request) simple = chain4 (Comes w P (event.Ask request)) (c.refuses (event.Ask request)) (nat_lt (operations_given w.log) last_number) refusal.Spent (nat_lt (length w.requests.waiting) 64) refusal.QueueFull
     (has_targets request) refusal.NoTargets (are_targets request) refusal.BadTargets (accepted (record w { requests = with_request w request }) (answer.Asked (operations_given w.log + 1)))
     (λ room queue some lawful. c.asks request (record { room = ltb-true (operations_given w.log) last_number room; queue_room = ltb-true (length w.requests.waiting) 64 queue; some_target = some; lawful_targets = lawful }))
-by_cases w P c event.Open = chain1 (Comes w P event.Open) (c.refuses event.Open) (may_open w.requests) refusal.AlreadyOpen (open_oldest w w.requests.waiting) (λ may. on may w.requests.waiting refl)
+by_cases w P c event.Open simple = chain1 (Comes w P event.Open) (c.refuses event.Open) (may_open w.requests) refusal.AlreadyOpen (open_oldest w w.requests.waiting) (λ may. on may w.requests.waiting refl)
   where
     on : may_open w.requests ≡ true → (ws : List Waiting) → w.requests.waiting ≡ ws → Comes w P event.Open (open_oldest w ws)
     on may [] e = c.refuses event.Open refusal.QueueEmpty
-    on may (oldest ∷ others) e =
-        let none : w.requests.opened ≡ [] = empty_of w.requests.opened may in
-        c.opens oldest others (record {
-          few = subst (λ (os : List Opened). length os < 4) (sym none) (omega arith);
-          no_safepoint = ap (λ (os : List Opened). list_any (λ o. is_census o.request) os) none;
-          alone = λ census. none;
-          none_open = none;
-          waiting_is = e;
-        })
-by_cases w P c (event.Tell name) = chain2 (Comes w P (event.Tell name)) (c.refuses (event.Tell name)) (not (is_empty w.requests.opened)) refusal.NothingOpen
+    on may (oldest ∷ others) e = c.opens oldest others (opens_of w oldest others may e)
+by_cases w P c (event.Tell name) simple = chain2 (Comes w P (event.Tell name)) (c.refuses (event.Tell name)) (not (is_empty w.requests.opened)) refusal.NothingOpen
     (list_any (λ o. may_tell w o.request name) w.requests.opened) refusal.NotOf (tell_oldest w name (filter (λ o. is_live_target w o name) w.requests.opened))
     (λ some may. on may (filter (λ o. is_live_target w o name) w.requests.opened) refl)
   where
@@ -411,19 +434,37 @@ by_cases w P c (event.Tell name) = chain2 (Comes w P (event.Tell name)) (c.refus
           live = g.2;
           not_told = not-true (is_marked w.requests.told o.number name) (found_passes (λ (o : Opened). not (is_marked w.requests.told o.number name)) (x ∷ xs) o f);
         })))
-by_cases w P c event.Operate = opened_case w (Comes w P event.Operate) (c.refuses event.Operate refusal.NothingOpen) (operate w) (λ o os e.
+by_cases w P c event.Operate simple = opened_case w (Comes w P event.Operate) (c.refuses event.Operate refusal.NothingOpen) (operate w) (λ o os e.
     chain5 (Comes w P event.Operate) (c.refuses event.Operate) (is_census o.request) refusal.NotOf (not o.operated) refusal.AlreadyDone (all_threads (λ t. t.held) w) refusal.NotAllHeld
     (all_threads (λ t. not (is_publishing t)) w) refusal.Publishing (all_threads is_settled w) refusal.Unpublished (accepted (record w { requests = with_operated w o }) (answer.Census (census w)))
     (λ census new held quiet settled. c.operates o os (record { opened_is = e; census = census; not_operated = not-true o.operated new; held = held; quiet = quiet; settled = settled })))
-by_cases w P c event.Close = opened_case w (Comes w P event.Close) (c.refuses event.Close refusal.NothingOpen) (close w) (λ o os e.
-    chain2 (Comes w P event.Close) (c.refuses event.Close) (all_threads (λ t. not (t.held && is_target o.request t.name)) w) refusal.Held (is_over w o) refusal.NotDone
-    (accepted (record w { requests = without_opened w o }) (answer.Closed o.number))
-    (λ held over. c.closes o (record { open_is = record { position = 0; here = subst (λ (xs : List Opened). slice_get xs 0 ≡ Some o) (sym e) refl }; none_held = held; over = over })))
-by_cases w P c (event.Count serial) = code_case w (Comes w P (event.Count serial)) (c.refuses (event.Count serial) refusal.Unknown) serial (count w) (λ code found same. c.counts serial code found)
-by_cases w P c (event.CodeState serial) = on (code_of w.codes serial) refl
+by_cases w P c (event.Close None) simple = opened_case w (Comes w P (event.Close None)) (c.refuses (event.Close None) refusal.NothingOpen) (close w) (λ o os e. close_case w P c None o (0, subst (λ (xs : List Opened). slice_get xs 0 ≡ Some o) (sym e) refl))
+by_cases w P c (event.Close (Some n)) simple = chain1 (Comes w P (event.Close (Some n))) (c.refuses (event.Close (Some n))) (not (is_empty w.requests.opened)) refusal.NothingOpen (in_found refusal.NotOf (find (λ o. o.number == n) w.requests.opened) (close w))
+    (λ some. found_case w (Comes w P (event.Close (Some n))) refusal.NotOf (c.refuses (event.Close (Some n)) refusal.NotOf) (λ o. o.number == n) w.requests.opened (close w) (λ o e at. close_case w P c (Some n) o at))
+by_cases w P c (event.Count serial) simple = code_case w (Comes w P (event.Count serial)) (c.refuses (event.Count serial) refusal.Unknown) serial (count w) (λ code found same. c.counts serial code found)
+by_cases w P c (event.CodeState serial) simple = on (code_of w.codes serial) refl
   where
     on : (o : Option Code) → code_of w.codes serial ≡ o → Comes w P (event.CodeState serial) (of_code o (λ code. accepted w (answer.State code.state)))
     on None e = c.refuses (event.CodeState serial) refusal.Unknown
     on (Some code) e = c.says_state serial code e
-by_cases w P c (event.Resolve method) = chain1 (Comes w P (event.Resolve method)) (c.refuses (event.Resolve method)) (nat_lt method w.methods) refusal.NoSuchMethod (accepted w (code_or_none (in_use_for w.codes method)))
+by_cases w P c (event.Resolve method) simple = chain1 (Comes w P (event.Resolve method)) (c.refuses (event.Resolve method)) (nat_lt method w.methods) refusal.NoSuchMethod (accepted w (code_or_none (in_use_for w.codes method)))
     (λ low. c.resolves method (ltb-true method w.methods low))
+
+-- An event is an Install, or one step.
+pub each_kind : (w : World) (P : Event → Type 0) → ((method : ℕ) → P (event.Install method)) → ((e : Event) → Simple w e → P e) → (e : Event) → P e
+each_kind w P installs others (event.Install method) = installs method
+each_kind w P installs others (event.At p a) = others (event.At p a) tt
+each_kind w P installs others event.Start = others event.Start tt
+each_kind w P installs others (event.Invalidate s) = others (event.Invalidate s) tt
+each_kind w P installs others event.Round = others event.Round tt
+each_kind w P installs others (event.Look s p) = others (event.Look s p) tt
+each_kind w P installs others (event.Weigh s) = others (event.Weigh s) tt
+each_kind w P installs others (event.Free s) = others (event.Free s) tt
+each_kind w P installs others (event.Ask r) = others (event.Ask r) tt
+each_kind w P installs others event.Open = others event.Open tt
+each_kind w P installs others (event.Tell n) = others (event.Tell n) tt
+each_kind w P installs others event.Operate = others event.Operate tt
+each_kind w P installs others (event.Close n) = others (event.Close n) tt
+each_kind w P installs others (event.Count s) = others (event.Count s) tt
+each_kind w P installs others (event.CodeState s) = others (event.CodeState s) tt
+each_kind w P installs others (event.Resolve m) = others (event.Resolve m) tt

@@ -1,5 +1,5 @@
 -- What an event may come to: refused, or one of these. Every law over events goes by these cases.
-use Rattle.std.specs.Prelude.{◌≡◌, ℕ, ◌+◌, ◌<◌, true, false, List, Some, None}
+use Rattle.std.specs.Prelude.{◌≡◌, ℕ, ◌+◌, ◌<◌, true, false, List, Option, Some, None}
 use Rattle.frames.specs.declared.CodeId.{CodeId}
 use Rattle.thread_state.specs.declared.State.{State}
 use Rattle.method_table.specs.declared.Code.{Code}
@@ -77,7 +77,8 @@ pub record Cases (w : World) (P : Event → Answer → World → Type 0) : Type 
       → P (event.Tell name) answer.Gone (noted w (event.Tell name) answer.Gone)
   pub operates : (opened : Opened) (others : List Opened) → Operates w opened others
       → P event.Operate (answer.Census (census w)) (asked w (with_operated w opened) event.Operate (answer.Census (census w)))
-  pub closes : (opened : Opened) → Closes w opened → P event.Close (answer.Closed opened.number) (asked w (without_opened w opened) event.Close (answer.Closed opened.number))
+  pub closes : (number : Option ℕ) (opened : Opened) → Closes w opened
+      → P (event.Close number) (answer.Closed opened.number) (asked w (without_opened w opened) (event.Close number) (answer.Closed opened.number))
   pub counts : (serial : ℕ) (code : Code) → unfreed w.codes serial ≡ Some code
       → P (event.Count serial) (answer.Count (walk w (id_of code))) (noted w (event.Count serial) (answer.Count (walk w (id_of code))))
   pub says_state : (serial : ℕ) (code : Code) → code_of w.codes serial ≡ Some code

@@ -1,5 +1,5 @@
 -- A census: when it is refused, that the index answers it, and what the system has afterwards.
-use Rattle.std.proofs.Common.{◌≡◌, ◌≢◌, ◌∙◌, ◌+◌, ◌<◌, ◌≤◌, sym, ap, ap₂, refl, subst, ℕ, zero, suc, Bool, true, false, not, ◌&&◌, ◌||◌, ◌==◌, eqb, cond, List, [], ◌∷◌, Option, Some, None, length, map, arith}
+use Rattle.std.proofs.Common.{◌≡◌, ◌≢◌, ◌∙◌, ◌+◌, ◌<◌, ◌≤◌, sym, ap, ap₂, refl, subst, ℕ, zero, suc, Bool, true, false, not, ◌&&◌, ◌==◌, eqb, cond, List, [], ◌∷◌, Option, Some, None, length, map, arith}
 use Rattle.std.specs.Prelude.{slice_get, sum_by, filter, is_none, IsTrue, ◌↔◌}
 use Rattle.std.specs.List.{list_all, cons_option}
 use Rattle.std.proofs.lemmas.List.Sums.{sum_by-cons}
@@ -17,7 +17,6 @@ use Rattle.activation_index.specs.Counts.{count_in, IsRisingFrom}
 use Rattle.activation_index.specs.Cells.{cell_of}
 use Rattle.activation_index.specs.Cells.{counted as in_cells}
 use Rattle.activation_index.specs.Pairs.{of_serial, IsRisingPairs}
-use Rattle.operations.specs.Names.{among}
 use Rattle.operations.specs.Requests.{is_census}
 use Rattle.system.specs.declared.events.Event.TheVariants as event
 use Rattle.system.specs.declared.answers.Answer.{Answer}
@@ -32,7 +31,7 @@ use Rattle.system.specs.Verdict.{Verdict, refused, accepted, unless◌refuse◌t
 use Rattle.system.specs.Operations.{Opened}
 use Rattle.system.specs.Log.{Entry as Logged}
 use Rattle.system.specs.Threads.{Thread, is_publishing, is_settled}
-use Rattle.system.specs.World.{World, found, thread_at, threads, live_names, walk, frames_of, census}
+use Rattle.system.specs.World.{World, found, thread_at, threads, walk, frames_of, census}
 use Rattle.system.specs.Places.{in_open}
 use Rattle.system.specs.Step.{outcome, operate, operated_if}
 use Rattle.system.specs.Facts.{IsSound, may_stand}

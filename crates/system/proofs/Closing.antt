@@ -1,10 +1,10 @@
 -- Close: what it answers, and what the system has after it.
 use Rattle.std.proofs.Common.{◌≡◌, ◌∙◌, ◌<◌, ◌≤◌, sym, ap, refl, subst, ℕ, zero, suc, Bool, true, false, not, ◌&&◌, ◌||◌, ◌==◌, eqb, List, [], ◌∷◌, Option, Some, None, map, arith}
-use Rattle.std.specs.Prelude.{slice_get, filter, remove, nat_le}
+use Rattle.std.specs.Prelude.{slice_get, get_or, find, filter, remove, nat_le, nat_lt}
 use Rattle.std.specs.List.{list_any, list_all}
-use Rattle.std.proofs.lemmas.Bool.{false≢true, eqb-true, and_parts, leb-false}
+use Rattle.std.proofs.lemmas.Bool.{false≢true, eqb-true, and_parts, leb-false, ltb-true, ltb-false}
 use Rattle.std.proofs.lemmas.Bool.Decides.{nat_tests}
-use Rattle.operations.specs.Names.{among}
+use Rattle.operations.specs.Names.{among, is_empty}
 use Rattle.operations.specs.Requests.{is_census, is_target}
 use Rattle.system.specs.declared.events.Event.{Event}
 use Rattle.system.specs.declared.events.Event.TheVariants as event
@@ -15,26 +15,29 @@ use Rattle.system.specs.declared.requests.Open.{Open}
 use Rattle.system.specs.declared.thread.Marks.{Marks}
 use Rattle.system.specs.declared.thread.Thread.{Thread as Kept}
 use Rattle.system.specs.declared.keeping.Core.{Core}
-use Rattle.system.specs.Verdict.{refused, accepted}
+use Rattle.system.specs.Verdict.{Verdict, refused, accepted, unless◌refuse◌then◌}
 use Rattle.system.specs.Operations.{Requests, Opened, is_marked}
 use Rattle.system.specs.Log.{Entry, names_given}
 use Rattle.system.specs.Threads.{Thread}
 use Rattle.system.specs.World.{World, threads, is_live, is_live_target}
-use Rattle.system.specs.Step.{outcome, all_threads, is_over, close}
-use Rattle.system.specs.Places.{in_open}
+use Rattle.system.specs.Step.{outcome, all_threads, is_over, close, close_of}
+use Rattle.system.specs.Places.{in_open, in_found}
 use Rattle.system.specs.Facts.{IsSound}
 use Rattle.system.specs.Keeps.{is_live_for}
-use Rattle.system.specs.Marking.{SameMarks, SameOpened}
+use Rattle.system.specs.Marking.{SameMarks, SameOpened, SameOpens}
 use Rattle.system.specs.Stands.{Matches, SameAt, DoesIn, Does}
 use Rattle.system.specs.Tells.{is_held_for, is_clear_at, is_over_at}
-use Rattle.system.proofs.Lists.{any_at, any_none_at, all_at, remove_one}
-use Rattle.system.proofs.Outcomes.{asked}
+use Rattle.system.specs.Opening.{place_of}
+use Rattle.system.proofs.Lists.{any_at, any_none_at, all_at, remove_one, find_place, position_found, position_none, filter_at, same_at}
+use Rattle.system.proofs.Outcomes.{asked, without_opened}
+use Rattle.system.proofs.ByCases.{empty_of}
+use Rattle.system.proofs.Numbers.{only_number}
 use Rattle.system.proofs.Logs.{operations_next, opened_over}
-use Rattle.system.proofs.Codings.{accepted_in, refused_in}
+use Rattle.system.proofs.Codings.{accepted_in, refused_in, none_some}
 use Rattle.system.proofs.Marks.{threads_at, threads_has, live_has, among_live}
 use Rattle.system.proofs.Plain.{nowhere, vacant, seat, at_place}
 use Rattle.system.proofs.Marking.{fewer_own}
-use Rattle.system.proofs.Pairs.{oldest_of, none_open, none_oldest}
+use Rattle.system.proofs.Pairs.{BothFound, pairs_of, find_pairs, pair_at, empty_same, opens_remove}
 use Rattle.system.proofs.Requesting.{Rerequests, IsOfRequests, asked_matches, sizes_stay, among_names, names_stay}
 
 -- The thread at a place of the system and of the world.
@@ -191,64 +194,140 @@ over_is s w i open_ o m sound at same =
 pub refused_does : (s : Core) (e : Event) (r : Rattle.system.specs.declared.answers.Refusal.Refusal) → ((w : World) → IsSound w → Matches s w → outcome w e ≡ refused r) → Does e s (answer.Refused r) s
 refused_does s e r h = record { each = λ w sound m. refused_in s w e r (h w sound m) m; sizes = record { places = refl; slots = refl; methods = refl } }
 
-pub close_nothing : (s : Core) → slice_get s.requests.opens 0 ≡ None → Does event.Close s (answer.Refused refusal.NothingOpen) s
-close_nothing s none = refused_does s event.Close refusal.NothingOpen (λ w sound m. (let none_is : w.requests.opened ≡ [] = none_open s.requests.opens w.requests.opened w m.opened (none_oldest s.requests.opens none) in rw none_is refl))
+pub close_nothing : (s : Core) (number : Option ℕ) → is_empty s.requests.opens ≡ true → Does (event.Close number) s (answer.Refused refusal.NothingOpen) s
+close_nothing s number none = refused_does s (event.Close number) refusal.NothingOpen (λ w sound m. by w number (empty_same w s.requests.opens w.requests.opened m.opened ∙ none))
+  where
+    by : (w : World) (n : Option ℕ) → is_empty w.requests.opened ≡ true → outcome w (event.Close n) ≡ refused refusal.NothingOpen
+    by w None e = (let none_is : w.requests.opened ≡ [] = empty_of w.requests.opened e in rw none_is refl)
+    by w (Some n) e = rw e refl
 
--- The oldest is open at the first position.
-first_is : (os : List Opened) (o : Opened) (others : List Opened) → os ≡ o ∷ others → slice_get os 0 ≡ Some o
-first_is os o others is = ap (λ xs. slice_get xs 0) is
+-- A search by number finds nothing in both lists, or the same operation.
+by_number : (n : ℕ) (s : Core) (w : World) → Matches s w → BothFound (λ a o. SameOpened a o w) (find (λ (a : Open). a.number == n) s.requests.opens) (find (λ (o : Opened). o.number == n) w.requests.opened)
+by_number n s w m = find_pairs (λ a o. SameOpened a o w) (λ (a : Open). a.number == n) (λ (o : Opened). o.number == n) (λ a o same. ap (λ k. k == n) (sym same.number)) s.requests.opens w.requests.opened
+    (pairs_of (λ a o. SameOpened a o w) w s.requests.opens w.requests.opened m.opened (λ i a o at both. both))
 
-pub close_held : (s : Core) (open_ : Open) → slice_get s.requests.opens 0 ≡ Some open_ → list_any (is_held_for open_) s.places.items ≡ true → Does event.Close s (answer.Refused refusal.Held) s
-close_held s open_ is held = refused_does s event.Close refusal.Held (λ w sound m. (
-    let k = oldest_of s.requests.opens w.requests.opened w open_ m.opened is in
-    ap (λ os. in_open os (close w)) k.is ∙ rw (some_held s w open_ k.o m k.same held) refl))
+none_found : (R : Open → Opened → Type 0) (x : Option Open) (y : Option Opened) → BothFound R x y → x ≡ None → y ≡ None
+none_found R None None h e = refl
+none_found R None (Some o) h e = absurd h
+none_found R (Some a) y h e = cc
 
-pub close_early : (s : Core) (open_ : Open) → slice_get s.requests.opens 0 ≡ Some open_ → list_any (is_held_for open_) s.places.items ≡ false → is_over_at open_ s.places.items ≡ false → Does event.Close s (answer.Refused refusal.NotDone) s
-close_early s open_ is free over = refused_does s event.Close refusal.NotDone (λ w sound m. (
-    let k = oldest_of s.requests.opens w.requests.opened w open_ m.opened is in
-    let early : is_over w k.o ≡ false = over_is s w 0 open_ k.o m sound (first_is w.requests.opened k.o k.others k.is) k.same ∙ over in
-    ap (λ os. in_open os (close w)) k.is ∙ rw (none_held s w open_ k.o m k.same free, early) refl))
+one_found : (R : Open → Opened → Type 0) (x : Option Open) (y : Option Opened) (a : Open) → BothFound R x y → x ≡ Some a → (o : Opened) × (y ≡ Some o) × R a o
+one_found R None y a h e = cc
+one_found R (Some b) None a h e = absurd h
+one_found R (Some b) (Some o) a h e = let same : b ≡ a = cc in (o, refl, subst (λ z. R z o) same h)
 
-of_close : (a : Answer) → IsOfRequests event.Close a
-of_close a = record { starts_none = refl; rounds_none = refl; invalidates_none = λ r. refl; looks_none = λ r place. refl; elsewhere = λ place. record { starts_not = refl; begins_not = refl; ends_not = refl } }
+-- A Close by number, where something is open.
+of_number : (w : World) (n : ℕ) → is_empty w.requests.opened ≡ false → close_of w (Some n) ≡ in_found refusal.NotOf (find (λ (o : Opened). o.number == n) w.requests.opened) (close w)
+of_number w n some = on (is_empty w.requests.opened) (in_found refusal.NotOf (find (λ (o : Opened). o.number == n) w.requests.opened) (close w)) some
+  where
+    on : (b : Bool) (v : Verdict World) → b ≡ false → (unless not b refuse refusal.NothingOpen then v) ≡ v
+    on false v e = refl
+    on true v e = absurd (false≢true (sym e))
+
+pub close_not_of : (s : Core) (number : Option ℕ) → is_empty s.requests.opens ≡ false → place_of number s.requests.opens ≡ None → Does (event.Close number) s (answer.Refused refusal.NotOf) s
+close_not_of s None some none = absurd (none_some (sym none))
+close_not_of s (Some n) some none = refused_does s (event.Close (Some n)) refusal.NotOf (λ w sound m. (
+    let some_is : is_empty w.requests.opened ≡ false = empty_same w s.requests.opens w.requests.opened m.opened ∙ some in
+    let none_is : find (λ (o : Opened). o.number == n) w.requests.opened ≡ None = none_found (λ a o. SameOpened a o w) (find (λ (a : Open). a.number == n) s.requests.opens) (find (λ (o : Opened). o.number == n) w.requests.opened)
+    (by_number n s w m) (position_none (λ (a : Open). a.number == n) s.requests.opens none) in
+    of_number w n some_is ∙ ap (λ o. in_found refusal.NotOf o (close w)) none_is))
+
+-- What is read at the place that was found stands there.
+read_at : {A : Type 0} (xs : List A) (i : ℕ) (x a : A) → slice_get xs i ≡ Some x → a ≡ get_or xs i a → slice_get xs i ≡ Some a
+read_at [] i x a h e = cc
+read_at (y ∷ ys) zero x a h e = ap Some (sym e)
+read_at (y ∷ ys) (suc i) x a h e = read_at ys i x a h e
+
+pub found_there : (number : Option ℕ) (opens : List Open) (at : ℕ) (a : Open) → is_empty opens ≡ false → place_of number opens ≡ Some at → a ≡ get_or opens at a → slice_get opens at ≡ Some a
+found_there None [] at a some place e = absurd (false≢true (sym some))
+found_there None (b ∷ opens) at a some place e = let zero_ : 0 ≡ at = cc in subst (λ n. slice_get (b ∷ opens) n ≡ Some a) zero_ (ap Some (sym (e ∙ ap (λ n. get_or (b ∷ opens) n a) (sym zero_))))
+found_there (Some n) opens at a some place e = let f = position_found (λ (o : Open). o.number == n) opens at place in read_at opens at f.0 a f.1 e
+
+-- The operation that a Close is of: it stands at one position in both lists.
+record IsClosed (s : Core) (w : World) (number : Option ℕ) (at : ℕ) (open_ : Open) : Type 0 where
+  o : Opened
+  here : slice_get w.requests.opened at ≡ Some o
+  same : SameOpened open_ o w
+  closes : close_of w number ≡ close w o
+
+first_open : {A : Type 0} (os : List Opened) (o : Opened) (work : Opened → Verdict A) → slice_get os 0 ≡ Some o → in_open os work ≡ work o
+first_open [] o work h = cc
+first_open (x ∷ os) o work h = let same : x ≡ o = cc in ap work same
+
+closed_is : (s : Core) (w : World) (number : Option ℕ) (at : ℕ) (open_ : Open) → IsSound w → Matches s w → is_empty s.requests.opens ≡ false → place_of number s.requests.opens ≡ Some at → slice_get s.requests.opens at ≡ Some open_ → IsClosed s w number at open_
+closed_is s w None at open_ sound m some place there =
+    let k = pair_at s.requests.opens w.requests.opened w at open_ m.opened there in
+    let zero_ : 0 ≡ at = cc in
+    record { o = k.0; here = k.1; same = k.2; closes = first_open w.requests.opened k.0 (close w) (subst (λ n. slice_get w.requests.opened n ≡ Some k.0) (sym zero_) k.1) }
+closed_is s w (Some n) at open_ sound m some place there =
+    let k = pair_at s.requests.opens w.requests.opened w at open_ m.opened there in
+    let f = position_found (λ (a : Open). a.number == n) s.requests.opens at place in
+    let is : f.0 ≡ open_ = same_at s.requests.opens at f.0 open_ f.1 there in
+    let g = one_found (λ a o. SameOpened a o w) (find (λ (a : Open). a.number == n) s.requests.opens) (find (λ (o : Opened). o.number == n) w.requests.opened) open_ (by_number n s w m) (f.2 ∙ ap (λ (a : Open). Some a) is) in
+    let p = find_place (λ (o : Opened). o.number == n) w.requests.opened g.0 g.1 in
+    let one : g.0 ≡ k.0 = only_number sound.numbers p.0 at g.0 k.0 p.1 k.1 (sym g.2.number ∙ k.2.number) in
+    let some_is : is_empty w.requests.opened ≡ false = empty_same w s.requests.opens w.requests.opened m.opened ∙ some in
+    let found_is : find (λ (o : Opened). o.number == n) w.requests.opened ≡ Some k.0 = g.1 ∙ ap (λ (o : Opened). Some o) one in
+    record { o = k.0; here = k.1; same = k.2; closes = of_number w n some_is ∙ ap (λ o. in_found refusal.NotOf o (close w)) found_is }
+
+pub close_held : (s : Core) (number : Option ℕ) (at : ℕ) (open_ : Open) → is_empty s.requests.opens ≡ false → place_of number s.requests.opens ≡ Some at → slice_get s.requests.opens at ≡ Some open_
+    → list_any (is_held_for open_) s.places.items ≡ true → Does (event.Close number) s (answer.Refused refusal.Held) s
+close_held s number at open_ some place there held = refused_does s (event.Close number) refusal.Held (λ w sound m. (
+    let k = closed_is s w number at open_ sound m some place there in
+    k.closes ∙ rw (some_held s w open_ k.o m k.same held) refl))
+
+pub close_early : (s : Core) (number : Option ℕ) (at : ℕ) (open_ : Open) → is_empty s.requests.opens ≡ false → place_of number s.requests.opens ≡ Some at → slice_get s.requests.opens at ≡ Some open_
+    → list_any (is_held_for open_) s.places.items ≡ false → is_over_at open_ s.places.items ≡ false → Does (event.Close number) s (answer.Refused refusal.NotDone) s
+close_early s number at open_ some place there free over = refused_does s (event.Close number) refusal.NotDone (λ w sound m. (
+    let k = closed_is s w number at open_ sound m some place there in
+    let early : is_over w k.o ≡ false = over_is s w at open_ k.o m sound k.here k.same ∙ over in
+    k.closes ∙ rw (none_held s w open_ k.o m k.same free, early) refl))
+
+of_close : (number : Option ℕ) (a : Answer) → IsOfRequests (event.Close number) a
+of_close number a = record { starts_none = refl; rounds_none = refl; invalidates_none = λ r. refl; looks_none = λ r place. refl; elsewhere = λ place. record { starts_not = refl; begins_not = refl; ends_not = refl } }
 
 -- The others are of other numbers.
-without_oldest : (w : World) (o : Opened) (others : List Opened) → IsSound w → w.requests.opened ≡ o ∷ others → filter (λ (x : Opened). not (x.number == o.number)) w.requests.opened ≡ others
-without_oldest w o others sound is = ap (λ xs. filter (λ (x : Opened). not (x.number == o.number)) xs) is ∙ sym (remove_one (λ (x : Opened). not (x.number == o.number)) (o ∷ others) 0 o refl own differ)
+without_one : (w : World) (at : ℕ) (o : Opened) → IsSound w → slice_get w.requests.opened at ≡ Some o → remove w.requests.opened at ≡ filter (λ (x : Opened). not (x.number == o.number)) w.requests.opened
+without_one w at o sound here = remove_one (λ (x : Opened). not (x.number == o.number)) w.requests.opened at o here own differ
   where
     own : not (o.number == o.number) ≡ false
     own = (let self : eqb o.number o.number ≡ true = grind (arith, nat_tests) in ap not self)
 
-    differ : (j : ℕ) (x : Opened) → slice_get (o ∷ others) j ≡ Some x → (j ≡ 0 → ⊥) → not (x.number == o.number) ≡ true
-    differ zero x at later = absurd (later refl)
-    differ (suc j) x at later =
-        let rise = sound.numbers.opened_rise 0 (suc j) o x (omega arith) (ap (λ xs. slice_get xs 0) is) (ap (λ xs. slice_get xs (suc j)) is ∙ at) in
-        let other : eqb x.number o.number ≡ false = grind (arith, nat_tests) in
-        ap not other
+    differ : (j : ℕ) (x : Opened) → slice_get w.requests.opened j ≡ Some x → (j ≡ at → ⊥) → not (x.number == o.number) ≡ true
+    differ j x there ne = by (nat_lt j at) refl (nat_lt at j) refl
+      where
+        by : (b : Bool) → nat_lt j at ≡ b → (c : Bool) → nat_lt at j ≡ c → not (x.number == o.number) ≡ true
+        by true e c f =
+            let rise = sound.numbers.opened_rise j at x o (ltb-true j at e) there here in
+            let other : eqb x.number o.number ≡ false = grind (arith, nat_tests) in ap not other
+        by false e true f =
+            let rise = sound.numbers.opened_rise at j o x (ltb-true at j f) here there in
+            let other : eqb x.number o.number ≡ false = grind (arith, nat_tests) in ap not other
+        by false e false f = absurd (ne (let a = ltb-false j at e in let b = ltb-false at j f in omega (arith, a, b)))
 
-pub closed_does : (s t : Core) (open_ : Open) → slice_get s.requests.opens 0 ≡ Some open_ → list_any (is_held_for open_) s.places.items ≡ false → is_over_at open_ s.places.items ≡ true → Rerequests s t
-    → t.requests.numbers ≡ s.requests.numbers → t.requests.waiting ≡ s.requests.waiting → t.requests.opens ≡ remove s.requests.opens 0 → Does event.Close s (answer.Closed open_.number) t
-closed_does s t open_ is free over rest numbers waiting opens_are = record {
+pub closed_does : (s t : Core) (number : Option ℕ) (at : ℕ) (open_ : Open) → is_empty s.requests.opens ≡ false → place_of number s.requests.opens ≡ Some at → slice_get s.requests.opens at ≡ Some open_
+    → list_any (is_held_for open_) s.places.items ≡ false → is_over_at open_ s.places.items ≡ true → Rerequests s t
+    → t.requests.numbers ≡ s.requests.numbers → t.requests.waiting ≡ s.requests.waiting → t.requests.opens ≡ remove s.requests.opens at → Does (event.Close number) s (answer.Closed open_.number) t
+closed_does s t number at open_ some place there free over rest numbers waiting opens_are = record {
   each = λ w sound m. (
-      let k = oldest_of s.requests.opens w.requests.opened w open_ m.opened is in
+      let k = closed_is s w number at open_ sound m some place there in
       let a : Answer = answer.Closed k.o.number in
-      let entry : Entry = record { event = event.Close; answer = a } in
-      let requests : Requests = record w.requests { opened = k.others } in
-      let v : World = asked w requests event.Close a in
-      let late : is_over w k.o ≡ true = over_is s w 0 open_ k.o m sound (first_is w.requests.opened k.o k.others k.is) k.same ∙ over in
-      let left : filter (λ (o : Opened). not (o.number == k.o.number)) w.requests.opened ≡ k.others = without_oldest w k.o k.others sound k.is in
-      let said : outcome w event.Close ≡ accepted (record w { requests = record w.requests { opened = filter (λ (o : Opened). not (o.number == k.o.number)) w.requests.opened } }) a =
-      ap (λ os. in_open os (close w)) k.is ∙ rw (none_held s w open_ k.o m k.same free, late) refl in
-      let low : names_given w.log ≤ names_given v.log = (let n = names_stay w event.Close a (of_close a) in omega (arith, n)) in
-      let kept : t.requests.opens ≡ k.later = opens_are ∙ ap (λ xs. remove xs 0) k.opens_are in
-      rw k.same.number (accepted_in t w (record w { requests = requests }) event.Close a (said ∙ ap (λ os. accepted (record w { requests = record w.requests { opened = os } }) a) left)
-      (asked_matches s t w requests event.Close a m (record {
+      let entry : Entry = record { event = event.Close number; answer = a } in
+      let requests : Requests = without_opened w k.o in
+      let v : World = asked w requests (event.Close number) a in
+      let late : is_over w k.o ≡ true = over_is s w at open_ k.o m sound k.here k.same ∙ over in
+      let said : outcome w (event.Close number) ≡ accepted (record w { requests = requests }) a = k.closes ∙ rw (none_held s w open_ k.o m k.same free, late) refl in
+      let low : names_given w.log ≤ names_given v.log = (let n = names_stay w (event.Close number) a (of_close number a) in omega (arith, n)) in
+      let kept : SameOpens (remove s.requests.opens at) requests.opened v = subst (λ os. SameOpens (remove s.requests.opens at) os v) (without_one w at k.o sound k.here)
+      (opened_over (remove s.requests.opens at) (remove w.requests.opened at) w v low (λ name lives. lives) (opens_remove w s.requests.opens w.requests.opened at m.opened)) in
+      rw k.same.number (accepted_in t w (record w { requests = requests }) (event.Close number) a said
+      (asked_matches s t w requests (event.Close number) a m (record {
         rest = rest;
-        entry = of_close a;
+        entry = of_close number a;
         numbers = numbers ∙ (let n = operations_next entry w.log in let same = m.numbers in omega (arith, n, same));
         waiting = ap (map Rattle.system.specs.Stands.waiting_of) waiting ∙ m.waiting;
-        opened = rw kept (opened_over k.later k.others w v low (λ name lives. lives) k.rest);
-        marks = λ x name h. fewer_own w.requests w.requests.waiting k.others name x (λ i o at. (suc i, ap (λ os. slice_get os (suc i)) k.is ∙ at)) h;
+        opened = rw opens_are kept;
+        marks = λ x name h. fewer_own w.requests w.requests.waiting requests.opened name x (λ i o here. (let f = filter_at (λ (y : Opened). not (y.number == k.o.number)) w.requests.opened i o here in (f.0, f.1))) h;
       }))));
   sizes = sizes_stay s t rest;
 }

@@ -1,6 +1,6 @@
 -- The events of codes: what they answer, and what the system has after them.
-use Rattle.std.proofs.Common.{◌≡◌, ◌≢◌, ◌∙◌, ◌+◌, ◌<◌, sym, ap, ap₂, refl, subst, ⊎_elim, ℕ, zero, suc, Bool, true, false, ◌&&◌, cond, List, [], ◌∷◌, Option, Some, None, length, arith}
-use Rattle.std.specs.Prelude.{not, slice_get, slice_set, option_map, is_some, is_none, nat_lt, nat_le, sum_by, ◌==◌}
+use Rattle.std.proofs.Common.{◌≡◌, ◌≢◌, ◌∙◌, ◌+◌, ◌<◌, sym, ap, ap₂, refl, subst, ⊎_elim, ℕ, zero, suc, Bool, true, false, ◌&&◌, cond, List, [], ◌∷◌, ◌++◌, Option, Some, None, length, arith}
+use Rattle.std.specs.Prelude.{not, slice_get, slice_set, option_map, is_some, nat_lt, nat_le, sum_by, ◌==◌}
 use Rattle.std.proofs.lemmas.Bool.{eqb-true, eqb-false, false≢true, not-true, and_parts, and_cases}
 use Rattle.std.proofs.lemmas.List.Sums.{sum_by-cons}
 use mathlib.Core.Logic.{dite}
@@ -17,7 +17,7 @@ use Rattle.method_table.specs.declared.table.InstallFault.TheVariants as fault
 use Rattle.method_table.specs.declared.table.FreeFault.TheVariants as free_faults
 use Rattle.method_table.specs.TableView.{TableView, install_fault, free_fault}
 use Rattle.method_table.specs.Numbers.{last_number, below}
-use Rattle.method_table.specs.Codes.{id_of, is_zombie, takes_slot, is_taken, code_of, unfreed, in_use_for, free_slot, next_serial, with_code, in_state, with_state}
+use Rattle.method_table.specs.Codes.{id_of, is_zombie, takes_slot, is_taken, code_of, unfreed, in_use_for, free_slot, next_serial, with_code, in_state, with_state, without_use}
 use Rattle.system.specs.declared.events.Event.{Event}
 use Rattle.system.specs.declared.events.Event.TheVariants as event
 use Rattle.system.specs.declared.answers.Answer.{Answer}
@@ -31,11 +31,11 @@ use Rattle.system.specs.Threads.{Thread, has_changed, part}
 use Rattle.system.specs.Log.{Entry, is_start, is_ask, is_round, is_invalidate, is_look, says_clear, names_given, operations_given, moment}
 use Rattle.system.specs.World.{World, thread_at, part_at, walk}
 use Rattle.system.specs.Step.{outcome, of_code, install_in, free, count}
-use Rattle.system.specs.Facts.{IsGiven, IsSound, may_stand}
+use Rattle.system.specs.Facts.{IsGiven, TableIsSound, ThreadsAreSound, IsSound, may_stand}
 use Rattle.system.specs.Memory.{Accepts}
-use Rattle.system.specs.Runs.{answer_to}
+use Rattle.system.specs.Runs.{entries, answer_to}
 use Rattle.system.specs.Safepoints.{is_accepted}
-use Rattle.system.specs.Stands.{Matches, SamePlaces, SameRecord, SameRecords, DoesIn, Does, walk_of, kept_at, SameCells}
+use Rattle.system.specs.Stands.{Matches, SamePlaces, SameRecord, SameRecords, DoesIn, Does, kept_at, SameCells}
 use Rattle.system.proofs.Lists.{found_passes, find_place, find_push, find_push_none, at_low, same_at, any_none_at, below_low, map_length, push_length}
 use Rattle.system.proofs.Cells.{count_here}
 use Rattle.system.proofs.Seats.{get_set_same, get_set_other}
@@ -55,7 +55,7 @@ pub same_some : {A : Type 0} {x y : A} → Some x ≡ Some y → x ≡ y
 same_some e = cc
 
 -- An outcome that is known decides what is answered and what is after it.
-pub accepted_in : (s : Core) (w v : World) (e : Event) (a : Answer) → outcome w e ≡ accepted v a → Matches s (record v { log = record { event = e; answer = a } ∷ w.log }) → DoesIn e a s w
+pub accepted_in : (s : Core) (w v : World) (e : Event) (a : Answer) → outcome w e ≡ accepted v a → Matches s (record v { log = entries w e a ++ w.log }) → DoesIn e a s w
 accepted_in s w v e a h m = record { answer = rw h refl; matches = rw h m }
 
 pub refused_in : (s : Core) (w : World) (e : Event) (r : Refusal) → outcome w e ≡ refused r → Matches s w → DoesIn e (answer.Refused r) s w
@@ -162,11 +162,11 @@ restated_cells cells w s state e a taken none h = record {
             absurd (omega (arith, count_is, nothing, some))
 
 -- No thread has a frame of the next code.
-none_of : (w : World) → IsSound w → (c : CodeId) → c.serial ≡ next_serial w.codes → IsGiven w.codes c → ⊥
-none_of w sound c is given =
+none_of : (w : World) → TableIsSound w.slots w.methods w.codes → (c : CodeId) → c.serial ≡ next_serial w.codes → IsGiven w.codes c → ⊥
+none_of w table c is given =
     let place = find_place (λ (x : Code). x.serial == c.serial) w.codes given.0 given.1 in
     let low = at_low w.codes place.0 given.0 place.1 in
-    let at_place = sound.table.serial_is place.0 given.0 place.1 in
+    let at_place = table.serial_is place.0 given.0 place.1 in
     let same = code_serial w.codes c.serial given.0 given.1 in omega arith
 
 sum_none : (c : CodeId) (places : List (Option Thread)) → ((p : ℕ) (t : Thread) → slice_get places p ≡ Some (Some t) → part c t ≡ 0) → sum_by (part_at c) places ≡ 0
@@ -174,12 +174,12 @@ sum_none c [] h = refl
 sum_none c (None ∷ places) h = let a = sum_by-cons (part_at c) None places in let r = sum_none c places (λ p t x. h (suc p) t x) in omega arith
 sum_none c (Some t ∷ places) h = let a = sum_by-cons (part_at c) (Some t) places in let b = h 0 t refl in let r = sum_none c places (λ p t x. h (suc p) t x) in omega arith
 
-next_unwalked : (w : World) → IsSound w → (c : CodeId) → c.serial ≡ next_serial w.codes → walk w c ≡ 0
-next_unwalked w sound c is = sum_none c w.places (λ p t x. by t (sound.threads.each p t x).stack_given (sound.threads.each p t x).shown_given (has_changed t c))
+next_unwalked : (w : World) → TableIsSound w.slots w.methods w.codes → ThreadsAreSound w.places w.codes (names_given w.log) → (c : CodeId) → c.serial ≡ next_serial w.codes → walk w c ≡ 0
+next_unwalked w table threads c is = sum_none c w.places (λ p t x. by t (threads.each p t x).stack_given (threads.each p t x).shown_given (has_changed t c))
   where
     zero_where : (n : ℕ) → (0 < n → IsGiven w.codes c) → n ≡ 0
     zero_where zero given = refl
-    zero_where (suc n) given = absurd (none_of w sound c is (given (omega arith)))
+    zero_where (suc n) given = absurd (none_of w table c is (given (omega arith)))
 
     by : (t : Thread) → ((c : CodeId) → 0 < act c t.stack → IsGiven w.codes c) → ((c : CodeId) → 0 < act c t.shown → IsGiven w.codes c) → (b : Bool) → cond b (act c t.stack) (act c t.shown) ≡ 0
     by t stacked shown true = zero_where (act c t.stack) (stacked c)
@@ -204,9 +204,9 @@ free_cell cells w slot least h cell at_slot = (by cell.count refl, h.low slot ce
     by zero e = e
     by (suc n) e = (let o = h.own slot cell at_slot (omega (arith, e)) in absurd (free_apart w slot least cell.serial o.0 o.1 o.2 o.3))
 
-installed_cells : (cells : List Cell) (w : World) (method slot : ℕ) (a : Answer) → IsSound w → free_slot w.codes w.slots ≡ Some slot → SameCells cells w
+pub installed_cells : (cells : List Cell) (w : World) (method slot : ℕ) (a : Answer) → TableIsSound w.slots w.methods w.codes → ThreadsAreSound w.places w.codes (names_given w.log) → free_slot w.codes w.slots ≡ Some slot → SameCells cells w
     → SameCells (slice_set cells slot (cell_of (next_serial w.codes) 0)) (coded w (with_code w.codes method slot) (event.Install method) a)
-installed_cells cells w method slot a sound least h = record {
+installed_cells cells w method slot a table threads least h = record {
   lengths = length_set cells slot zero_cell ∙ h.lengths;
   here = λ serial code found takes. here_by serial code (code_of w.codes serial) refl found takes;
   own = λ at cell at_slot some. dite (ℕ_discrete at slot)
@@ -243,9 +243,9 @@ installed_cells cells w method slot a sound least h = record {
             let code_is : record { serial = next_serial w.codes; slot = slot; method = method; state = InUse } ≡ code = cc in
             let serial_is : next_serial w.codes ≡ serial = eqb-true (next_serial w.codes) serial e in
             subst (λ (c : Code). slice_get (slice_set cells slot (cell_of (next_serial w.codes) 0)) c.slot ≡ Some (cell_of serial (walk w (id_of c)))) code_is
-            (placed ∙ ap₂ (λ s n. Some (cell_of s n)) serial_is (sym (next_unwalked w sound (record { slot = slot; serial = next_serial w.codes }) refl)))
+            (placed ∙ ap₂ (λ s n. Some (cell_of s n)) serial_is (sym (next_unwalked w table threads (record { slot = slot; serial = next_serial w.codes }) refl)))
 
-installed_records : (records : List Record) (w : World) (method slot : ℕ) (a : Answer) → SameRecords records w → SameRecords records (coded w (with_code w.codes method slot) (event.Install method) a)
+pub installed_records : (records : List Record) (w : World) (method slot : ℕ) (a : Answer) → SameRecords records w → SameRecords records (coded w (with_code w.codes method slot) (event.Install method) a)
 installed_records records w method slot a h = record {
   lengths = h.lengths;
   each = λ serial code r found is at_slot. record_next r w (with_code w.codes method slot) (event.Install method) a code refl (λ place. refl) (h.each serial code r (was serial code found is) is at_slot);
@@ -272,7 +272,7 @@ table_over t codes slots methods a b c = rw (← a, ← b, ← c) refl
 pub table_is : (s : Core) (w : World) → Matches s w → s.table ≡ record { codes = w.codes; slots = w.slots; methods = w.methods }
 table_is s w m = table_over s.table w.codes w.slots w.methods m.codes m.slots m.methods
 
-world_slot : (s : Core) (w : World) (slot : ℕ) → Matches s w → free_slot s.table.codes s.table.slots ≡ Some slot → free_slot w.codes w.slots ≡ Some slot
+pub world_slot : (s : Core) (w : World) (slot : ℕ) → Matches s w → free_slot s.table.codes s.table.slots ≡ Some slot → free_slot w.codes w.slots ≡ Some slot
 world_slot s w slot m is = ap (λ (x : TableView). free_slot x.codes x.slots) (sym (table_is s w m)) ∙ is
 
 pub free_within : (s : Core) (w : World) (slot : ℕ) → Matches s w → free_slot s.table.codes s.table.slots ≡ Some slot → slot < length s.index
@@ -288,55 +288,40 @@ free_for s w slot serial m is at cell at_slot =
 -- What a fault of an install is refused with.
 abbrev pub install_refusal : InstallFault → Option Refusal
 install_refusal fault.NoSuchMethod = Some refusal.NoSuchMethod
-install_refusal fault.HasCode = Some refusal.HasCode
 install_refusal fault.TableFull = Some refusal.TableFull
 install_refusal fault.SerialsSpent = Some refusal.SerialsSpent
 install_refusal fault.NoMemory = None
 
-abbrev fault_by : Bool → Bool → Option ℕ → Bool → Option InstallFault
-fault_by named unused slot room =
-    cond named (cond unused (cond (is_some slot) (cond room None (Some fault.SerialsSpent)) (Some fault.TableFull)) (Some fault.HasCode)) (Some fault.NoSuchMethod)
+abbrev fault_by : Bool → Option ℕ → Bool → Option InstallFault
+fault_by named slot room = cond named (cond (is_some slot) (cond room None (Some fault.SerialsSpent)) (Some fault.TableFull)) (Some fault.NoSuchMethod)
 
-abbrev verdict_by : World → ℕ → Bool → Bool → Option ℕ → Verdict World
-verdict_by w method named unused slot = unless named refuse refusal.NoSuchMethod then unless unused refuse refusal.HasCode then install_in w method slot
+abbrev verdict_by : World → ℕ → Bool → Option ℕ → Verdict World
+verdict_by w method named slot = unless named refuse refusal.NoSuchMethod then install_in w method slot
 
-install_refused : (w : World) (method : ℕ) (named unused : Bool) (slot : Option ℕ) (room : Bool) (f : InstallFault) (r : Refusal) → nat_le (next_serial w.codes) last_number ≡ room
-    → fault_by named unused slot room ≡ Some f → install_refusal f ≡ Some r → verdict_by w method named unused slot ≡ refused r
-install_refused w method false unused slot room f r e h is = let same : fault.NoSuchMethod ≡ f = cc in let said = ap install_refusal same ∙ is in cc
-install_refused w method true false slot room f r e h is = let same : fault.HasCode ≡ f = cc in let said = ap install_refusal same ∙ is in cc
-install_refused w method true true None room f r e h is = let same : fault.TableFull ≡ f = cc in let said = ap install_refusal same ∙ is in cc
-install_refused w method true true (Some slot) false f r e h is = let same : fault.SerialsSpent ≡ f = cc in let said = ap install_refusal same ∙ is in rw e (cc)
-install_refused w method true true (Some slot) true f r e h is = cc
+install_refused : (w : World) (method : ℕ) (named : Bool) (slot : Option ℕ) (room : Bool) (f : InstallFault) (r : Refusal) → nat_le (next_serial w.codes) last_number ≡ room
+    → fault_by named slot room ≡ Some f → install_refusal f ≡ Some r → verdict_by w method named slot ≡ refused r
+install_refused w method false slot room f r e h is = let same : fault.NoSuchMethod ≡ f = cc in let said = ap install_refusal same ∙ is in cc
+install_refused w method true None room f r e h is = let same : fault.TableFull ≡ f = cc in let said = ap install_refusal same ∙ is in cc
+install_refused w method true (Some slot) false f r e h is = let same : fault.SerialsSpent ≡ f = cc in let said = ap install_refusal same ∙ is in rw e (cc)
+install_refused w method true (Some slot) true f r e h is = cc
 
-install_accepted : (w : World) (method at : ℕ) (named unused : Bool) (slot : Option ℕ) (room : Bool) → nat_le (next_serial w.codes) last_number ≡ room
-    → fault_by named unused slot room ≡ None → slot ≡ Some at → verdict_by w method named unused slot ≡ accepted (record w { codes = with_code w.codes method at }) (answer.Code (next_serial w.codes))
-install_accepted w method at false unused slot room e h is = cc
-install_accepted w method at true false slot room e h is = cc
-install_accepted w method at true true None room e h is = cc
-install_accepted w method at true true (Some slot) false e h is = cc
-install_accepted w method at true true (Some slot) true e h is = let same : slot ≡ at = cc in rw (e, same) refl
+install_accepted : (w : World) (method at : ℕ) (named : Bool) (slot : Option ℕ) (room : Bool) → nat_le (next_serial w.codes) last_number ≡ room
+    → fault_by named slot room ≡ None → slot ≡ Some at → verdict_by w method named slot ≡ accepted (record w { codes = with_code (without_use w.codes (in_use_for w.codes method)) method at }) (answer.Code (next_serial w.codes))
+install_accepted w method at false slot room e h is = cc
+install_accepted w method at true None room e h is = cc
+install_accepted w method at true (Some slot) false e h is = cc
+install_accepted w method at true (Some slot) true e h is = let same : slot ≡ at = cc in rw (e, same) refl
 
 pub no_install : (s : Core) (method : ℕ) (f : InstallFault) (r : Refusal) → install_fault s.table method ≡ Some f → install_refusal f ≡ Some r → Does (event.Install method) s (answer.Refused r) s
 no_install s method f r h is = refused_does s (event.Install method) r (λ w m.
-    install_refused w method (nat_lt method w.methods) (is_none (in_use_for w.codes method)) (free_slot w.codes w.slots) (nat_le (next_serial w.codes) last_number) f r refl
+    install_refused w method (nat_lt method w.methods) (free_slot w.codes w.slots) (nat_le (next_serial w.codes) last_number) f r refl
     (ap (λ t. install_fault t method) (sym (table_is s w m)) ∙ h) is)
 
-pub installed : (s t : Core) (method slot serial : ℕ) → install_fault s.table method ≡ None → free_slot s.table.codes s.table.slots ≡ Some slot → serial ≡ next_serial s.table.codes
-    → Recodes s t (with_code s.table.codes method slot) → t.records ≡ s.records → t.index ≡ slice_set s.index slot (cell_of serial 0) → Does (event.Install method) s (answer.Code serial) t
-installed s t method slot serial h is at k records index = record {
-  each = λ w sound m. (
-      let serial_is : serial ≡ next_serial w.codes = at ∙ ap next_serial m.codes in
-      let codes : Recodes s t (with_code w.codes method slot) = subst (λ cs. Recodes s t (with_code cs method slot)) m.codes k in
-      let said : outcome w (event.Install method) ≡ accepted (record w { codes = with_code w.codes method slot }) (answer.Code (next_serial w.codes)) =
-      install_accepted w method slot (nat_lt method w.methods) (is_none (in_use_for w.codes method)) (free_slot w.codes w.slots) (nat_le (next_serial w.codes) last_number) refl
-      (ap (λ t. install_fault t method) (sym (table_is s w m)) ∙ h) (ap (λ (x : TableView). free_slot x.codes x.slots) (sym (table_is s w m)) ∙ is) in
-      rw serial_is (accepted_in t w (record w { codes = with_code w.codes method slot }) (event.Install method) (answer.Code (next_serial w.codes)) said
-      (coded_matches s t w (with_code w.codes method slot) (event.Install method) (answer.Code (next_serial w.codes)) codes
-      (record { starts_none = refl; asks_none = refl; rounds_none = refl; elsewhere = λ place. record { starts_not = refl; begins_not = refl; ends_not = refl } }) m
-      (rw records (installed_records s.records.items w method slot (answer.Code (next_serial w.codes)) m.records))
-      (rw (index, serial_is) (installed_cells s.index w method slot (answer.Code (next_serial w.codes)) sound (ap (λ (x : TableView). free_slot x.codes x.slots) (sym (table_is s w m)) ∙ is) m.index)))));
-  sizes = record { places = ap (λ v. length v.items) k.places; slots = ap (λ (x : TableView). x.slots) k.table; methods = ap (λ (x : TableView). x.methods) k.table };
-}
+-- What an install that no test refuses comes to.
+pub installs : (s : Core) (w : World) (method slot : ℕ) → Matches s w → install_fault s.table method ≡ None → free_slot s.table.codes s.table.slots ≡ Some slot
+    → outcome w (event.Install method) ≡ accepted (record w { codes = with_code (without_use w.codes (in_use_for w.codes method)) method slot }) (answer.Code (next_serial w.codes))
+installs s w method slot m h is =
+    install_accepted w method slot (nat_lt method w.methods) (free_slot w.codes w.slots) (nat_le (next_serial w.codes) last_number) refl (ap (λ t. install_fault t method) (sym (table_is s w m)) ∙ h) (world_slot s w slot m is)
 
 -- A zombie is freed.
 free_accepted : (w : World) (serial : ℕ) (o : Option Code) → unfreed w.codes serial ≡ o → free_fault o ≡ None → of_code o (free w) ≡ accepted (record w { codes = with_state w.codes serial Freed }) answer.Done
@@ -414,17 +399,16 @@ counted s serial n code is count_is = record {
 pub may_install : (s : Core) (method : ℕ) → install_fault s.table method ≡ None → Accepts s (event.Install method)
 may_install s method h = λ w sound m. by w m (free_slot w.codes w.slots) refl
   where
-    fault : (w : World) → Matches s w → fault_by (nat_lt method w.methods) (is_none (in_use_for w.codes method)) (free_slot w.codes w.slots) (nat_le (next_serial w.codes) last_number) ≡ None
+    fault : (w : World) → Matches s w → fault_by (nat_lt method w.methods) (free_slot w.codes w.slots) (nat_le (next_serial w.codes) last_number) ≡ None
     fault w m = ap (λ t. install_fault t method) (sym (table_is s w m)) ∙ h
 
-    full : (named unused room : Bool) → fault_by named unused None room ≡ None → ⊥
-    full false unused room e = cc
-    full true false room e = cc
-    full true true room e = cc
+    full : (named room : Bool) → fault_by named None room ≡ None → ⊥
+    full false room e = cc
+    full true room e = cc
 
     by : (w : World) → Matches s w → (slot : Option ℕ) → free_slot w.codes w.slots ≡ slot → is_accepted (answer_to w (event.Install method)) ≡ true
-    by w m None e = absurd (full (nat_lt method w.methods) (is_none (in_use_for w.codes method)) (nat_le (next_serial w.codes) last_number) (rw e at (fault w m)))
+    by w m None e = absurd (full (nat_lt method w.methods) (nat_le (next_serial w.codes) last_number) (rw e at (fault w m)))
     by w m (Some at) e =
-        let said : outcome w (event.Install method) ≡ accepted (record w { codes = with_code w.codes method at }) (answer.Code (next_serial w.codes)) =
-        install_accepted w method at (nat_lt method w.methods) (is_none (in_use_for w.codes method)) (free_slot w.codes w.slots) (nat_le (next_serial w.codes) last_number) refl (fault w m) e in
+        let said : outcome w (event.Install method) ≡ accepted (record w { codes = with_code (without_use w.codes (in_use_for w.codes method)) method at }) (answer.Code (next_serial w.codes)) =
+        install_accepted w method at (nat_lt method w.methods) (free_slot w.codes w.slots) (nat_le (next_serial w.codes) last_number) refl (fault w m) e in
         rw said refl

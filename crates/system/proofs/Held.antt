@@ -1,20 +1,17 @@
 -- A held thread is in a safe state, whatever happened.
-use Rattle.std.proofs.Common.{ℕ, ◌+◌, List, [], ◌∷◌, Some, None, sym, ◌∙◌, ⊎_elim}
+use Rattle.std.proofs.Common.{ℕ, ◌+◌, Some, None, sym, ◌∙◌, ⊎_elim}
 use Rattle.std.specs.Prelude.{slice_set}
 use Rattle.std.proofs.lemmas.Bool.{false≢true}
-use Rattle.system.specs.declared.events.Event.{Event}
 use Rattle.system.specs.Threads.{Thread}
-use Rattle.system.specs.World.{World, start_world}
+use Rattle.system.specs.World.{World}
 use Rattle.system.specs.Places.{popped}
 use Rattle.system.specs.Step.{new_thread}
-use Rattle.system.specs.Runs.{after, world_after}
 use Rattle.system.specs.Log.{names_given}
-use Rattle.system.specs.Laws.{HeldIsSafe, AllHeldAreSafe}
+use Rattle.system.specs.Laws.{HeldIsSafe}
 use Rattle.system.proofs.Outcomes.{Stands, begun, changed_by, ended, entered, moved, held, released}
 use Rattle.method_table.specs.Codes.{id_of}
 use Rattle.system.proofs.Cases.{Cases}
-use Rattle.system.proofs.ByCases.{by_cases}
-use Rattle.system.proofs.Seats.{Each, each_some, each_none, each_start, there_of}
+use Rattle.system.proofs.Seats.{Each, each_some, each_none}
 
 -- Each held thread is safe, by place.
 abbrev pub AreSafe : World → Type 0
@@ -57,16 +54,8 @@ safe_kept w h = record {
   tells = λ name opened i. h;
   finds_gone = λ name i. h;
   operates = λ opened others i. h;
-  closes = λ opened i. h;
+  closes = λ number opened i. h;
   counts = λ serial code i. h;
   says_state = λ serial code i. h;
   resolves = λ method i. h;
 }
-
-pub safe_after : (w : World) (events : List Event) → AreSafe w → AreSafe (world_after w events)
-safe_after w [] h = h
-safe_after w (e ∷ events) h = safe_after (after w e) events (by_cases w (λ e a v. AreSafe v) (safe_kept w h) e)
-
-pub held_are_safe : (places slots methods : ℕ) (events : List Event) → AllHeldAreSafe (world_after (start_world places slots methods) events)
-held_are_safe places slots methods events p t e =
-    safe_after (start_world places slots methods) events (each_start (λ p t. HeldIsSafe t) places) p t (there_of (world_after (start_world places slots methods) events) p t e)

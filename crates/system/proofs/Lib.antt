@@ -2,6 +2,7 @@ pub mod Lists
 pub mod Outcomes
 pub mod Cases
 pub mod ByCases
+pub mod Twice
 pub mod Seats
 pub mod Held
 pub mod Table
@@ -36,6 +37,7 @@ pub mod Marked
 pub mod Serving
 pub mod Plain
 pub mod Reclaiming
+pub mod Replacing
 pub mod Exits
 pub mod Starts
 pub mod Requesting

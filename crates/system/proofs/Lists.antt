@@ -1,7 +1,8 @@
 -- Lists by position: what stands where after a map, a push, or a search.
 use Rattle.std.proofs.Common.{◌≡◌, ◌⊎◌, ℕ, zero, suc, ◌+◌, ◌<◌, ◌≤◌, Bool, true, false, cond, List, [], ◌∷◌, ◌++◌, length, map, Some, None, sym, refl, ap, ◌∙◌, inl, inr, ⊎_elim, subst, arith}
 use Rattle.std.specs.Prelude.{slice_get, option_map, find, ◌||◌, ◌&&◌, filter}
-use Rattle.std.specs.List.{list_any, list_all, remove}
+use Rattle.std.specs.List.{list_any, list_all, position, position_from, remove}
+use Rattle.std.proofs.lemmas.Iterator.Adapters.{position_from-zero}
 use Rattle.std.proofs.lemmas.Bool.{false≢true, or_parts, and_parts, cases_lt}
 use Rattle.method_table.specs.Numbers.{below}
 
@@ -64,6 +65,32 @@ find_none_at {A = A} test (y ∷ ys) i x h k = by (test y) refl h i k (find_none
     by true e n i k rest = cc
     by false e n zero k rest = let same : y ≡ x = cc in ap test (sym same) ∙ e
     by false e n (suc i) k rest = rest i x n k
+
+-- Where the first that passes stands, counted from k.
+place_found : {A : Type 0} (test : A → Bool) (k : ℕ) (xs : List A) (i : ℕ) → position_from test k xs ≡ Some i → (j : ℕ) × (i ≡ k + j) × (x : A) × (slice_get xs j ≡ Some x) × (find test xs ≡ Some x)
+place_found test k [] i h = cc
+place_found {A = A} test k (y ∷ ys) i h = by (test y) h (place_found test (k + 1) ys i)
+  where
+    by : (b : Bool) → cond b (Some k) (position_from test (k + 1) ys) ≡ Some i → (position_from test (k + 1) ys ≡ Some i → (j : ℕ) × (i ≡ k + 1 + j) × (x : A) × (slice_get ys j ≡ Some x) × (find test ys ≡ Some x))
+        → (j : ℕ) × (i ≡ k + j) × (x : A) × (slice_get (y ∷ ys) j ≡ Some x) × (cond b (Some y) (find test ys) ≡ Some x)
+    by true e rest = (0, (let is : k ≡ i = cc in omega arith), y, refl, refl)
+    by false e rest = let r = rest e in (suc r.0, (let is = r.1 in omega arith), r.2, r.3, r.4)
+
+pub position_found : {A : Type 0} (test : A → Bool) (xs : List A) (i : ℕ) → position test xs ≡ Some i → (x : A) × (slice_get xs i ≡ Some x) × (find test xs ≡ Some x)
+position_found test xs i h =
+    let r = place_found test 0 xs i (sym (position_from-zero test xs) ∙ h) in
+    let is : r.0 ≡ i = (let e = r.1 in omega arith) in (r.2, subst (λ j. slice_get xs j ≡ Some r.2) is r.3, r.4)
+
+no_place : {A : Type 0} (test : A → Bool) (k : ℕ) (xs : List A) → position_from test k xs ≡ None → find test xs ≡ None
+no_place test k [] h = refl
+no_place {A = A} test k (y ∷ ys) h = by (test y) h (no_place test (k + 1) ys)
+  where
+    by : (b : Bool) → cond b (Some k) (position_from test (k + 1) ys) ≡ None → (position_from test (k + 1) ys ≡ None → find test ys ≡ None) → cond b (Some y) (find test ys) ≡ None
+    by true e rest = cc
+    by false e rest = rest e
+
+pub position_none : {A : Type 0} (test : A → Bool) (xs : List A) → position test xs ≡ None → find test xs ≡ None
+position_none test xs h = no_place test 0 xs (sym (position_from-zero test xs) ∙ h)
 
 pub find_map : {A : Type 0} (test : A → Bool) (f : A → A) (xs : List A) → ((x : A) → test (f x) ≡ test x) → find test (map f xs) ≡ option_map f (find test xs)
 find_map test f [] h = refl

@@ -37,15 +37,15 @@ le_false n m h = grind (arith, nat_tests)
 abbrev pub waits : List Mark → ℕ → List Mark → List ℕ
 waits cleared name ms = map (λ mark. mark.operation) (filter (λ mark. (mark.name == name) && not (is_marked cleared mark.operation name)) ms)
 
-abbrev AtMost : ℕ → Option ℕ → Type 0
+abbrev pub AtMost : ℕ → Option ℕ → Type 0
 AtMost n None = Unit {0}
 AtMost n (Some k) = k ≤ n
 
-max_least : (n k : ℕ) (o : Option ℕ) → k ≤ n → AtMost n o → max_with k o ≤ n
+pub max_least : (n k : ℕ) (o : Option ℕ) → k ≤ n → AtMost n o → max_with k o ≤ n
 max_least n k None low h = low
 max_least n k (Some m) low h = omega (arith, low, h)
 
-max_here : (n : ℕ) (o : Option ℕ) → AtMost n o → max_with n o ≡ n
+pub max_here : (n : ℕ) (o : Option ℕ) → AtMost n o → max_with n o ≡ n
 max_here n None h = refl
 max_here n (Some m) h = omega (arith, h)
 

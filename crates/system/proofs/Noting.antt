@@ -1,5 +1,5 @@
 -- Events that change nothing but the log, and a round.
-use Rattle.std.proofs.Common.{◌≡◌, ◌∙◌, ◌<◌, ◌∷◌, sym, ap, refl, subst, ℕ, ◌+◌, true, Option, Some, None, arith}
+use Rattle.std.proofs.Common.{◌≡◌, ◌∙◌, ◌<◌, ◌∷◌, sym, ap, refl, ℕ, ◌+◌, true, Option, Some, None, arith}
 use Rattle.std.specs.Prelude.{nat_lt, option_map}
 use Rattle.std.proofs.lemmas.Bool.Decides.{nat_tests}
 use Rattle.method_table.specs.declared.Code.{Code}
@@ -17,7 +17,7 @@ use Rattle.system.specs.World.{World, thread_at}
 use Rattle.system.specs.Step.{outcome, of_code, code_or_none}
 use Rattle.system.specs.Stands.{Matches, Does, kept_at}
 use Rattle.system.proofs.Outcomes.{noted}
-use Rattle.system.proofs.Logs.{IsQuiet, IsElsewhere, names_next, operations_next, moment_next, moments_next, place_over, opened_over, noted_matches}
+use Rattle.system.proofs.Logs.{IsElsewhere, names_next, operations_next, moment_next, moments_next, place_over, opened_over, noted_matches}
 use Rattle.system.proofs.Cells.{cells_stay}
 use Rattle.system.proofs.Codings.{accepted_in, answered_as, none_some, record_next, same_some}
 

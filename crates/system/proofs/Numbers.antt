@@ -72,8 +72,6 @@ asked_sound ws os g n m request room queue h = record {
   census_alone = h.census_alone;
   opened_rise = h.opened_rise;
   opened_is = λ i o y. (let e = push_length ws new in let a = h.opened_is i o y in let low = a.1 in (a.0, omega arith));
-  one_open = h.one_open;
-  newest_is = λ i o y. (let e = push_length ws new in let a = h.newest_is i o y in omega arith);
 }
   where
     new : Waiting
@@ -91,8 +89,6 @@ opened_sound w oldest others g n m i h = record {
   census_alone = λ j o y census. alone j o census (push_at w.requests.opened (newly_opened w oldest) j o y);
   opened_rise = λ j k a b less x y. rise j k a b less (push_at w.requests.opened (newly_opened w oldest) j a x) (push_at w.requests.opened (newly_opened w oldest) k b y);
   opened_is = λ j o y. by j o (push_at w.requests.opened (newly_opened w oldest) j o y);
-  one_open = (let a = push_length w.requests.opened (newly_opened w oldest) in let b : length w.requests.opened ≡ 0 = ap (λ (os : List Opened). length os) i.none_open in omega arith);
-  newest_is = λ j o y. newest j o (push_at w.requests.opened (newly_opened w oldest) j o y);
 }
   where
     longer : length w.requests.waiting ≡ suc (length others)
@@ -103,12 +99,6 @@ opened_sound w oldest others g n m i h = record {
     by j o (inr a) =
         let first = h.waiting_is 0 oldest (subst (λ ws. slice_get ws 0 ≡ Some oldest) (sym i.waiting_is) refl) in let d = longer in let few = h.waiting_asked in
         let same : oldest.number ≡ o.number = ap (λ (x : Opened). x.number) a.1 in (omega arith, omega arith)
-
-    newest : (j : ℕ) (o : Opened) → (slice_get w.requests.opened j ≡ Some o) ⊎ ((j ≡ length w.requests.opened) × (newly_opened w oldest ≡ o)) → o.number + length others ≡ n
-    newest j o (inl a) = let none : slice_get {X = Opened} [] j ≡ Some o = subst (λ os. slice_get os j ≡ Some o) i.none_open a in cc
-    newest j o (inr a) =
-        let first = h.waiting_is 0 oldest (subst (λ ws. slice_get ws 0 ≡ Some oldest) (sym i.waiting_is) refl) in let d = longer in
-        let same : oldest.number ≡ o.number = ap (λ (x : Opened). x.number) a.1 in omega arith
 
     alone : (j : ℕ) (o : Opened) → is_census o.request ≡ true → (slice_get w.requests.opened j ≡ Some o) ⊎ ((j ≡ length w.requests.opened) × (newly_opened w oldest ≡ o)) → length (w.requests.opened ++ newly_opened w oldest ∷ []) ≤ 1
     alone j o census (inl a) = absurd (false≢true (sym (any_none_at (λ (x : Opened). is_census x.request) w.requests.opened j o i.no_safepoint a) ∙ census))
@@ -161,17 +151,17 @@ numbers_kept w h = record {
   tells = λ name opened i. h;
   finds_gone = λ name i. h;
   operates = λ opened others i. operated_sound opened.number;
-  closes = λ opened i. closed_sound opened.number;
+  closes = λ number opened i. closed_sound opened.number;
   counts = λ serial code i. h;
   says_state = λ serial code i. h;
   resolves = λ method i. h;
 }
   where
     named_sound : names_given w.log < last_number → NumbersAreSound w.requests.waiting w.requests.opened (names_given w.log + 1) (operations_given w.log) (moment w.log)
-    named_sound room = record { names_few = omega arith; operations_few = h.operations_few; moment_few = h.moment_few; queue_few = h.queue_few; waiting_asked = h.waiting_asked; waiting_is = h.waiting_is; few_open = h.few_open; census_alone = h.census_alone; opened_rise = h.opened_rise; opened_is = h.opened_is; one_open = h.one_open; newest_is = h.newest_is }
+    named_sound room = record { names_few = omega arith; operations_few = h.operations_few; moment_few = h.moment_few; queue_few = h.queue_few; waiting_asked = h.waiting_asked; waiting_is = h.waiting_is; few_open = h.few_open; census_alone = h.census_alone; opened_rise = h.opened_rise; opened_is = h.opened_is }
 
     rounded_sound : moment w.log < last_number → NumbersAreSound w.requests.waiting w.requests.opened (names_given w.log) (operations_given w.log) (moment w.log + 1)
-    rounded_sound room = record { names_few = h.names_few; operations_few = h.operations_few; moment_few = omega arith; queue_few = h.queue_few; waiting_asked = h.waiting_asked; waiting_is = h.waiting_is; few_open = h.few_open; census_alone = h.census_alone; opened_rise = h.opened_rise; opened_is = h.opened_is; one_open = h.one_open; newest_is = h.newest_is }
+    rounded_sound room = record { names_few = h.names_few; operations_few = h.operations_few; moment_few = omega arith; queue_few = h.queue_few; waiting_asked = h.waiting_asked; waiting_is = h.waiting_is; few_open = h.few_open; census_alone = h.census_alone; opened_rise = h.opened_rise; opened_is = h.opened_is }
 
     operated_sound : (n : ℕ) → NumbersAreSound w.requests.waiting (map (operated_if n) w.requests.opened) (names_given w.log) (operations_given w.log) (moment w.log)
     operated_sound n = record {
@@ -189,9 +179,6 @@ numbers_kept w h = record {
           let q : k.0.number ≡ b.number = sym (operated_number n k.0) ∙ ap (λ (y : Opened). y.number) k.2 in omega arith);
       opened_is = λ i o x. (let m = map_at (operated_if n) w.requests.opened i o x in
           subst (WasOpened w.requests.waiting (operations_given w.log)) (sym (operated_number n m.0) ∙ ap (λ (y : Opened). y.number) m.2) (h.opened_is i m.0 m.1));
-      one_open = (let a = map_length (operated_if n) w.requests.opened in let b = h.one_open in omega arith);
-      newest_is = λ i o x. (let m = map_at (operated_if n) w.requests.opened i o x in
-          subst (λ k. k + length w.requests.waiting ≡ operations_given w.log) (sym (operated_number n m.0) ∙ ap (λ (y : Opened). y.number) m.2) (h.newest_is i m.0 m.1));
     }
 
     closed_sound : (n : ℕ) → NumbersAreSound w.requests.waiting (filter (λ o. not (o.number == n)) w.requests.opened) (names_given w.log) (operations_given w.log) (moment w.log)
@@ -207,9 +194,7 @@ numbers_kept w h = record {
           let a = filter_less (λ (o : Opened). not (o.number == n)) w.requests.opened in let b = h.census_alone m.0 o m.1 census in omega arith);
       opened_rise = λ i j a b less x y. (let m = filter_pair (λ (o : Opened). not (o.number == n)) w.requests.opened i j a b less x y in h.opened_rise m.0 m.1 a b m.2 m.3 m.4);
       opened_is = λ i o x. (let m = filter_at (λ (o : Opened). not (o.number == n)) w.requests.opened i o x in h.opened_is m.0 o m.1);
-      one_open = (let a = filter_less (λ (o : Opened). not (o.number == n)) w.requests.opened in let b = h.one_open in omega arith);
-      newest_is = λ i o x. (let m = filter_at (λ (o : Opened). not (o.number == n)) w.requests.opened i o x in h.newest_is m.0 o m.1);
     }
 
 pub numbers_start : NumbersAreSound [] [] 0 0 1
-numbers_start = record { names_few = omega arith; operations_few = omega arith; moment_few = omega arith; queue_few = omega arith; waiting_asked = omega arith; waiting_is = λ i x y. cc; few_open = omega arith; census_alone = λ i o y census. cc; opened_rise = λ i j a b less x y. cc; opened_is = λ i o y. cc; one_open = omega arith; newest_is = λ i o y. cc }
+numbers_start = record { names_few = omega arith; operations_few = omega arith; moment_few = omega arith; queue_few = omega arith; waiting_asked = omega arith; waiting_is = λ i x y. cc; few_open = omega arith; census_alone = λ i o y census. cc; opened_rise = λ i j a b less x y. cc; opened_is = λ i o y. cc }

@@ -1,6 +1,6 @@
 -- Each operation runs at most once.
-use Rattle.std.proofs.Common.{◌≡◌, ℕ, suc, ◌+◌, ◌<◌, Bool, true, false, cond, List, [], ◌∷◌, ◌++◌, length, Some, None, sym, refl, ap, ◌∙◌, ⊎_elim, subst, arith}
-use Rattle.std.specs.Prelude.{not, ◌||◌, ◌&&◌, ◌==◌, slice_get, slice_set}
+use Rattle.std.proofs.Common.{◌≡◌, ℕ, suc, ◌+◌, ◌<◌, Bool, true, false, cond, List, [], ◌∷◌, ◌++◌, length, Some, None, sym, refl, ap, ap₂, ◌∙◌, ⊎_elim, subst, arith}
+use Rattle.std.specs.Prelude.{not, ◌||◌, ◌&&◌, ◌==◌, map, filter, slice_get, slice_set}
 use Rattle.std.proofs.lemmas.Bool.{false≢true, eq-eqb, ne_eqb, ltb-true, ltb-false}
 use Rattle.std.proofs.lemmas.List.Folds.{list_any-append}
 use Rattle.std.specs.Prelude.{nat_lt}
@@ -22,6 +22,7 @@ use Rattle.system.specs.Ran.{open_in, name_in, OperationsRunAtMostOnce}
 use Rattle.system.proofs.Outcomes.{Stands, begun, changed_by, ended, entered, moved, held, released, newly_opened, Opens, Operates, Closes}
 use Rattle.system.proofs.Cases.{Cases}
 use Rattle.system.proofs.ByCases.{by_cases}
+use Rattle.system.proofs.Twice.{in_steps}
 use Rattle.system.proofs.Seats.{Each, each_some, each_none, each_other, each_start, there_of}
 use Rattle.system.proofs.Lists.{map_at, push_at, push_length, filter_at}
 use Rattle.system.proofs.Numbers.{operated_number, asked_more}
@@ -70,15 +71,21 @@ done_stays w = record {
   tells = λ name opened i. λ n name h. h;
   finds_gone = λ name i. λ n name h. h;
   operates = λ opened others i. λ n name h. list_any-append (λ (mark : Mark). (mark.operation == n) && (mark.name == name)) (marks_of opened.number (live_names w)) w.requests.done ∙ or_later (is_marked (marks_of opened.number (live_names w)) n name) (is_marked w.requests.done n name) h;
-  closes = λ opened i. λ n name h. h;
+  closes = λ number opened i. λ n name h. h;
   counts = λ serial code i. λ n name h. h;
   says_state = λ serial code i. λ n name h. h;
   resolves = λ method i. λ n name h. h;
 }
 
-done_after : (w : World) (events : List Event) (n name : ℕ) → is_marked w.requests.done n name ≡ true → is_marked (world_after w events).requests.done n name ≡ true
-done_after w [] n name h = h
-done_after w (e ∷ events) n name h = done_after (after w e) events n name (by_cases w (λ e a v. DoneStays w.requests v.requests) (done_stays w) e n name h)
+record DoneIn (n name : ℕ) (w : World) : Type 0 where
+  done : is_marked w.requests.done n name ≡ true
+  kept_is : IsKept w
+
+done_after : (w : World) (events : List Event) (n name : ℕ) → IsKept w → is_marked w.requests.done n name ≡ true → is_marked (world_after w events).requests.done n name ≡ true
+done_after w [] n name k h = h
+done_after w (e ∷ events) n name k h =
+    let r = in_steps (DoneIn n name) (λ v d. d.kept_is.table) (λ v d simple a. record { done = by_cases v (λ e a u. DoneStays v.requests u.requests) (done_stays v) d simple n name a.done; kept_is = kept v d a.kept_is }) w e (record { done = h; kept_is = k }) in
+    done_after (after w e) events n name r.kept_is r.done
 
 -- The operation was operated, where it is open, and isn't opened again.
 record Past (n : ℕ) (requests : Requests) (numbered : ℕ) : Type 0 where
@@ -139,15 +146,21 @@ past_kept n w k h = record {
   tells = λ name opened i. record { operated = h.operated; was = h.was };
   finds_gone = λ name i. h;
   operates = λ opened others i. record { operated = λ j o x e. (let m = map_at (operated_if opened.number) w.requests.opened j o x in subst (λ (y : Opened). y.operated ≡ true) m.2 (operated_still opened.number m.0 (h.operated j m.0 m.1 (sym (operated_number opened.number m.0) ∙ (ap (λ (y : Opened). y.number) m.2 ∙ e))))); was = h.was };
-  closes = λ opened i. record { operated = λ j o x e. (let m = filter_at (λ (o : Opened). not (o.number == opened.number)) w.requests.opened j o x in h.operated m.0 o m.1 e); was = h.was };
+  closes = λ number opened i. record { operated = λ j o x e. (let m = filter_at (λ (o : Opened). not (o.number == opened.number)) w.requests.opened j o x in h.operated m.0 o m.1 e); was = h.was };
   counts = λ serial code i. h;
   says_state = λ serial code i. h;
   resolves = λ method i. h;
 }
 
+record PastIn (n : ℕ) (w : World) : Type 0 where
+  past : Past n w.requests (operations_given w.log)
+  kept_is : IsKept w
+
 past_after : (n : ℕ) (w : World) (events : List Event) → IsKept w → Past n w.requests (operations_given w.log) → Past n (world_after w events).requests (operations_given (world_after w events).log)
 past_after n w [] k h = h
-past_after n w (e ∷ events) k h = past_after n (after w e) events (kept w e k) (by_cases w (λ e a v. Past n v.requests (operations_given v.log)) (past_kept n w k h) e)
+past_after n w (e ∷ events) k h =
+    let r = in_steps (PastIn n) (λ v d. d.kept_is.table) (λ v d simple a. record { past = by_cases v (λ e a u. Past n u.requests (operations_given u.log)) (past_kept n v a.kept_is a.past) d simple; kept_is = kept v d a.kept_is }) w e (record { past = h; kept_is = k }) in
+    past_after n (after w e) events r.kept_is r.past
 
 -- An accepted Operate is of the one that is open.
 abbrev Operating : World → Event → Answer → World → Type 0
@@ -203,7 +216,7 @@ operating w k = record {
   tells = λ name opened i. tt;
   finds_gone = λ name i. tt;
   operates = λ opened others i. λ z. (opened, others, i.opened_is, i.not_operated, operated_past w opened others k i);
-  closes = λ opened i. tt;
+  closes = λ number opened i. tt;
   counts = λ serial code i. tt;
   says_state = λ serial code i. tt;
   resolves = λ method i. tt;
@@ -268,19 +281,43 @@ named_kept w h = record {
   tells = λ name opened i. h;
   finds_gone = λ name i. h;
   operates = λ opened others i. h;
-  closes = λ opened i. h;
+  closes = λ number opened i. h;
   counts = λ serial code i. h;
   says_state = λ serial code i. h;
   resolves = λ method i. h;
 }
 
-named_after : (w : World) (events : List Event) → Named w → Named (world_after w events)
-named_after w [] h = h
-named_after w (e ∷ events) h = named_after (after w e) events (by_cases w (λ e a v. Named v) (named_kept w h) e)
+record NamedIn (w : World) : Type 0 where
+  named : Named w
+  kept_is : IsKept w
 
--- The log tells which operation is open.
+named_after : (w : World) (events : List Event) → IsKept w → Named w → Named (world_after w events)
+named_after w [] k h = h
+named_after w (e ∷ events) k h =
+    let r = in_steps NamedIn (λ v d. d.kept_is.table) (λ v d simple a. record { named = by_cases v (λ e a u. Named u) (named_kept v a.named) d simple; kept_is = kept v d a.kept_is }) w e (record { named = h; kept_is = k }) in
+    named_after (after w e) events r.kept_is r.named
+
+-- The log tells which operations are open.
 abbrev LogOpen : World → Type 0
-LogOpen w = (i : ℕ) (o : Opened) → slice_get w.requests.opened i ≡ Some o → open_in w.log ≡ o.number
+LogOpen w = open_in w.log ≡ map (λ (o : Opened). o.number) w.requests.opened
+
+numbers_push : (os : List Opened) (o : Opened) → map (λ (x : Opened). x.number) (os ++ o ∷ []) ≡ map (λ (x : Opened). x.number) os ++ o.number ∷ []
+numbers_push [] o = refl
+numbers_push (x ∷ os) o = ap (λ ns. x.number ∷ ns) (numbers_push os o)
+
+numbers_operated : (n : ℕ) (os : List Opened) → map (λ (x : Opened). x.number) (map (operated_if n) os) ≡ map (λ (x : Opened). x.number) os
+numbers_operated n [] = refl
+numbers_operated n (x ∷ os) = ap₂ (λ m ns. m ∷ ns) (operated_number n x) (numbers_operated n os)
+
+numbers_left : (n : ℕ) (os : List Opened) → filter (λ m. not (m == n)) (map (λ (x : Opened). x.number) os) ≡ map (λ (x : Opened). x.number) (filter (λ x. not (x.number == n)) os)
+numbers_left n [] = refl
+numbers_left n (x ∷ os) = by (x.number == n) (numbers_left n os)
+  where
+    by : (b : Bool) → filter (λ m. not (m == n)) (map (λ (y : Opened). y.number) os) ≡ map (λ (y : Opened). y.number) (filter (λ y. not (y.number == n)) os)
+        → cond (not b) (x.number ∷ filter (λ m. not (m == n)) (map (λ (y : Opened). y.number) os)) (filter (λ m. not (m == n)) (map (λ (y : Opened). y.number) os))
+        ≡ map (λ (y : Opened). y.number) (cond (not b) (x ∷ filter (λ y. not (y.number == n)) os) (filter (λ y. not (y.number == n)) os))
+    by true r = r
+    by false r = ap (λ ns. x.number ∷ ns) r
 
 log_kept : (w : World) → LogOpen w → Cases w (λ e a v. LogOpen v)
 log_kept w h = record {
@@ -311,19 +348,25 @@ log_kept w h = record {
   retires = λ serial code i. h;
   frees = λ serial code i. h;
   asks = λ request i. h;
-  opens = λ oldest others i j o x. ⊎_elim (λ old. (let none : slice_get {X = Opened} [] j ≡ Some o = subst (λ os. slice_get os j ≡ Some o) i.none_open old in cc)) (λ new. ap (λ (y : Opened). y.number) new.1) (push_at w.requests.opened (newly_opened w oldest) j o x);
+  opens = λ oldest others i. ap (λ ns. ns ++ oldest.number ∷ []) h ∙ sym (numbers_push w.requests.opened (newly_opened w oldest));
   tells = λ name opened i. h;
   finds_gone = λ name i. h;
-  operates = λ opened others i j o x. (let m = map_at (operated_if opened.number) w.requests.opened j o x in h j m.0 m.1 ∙ (sym (operated_number opened.number m.0) ∙ ap (λ (y : Opened). y.number) m.2));
-  closes = λ opened i j o x. (let m = filter_at (λ (y : Opened). not (y.number == opened.number)) w.requests.opened j o x in h m.0 o m.1);
+  operates = λ opened others i. h ∙ sym (numbers_operated opened.number w.requests.opened);
+  closes = λ number opened i. ap (filter (λ m. not (m == opened.number))) h ∙ numbers_left opened.number w.requests.opened;
   counts = λ serial code i. h;
   says_state = λ serial code i. h;
   resolves = λ method i. h;
 }
 
-log_after : (w : World) (events : List Event) → LogOpen w → LogOpen (world_after w events)
-log_after w [] h = h
-log_after w (e ∷ events) h = log_after (after w e) events (by_cases w (λ e a v. LogOpen v) (log_kept w h) e)
+record LogIn (w : World) : Type 0 where
+  open_is : LogOpen w
+  kept_is : IsKept w
+
+log_after : (w : World) (events : List Event) → IsKept w → LogOpen w → LogOpen (world_after w events)
+log_after w [] k h = h
+log_after w (e ∷ events) k h =
+    let r = in_steps LogIn (λ v d. d.kept_is.table) (λ v d simple a. record { open_is = by_cases v (λ e a u. LogOpen u) (log_kept v a.open_is) d simple; kept_is = kept v d a.kept_is }) w e (record { open_is = h; kept_is = k }) in
+    log_after (after w e) events r.kept_is r.open_is
 
 pub run_at_most_once : OperationsRunAtMostOnce
 run_at_most_once places slots methods events = record {
@@ -338,25 +381,25 @@ run_at_most_once places slots methods events = record {
       let marked_so : is_marked (after w (event.At p act.Finish)).requests.done operation name ≡ true =
       subst (λ k. is_marked (after w (event.At p act.Finish)).requests.done k name ≡ true) number
       (subst (λ k. is_marked (after w (event.At p act.Finish)).requests.done safe.opened.number k ≡ true) same_name marked) in
-      let later = done_after (after w (event.At p act.Finish)) between operation name marked_so in
+      let later = done_after (after w (event.At p act.Finish)) between operation name (kept w (event.At p act.Finish) (kept_after (start_world places slots methods) before (kept_start places slots methods))) marked_so in
       let there : is_marked (world_after (start_world places slots methods) (before ++ event.At p act.Finish ∷ between)).requests.done operation name ≡ true =
       subst (λ (v : World). is_marked v.requests.done operation name ≡ true) (sym (world_cut (start_world places slots methods) before (event.At p act.Finish ∷ between))) later in
       false≢true (sym second.next.not_done ∙ subst (λ k. is_marked (world_after (start_world places slots methods) (before ++ event.At p act.Finish ∷ between)).requests.done k name ≡ true) (sym second.number) there));
   operated = λ before between rest operation is first second. (
       let w = world_after (start_world places slots methods) before in
       let k = kept_after (start_world places slots methods) before (kept_start places slots methods) in
-      let a = by_cases w (λ e a v. Operating w e a v) (operating w k) event.Operate first.accepted in
+      let a = by_cases w (λ e a v. Operating w e a v) (operating w k) event.Operate tt first.accepted in
       let one : a.0 ≡ first.opened = (let e : a.0 ∷ a.1 ≡ first.opened ∷ [] = sym a.2 ∙ first.opened_is in cc) in
       let number : a.0.number ≡ operation = ap (λ (o : Opened). o.number) one ∙ first.number in
       let past = past_after a.0.number (after w event.Operate) between (kept w event.Operate k) a.4 in
       let v = world_after (start_world places slots methods) (before ++ event.Operate ∷ between) in
       let there : Past a.0.number v.requests (operations_given v.log) = subst (λ (u : World). Past a.0.number u.requests (operations_given u.log)) (sym (world_cut (start_world places slots methods) before (event.Operate ∷ between))) past in
       let kv = kept_after (start_world places slots methods) (before ++ event.Operate ∷ between) (kept_start places slots methods) in
-      let b = by_cases v (λ e a u. Operating v e a u) (operating v kv) event.Operate second.accepted in
+      let b = by_cases v (λ e a u. Operating v e a u) (operating v kv) event.Operate tt second.accepted in
       let two : b.0 ≡ second.opened = (let e : b.0 ∷ b.1 ≡ second.opened ∷ [] = sym b.2 ∙ second.opened_is in cc) in
       let still : second.opened.operated ≡ true = there.operated 0 second.opened (subst (λ (os : List Opened). slice_get os 0 ≡ Some second.opened) (sym second.opened_is) refl) (second.number ∙ sym number) in
       false≢true (sym b.3 ∙ (ap (λ (o : Opened). o.operated) two ∙ still)));
-  open_is = λ i o x. log_after (start_world places slots methods) events (λ j p y. cc) i o x;
+  open_is = log_after (start_world places slots methods) events (kept_start places slots methods) refl;
   name_is = λ place t x. (let w = world_after (start_world places slots methods) events in
-      named_after (start_world places slots methods) events (each_start (λ p t. 0 ≡ t.name) places) place t (there_of w place t x));
+      named_after (start_world places slots methods) events (kept_start places slots methods) (each_start (λ p t. 0 ≡ t.name) places) place t (there_of w place t x));
 }

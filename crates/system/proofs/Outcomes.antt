@@ -255,7 +255,6 @@ pub record Opens (w : World) (oldest : Waiting) (others : List Waiting) : Type 0
   pub few : length w.requests.opened < 4
   pub no_safepoint : is_safepoint w.requests ≡ false
   pub alone : is_census oldest.request ≡ true → w.requests.opened ≡ []
-  pub none_open : w.requests.opened ≡ []
   pub waiting_is : w.requests.waiting ≡ oldest ∷ others
 
 -- The least one that has the name as a live target and wasn't told to it.

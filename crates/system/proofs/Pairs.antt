@@ -1,6 +1,6 @@
 -- The open operations that the system keeps, one for one with those of the definitions.
-use Rattle.std.proofs.Common.{◌≡◌, sym, ap, refl, subst, Bool, true, false, cond, List, [], ◌∷◌, ◌++◌, Option, Some, None, ℕ, suc}
-use Rattle.std.specs.Prelude.{find, slice_get}
+use Rattle.std.proofs.Common.{◌≡◌, sym, ap, refl, subst, Bool, true, false, cond, List, [], ◌∷◌, ◌++◌, Option, Some, None, ℕ, zero, suc, length}
+use Rattle.std.specs.Prelude.{find, slice_get, remove}
 use Rattle.std.specs.List.{list_any}
 use Rattle.std.proofs.lemmas.Bool.{false≢true}
 use Rattle.operations.specs.Names.{is_empty}
@@ -66,9 +66,12 @@ oldest_of [] os w a h e = cc
 oldest_of (b ∷ xs) [] w a h e = absurd h
 oldest_of (b ∷ xs) (o ∷ os) w a h e = let same : b ≡ a = cc in record { o = o; later = xs; others = os; opens_are = ap (λ y. y ∷ xs) same; is = refl; same = subst (λ y. SameOpened y o w) same h.0; rest = h.1 }
 
-pub none_oldest : (opens : List Open) → slice_get opens 0 ≡ None → opens ≡ []
-none_oldest [] e = refl
-none_oldest (a ∷ xs) e = cc
+-- The one at a position of both.
+pub pair_at : (opens : List Open) (os : List Opened) (w : World) (i : ℕ) (a : Open) → SameOpens opens os w → slice_get opens i ≡ Some a → (o : Opened) × (slice_get os i ≡ Some o) × SameOpened a o w
+pair_at [] os w i a h e = cc
+pair_at (b ∷ xs) [] w i a h e = absurd h
+pair_at (b ∷ xs) (o ∷ os) w zero a h e = let same : b ≡ a = cc in (o, refl, subst (λ y. SameOpened y o w) same h.0)
+pair_at (b ∷ xs) (o ∷ os) w (suc i) a h e = pair_at xs os w i a h.1 e
 
 pub none_open : (xs : List Open) (os : List Opened) (w : World) → SameOpens xs os w → xs ≡ [] → os ≡ []
 none_open [] [] w h e = refl
@@ -94,3 +97,18 @@ any_same w f g same xs os h = any_pairs (λ a o. SameOpened a o w) f g same xs o
 
 pub empty_same : (w : World) (xs : List Open) (os : List Opened) → SameOpens xs os w → is_empty os ≡ is_empty xs
 empty_same w xs os h = empty_pairs (λ a o. SameOpened a o w) xs os (pairs_of (λ a o. SameOpened a o w) w xs os h (λ i a o at both. both))
+
+pub same_length : (w : World) (xs : List Open) (os : List Opened) → SameOpens xs os w → length os ≡ length xs
+same_length w [] [] h = refl
+same_length w (a ∷ xs) (o ∷ os) h = ap suc (same_length w xs os h.1)
+same_length w [] (o ∷ os) h = absurd h
+same_length w (a ∷ xs) [] h = absurd h
+
+-- Both without the one at a position.
+pub opens_remove : (w : World) (xs : List Open) (os : List Opened) (i : ℕ) → SameOpens xs os w → SameOpens (remove xs i) (remove os i) w
+opens_remove w [] [] zero h = h
+opens_remove w [] [] (suc i) h = h
+opens_remove w (a ∷ xs) (o ∷ os) zero h = h.1
+opens_remove w (a ∷ xs) (o ∷ os) (suc i) h = (h.0, opens_remove w xs os i h.1)
+opens_remove w [] (o ∷ os) i h = absurd h
+opens_remove w (a ∷ xs) [] i h = absurd h

@@ -1,5 +1,5 @@
 -- A plain act at a place does what the definitions say.
-use Rattle.std.proofs.Common.{◌≡◌, ◌∙◌, sym, ap, refl, subst, ℕ, zero, suc, not, ◌||◌, List, [], ◌∷◌, Option, Some, None, Result, length, arith}
+use Rattle.std.proofs.Common.{◌++◌, ◌≡◌, ◌∙◌, sym, ap, refl, subst, ℕ, zero, suc, not, ◌||◌, List, [], ◌∷◌, Option, Some, None, Result, length, arith}
 use Rattle.std.specs.Prelude.{slice_get, slice_set, is_some}
 use Rattle.thread_state.specs.declared.State.TheVariants.{Vacant}
 use Rattle.system.specs.declared.events.Act.{Act}
@@ -18,7 +18,7 @@ use Rattle.system.specs.Threads.{Thread, is_publishing}
 use Rattle.system.specs.World.{World, found}
 use Rattle.system.specs.Places.{Effect, becomes, leaves, marks, here, does, is_lawful, may_while_publishing}
 use Rattle.system.specs.Step.{outcome, lands}
-use Rattle.system.specs.Runs.{answer_of, world_of}
+use Rattle.system.specs.Runs.{entries, answer_of, world_of}
 use Rattle.system.specs.Facts.{IsSound}
 use Rattle.system.specs.Keeps.{Did, Reach, seats, finishes, clears, reach_of, Lands, Becomes, marked_by, timed_by, serves}
 use Rattle.system.specs.Steps.{DidAt, DidFound, ActedAt, answer_here}
@@ -64,7 +64,7 @@ here_yes w act t e a h =
     two.1
 
 -- after an accepted act
-pub accepted_in : (new : Core) (w : World) (e : Event) (v : World) (a said : Answer) → outcome w e ≡ accepted v a → said ≡ a → Matches new (record v { log = record { event = e; answer = a } ∷ w.log }) → DoesIn e said new w
+pub accepted_in : (new : Core) (w : World) (e : Event) (v : World) (a said : Answer) → outcome w e ≡ accepted v a → said ≡ a → Matches new (record v { log = entries w e a ++ w.log }) → DoesIn e said new w
 accepted_in new w e v a said is says m = record {
   answer = says ∙ ap answer_of (sym is);
   matches = subst (λ x. Matches new (world_of w e x)) (sym is) m;

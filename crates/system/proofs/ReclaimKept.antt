@@ -314,7 +314,7 @@ reclaim_kept w table known h = record {
   tells = λ name opened i. logged w.places w.codes w.log (record { event = event.Tell name; answer = answer.Told }) h (λ q. record { starts_not = refl; exits_not = refl; begins_not = refl; ends_not = refl; enters_not = λ s. refl; clears_not = λ s. refl }) (λ s. refl);
   finds_gone = λ name i. logged w.places w.codes w.log (record { event = event.Tell name; answer = answer.Gone }) h (λ q. record { starts_not = refl; exits_not = refl; begins_not = refl; ends_not = refl; enters_not = λ s. refl; clears_not = λ s. refl }) (λ s. refl);
   operates = λ opened others i. logged w.places w.codes w.log (record { event = event.Operate; answer = answer.Census (census w) }) h (λ q. record { starts_not = refl; exits_not = refl; begins_not = refl; ends_not = refl; enters_not = λ s. refl; clears_not = λ s. refl }) (λ s. refl);
-  closes = λ opened i. logged w.places w.codes w.log (record { event = event.Close; answer = answer.Closed opened.number }) h (λ q. record { starts_not = refl; exits_not = refl; begins_not = refl; ends_not = refl; enters_not = λ s. refl; clears_not = λ s. refl }) (λ s. refl);
+  closes = λ number opened i. logged w.places w.codes w.log (record { event = event.Close number; answer = answer.Closed opened.number }) h (λ q. record { starts_not = refl; exits_not = refl; begins_not = refl; ends_not = refl; enters_not = λ s. refl; clears_not = λ s. refl }) (λ s. refl);
   counts = λ serial code i. logged w.places w.codes w.log (record { event = event.Count serial; answer = answer.Count (walk w (id_of code)) }) h (λ q. record { starts_not = refl; exits_not = refl; begins_not = refl; ends_not = refl; enters_not = λ s. refl; clears_not = λ s. refl }) (λ s. refl);
   says_state = λ serial code i. logged w.places w.codes w.log (record { event = event.CodeState serial; answer = answer.State code.state }) h (λ q. record { starts_not = refl; exits_not = refl; begins_not = refl; ends_not = refl; enters_not = λ s. refl; clears_not = λ s. refl }) (λ s. refl);
   resolves = λ method i. logged w.places w.codes w.log (record { event = event.Resolve method; answer = code_or_none (in_use_for w.codes method) }) h (λ q. record { starts_not = refl; exits_not = refl; begins_not = refl; ends_not = refl; enters_not = λ s. refl; clears_not = λ s. refl }) (λ s. refl);
@@ -360,7 +360,7 @@ names_known w h = record {
   tells = λ name opened i. h;
   finds_gone = λ name i. h;
   operates = λ opened others i. h;
-  closes = λ opened i. h;
+  closes = λ number opened i. h;
   counts = λ serial code i. h;
   says_state = λ serial code i. h;
   resolves = λ method i. h;

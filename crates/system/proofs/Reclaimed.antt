@@ -17,7 +17,8 @@ use Rattle.system.specs.Runs.{after, world_after}
 use Rattle.system.specs.Facts.{may_stand, TableIsSound}
 use Rattle.system.specs.Laws.{is_retired, NoRetiredCodeStands, RetiredCodesStandNowhere}
 use Rattle.system.specs.Moments.{invalidated, left_at, ended, published_at, IsCoveredByMoments, CoveredIsByMoments}
-use Rattle.system.proofs.ByCases.{by_cases}
+use Rattle.system.proofs.ByCases.{Simple, by_cases}
+use Rattle.system.proofs.Twice.{in_steps}
 use Rattle.system.proofs.Lists.{find_place, find_none_at}
 use Rattle.system.proofs.Seats.{there_of}
 use Rattle.system.proofs.Table.{code_serial}
@@ -26,9 +27,23 @@ use Rattle.system.proofs.Moments.{ended_at, end_is}
 use Rattle.system.proofs.Reclaim.{IsReclaimed}
 use Rattle.system.proofs.ReclaimKept.{reclaim_kept, reclaim_start, left_in, NamesKnown, names_known}
 
+record AllIn (w : World) : Type 0 where
+  kept_is : IsKept w
+  named : NamesKnown w.log
+  reclaim : IsReclaimed w.places w.codes w.log
+
+all_simply : (w : World) (e : Event) → Simple w e → AllIn w → AllIn (after w e)
+all_simply w e simple h = record {
+  kept_is = kept w e h.kept_is;
+  named = by_cases w (λ e a v. NamesKnown v.log) (names_known w h.named) e simple;
+  reclaim = by_cases w (λ e a v. IsReclaimed v.places v.codes v.log) (reclaim_kept w h.kept_is.table h.named h.reclaim) e simple;
+}
+
 pub reclaimed_after : (w : World) (events : List Event) → IsKept w → NamesKnown w.log → IsReclaimed w.places w.codes w.log → IsReclaimed (world_after w events).places (world_after w events).codes (world_after w events).log
 reclaimed_after w [] k n h = h
-reclaimed_after w (e ∷ events) k n h = reclaimed_after (after w e) events (kept w e k) (by_cases w (λ e a v. NamesKnown v.log) (names_known w n) e) (by_cases w (λ e a v. IsReclaimed v.places v.codes v.log) (reclaim_kept w k.table n h) e)
+reclaimed_after w (e ∷ events) k n h =
+    let r = in_steps AllIn (λ v a. a.kept_is.table) all_simply w e (record { kept_is = k; named = n; reclaim = h }) in
+    reclaimed_after (after w e) events r.kept_is r.named r.reclaim
 
 -- In every world that events lead to.
 pub reclaimed : (places slots methods : ℕ) (events : List Event)

@@ -1,5 +1,5 @@
 -- Ask and Open: what they answer, and what the system has after them.
-use Rattle.std.proofs.Common.{None, ◌≡◌, ◌∙◌, ◌+◌, ◌<◌, ◌≤◌, sym, ap, refl, subst, ℕ, Bool, true, false, ◌&&◌, ◌||◌, ◌==◌, eqb, cond, List, [], ◌∷◌, ◌++◌, Some, length, map, arith}
+use Rattle.std.proofs.Common.{None, ◌≡◌, ◌∙◌, ◌+◌, ◌≤◌, sym, ap, refl, ℕ, Bool, true, false, ◌&&◌, ◌||◌, ◌==◌, eqb, cond, List, [], ◌∷◌, ◌++◌, Some, length, map, arith}
 use Rattle.std.specs.Prelude.{filter, nat_lt, nat_le}
 use Rattle.std.specs.List.{list_any}
 use Rattle.std.proofs.lemmas.Bool.Decides.{nat_tests}
@@ -21,12 +21,14 @@ use Rattle.system.specs.declared.records.Record.{Record}
 use Rattle.system.specs.declared.thread.Marks.{Marks}
 use Rattle.system.specs.declared.keeping.Core.{Core}
 use Rattle.system.specs.Verdict.{accepted}
-use Rattle.system.specs.Operations.{Requests, Opened}
+use Rattle.system.specs.Operations.{Requests, Opened, is_safepoint}
 use Rattle.system.specs.Log.{Entry, is_start, is_round, is_invalidate, is_look, says_clear, names_given, operations_given, moment}
 use Rattle.system.specs.Threads.{Thread}
 use Rattle.system.specs.World.{World, thread_at, threads, live_names, is_live}
-use Rattle.system.specs.Step.{outcome}
+use Rattle.system.specs.Step.{outcome, awaits_safepoint, may_open}
 use Rattle.system.specs.Asking.{refusal_of}
+use Rattle.system.specs.Censuses.{has_census}
+use Rattle.system.specs.Opening.{is_census_next, may_open_now}
 use Rattle.system.specs.Facts.{IsSound}
 use Rattle.system.specs.Memory.{Accepts}
 use Rattle.system.specs.Marking.{SameMarks, SameOpens}
@@ -34,9 +36,9 @@ use Rattle.system.specs.Stands.{Matches, SamePlaces, SameRecord, SameRecords, Sa
 use Rattle.system.proofs.Cells.{cells_stay}
 use Rattle.system.proofs.Lists.{map_length}
 use Rattle.system.proofs.Outcomes.{asked, with_request, newly_opened, with_opened, Opens}
-use Rattle.system.proofs.ByCases.{empty_of}
+use Rattle.system.proofs.ByCases.{opens_of}
 use Rattle.system.proofs.Marking.{fewer_own, opened_own}
-use Rattle.system.proofs.Pairs.{empty_same, opens_push}
+use Rattle.system.proofs.Pairs.{empty_same, any_same, same_length, opens_push}
 use Rattle.system.proofs.Logs.{IsElsewhere, names_next, operations_next, moment_next, left_next, looked_next, moments_next, place_over, opened_over}
 use Rattle.system.proofs.Codings.{accepted_in, answered_as, none_some, refused_does, same_some}
 use Rattle.system.proofs.Marks.{among_live}
@@ -180,14 +182,27 @@ asked_does s t request room may rest numbers waiting open_is = record {
 }
 
 -- Open.
-pub already_open : (s : Core) → is_empty s.requests.opens ≡ false → Does event.Open s (answer.Refused refusal.AlreadyOpen) s
-already_open s some = refused_does s event.Open refusal.AlreadyOpen (λ w m. (let is : is_empty w.requests.opened ≡ false = empty_same w s.requests.opens w.requests.opened m.opened ∙ some in rw is refl))
+awaits_is : (queued : List (Queued (Unit {0}))) → awaits_safepoint (map waiting_of queued) ≡ is_census_next queued
+awaits_is [] = refl
+awaits_is (oldest ∷ others) = refl
 
-pub queue_empty : (s : Core) → is_empty s.requests.opens ≡ true → s.requests.waiting ≡ [] → Does event.Open s (answer.Refused refusal.QueueEmpty) s
-queue_empty s none empty = refused_does s event.Open refusal.QueueEmpty (λ w m. (
-    let none_is : is_empty w.requests.opened ≡ true = empty_same w s.requests.opens w.requests.opened m.opened ∙ none in
+-- The oldest request may be opened in both.
+may_open_is : (s : Core) (w : World) → Matches s w → may_open w.requests ≡ may_open_now s.requests.opens s.requests.waiting
+may_open_is s w m =
+    let few : length w.requests.opened ≡ length s.requests.opens = same_length w s.requests.opens w.requests.opened m.opened in
+    let census : is_safepoint w.requests ≡ has_census s.requests.opens = any_same w (λ a. is_census a.request) (λ o. is_census o.request) (λ a o same. ap is_census (sym same.request)) s.requests.opens w.requests.opened m.opened in
+    let waits : awaits_safepoint w.requests.waiting ≡ is_census_next s.requests.waiting = ap awaits_safepoint (sym m.waiting) ∙ awaits_is s.requests.waiting in
+    let none : is_empty w.requests.opened ≡ is_empty s.requests.opens = empty_same w s.requests.opens w.requests.opened m.opened in
+    rw (few, census, waits, none) refl
+
+pub already_open : (s : Core) → may_open_now s.requests.opens s.requests.waiting ≡ false → Does event.Open s (answer.Refused refusal.AlreadyOpen) s
+already_open s may = refused_does s event.Open refusal.AlreadyOpen (λ w m. (let is : may_open w.requests ≡ false = may_open_is s w m ∙ may in rw is refl))
+
+pub queue_empty : (s : Core) → may_open_now s.requests.opens s.requests.waiting ≡ true → s.requests.waiting ≡ [] → Does event.Open s (answer.Refused refusal.QueueEmpty) s
+queue_empty s may empty = refused_does s event.Open refusal.QueueEmpty (λ w m. (
+    let may_is : may_open w.requests ≡ true = may_open_is s w m ∙ may in
     let empty_is : w.requests.waiting ≡ [] = sym m.waiting ∙ ap (map waiting_of) empty in
-    rw (none_is, empty_is) refl))
+    rw may_is (rw empty_is refl)))
 
 and_false : (a : Bool) → a && false ≡ false
 and_false true = refl
@@ -231,27 +246,20 @@ opened_live w request names name sound is lives =
     let within : nat_le name names ≡ true = grind (arith, nat_tests) in
     among_filter (is_target request) name (live_names w) ∙ and_both (is_target request name) (among name (live_names w)) (nat_le name names) (among_names name (threads w.places) ∙ lives) within
 
-pub opened_does : (s t : Core) (oldest : Queued (Unit {0})) (others : List (Queued (Unit {0}))) → is_empty s.requests.opens ≡ true → s.requests.waiting ≡ oldest ∷ others → Rerequests s t
+pub opened_does : (s t : Core) (oldest : Queued (Unit {0})) (others : List (Queued (Unit {0}))) → may_open_now s.requests.opens s.requests.waiting ≡ true → s.requests.waiting ≡ oldest ∷ others → Rerequests s t
     → t.requests.numbers ≡ s.requests.numbers → t.requests.waiting ≡ others → t.requests.opens ≡ s.requests.opens ++ record { number = oldest.number; request = oldest.request; names = s.names; operated = false } ∷ []
     → Does event.Open s (answer.Opened oldest.number (kind_of oldest.request)) t
-opened_does s t oldest others none is rest numbers waiting opens_are = record {
+opened_does s t oldest others may is rest numbers waiting opens_are = record {
   each = λ w sound m. (
       let a : Answer = answer.Opened oldest.number (kind_of oldest.request) in
       let entry : Entry = record { event = event.Open; answer = a } in
       let o : Opened = newly_opened w (waiting_of oldest) in
       let requests : Requests = with_opened w (waiting_of oldest) (map waiting_of others) in
       let v : World = asked w requests event.Open a in
-      let none_is : is_empty w.requests.opened ≡ true = empty_same w s.requests.opens w.requests.opened m.opened ∙ none in
+      let may_is : may_open w.requests ≡ true = may_open_is s w m ∙ may in
       let waits : w.requests.waiting ≡ waiting_of oldest ∷ map waiting_of others = sym m.waiting ∙ ap (map waiting_of) is in
-      let said : outcome w event.Open ≡ accepted (record w { requests = requests }) a = rw (none_is, waits) refl in
-      let nobody : w.requests.opened ≡ [] = empty_of w.requests.opened none_is in
-      let opens : Opens w (waiting_of oldest) (map waiting_of others) = record {
-        few = subst (λ (os : List Opened). length os < 4) (sym nobody) (omega arith);
-        no_safepoint = ap (λ (os : List Opened). list_any (λ (x : Opened). is_census x.request) os) nobody;
-        alone = λ census. nobody;
-        none_open = nobody;
-        waiting_is = waits;
-      } in
+      let said : outcome w event.Open ≡ accepted (record w { requests = requests }) a = rw may_is (rw waits refl) in
+      let opens : Opens w (waiting_of oldest) (map waiting_of others) = opens_of w (waiting_of oldest) (map waiting_of others) may_is waits in
       let low : names_given w.log ≤ names_given v.log = (let n = names_stay w event.Open a (of_open a) in omega (arith, n)) in
       accepted_in t w (record w { requests = requests }) event.Open a said
       (asked_matches s t w requests event.Open a m (record {

@@ -162,7 +162,7 @@ finish_cases w k = record {
   tells = λ name opened i. λ z. tt;
   finds_gone = λ name i. λ z. tt;
   operates = λ opened others i. λ z. tt;
-  closes = λ opened i. λ z. tt;
+  closes = λ number opened i. λ z. tt;
   counts = λ serial code i. λ z. tt;
   says_state = λ serial code i. λ z. tt;
   resolves = λ method i. λ z. tt;
@@ -171,7 +171,7 @@ finish_cases w k = record {
 pub handshakes_run : HandshakesRunAtSafePoints
 handshakes_run places slots methods events before rest p is accepted =
     let w = world_after (start_world places slots methods) before in
-    by_cases w (λ e a v. is_accepted a ≡ true → IsSafeFinish w e a v) (finish_cases w (kept_after (start_world places slots methods) before (kept_start places slots methods))) (event.At p act.Finish) accepted
+    by_cases w (λ e a v. is_accepted a ≡ true → IsSafeFinish w e a v) (finish_cases w (kept_after (start_world places slots methods) before (kept_start places slots methods))) (event.At p act.Finish) tt accepted
 
 -- Where all are settled, the index counts the stacks.
 pub index_is : (c : CodeId) (places : List (Option Thread)) → ((p : ℕ) (t : Thread) → slice_get places p ≡ Some (Some t) → is_settled t ≡ true) → sum_by (part_at c) places ≡ sum_by (λ (t : Thread). stack.act c t.stack) (threads places)
@@ -243,7 +243,7 @@ operate_cases w k = record {
   tells = λ name opened i. λ z. tt;
   finds_gone = λ name i. λ z. tt;
   operates = λ opened others i. λ z. operate_safe w opened others k i;
-  closes = λ opened i. λ z. tt;
+  closes = λ number opened i. λ z. tt;
   counts = λ serial code i. λ z. tt;
   says_state = λ serial code i. λ z. tt;
   resolves = λ method i. λ z. tt;
@@ -252,4 +252,4 @@ operate_cases w k = record {
 pub censuses_run : CensusesRunAtSafepoints
 censuses_run places slots methods events before rest is accepted =
     let w = world_after (start_world places slots methods) before in
-    by_cases w (λ e a v. is_accepted a ≡ true → IsSafeOperate w e a) (operate_cases w (kept_after (start_world places slots methods) before (kept_start places slots methods))) event.Operate accepted
+    by_cases w (λ e a v. is_accepted a ≡ true → IsSafeOperate w e a) (operate_cases w (kept_after (start_world places slots methods) before (kept_start places slots methods))) event.Operate tt accepted

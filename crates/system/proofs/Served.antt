@@ -5,7 +5,6 @@ use Rattle.std.proofs.lemmas.Bool.Decides.{nat_tests}
 use Rattle.frames.specs.declared.CodeId.{CodeId}
 use Rattle.frames.specs.ImageView.{ImageView, IsSettled, next_code}
 use Rattle.frames.proofs.Uncounted.{none_next}
-use Rattle.operations.specs.declared.Ask.{Ask}
 use Rattle.operations.specs.declared.Request.{Request}
 use Rattle.operations.specs.declared.Request.TheVariants.{Handshake, Census}
 use Rattle.operations.specs.Requests.{is_census, is_target, lists, reply_to}

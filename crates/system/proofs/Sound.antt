@@ -16,7 +16,8 @@ use Rattle.system.specs.Places.{popped}
 use Rattle.system.specs.Step.{new_thread}
 use Rattle.system.proofs.Outcomes.{begun, changed_by, ended, entered, moved, held, released}
 use Rattle.system.proofs.Cases.{Cases}
-use Rattle.system.proofs.ByCases.{by_cases}
+use Rattle.system.proofs.ByCases.{Simple, by_cases}
+use Rattle.system.proofs.Twice.{in_steps}
 use Rattle.system.proofs.Frames.{act_length}
 use Rattle.system.proofs.Held.{AreSafe, safe_kept}
 use Rattle.system.proofs.Table.{table_kept, table_start}
@@ -35,15 +36,18 @@ pub record IsKept (w : World) : Type 0 where
   pub operated : OperatedIsTold w.places w.requests
   pub safe : AreSafe w
 
-pub kept : (w : World) (e : Event) → IsKept w → IsKept (after w e)
-kept w e h = record {
-  table = by_cases w (λ e a v. TableIsSound v.slots v.methods v.codes) (table_kept w h.table) e;
-  threads = by_cases w (λ e a v. ThreadsAreSound v.places v.codes (names_given v.log)) (threads_kept w h.threads) e;
-  numbers = by_cases w (λ e a v. NumbersAreSound v.requests.waiting v.requests.opened (names_given v.log) (operations_given v.log) (moment v.log)) (numbers_kept w h.numbers) e;
-  marks = by_cases w (λ e a v. MarksAreSound v.places v.requests (names_given v.log) (operations_given v.log)) (marks_kept w h.threads h.numbers h.marks) e;
-  operated = by_cases w (λ e a v. OperatedIsTold v.places v.requests) (operated_kept w h.numbers h.marks h.operated) e;
-  safe = by_cases w (λ e a v. AreSafe v) (safe_kept w h.safe) e;
+pub kept_simply : (w : World) (e : Event) → Simple w e → IsKept w → IsKept (after w e)
+kept_simply w e simple h = record {
+  table = by_cases w (λ e a v. TableIsSound v.slots v.methods v.codes) (table_kept w h.table) e simple;
+  threads = by_cases w (λ e a v. ThreadsAreSound v.places v.codes (names_given v.log)) (threads_kept w h.threads) e simple;
+  numbers = by_cases w (λ e a v. NumbersAreSound v.requests.waiting v.requests.opened (names_given v.log) (operations_given v.log) (moment v.log)) (numbers_kept w h.numbers) e simple;
+  marks = by_cases w (λ e a v. MarksAreSound v.places v.requests (names_given v.log) (operations_given v.log)) (marks_kept w h.threads h.numbers h.marks) e simple;
+  operated = by_cases w (λ e a v. OperatedIsTold v.places v.requests) (operated_kept w h.numbers h.marks h.operated) e simple;
+  safe = by_cases w (λ e a v. AreSafe v) (safe_kept w h.safe) e simple;
 }
+
+pub kept : (w : World) (e : Event) → IsKept w → IsKept (after w e)
+kept w e h = in_steps IsKept (λ v k. k.table) kept_simply w e h
 
 pub kept_start : (places slots methods : ℕ) → IsKept (start_world places slots methods)
 kept_start places slots methods = record {
@@ -118,12 +122,25 @@ sizes_kept w = record {
   tells = λ name opened i. (refl, refl, refl);
   finds_gone = λ name i. (refl, refl, refl);
   operates = λ opened others i. (refl, refl, refl);
-  closes = λ opened i. (refl, refl, refl);
+  closes = λ number opened i. (refl, refl, refl);
   counts = λ serial code i. (refl, refl, refl);
   says_state = λ serial code i. (refl, refl, refl);
   resolves = λ method i. (refl, refl, refl);
 }
 
-pub same_sizes : (w : World) (events : List Event) → SameSizes w (world_after w events)
-same_sizes w [] = (refl, refl, refl)
-same_sizes w (e ∷ events) = let a = by_cases w (λ e a v. SameSizes w v) (sizes_kept w) e in let b = same_sizes (after w e) events in (b.0 ∙ a.0, b.1 ∙ a.1, b.2 ∙ a.2)
+record Sized (u w : World) : Type 0 where
+  same : SameSizes u w
+  table : TableIsSound w.slots w.methods w.codes
+
+sized_step : (u w : World) (e : Event) → Simple w e → Sized u w → Sized u (after w e)
+sized_step u w e simple h = (let a = by_cases w (λ e a v. SameSizes w v) (sizes_kept w) e simple in record {
+  same = (a.0 ∙ h.same.0, a.1 ∙ h.same.1, a.2 ∙ h.same.2);
+  table = by_cases w (λ e a v. TableIsSound v.slots v.methods v.codes) (table_kept w h.table) e simple;
+})
+
+sized_after : (u w : World) (events : List Event) → Sized u w → Sized u (world_after w events)
+sized_after u w [] h = h
+sized_after u w (e ∷ events) h = sized_after u (after w e) events (in_steps (Sized u) (λ v k. k.table) (sized_step u) w e h)
+
+pub same_sizes : (w : World) (events : List Event) → TableIsSound w.slots w.methods w.codes → SameSizes w (world_after w events)
+same_sizes w events table = (sized_after w w events (record { same = (refl, refl, refl); table = table })).same

@@ -57,7 +57,7 @@ pub code_with_state : (codes : List Code) (s : ℕ) (state : CodeState) (r : ℕ
 code_with_state codes s state r = find_map (λ (x : Code). x.serial == r) (in_state s state) codes (λ x. ap (λ n. n == r) (in_state_serial s state x))
 
 -- Two places with one serial are one.
-one_place : (slots methods : ℕ) (codes : List Code) → TableIsSound slots methods codes → (i j : ℕ) (a b : Code) → slice_get codes i ≡ Some a → slice_get codes j ≡ Some b → a.serial ≡ b.serial → a ≡ b
+pub one_place : (slots methods : ℕ) (codes : List Code) → TableIsSound slots methods codes → (i j : ℕ) (a b : Code) → slice_get codes i ≡ Some a → slice_get codes j ≡ Some b → a.serial ≡ b.serial → a ≡ b
 one_place slots methods codes h i j a b x y e =
     let u = h.serial_is i a x in let v = h.serial_is j b y in let same : i ≡ j = omega arith in same_at codes j a b (subst (λ n. slice_get codes n ≡ Some a) same x) y
 
@@ -188,7 +188,7 @@ table_kept w h = record {
   tells = λ name opened i. h;
   finds_gone = λ name i. h;
   operates = λ opened others i. h;
-  closes = λ opened i. h;
+  closes = λ number opened i. h;
   counts = λ serial code i. h;
   says_state = λ serial code i. h;
   resolves = λ method i. h;

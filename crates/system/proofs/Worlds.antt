@@ -1,7 +1,8 @@
 -- Every world that events lead to is sound.
-use Rattle.std.proofs.Common.{◌<◌, None, ap, ◌∙◌, subst}
+use Rattle.std.proofs.Common.{ℕ, List, ◌<◌, None, ap, ◌∙◌, subst}
 use Rattle.std.specs.Prelude.{not}
 use Rattle.std.proofs.lemmas.List.{length-replicate}
+use Rattle.system.specs.declared.events.Event.{Event}
 use Rattle.system.specs.World.{World, start_world}
 use Rattle.system.specs.Runs.{world_after}
 use Rattle.system.specs.Facts.{FramesAreSound, LogIsSound, IsSound, WorldsAreSound}
@@ -29,7 +30,11 @@ is_sound w h r = record { table = h.table; threads = h.threads; numbers = h.numb
 pub worlds_are_sound : WorldsAreSound
 worlds_are_sound places slots methods events =
     let w : World = world_after (start_world places slots methods) events in
-    let sizes = same_sizes (start_world places slots methods) events in (
+    let sizes = same_sizes (start_world places slots methods) events (kept_start places slots methods).table in (
       is_sound w (kept_after (start_world places slots methods) events (kept_start places slots methods)) (reclaimed places slots methods events),
       record { places_are = sizes.0 ∙ length-replicate places None; slots_are = sizes.1; methods_are = sizes.2 },
     )
+
+pub held_are_safe : (places slots methods : ℕ) (events : List Event) → Rattle.system.specs.Laws.AllHeldAreSafe (world_after (start_world places slots methods) events)
+held_are_safe places slots methods events p t e =
+    (Rattle.system.proofs.Sound.kept_after (start_world places slots methods) events (Rattle.system.proofs.Sound.kept_start places slots methods)).safe p t (Rattle.system.proofs.Seats.there_of (world_after (start_world places slots methods) events) p t e)

@@ -76,9 +76,6 @@ pub record NumbersAreSound (waiting : List Waiting) (opened : List Opened) (give
   -- Their numbers rise, and are before those that wait.
   pub opened_rise : (i j : ℕ) (a b : Opened) → i < j → slice_get opened i ≡ Some a → slice_get opened j ≡ Some b → a.number < b.number
   pub opened_is : (i : ℕ) (o : Opened) → slice_get opened i ≡ Some o → WasOpened waiting numbered o.number
-  -- One is open at a time, and it was opened last.
-  pub one_open : length opened ≤ 1
-  pub newest_is : (i : ℕ) (o : Opened) → slice_get opened i ≡ Some o → o.number + length waiting ≡ numbered
 
 -- An open operation was told to the thread.
 pub record IsToldOpen (requests : Requests) (o : Opened) (name : ℕ) : Type 0 where

@@ -20,3 +20,4 @@ pub mod Tells
 pub mod Censuses
 pub mod Memory
 pub mod Asking
+pub mod Opening

@@ -1,5 +1,5 @@
 -- How often an operation runs.
-use Rattle.std.specs.Prelude.{◌≡◌, ℕ, true, ◌==◌, List, [], ◌∷◌, ◌++◌, Some, slice_get, if◌then◌else◌}
+use Rattle.std.specs.Prelude.{◌≡◌, ℕ, true, not, ◌==◌, List, [], ◌∷◌, ◌++◌, map, filter, Some, if◌then◌else◌}
 use Rattle.system.specs.declared.events.Act.TheVariants as act
 use Rattle.system.specs.declared.events.Event.{Event}
 use Rattle.system.specs.declared.events.Event.TheVariants as event
@@ -12,14 +12,15 @@ use Rattle.system.specs.World.{World, start_world, thread_at}
 use Rattle.system.specs.Runs.{world_after, answer_to}
 use Rattle.system.specs.Safepoints.{is_accepted, IsNext}
 
--- The number that an Open answered, else the number before.
-abbrev pub opened_or : ℕ → Event → Answer → ℕ
-opened_or n event.Open (answer.Opened m kind) = m
-opened_or n event answer = n
+-- The numbers that are open after an event: an Open adds the one that it answered, a Close takes it away.
+abbrev pub opened_or : List ℕ → Event → Answer → List ℕ
+opened_or ns event.Open (answer.Opened n kind) = ns ++ n ∷ []
+opened_or ns (event.Close number) (answer.Closed n) = filter (λ m. not (m == n)) ns
+opened_or ns event answer = ns
 
--- The operation that was opened last, 0 where none was. One is open at a time, so it is the open one, where one is open.
-abbrev pub open_in : List Entry → ℕ
-open_in [] = 0
+-- The operations that were opened and not closed, the oldest first.
+abbrev pub open_in : List Entry → List ℕ
+open_in [] = []
 open_in (entry ∷ before) = opened_or (open_in before) entry.event entry.answer
 
 -- The name that a Start gave at the place, else the name before.
@@ -57,9 +58,8 @@ pub record RunAtMostOnce (places slots methods : ℕ) (events : List Event) : Ty
   pub operated : (before between rest : List Event) (operation : ℕ) → events ≡ before ++ event.Operate ∷ between ++ event.Operate ∷ rest
       → OperatesFor (world_after (start_world places slots methods) before) operation
       → OperatesFor (world_after (start_world places slots methods) (before ++ event.Operate ∷ between)) operation → ⊥
-  -- The log tells which operation is open, and who stands at a place.
-  pub open_is : (position : ℕ) (opened : Opened) → slice_get (world_after (start_world places slots methods) events).requests.opened position ≡ Some opened
-      → open_in (world_after (start_world places slots methods) events).log ≡ opened.number
+  -- The log tells which operations are open, and who stands at a place.
+  pub open_is : open_in (world_after (start_world places slots methods) events).log ≡ map (λ opened. opened.number) (world_after (start_world places slots methods) events).requests.opened
   pub name_is : (place : ℕ) (t : Thread) → thread_at (world_after (start_world places slots methods) events) place ≡ Some t
       → name_in place (world_after (start_world places slots methods) events).log ≡ t.name
 

@@ -1,16 +1,29 @@
 -- Steps and whole runs.
-use Rattle.std.specs.Prelude.{List, [], ◌∷◌, ◌++◌}
+use Rattle.std.specs.Prelude.{List, [], ◌∷◌, ◌++◌, Option, Some, None}
 use Rattle.system.specs.declared.events.Event.{Event}
 use Rattle.system.specs.declared.answers.Answer.{Answer}
 use Rattle.system.specs.declared.answers.Answer.TheVariants.{Refused}
+use Rattle.method_table.specs.declared.Code.{Code}
+use Rattle.system.specs.declared.events.Event.TheVariants as event
+use Rattle.system.specs.declared.answers.Answer.TheVariants as answer
+use Rattle.method_table.specs.Codes.{in_use_for}
 use Rattle.system.specs.Verdict.{Verdict, refused, accepted}
 use Rattle.system.specs.Log.{Entry}
 use Rattle.system.specs.World.{World}
 use Rattle.system.specs.Step.{outcome}
 
+-- Where code in use is replaced, its Invalidate stands before the Install.
+abbrev pub replaced : Option Code → List Entry
+replaced None = []
+replaced (Some old) = record { event = event.Invalidate old.serial; answer = answer.Done } ∷ []
+
+abbrev pub before : World → Event → List Entry
+before w (event.Install method) = replaced (in_use_for w.codes method)
+before w other = []
+
 -- What an accepted event adds to the log, the newest first.
 abbrev pub entries : World → Event → Answer → List Entry
-entries w event answer = record { event = event; answer = answer } ∷ []
+entries w event answer = record { event = event; answer = answer } ∷ before w event
 
 -- A refusal leaves the world; an accepted event joins the log with its answer.
 abbrev pub world_of : World → Event → Verdict World → World

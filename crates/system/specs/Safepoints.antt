@@ -35,7 +35,7 @@ abbrev pub IsAtSafePoint : Thread → Type 0
 IsAtSafePoint t = (t.held ≡ true) ⊎ (is_serving t.state ≡ true)
 
 -- The operation that a Finish of the thread of the name does: it is open, told to it and not done for it, and each lesser one that
--- is open and told to it is done. Where one operation is open at a time, it is the open one.
+-- is open and told to it is done.
 pub record IsNext (requests : Requests) (name : ℕ) (opened : Opened) : Type 0 where
   pub position : ℕ
   pub is_open : slice_get requests.opened position ≡ Some opened

@@ -1,5 +1,5 @@
 -- What each event does to the world, and its answer.
-use Rattle.std.specs.Prelude.{ℕ, ◌+◌, Bool, true, false, not, ◌&&◌, ◌||◌, nat_lt, nat_le, ◌==◌, length, List, [], ◌∷◌, ◌++◌, map, filter, find, Option, Some, None, is_none, slice_get, slice_set, if◌then◌else◌}
+use Rattle.std.specs.Prelude.{ℕ, ◌+◌, Bool, true, false, not, ◌&&◌, ◌||◌, nat_lt, nat_le, ◌==◌, length, List, [], ◌∷◌, ◌++◌, map, filter, find, Option, Some, None, slice_get, slice_set, if◌then◌else◌}
 use Rattle.std.specs.List.{list_all, list_any}
 use Rattle.thread_state.specs.declared.State.TheVariants.{Vacant, New}
 use Rattle.method_table.specs.declared.Code.{Code}
@@ -11,11 +11,11 @@ use Rattle.system.specs.declared.events.Event.{Event}
 use Rattle.system.specs.declared.events.Event.TheVariants as event
 use Rattle.system.specs.declared.answers.Answer.{Answer}
 use Rattle.system.specs.declared.answers.Answer.TheVariants as answer
-use Rattle.system.specs.declared.answers.Refusal.TheVariants.{NoSuchPlace, Illegal, Publishing, Held, NoSuchMethod, Unknown, Unpublished, NotOf, NotDone, NothingOpen, AlreadyDone, SafepointOpen, PlacesFull, Spent, HasCode, TableFull, SerialsSpent, NotInUse, NotNotEntrant, NotZombie, QueueFull, NoTargets, BadTargets, AlreadyOpen, QueueEmpty, AlreadyTold, NotAllHeld}
+use Rattle.system.specs.declared.answers.Refusal.TheVariants.{NoSuchPlace, Illegal, Publishing, Held, NoSuchMethod, Unknown, Unpublished, NotOf, NotDone, NothingOpen, AlreadyDone, SafepointOpen, PlacesFull, Spent, TableFull, SerialsSpent, NotInUse, NotNotEntrant, NotZombie, QueueFull, NoTargets, BadTargets, AlreadyOpen, QueueEmpty, AlreadyTold, NotAllHeld}
 use Rattle.method_table.specs.Numbers.{last_number, below}
 use Rattle.operations.specs.Names.{is_empty}
 use Rattle.system.specs.Verdict.{Verdict, refused, accepted, unless◌refuse◌then◌}
-use Rattle.method_table.specs.Codes.{code_of, unfreed, in_use_for, id_of, is_in_use, is_not_entrant, is_zombie, free_slot, next_serial, with_code, with_state}
+use Rattle.method_table.specs.Codes.{code_of, unfreed, in_use_for, id_of, is_in_use, is_not_entrant, is_zombie, free_slot, next_serial, with_code, with_state, without_use}
 use Rattle.system.specs.Threads.{Thread, is_publishing, is_settled}
 use Rattle.system.specs.Operations.{Requests, Waiting, Opened, is_marked, with_mark, marks_of, is_safepoint}
 use Rattle.operations.specs.Requests.{is_census, kind_of, is_target, has_targets, are_targets}
@@ -55,18 +55,17 @@ start_at w (Some place) =
 abbrev pub start : World → Verdict World
 start w = unless not (is_safepoint w.requests) refuse SafepointOpen then start_at w (vacant_place w.places)
 
--- The new code gets the next serial and the slot.
+-- The new code gets the next serial and the slot; the one that it replaces is not entrant from now on.
 abbrev pub install_in : World → ℕ → Option ℕ → Verdict World
 install_in w method None = refused TableFull
 install_in w method (Some slot) =
     unless nat_le (next_serial w.codes) last_number refuse SerialsSpent then
-    accepted (record w { codes = with_code w.codes method slot }) (answer.Code (next_serial w.codes))
+    accepted (record w { codes = with_code (without_use w.codes (in_use_for w.codes method)) method slot }) (answer.Code (next_serial w.codes))
 
 -- A method has at most one code in use; a new one gets the least free slot.
 abbrev pub install : World → ℕ → Verdict World
 install w method =
     unless nat_lt method w.methods refuse NoSuchMethod then
-    unless is_none (in_use_for w.codes method) refuse HasCode then
     install_in w method (free_slot w.codes w.slots)
 
 -- With the code of a serial that was given out and isn't freed.
@@ -145,9 +144,17 @@ open_oldest w (oldest ∷ others) =
     })
     (answer.Opened oldest.number (kind_of oldest.request))
 
--- One operation is open at a time. (own choice)
+-- The oldest waiting request is a census.
+abbrev pub awaits_safepoint : List Waiting → Bool
+awaits_safepoint [] = false
+awaits_safepoint (oldest ∷ others) = is_census oldest.request
+
+-- Up to four handshakes are open, or one census alone. (own choice)
 abbrev pub may_open : Requests → Bool
-may_open requests = is_empty requests.opened
+may_open requests =
+    nat_lt (length requests.opened) 4
+    && not (is_safepoint requests)
+    && not (awaits_safepoint requests.waiting && not (is_empty requests.opened))
 
 -- The oldest waiting request is opened.
 abbrev pub open_next : World → Verdict World
@@ -212,6 +219,13 @@ close w opened =
     accepted (record w { requests = record w.requests { opened = filter (λ o. not (o.number == opened.number)) w.requests.opened } })
     (answer.Closed opened.number)
 
+-- The oldest open operation, or that of the number.
+abbrev pub close_of : World → Option ℕ → Verdict World
+close_of w None = in_open w.requests.opened (close w)
+close_of w (Some number) =
+    unless not (is_empty w.requests.opened) refuse NothingOpen then
+    in_found NotOf (find (λ o. o.number == number) w.requests.opened) (close w)
+
 -- The code's count as the threads published it.
 abbrev pub count : World → Code → Verdict World
 count w code = accepted w (answer.Count (walk w (id_of code)))
@@ -239,7 +253,7 @@ outcome w (event.Ask request) = ask w request
 outcome w event.Open = open_next w
 outcome w (event.Tell name) = tell w name
 outcome w event.Operate = in_open w.requests.opened (operate w)
-outcome w event.Close = in_open w.requests.opened (close w)
+outcome w (event.Close number) = close_of w number
 outcome w (event.Count serial) = of_code (unfreed w.codes serial) (count w)
 outcome w (event.CodeState serial) = of_code (code_of w.codes serial) (λ code. accepted w (answer.State code.state))
 outcome w (event.Resolve method) = resolve w method

@@ -34,7 +34,6 @@ pub enum Refusal {
     SafepointOpen,
     PlacesFull,
     Spent,
-    HasCode,
     TableFull,
     SerialsSpent,
     NotInUse,

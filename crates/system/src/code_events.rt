@@ -1,34 +1,50 @@
 // The events of the codes, and of their reclaiming.
-ghost use Rattle.std.specs.Prelude.{◌≡◌, ◌<◌, ◌≤◌, length, IfOk, OnErr};
+ghost use Rattle.std.specs.Prelude.{◌≡◌, ◌<◌, ◌≤◌, length, slice_set, IfOk, OnErr, IfSome, IfNone};
 ghost use Rattle.method_table.specs.Codes.{unfreed};
 ghost use Rattle.system.specs.declared.events.Event.TheVariants as events;
 ghost use Rattle.system.specs.Memory.{Accepts};
-ghost use Rattle.system.specs.Records.{not_entrant, is_clear};
+ghost use Rattle.system.specs.Records.{new_record, not_entrant, is_clear};
 ghost use Rattle.system.specs.Stands.{Does, OfWorld};
 
 use crate::answers::{Answer, Refusal};
 use crate::keeping::{Core, LAST};
 use crate::records::Record;
 use crate::thread::Thread;
+use frames::CodeId;
 use method_table::table::{FreeFault, InstallFault, InvalidateFault};
 use method_table::{Code, CodeState};
 use std::alloc::AllocError;
 
+// What is written down of a code that a new one replaces: it is as after an invalidation of its own.
+fn note_replaced(records: &mut Vec<Record>, replaced: Option<CodeId>, moment: u64)
+    requires { IfSome replaced (λ id. id.slot < length records.old.items) }
+    ensures some { IfSome replaced (λ id. records.new.items ≡ slice_set records.old.items id.slot (new_record moment)) }
+    ensures none { IfNone replaced (records.new.items ≡ records.old.items) }
+{
+    if let Some(old) = replaced {
+        records[old.slot as usize] = Record::of(moment);
+    }
+}
+
 impl Core {
-    /// A new code in use for the method, in the least free slot.
+    /// A new code in use for the method, in the least free slot. The code that was in use for it isn't entered from now on, as after
+    /// an invalidation at this moment.
     pub fn install(&mut self, method: u64) -> Result<Answer, AllocError>
-        requires { OfWorld self.old }
+        requires world { OfWorld self.old }
+        requires few { length self.old.places.items ≤ 64 }
+        requires recorded { length self.old.records.items ≡ self.old.table.slots }
         ensures does { IfOk result (λ answer. Does (events.Install method) self.old answer self.new) }
         ensures refused { OnErr result (self.new ≡ self.old) }
         ensures no_memory { OnErr result (Accepts self.old (events.Install method)) }
     {
         match self.table.install(method) {
-            Ok(code) => {
+            Ok(installed) => {
+                note_replaced(&mut self.records, installed.replaced, self.moment);
+                let code = installed.code;
                 self.index.place(code.slot as usize, code.serial);
                 Ok(Answer::Code(code.serial))
             }
             Err(InstallFault::NoSuchMethod) => Ok(Answer::Refused(Refusal::NoSuchMethod)),
-            Err(InstallFault::HasCode) => Ok(Answer::Refused(Refusal::HasCode)),
             Err(InstallFault::TableFull) => Ok(Answer::Refused(Refusal::TableFull)),
             Err(InstallFault::SerialsSpent) => Ok(Answer::Refused(Refusal::SerialsSpent)),
             Err(InstallFault::NoMemory) => Err(AllocError),

@@ -45,7 +45,8 @@ pub enum Event {
     Open,
     Tell(u64),
     Operate,
-    Close,
+    /// Of the open operation of this number; without one, of the oldest.
+    Close(Option<u64>),
     Count(u64),
     CodeState(u64),
     Resolve(u64),
@@ -70,7 +71,7 @@ impl Event {
             Event::Open => Event::Open,
             Event::Tell(name) => Event::Tell(*name),
             Event::Operate => Event::Operate,
-            Event::Close => Event::Close,
+            Event::Close(number) => Event::Close(*number),
             Event::Count(serial) => Event::Count(*serial),
             Event::CodeState(serial) => Event::CodeState(*serial),
             Event::Resolve(method) => Event::Resolve(*method),

@@ -207,7 +207,7 @@ fn apply_to(core: &mut Core, alloc: Global, event: Event) -> Result<Answer, Allo
         Event::Open => Ok(core.open_next()),
         Event::Tell(name) => Ok(core.tell(name)),
         Event::Operate => core.operate(alloc),
-        Event::Close => Ok(core.close()),
+        Event::Close(number) => Ok(core.close(number)),
         Event::Count(serial) => Ok(core.count(serial)),
         Event::CodeState(serial) => Ok(core.code_state(serial)),
         Event::Resolve(method) => Ok(core.resolve(method)),

@@ -1,6 +1,8 @@
 // The open operations, in a list that takes no memory.
-ghost use Rattle.std.specs.Prelude.{◌≡◌, [], ◌∷◌, ◌++◌, ◌<◌, length, IfOk, remove, slice_get, option_copied};
+ghost use Rattle.std.specs.Prelude.{◌≡◌, ◌==◌, [], ◌∷◌, ◌++◌, ◌<◌, length, IfOk, remove, slice_get, option_copied};
+ghost use Rattle.std.specs.List.{position};
 ghost use Rattle.system.specs.Censuses.{operated};
+ghost use Rattle.system.specs.Opening.{place_of};
 
 use crate::requests::Open;
 use std::alloc::{AllocError, Global};
@@ -46,6 +48,22 @@ impl Opens {
         ensures { option_copied result ≡ slice_get self.now 0 }
     {
         self.items.first()
+    }
+
+    /// Where the operation of the number stands; without a number, the oldest one's place.
+    pub fn place_of(&self, number: Option<u64>) -> Option<usize>
+        ensures { result ≡ place_of number self.now }
+    {
+        match number {
+            None => Some(0),
+            Some(number) => self.position(number),
+        }
+    }
+
+    fn position(&self, number: u64) -> Option<usize>
+        ensures { result ≡ position (λ o. o.number == number) self.now }
+    {
+        self.items.iter().position(|open| open.number == number)
     }
 
     /// Takes no memory.

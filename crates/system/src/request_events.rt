@@ -84,22 +84,27 @@ impl Core {
         Answer::Opened(number, kind)
     }
 
-    /// The oldest open operation is over.
-    pub fn close(&mut self) -> Answer
-        ensures { Does events.Close self.old result self.new }
+    /// The open operation of the number is over; without a number, the oldest one.
+    pub fn close(&mut self, number: Option<u64>) -> Answer
+        ensures { Does (events.Close number) self.old result self.new }
     {
-        let Some(open) = self.requests.opens.oldest() else {
+        let operations = self.requests.opens.as_slice();
+        if operations.is_empty() {
             return Answer::Refused(Refusal::NothingOpen);
+        }
+        let Some(at) = self.requests.opens.place_of(number) else {
+            return Answer::Refused(Refusal::NotOf);
         };
+        let open = &operations[at];
         if open.is_any_held(&self.places) {
             return Answer::Refused(Refusal::Held);
         }
         if !open.is_over(&self.places) {
             return Answer::Refused(Refusal::NotDone);
         }
-        let number = open.number;
-        self.requests.opens.take(0);
-        Answer::Closed(number)
+        let closed = open.number;
+        self.requests.opens.take(at);
+        Answer::Closed(closed)
     }
 
     /// The poll of a live target is armed, for the oldest operation that is new to it.

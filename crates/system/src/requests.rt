@@ -1,12 +1,12 @@
 // The requests that wait and those that are open, as the system keeps them.
 ghost use Rattle.std.specs.Prelude.{◌≡◌};
 ghost use Rattle.std.specs.List.{list_all, list_any};
-ghost use Rattle.operations.specs.Names.{is_empty};
 ghost use Rattle.operations.specs.Requests.{is_census, is_target, lists, reply_to};
 ghost use Rattle.system.specs.Censuses.{has_census};
+ghost use Rattle.system.specs.Opening.{is_census_next, may_open_now};
 ghost use Rattle.system.specs.Tells.{is_clear_at, is_held_for, is_over_at, may_tell_of};
 
-use crate::opens::Opens;
+use crate::opens::{OPEN, Opens};
 use crate::thread::Thread;
 use frames::image::Image;
 use operations::Request;
@@ -117,11 +117,24 @@ pub struct Requests {
 }
 
 impl Requests {
-    /// Whether the oldest request may be opened: one operation is open at a time.
-    pub fn may_open(&self) -> bool
-        ensures { result ≡ is_empty self.now.opens }
+    // Whether the oldest request that waits is a census.
+    fn is_census_next(&self) -> bool
+        ensures { result ≡ is_census_next self.now.waiting }
     {
-        self.opens.as_slice().is_empty()
+        match self.waiting.front() {
+            None => false,
+            Some(oldest) => matches!(&oldest.request, Request::Census),
+        }
+    }
+
+    /// Whether the oldest request may be opened: up to four handshakes are open, or one census alone.
+    pub fn may_open(&self) -> bool
+        ensures { result ≡ may_open_now self.now.opens self.now.waiting }
+    {
+        let operations = self.opens.as_slice();
+        operations.len() < OPEN
+            && !self.is_safepoint()
+            && !(self.is_census_next() && !operations.is_empty())
     }
 
     /// Whether a census is open. (overview: at a safepoint)

@@ -80,7 +80,7 @@ fn a_handshake_runs_once(rt: HostRuntime) -> Result<(), Fail> {
     ] {
         events.push(Event::At(0, act))?;
     }
-    events.push(Event::Close)?;
+    events.push(Event::Close(None))?;
     let answers = ran(&rt, rt.alloc(), &mut system, &events);
     assert!(rt; answers.len() == 15);
     assert!(rt; matches!(&answers[6], Answer::Opened(1, Kind::Handshake)));
@@ -101,7 +101,7 @@ fn sixty_four_requests_wait(rt: HostRuntime) -> Result<(), Fail> {
     }
     events.push(Event::Open)?;
     events.push(Event::Operate)?;
-    events.push(Event::Close)?;
+    events.push(Event::Close(None))?;
     let answers = ran(&rt, rt.alloc(), &mut system, &events);
     assert!(rt; answers.len() == 68);
     assert!(rt; matches!(&answers[63], Answer::Asked(64)));

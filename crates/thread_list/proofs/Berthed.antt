@@ -1,5 +1,5 @@
 -- Jobs and marks of a berth.
-use Rattle.std.proofs.Common.{◌≡◌, ℕ, ◌<◌, List, [], ◌∷◌, ◌++◌, map, refl, sym, ap, ◌∙◌, subst, arith}
+use Rattle.std.proofs.Common.{◌≡◌, ℕ, ◌<◌, ◌≤◌, List, [], ◌∷◌, ◌++◌, map, refl, sym, ap, ◌∙◌, subst, arith}
 use Rattle.std.proofs.lemmas.List.{map-append}
 use Rattle.thread_list.specs.declared.room.Holder.{Holder}
 use Rattle.thread_list.specs.declared.room.Holder.TheVariants.{Away}
@@ -24,7 +24,7 @@ settles place h ts mark room is here = record {
 }
 
 -- the seat may go where nothing is told
-pub empties : {N : Type 0} (place : ℕ) (h h' : Holder N) (ts : List Told) (mark room : ℕ) → IsHolder place h' → ts ≡ [] → mark ≡ 0 → 0 < room → IsBerth place h' ts mark room
+pub empties : {N : Type 0} (place : ℕ) (h h' : Holder N) (ts : List Told) (mark room : ℕ) → IsHolder place h' → ts ≡ [] → mark ≡ 0 → 4 ≤ room → IsBerth place h' ts mark room
 empties place h h' ts mark room here none unmarked some = record {
   holder_is = here;
   jobs_are = subst (AreFor (name_of h')) (sym none) tt;
@@ -38,5 +38,5 @@ tells number whom place h js js' j mark room room' is new for_it some numbered s
   holder_is = is.holder_is;
   jobs_are = subst (AreFor (name_of h)) (sym (ap (map (told_of number whom)) new ∙ map-append (told_of number whom) js (j ∷ []))) (for_push (name_of h) (map (told_of number whom) js) (told_of number whom j) is.jobs_are for_it some numbered);
   mark_is = is.mark_is;
-  roomy = subst (λ (n : ℕ). 0 < n) (sym same) is.roomy;
+  roomy = subst (λ (n : ℕ). 4 ≤ n) (sym same) is.roomy;
 }

@@ -1,5 +1,5 @@
 -- Berths.
-use Rattle.std.specs.Prelude.{◌≡◌, ◌≢◌, ◌<◌, ◌+◌, ◌-◌, ◌^◌, ℕ, Bool, true, false, List, [], ◌∷◌, min, length, slice_index_or, Option, Some, None, Vec, vec_capacity}
+use Rattle.std.specs.Prelude.{◌≡◌, ◌≢◌, ◌<◌, ◌≤◌, ◌+◌, ◌-◌, ◌^◌, ℕ, Bool, true, false, nat_le, List, [], ◌∷◌, min, length, slice_index_or, Option, Some, None, Vec, vec_capacity}
 use Rattle.thread_list.specs.declared.room.BerthAct.{BerthAct}
 use Rattle.thread_list.specs.declared.room.Holder.{Holder}
 use Rattle.thread_list.specs.declared.room.Holder.TheVariants.{Vacant, Away, Out, Home}
@@ -63,16 +63,21 @@ pub record IsBerth {N : Type 0} (place : ℕ) (holder : Holder N) (jobs : List T
   pub holder_is : IsHolder place holder
   pub jobs_are : AreFor (name_of holder) jobs
   pub mark_is : IsMark (name_of holder) mark
-  pub roomy : 0 < room
+  pub roomy : 4 ≤ room
+
+-- the oldest job has at most this number
+abbrev pub awaits_job : ℕ → List Told → Bool
+awaits_job number [] = false
+awaits_job number (t ∷ ts) = nat_le t.number number
 
 -- how many threads wait after one more does, or one does no more
 abbrev pub slept : ℕ → Bool → ℕ
 slept n true = min (n + 1) (2 ^ 64 - 1)
 slept n false = n - 1
 
--- no job, and room for one
+-- no job, and room for one of each operation that can be open
 abbrev pub IsRoom : {J Z : Type 0} → Vec J Z → Type 0
-IsRoom v = (v.items ≡ []) × (0 < vec_capacity v)
+IsRoom v = (v.items ≡ []) × (4 ≤ vec_capacity v)
 
 -- berths, seen as their places, are each that of its index
 abbrev pub AreInOrder : List ℕ → Type 0

@@ -214,11 +214,12 @@ impl<N: Name, J: Errand> Berth<N, J> {
         unreachable!()
     }
 
-    /// Waits until the thread of the name has brought its body, or has come for what it was told. Answers whether its body is here.
-    pub fn wait_for<R: Wait>(&self, rt: &R, name: u64) -> bool {
+    /// Waits until the thread of the name has brought its body, or has come for what it was told up to the number. Answers whether its
+    /// body is here.
+    pub fn wait_for<R: Wait>(&self, rt: &R, name: u64, number: u64) -> bool {
         for _ in rt.forever() {
             let mut room = self.room.lock(rt);
-            if !room.awaits(name) {
+            if !room.awaits(name, number) {
                 return room.has_body(name);
             }
             room.note_sleeper(true);

@@ -8,7 +8,7 @@ ghost use Rattle.thread_list.specs.Sized.{parts_refused, AreSeatsOf, ArePollersO
 
 use crate::berth::Berth;
 use crate::hints::Hints;
-use crate::room::Room;
+use crate::room::{JOBS, Room};
 use crate::shared::Shared;
 use board::{Board, Keeper, ThreadSeat};
 use bodies::{Name, SpareSeat};
@@ -103,7 +103,7 @@ fn fits(size: usize, most: usize) -> bool
     size != 0 && size <= most
 }
 
-// Empty lists with room for a job each, and room for as many berths.
+// Empty lists with room for the jobs of a berth each, and room for as many berths.
 fn job_lists<N: Name, J: Errand>(
     alloc: Global,
     places: usize,
@@ -114,7 +114,7 @@ fn job_lists<N: Name, J: Errand>(
     let berths = Vec::with_capacity(alloc, places)?;
     let mut lists = Vec::new(alloc);
     while lists.len() < places {
-        let list = Vec::with_capacity(alloc, 1)?;
+        let list = Vec::with_capacity(alloc, JOBS)?;
         lists.push(list).map_err(|_| AllocError)?;
     }
     Ok((lists, berths))

@@ -3,7 +3,7 @@ ghost use Rattle.std.specs.Prelude.{◌≡◌, ◌<◌, ◌≢◌, Some, None, [
 ghost use Rattle.std.specs.Prelude.{◌++◌, ◌∷◌, ◌≤◌, ◌==◌, true, false, not, length, vec_capacity, if◌then◌else◌};
 ghost use Rattle.frames.specs.ImageView.{IsCounted};
 ghost use Rattle.frames.specs.BoardViews.{stored_as};
-ghost use Rattle.thread_list.specs.Berths.{told_of, name_of, slept, IsRoom, acted, number_of};
+ghost use Rattle.thread_list.specs.Berths.{told_of, name_of, slept, awaits_job, IsRoom, acted, number_of};
 ghost use Rattle.thread_list.specs.declared.room.Holder.TheVariants.{Vacant as IsVacant, Away as IsAway, Out as IsOut, Home as IsAtHome};
 
 use board::Board;
@@ -82,6 +82,9 @@ pub enum Holder<N: Name> {
     Home(Body<N>),
 }
 
+/// How many jobs a berth has room for: one of each operation that can be open.
+pub const JOBS: usize = 4;
+
 /// What a berth keeps: who has the seat and the poller of its place, the jobs that the thread was told, in order, the census
 /// that it was told and that isn't operated (0 for none), and how many threads wait for a change of it.
 #[derive(Drop)]
@@ -105,7 +108,7 @@ impl<N: Name, J: Errand> Model for Room<N, J> {
 }
 
 impl<N: Name, J: Errand> Room<N, J> {
-    /// The berth of a vacant place, with an empty list that has room for a job.
+    /// The berth of a vacant place, with an empty list that has room for its jobs.
     pub fn new(place: usize, pair: SpareSeat<N>, jobs: Vec<J>) -> Room<N, J>
         requires pair { pair.seat.place ≡ place }
         requires jobs { IsRoom jobs }
@@ -139,14 +142,25 @@ impl<N: Name, J: Errand> Room<N, J> {
         self.sleepers != 0
     }
 
-    /// Whether the thread of the name has its body and has still to come for what it was told.
-    pub fn awaits(&self, name: u64) -> bool
-        ensures yes { result ≡ true → (self.now.holder ≡ IsOut name) × (self.now.jobs ≢ []) }
-        ensures no { result ≡ false → self.now.holder ≡ IsOut name → self.now.jobs ≡ [] }
+    /// Whether the thread of the name has its body and has still to come for what it was told up to the number.
+    pub fn awaits(&self, name: u64, number: u64) -> bool
+        ensures yes { result ≡ true → (self.now.holder ≡ IsOut name) × (awaits_job number self.now.jobs ≡ true) }
+        ensures no { result ≡ false → self.now.holder ≡ IsOut name → awaits_job number self.now.jobs ≡ false }
     {
         match &self.holder {
-            Holder::Out(out) => *out == name && !self.jobs.is_empty(),
+            Holder::Out(out) => *out == name && self.awaits_job(number),
             Holder::Home(_) | Holder::Vacant(_) | Holder::Away => false,
+        }
+    }
+
+    // Whether the oldest job has at most this number.
+    fn awaits_job(&self, number: u64) -> bool
+        ensures { result ≡ awaits_job number self.now.jobs }
+    {
+        let _ = &self.mark;
+        match self.jobs.as_slice().split_first() {
+            Some((first, _)) => first.op_of() <= number,
+            None => false,
         }
     }
 
@@ -282,12 +296,12 @@ impl<N: Name, J: Errand> Room<N, J> {
     }
 
     /// A job goes in for its target, behind those that are there. It comes back where the berth bears another name than its target's, or
-    /// has no room for another job; it has room for one.
+    /// has no room for another job; it has room for four.
     pub fn tell(&mut self, job: J) -> Result<(), J>
         requires number { 0 < J.number job }
         ensures ok { OnOk result ((name_of self.old.holder ≡ J.whom job) × (self.new ≡ record self.old { jobs = self.old.jobs ++ told_of J.number J.whom job ∷ [] })) }
         ensures err { IfErr result (λ j. (j ≡ job) × (self.new ≡ self.old) × (0 < J.whom job → name_of self.old.holder ≡ J.whom job → self.old.room ≤ length self.old.jobs)) }
-        ensures room { 0 < self.old.room }
+        ensures room { 4 ≤ self.old.room }
     {
         let name = self.name();
         if name == 0 || name != job.target_of() || self.jobs.len() >= self.jobs.capacity() {

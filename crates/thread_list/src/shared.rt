@@ -147,15 +147,16 @@ impl<N: Name, J: Errand> Shared<N, J> {
         }
     }
 
-    /// Installs a code for the method. Answers its serial, with the receipt of its Install.
+    /// Installs a code for the method; the one that was in use for it is not entrant from now on. Answers the serial of the new one, with
+    /// the receipt of its Install.
     pub fn install<R: Wait>(&self, rt: &R, method: u32) -> Result<(u64, Receipt<N>), CodeFault>
         ensures installed { IfOk result (λ r. (slot : ℕ) × (r.1.entry ≡ Entry.Install (record { slot = slot; serial = r.0 }) method)) }
         ensures refused { IfErr result (λ e. (s : DeskState) × (book : Book) × install_refused s method book e) }
     {
         let mut desk = self.desk.lock(rt);
-        let (id, receipt) = desk.install(&self.board, method as u64)?;
-        self.hints.set(method, id);
-        Ok((id.serial, receipt))
+        let (installed, receipt) = desk.install(&self.board, method as u64)?;
+        self.hints.set(method, installed.code);
+        Ok((installed.code.serial, receipt))
     }
 
     /// No thread enters the code of the serial any more. Answers the receipt of its Invalidate.
@@ -247,7 +248,7 @@ impl<N: Name, J: Errand> Shared<N, J> {
         unreachable!()
     }
 
-    /// Waits until the thread of the name is answered for, or is live no more.
+    /// Waits until the thread of the name is answered for in the oldest open request, or is live no more.
     pub fn wait_finished<R: Wait>(&self, rt: &R, name: u64) {
         for _ in rt.forever() {
             let desk = self.desk.lock(rt);
@@ -259,9 +260,9 @@ impl<N: Name, J: Errand> Shared<N, J> {
     }
 }
 
-// Whether the thread of the name has still to be answered for.
+// Whether the thread of the name has still to be answered for in the oldest open request.
 fn is_due<N: Name, J: Errand>(desk: &Desk<N, J>, name: u64) -> bool {
-    match desk.next_due(name.saturating_sub(1)) {
+    match desk.next_awaited(name.saturating_sub(1)) {
         Some(due) => due.name == name,
         None => false,
     }

@@ -23,10 +23,10 @@ use Rattle.method_table.specs.Numbers.{last_number}
 use Rattle.system.specs.Log.{is_looked, moment}
 use Rattle.system.specs.Verdict.{accepted, unless◌refuse◌then◌}
 use Rattle.system.specs.World.{World, start_world, walk}
-use Rattle.system.specs.Runs.{answer_of, world_after}
+use Rattle.system.specs.Runs.{answer_of, answer_to, world_after}
 use Rattle.system.proofs.Outcomes.{is_move, Enters, Misses, Looks, FindsUnlooked, FindsUsed, Retires}
 use Rattle.system.proofs.Cases.{Cases}
-use Rattle.system.proofs.ByCases.{by_cases}
+use Rattle.system.proofs.ByCases.{by_cases, each_kind}
 use Rattle.tie.specs.BoardOf.{word_by, slot_at}
 use Rattle.tie.specs.Answers.{IsLeastUnlooked, IsReadOff, AnswersAreReadOff, RoundsReadTheMoment}
 use Rattle.tie.proofs.Tied.{IsReached, reached}
@@ -101,7 +101,7 @@ refused_tells w (event.Ask request) r = tt
 refused_tells w event.Open r = tt
 refused_tells w (event.Tell name) r = tt
 refused_tells w event.Operate r = tt
-refused_tells w event.Close r = tt
+refused_tells w (event.Close number) r = tt
 refused_tells w (event.Count serial) r = tt
 refused_tells w (event.CodeState serial) r = tt
 refused_tells w (event.Resolve method) r = tt
@@ -142,7 +142,7 @@ all_read_off w h = record {
   tells = λ name opened i. tt;
   finds_gone = λ name i. tt;
   operates = λ opened others i. tt;
-  closes = λ opened i. tt;
+  closes = λ number opened i. tt;
   counts = λ serial code i. tt;
   says_state = λ serial code i. tt;
   resolves = λ method i. tt;
@@ -150,7 +150,8 @@ all_read_off w h = record {
 
 pub answers_are_read_off : AnswersAreReadOff
 answers_are_read_off places slots methods events e =
-    let w : World = world_after (start_world places slots methods) events in by_cases w (λ e a v. IsReadOff w e a) (all_read_off w (reached places slots methods events)) e
+    let w : World = world_after (start_world places slots methods) events in
+    each_kind w (λ e. IsReadOff w e (answer_to w e)) (λ method. tt) (by_cases w (λ e a v. IsReadOff w e a) (all_read_off w (reached places slots methods events))) e
 
 -- A Round tests the moment alone.
 pub rounds_read_the_moment : RoundsReadTheMoment

@@ -1,10 +1,12 @@
 -- Every event is its steps.
-use Rattle.std.proofs.Common.{◌≡◌, ℕ, ◌+◌, Bool, true, false, cond, List, [], ◌∷◌, length, Option, Some, None, sym, refl, ap, ◌∙◌, subst}
+use Rattle.std.proofs.Common.{◌≡◌, ℕ, ◌+◌, Bool, true, false, cond, List, [], ◌∷◌, ◌++◌, length, Option, Some, None, sym, refl, ap, ◌∙◌, ⊎_elim, subst}
 use Rattle.std.specs.Prelude.{◌&&◌}
 use Rattle.std.proofs.lemmas.Bool.{and_right, ne_eqb}
 use Rattle.frames.specs.declared.CodeId.{CodeId}
 use Rattle.method_table.specs.declared.Code.{Code}
-use Rattle.method_table.specs.Codes.{id_of, code_of, in_use_for}
+use Rattle.method_table.specs.declared.CodeState.TheVariants.{NotEntrant}
+use Rattle.method_table.specs.Codes.{id_of, code_of, in_use_for, in_state}
+use Rattle.frames.specs.BoardRule.{BoardState}
 use Rattle.operations.specs.Requests.{kind_of, reply_to}
 use Rattle.system.specs.declared.events.Act.{Act}
 use Rattle.system.specs.declared.events.Act.TheVariants as act
@@ -22,12 +24,15 @@ use Rattle.system.specs.Runs.{after, answer_to, world_after}
 use Rattle.system.specs.Moments.{begun, ended, is_fresh}
 use Rattle.system.proofs.Outcomes.{noted, asked, seated, entered, moved, held, released, is_move, with_done, with_cleared, with_told, with_request, with_opened, with_operated, without_opened, Stands, Starts}
 use Rattle.system.proofs.Cases.{Cases}
-use Rattle.system.proofs.ByCases.{by_cases}
+use Rattle.system.proofs.ByCases.{Simple, by_cases, each_kind}
+use Rattle.system.proofs.Lists.{map_length}
+use Rattle.system.proofs.Table.{unfreed_code}
+use Rattle.system.proofs.Twice.{between, between_is, between_said, found_in_use, free_between, none_then, twice}
 use Rattle.system.proofs.Frames.{part_quiet}
 use Rattle.method_table.specs.Entries.{newest_in}
 use Rattle.tie.specs.BoardOf.{is_given, is_missed, seat_by, board_of}
 use Rattle.tie.specs.Steps.{Made, for_code, weigh_steps, is_refused, accepted_steps, act_steps, steps_of, GoesBy, EventsAreTheirSteps}
-use Rattle.tie.proofs.Tied.{IsReached, reached, sizes_are}
+use Rattle.tie.proofs.Tied.{IsReached, reached, reached_simply, sizes_are}
 use Rattle.tie.proofs.Quiet.{IsUnseen, each_move, move_unseen}
 use Rattle.tie.proofs.Views.{IsUnkept, same_moment, slot_unkept, seat_same, same_board, rests_at}
 use Rattle.tie.proofs.ThreadSteps.{same_number, begin_step, end_step, exit_step}
@@ -124,7 +129,7 @@ all_steps w h = record {
   shows = λ p t i. rests w (seated w p (Some t) (event.At p act.Stack) (answer.Frames t.stack)) (event.At p act.Stack) (answer.Frames t.stack) refl
       (act_rests w p t t act.Stack (answer.Frames t.stack) i (λ q. record { starts_not = refl; exits_not = refl; begins_not = refl; ends_not = refl; enters_not = λ r. refl; misses_not = λ r. refl }) refl);
   starts = λ p i. rests w (seated w p (Some (new_thread (names_given w.log + 1))) event.Start (answer.Thread (names_given w.log + 1) p)) event.Start (answer.Thread (names_given w.log + 1) p) refl (start_rests w p h i);
-  installs = λ method slot i. install_step w method slot h i;
+  installs = λ method slot i. rw i.none_in_use (install_step w method slot h i);
   invalidates = λ serial code i. invalidate_step w serial code h i;
   goes_round = λ i. round_step w h i;
   looks_clear = λ serial p code i. look_step w serial p code answer.Clear true h i refl;
@@ -139,15 +144,59 @@ all_steps w h = record {
   tells = λ name opened i. rests w (asked w (with_told w.requests opened name) (event.Tell name) answer.Told) (event.Tell name) answer.Told refl (asked_rests w (event.Tell name) answer.Told (record { no_round = refl; no_invalidate = λ r. refl; no_look = λ r q. refl }) (λ q. record { starts_not = refl; exits_not = refl; begins_not = refl; ends_not = refl; enters_not = λ r. refl; misses_not = λ r. refl }) (with_told w.requests opened name));
   finds_gone = λ name i. rests w (noted w (event.Tell name) answer.Gone) (event.Tell name) answer.Gone refl (noted_rests w (event.Tell name) answer.Gone (record { no_round = refl; no_invalidate = λ r. refl; no_look = λ r q. refl }) (λ q. record { starts_not = refl; exits_not = refl; begins_not = refl; ends_not = refl; enters_not = λ r. refl; misses_not = λ r. refl }));
   operates = λ opened others i. rests w (asked w (with_operated w opened) event.Operate (answer.Census (census w))) event.Operate (answer.Census (census w)) refl (asked_rests w event.Operate (answer.Census (census w)) (record { no_round = refl; no_invalidate = λ r. refl; no_look = λ r q. refl }) (λ q. record { starts_not = refl; exits_not = refl; begins_not = refl; ends_not = refl; enters_not = λ r. refl; misses_not = λ r. refl }) (with_operated w opened));
-  closes = λ opened i. rests w (asked w (without_opened w opened) event.Close (answer.Closed opened.number)) event.Close (answer.Closed opened.number) refl (asked_rests w event.Close (answer.Closed opened.number) (record { no_round = refl; no_invalidate = λ r. refl; no_look = λ r q. refl }) (λ q. record { starts_not = refl; exits_not = refl; begins_not = refl; ends_not = refl; enters_not = λ r. refl; misses_not = λ r. refl }) (without_opened w opened));
+  closes = λ number opened i. rests w (asked w (without_opened w opened) (event.Close number) (answer.Closed opened.number)) (event.Close number) (answer.Closed opened.number) refl (asked_rests w (event.Close number) (answer.Closed opened.number) (record { no_round = refl; no_invalidate = λ r. refl; no_look = λ r q. refl }) (λ q. record { starts_not = refl; exits_not = refl; begins_not = refl; ends_not = refl; enters_not = λ r. refl; misses_not = λ r. refl }) (without_opened w opened));
   counts = λ serial code i. rests w (noted w (event.Count serial) (answer.Count (walk w (id_of code)))) (event.Count serial) (answer.Count (walk w (id_of code))) refl (noted_rests w (event.Count serial) (answer.Count (walk w (id_of code))) (record { no_round = refl; no_invalidate = λ r. refl; no_look = λ r q. refl }) (λ q. record { starts_not = refl; exits_not = refl; begins_not = refl; ends_not = refl; enters_not = λ r. refl; misses_not = λ r. refl }));
   says_state = λ serial code i. rests w (noted w (event.CodeState serial) (answer.State code.state)) (event.CodeState serial) (answer.State code.state) refl (noted_rests w (event.CodeState serial) (answer.State code.state) (record { no_round = refl; no_invalidate = λ r. refl; no_look = λ r q. refl }) (λ q. record { starts_not = refl; exits_not = refl; begins_not = refl; ends_not = refl; enters_not = λ r. refl; misses_not = λ r. refl }));
   resolves = λ method i. rests w (noted w (event.Resolve method) (code_or_none (in_use_for w.codes method))) (event.Resolve method) (code_or_none (in_use_for w.codes method)) refl (noted_rests w (event.Resolve method) (code_or_none (in_use_for w.codes method)) (record { no_round = refl; no_invalidate = λ r. refl; no_look = λ r q. refl }) (λ q. record { starts_not = refl; exits_not = refl; begins_not = refl; ends_not = refl; enters_not = λ r. refl; misses_not = λ r. refl }));
 }
+
+-- Steps after steps.
+goes_on : (slots places : ℕ) (a b c : BoardState) (first rest : List Made) → GoesBy slots places a first b → GoesBy slots places b rest c → GoesBy slots places a (first ++ rest) c
+goes_on slots places a b c [] rest same later = subst (λ x. GoesBy slots places x rest c) same later
+goes_on slots places a b c (made ∷ first) rest (next, step, kept, on) later = (next, step, kept, goes_on slots places next b c first rest on later)
+
+-- An event goes by its steps.
+abbrev GoesOn : World → Event → Type 0
+GoesOn w e = GoesBy w.slots (length w.places) (board_of w) (steps_of w e (answer_to w e)) (board_of (after w e))
+
+goes_simply : (w : World) → IsReached w → (e : Event) → Simple w e → GoesOn w e
+goes_simply w h e simple = by_cases w (λ e a v. GoesBy w.slots (length w.places) (board_of w) (steps_of w e a) (board_of v)) (all_steps w h) e simple
+
+-- The steps of an Install over code in use are those of the Invalidate and of the Install.
+both_steps : (w : World) (method : ℕ) (old : Code) → IsReached w → in_use_for w.codes method ≡ Some old
+    → accepted_steps w (event.Invalidate old.serial) answer.Done ++ accepted_steps (between w old) (event.Install method) (answer.Code (length w.codes + 1)) ≡ accepted_steps w (event.Install method) (answer.Code (length w.codes + 1))
+both_steps w method old h used =
+    let here = unfreed_code w.slots w.methods w.codes h.kept.table old.serial old (found_in_use w method old h.kept.table used) in
+    let free = free_between w method old h.kept.table used in
+    let none = none_then w method old h.kept.table used in
+    let long = map_length (in_state old.serial NotEntrant) w.codes in
+    rw (here, used, none, free, long) refl
+
+goes_over : (w : World) → IsReached w → (method : ℕ) (old : Code) → in_use_for w.codes method ≡ Some old → GoesOn w (event.Install method)
+goes_over w h method old used = ⊎_elim
+    (λ r. rw (r.said, r.after_is) refl)
+    (λ b. (let between_reached : IsReached (between w old) = subst IsReached (between_is w method old h.kept.table used) (reached_simply w (event.Invalidate old.serial) tt h) in
+    let first : GoesBy w.slots (length w.places) (board_of w) (accepted_steps w (event.Invalidate old.serial) answer.Done) (board_of (between w old)) =
+    subst (λ v. GoesBy w.slots (length w.places) (board_of w) (accepted_steps w (event.Invalidate old.serial) answer.Done) (board_of v)) (between_is w method old h.kept.table used)
+    (subst (λ a. GoesBy w.slots (length w.places) (board_of w) (steps_of w (event.Invalidate old.serial) a) (board_of (after w (event.Invalidate old.serial)))) (between_said w method old h.kept.table used) (goes_simply w h (event.Invalidate old.serial) tt)) in
+    let second : GoesBy w.slots (length w.places) (board_of (between w old)) (accepted_steps (between w old) (event.Install method) (answer.Code (length w.codes + 1))) (board_of (after w (event.Install method))) =
+    subst (λ v. GoesBy w.slots (length w.places) (board_of (between w old)) (accepted_steps (between w old) (event.Install method) (answer.Code (length w.codes + 1))) (board_of v)) (b.after_between ∙ sym b.after_is)
+    (subst (λ a. GoesBy w.slots (length w.places) (board_of (between w old)) (steps_of (between w old) (event.Install method) a) (board_of (after (between w old) (event.Install method)))) b.said_between (goes_simply (between w old) between_reached (event.Install method) (none_then w method old h.kept.table used))) in
+    subst (λ a. GoesBy w.slots (length w.places) (board_of w) (steps_of w (event.Install method) a) (board_of (after w (event.Install method)))) (sym b.said)
+    (subst (λ steps. GoesBy w.slots (length w.places) (board_of w) steps (board_of (after w (event.Install method)))) (both_steps w method old h used)
+    (goes_on w.slots (length w.places) (board_of w) (board_of (between w old)) (board_of (after w (event.Install method))) _ _ first second))))
+    (twice w method old h.kept.table used)
+
+goes : (w : World) → IsReached w → (e : Event) → GoesOn w e
+goes w h = each_kind w (GoesOn w) (λ method. on method (in_use_for w.codes method) refl) (goes_simply w h)
+  where
+    on : (method : ℕ) (o : Option Code) → in_use_for w.codes method ≡ o → GoesOn w (event.Install method)
+    on method None e = goes_simply w h (event.Install method) e
+    on method (Some old) e = goes_over w h method old e
 
 pub events_are_their_steps : EventsAreTheirSteps
 events_are_their_steps places slots methods events e =
     let w : World = world_after (start_world places slots methods) events in let sizes = sizes_are places slots methods events in
     subst (λ n. GoesBy slots n (board_of w) (steps_of w e (answer_to w e)) (board_of (after w e))) sizes.0
     (subst (λ n. GoesBy n (length w.places) (board_of w) (steps_of w e (answer_to w e)) (board_of (after w e))) sizes.1
-    (by_cases w (λ e a v. GoesBy w.slots (length w.places) (board_of w) (steps_of w e a) (board_of v)) (all_steps w (reached places slots methods events)) e))
+    (goes w (reached places slots methods events) e))

@@ -1,7 +1,7 @@
 -- The answer to an event is read off the poll word that its step met.
-use Rattle.std.proofs.Common.{◌≡◌, ℕ, true, false, List, Some, None, sym, refl, ap, ◌∙◌, inl, inr, ⊎_elim, subst, arith}
+use Rattle.std.proofs.Common.{◌≡◌, ℕ, ◌<◌, ◌≤◌, Bool, true, false, Option, Some, None, sym, refl, ap, ◌∙◌, inl, inr, ⊎_elim, subst, arith}
 use Rattle.std.specs.Prelude.{◌==◌, unwrap_or, if◌then◌else◌}
-use Rattle.std.proofs.lemmas.Bool.{false≢true, ne_eqb}
+use Rattle.std.proofs.lemmas.Bool.{false≢true, eq-eqb, ne_eqb}
 use Rattle.thread_state.specs.declared.State.{State}
 use Rattle.system.specs.declared.events.Act.{Act}
 use Rattle.system.specs.declared.events.Act.TheVariants as act
@@ -9,36 +9,41 @@ use Rattle.system.specs.declared.events.Event.TheVariants as event
 use Rattle.system.specs.declared.answers.Answer.{Answer}
 use Rattle.system.specs.Threads.{Thread}
 use Rattle.system.specs.Operations.{Opened, poll_of, greatest}
-use Rattle.system.specs.World.{World, found, start_world}
+use Rattle.system.specs.World.{World, thread_at, found, start_world}
+use Rattle.operations.specs.Names.{among}
 use Rattle.system.specs.Places.{go_or_stop}
 use Rattle.system.specs.Step.{code_or_none}
 use Rattle.system.specs.Facts.{IsSound}
 use Rattle.system.specs.Runs.{answer_to, world_after}
+use Rattle.system.specs.Safepoints.{is_accepted}
 use Rattle.method_table.specs.Codes.{in_use_for}
 use Rattle.system.proofs.Outcomes.{Stands, Moves, ByMove, ByPoll, Clears, move_of, is_move}
 use Rattle.system.proofs.Cases.{Cases}
-use Rattle.system.proofs.ByCases.{by_cases}
+use Rattle.system.proofs.ByCases.{by_cases, each_kind}
 use Rattle.system.proofs.Worlds.{worlds_are_sound}
-use Rattle.tie.specs.PollRow.{row_of, armed_at, uncleared_at, cleared_at, number_of, load, step_of, polls_of}
+use Rattle.tie.specs.PollRow.{row_of, armed_at, uncleared_at, cleared_at, clears_next, load, step_of, polls_of}
 use Rattle.tie.specs.PollAnswers.{said_by, IsAnswered, PollsAnswerTheirWords, is_poll, PollsLoadTheirWord}
+use Rattle.tie.proofs.PollMarks.{greatest_first}
 use Rattle.tie.proofs.PollKept.{pending_at, IsLast}
-use Rattle.tie.proofs.PollTold.{LogTells, log_tells, alone_is, Cleared, cleared_is}
+use Rattle.tie.proofs.PollTold.{Cleared, cleared_is}
 use Rattle.tie.proofs.PollRows.{RowIn}
-use Rattle.tie.proofs.PollSteps.{go_or_stop_accepted, move_accepted, code_accepted}
+use Rattle.tie.proofs.PollSteps.{go_or_stop_accepted, move_accepted, code_accepted, clears_number, word_met}
 use Rattle.tie.proofs.PollLaws.{row_in, row_word}
 
 -- What a poll answers is read off the word.
 poll_said : (w : World) (p : ℕ) (t : Thread) → RowIn w → Stands w p t → go_or_stop (poll_of w.requests t.name) ≡ said_by (row_of w p).word
 poll_said w p t h s = ap go_or_stop poll ∙ (by (h.last p) ∙ sym (ap said_by (row_word w h p)))
   where
-    poll : poll_of w.requests t.name ≡ greatest (uncleared_at p w.log)
+    poll : poll_of w.requests t.name ≡ greatest (uncleared_at p w.requests.told w.requests.cleared w.log)
     poll = ap greatest (sym (ap (λ o. pending_at w.requests (found o)) s.there) ∙ h.waiting p)
 
-    by : IsLast (uncleared_at p w.log) (armed_at p w.log) (cleared_at p w.log) → go_or_stop (greatest (uncleared_at p w.log)) ≡ said_by (unwrap_or (greatest (uncleared_at p w.log)) 0)
+    by : IsLast (uncleared_at p w.requests.told w.requests.cleared w.log) (armed_at p w.requests.told w.log) (cleared_at p w.requests.told w.requests.cleared w.log)
+        → go_or_stop (greatest (uncleared_at p w.requests.told w.requests.cleared w.log)) ≡ said_by (unwrap_or (greatest (uncleared_at p w.requests.told w.requests.cleared w.log)) 0)
     by (inl a) = subst (λ us. go_or_stop (greatest us) ≡ said_by (unwrap_or (greatest us) 0)) (sym a.0) refl
     by (inr a) =
-        let some : (armed_at p w.log == 0) ≡ false = ne_eqb (armed_at p w.log) 0 (λ is. (let less = a.1 in absurd (omega arith))) in
-        subst (λ us. go_or_stop (greatest us) ≡ said_by (unwrap_or (greatest us) 0)) (sym a.0) (rw some refl)
+        let some : (armed_at p w.requests.told w.log == 0) ≡ false = ne_eqb (armed_at p w.requests.told w.log) 0 (λ is. (let less = a.3 in absurd (omega arith))) in
+        let most : greatest (uncleared_at p w.requests.told w.requests.cleared w.log) ≡ Some (armed_at p w.requests.told w.log) = ap greatest a.1 ∙ greatest_first (armed_at p w.requests.told w.log) a.0 a.2 in
+        subst (λ (o : Option ℕ). go_or_stop o ≡ said_by (unwrap_or o 0)) (sym most) (rw some refl)
 
 -- An act that polls comes into another state by the poll.
 polled_said : (w : World) (p : ℕ) (t : Thread) (a : Act) (state : State) (given : Answer) → RowIn w → Moves w p t a state given → move_of a ≡ None → given ≡ said_by (row_of w p).word
@@ -56,12 +61,18 @@ move_said w p t act.Block state given h i is = tt
 move_said w p t act.Take state given h i is = tt
 move_said w p t a state given h i is = absurd (false≢true is)
 
-cleared_met : (w : World) (p : ℕ) (t : Thread) (opened : Opened) → IsSound w → LogTells w → RowIn w → Clears w p t opened → (row_of w p).word ≡ number_of w.requests.opened
-cleared_met w p t opened sound ran h i = let d : Cleared w p t opened = cleared_is w p t opened ran h i in
-    (row_word w h p ∙ ap (λ ns. unwrap_or (greatest ns) 0) d.uncleared_is) ∙ sym (ap number_of (alone_is w opened sound i.open_is))
+cleared_met : (w : World) (p : ℕ) (t : Thread) (opened : Opened) → IsSound w → RowIn w → Clears w p t opened → (0 < clears_next w.requests (thread_at w p)) × (clears_next w.requests (thread_at w p) ≤ (row_of w p).word)
+cleared_met w p t opened sound h i =
+    let d : Cleared w p t opened = cleared_is w p t opened sound h i in
+    let is = clears_number w p t opened i in
+    let met = word_met w p t opened h d in
+    let from = (sound.numbers.opened_is i.open_is.position opened i.open_is.here).0 in
+    let low : opened.number ≤ armed_at p w.requests.told w.log = d.least (armed_at p w.requests.told w.log)
+    (subst (λ ns. among (armed_at p w.requests.told w.log) ns ≡ true) (sym d.uncleared_is) (let own = eq-eqb (armed_at p w.requests.told w.log) (armed_at p w.requests.told w.log) refl in rw own refl)) in
+    (omega (arith, is, from), omega (arith, is, met, low))
 
-said : (w : World) → IsSound w → LogTells w → RowIn w → Cases w (λ e a v. IsAnswered (polls_of w e a) a)
-said w sound ran h = record {
+said : (w : World) → IsSound w → RowIn w → Cases w (λ e a v. IsAnswered (polls_of w e a) a)
+said w sound h = record {
   refuses = λ e r. tt;
   begins = λ p t i. tt;
   changes = λ p t code i. tt;
@@ -74,7 +85,7 @@ said w sound ran h = record {
   leaves = λ p t state i. subst (λ b. IsAnswered (if b then load w p else None) (go_or_stop (poll_of w.requests t.name))) (sym (go_or_stop_accepted (poll_of w.requests t.name))) (poll_said w p t h i.acts.stands);
   exits = λ p t i. tt;
   finishes = λ p t opened i. tt;
-  clears = λ p t opened i. cleared_met w p t opened sound ran h i;
+  clears = λ p t opened i. cleared_met w p t opened sound h i;
   holds = λ p t opened i. tt;
   releases = λ p t i. tt;
   shows = λ p t i. tt;
@@ -93,16 +104,25 @@ said w sound ran h = record {
   tells = λ name opened i. refl;
   finds_gone = λ name i. tt;
   operates = λ opened others i. tt;
-  closes = λ opened i. tt;
+  closes = λ number opened i. tt;
   counts = λ serial code i. tt;
   says_state = λ serial code i. tt;
   resolves = λ method i. subst (λ b. IsAnswered (if b then None else None) (code_or_none (in_use_for w.codes method))) (sym (code_accepted (in_use_for w.codes method))) tt;
 }
 
+-- An Install makes no step.
+silent : (given : Answer) → IsAnswered (if is_accepted given then None else None) given
+silent given = by (is_accepted given)
+  where
+    by : (b : Bool) → IsAnswered (if b then None else None) given
+    by true = tt
+    by false = tt
+
 pub polls_answer_their_words : PollsAnswerTheirWords
 polls_answer_their_words places slots methods events next =
     let w : World = world_after (start_world places slots methods) events in
-    by_cases w (λ e a v. IsAnswered (polls_of w e a) a) (said w (worlds_are_sound places slots methods events).0 (log_tells places slots methods events) (row_in places slots methods events)) next
+    each_kind w (λ e. IsAnswered (polls_of w e (answer_to w e)) (answer_to w e)) (λ method. silent (answer_to w (event.Install method)))
+    (by_cases w (λ e a v. IsAnswered (polls_of w e a) a) (said w (worlds_are_sound places slots methods events).0 (row_in places slots methods events))) next
 
 -- A poll that is accepted is a load.
 loaded : (w : World) (p : ℕ) (a : Act) (given : Answer) → is_poll a ≡ true → step_of w (event.At p a) given ≡ load w p

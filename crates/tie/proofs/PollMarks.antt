@@ -8,9 +8,9 @@ use Rattle.system.specs.Threads.{Thread}
 use Rattle.system.specs.Operations.{Mark, is_marked, with_mark, greatest}
 use Rattle.system.specs.World.{threads}
 use Rattle.tie.specs.PollRow.{place_of}
-use Rattle.system.proofs.Marking.{waits}
+use Rattle.system.proofs.Marking.{waits, AtMost, max_least, max_here}
 
-or_later : (x y : Bool) → y ≡ true → (x || y) ≡ true
+pub or_later : (x y : Bool) → y ≡ true → (x || y) ≡ true
 or_later true y h = refl
 or_later false y h = h
 
@@ -42,6 +42,24 @@ waits_has cleared n name (mark ∷ ms) h clear = ⊎_elim first
         → among n (map (λ (m : Mark). m.operation) (cond b (mark ∷ filter (λ (m : Mark). (m.name == name) && not (is_marked cleared m.operation name)) ms) (filter (λ (m : Mark). (m.name == name) && not (is_marked cleared m.operation name)) ms))) ≡ true
     more true r = or_later (mark.operation == n) (among n (waits cleared name ms)) r
     more false r = r
+
+-- And nothing else waits.
+pub waits_only : (cleared : List Mark) (n name : ℕ) (ms : List Mark) → among n (waits cleared name ms) ≡ true → (is_marked ms n name ≡ true) × (is_marked cleared n name ≡ false)
+waits_only cleared n name [] h = absurd (false≢true h)
+waits_only cleared n name (mark ∷ ms) h = by (mark.name == name) (is_marked cleared mark.operation name) refl refl h (λ k. waits_only cleared n name ms k)
+  where
+    later : (is_marked ms n name ≡ true) × (is_marked cleared n name ≡ false) → (is_marked (mark ∷ ms) n name ≡ true) × (is_marked cleared n name ≡ false)
+    later r = (or_later ((mark.operation == n) && (mark.name == name)) (is_marked ms n name) r.0, r.1)
+
+    by : (b c : Bool) → (mark.name == name) ≡ b → is_marked cleared mark.operation name ≡ c
+        → among n (map (λ (m : Mark). m.operation) (cond (b && not c) (mark ∷ filter (λ (m : Mark). (m.name == name) && not (is_marked cleared m.operation name)) ms) (filter (λ (m : Mark). (m.name == name) && not (is_marked cleared m.operation name)) ms))) ≡ true
+        → (among n (waits cleared name ms) ≡ true → (is_marked ms n name ≡ true) × (is_marked cleared n name ≡ false)) → (is_marked (mark ∷ ms) n name ≡ true) × (is_marked cleared n name ≡ false)
+    by false c e f k rest = later (rest k)
+    by true true e f k rest = later (rest k)
+    by true false e f k rest = ⊎_elim
+        (λ (first : (mark.operation == n) ≡ true). ((rw (first, e) refl), ap (λ m. is_marked cleared m name) (sym (eqb-true mark.operation n first)) ∙ f))
+        (λ (more : among n (waits cleared name ms) ≡ true). later (rest more))
+        (or_cases (mark.operation == n) (among n (waits cleared name ms)) k)
 
 -- One more is told, to this thread or to another one.
 pub waits_told : (cleared : List Mark) (n name : ℕ) (ms : List Mark) → is_marked cleared n name ≡ false → waits cleared name (with_mark ms n name) ≡ n ∷ waits cleared name ms
@@ -81,6 +99,23 @@ waits_cleared cleared n name (mark ∷ ms) = by (mark.name == name) refl (is_mar
     by true e true f false g rest = let t = turned_false g in rw (e, t, f) rest
     by true e false f true g rest = let own = eq-eqb name name refl in let t = turned_true g in rw (e, t, own, f, g) rest
     by true e false f false g rest = let t = turned_false g in rw (e, t, f, g) (ap (λ ns. mark.operation ∷ ns) rest)
+
+-- A number above all others of a list is the greatest.
+none_above : (n : ℕ) (ns : List ℕ) → ((m : ℕ) → among m ns ≡ true → m < n) → AtMost n (greatest ns)
+none_above n [] low = tt
+none_above n (m ∷ ns) low = max_least n m (greatest ns) (let first = low m (let own = eq-eqb m m refl in rw own refl) in omega arith) (none_above n ns (λ k is. low k (or_later (m == k) (among k ns) is)))
+
+pub greatest_first : (n : ℕ) (ns : List ℕ) → ((m : ℕ) → among m ns ≡ true → m < n) → greatest (n ∷ ns) ≡ Some n
+greatest_first n ns low = ap Some (max_here n (greatest ns) (none_above n ns low))
+
+-- What a filter leaves was in the list.
+pub among_left : (test : ℕ → Bool) (m : ℕ) (ns : List ℕ) → among m (filter test ns) ≡ true → among m ns ≡ true
+among_left test m [] h = h
+among_left test m (n ∷ ns) h = by (test n) h (among_left test m ns)
+  where
+    by : (b : Bool) → among m (cond b (n ∷ filter test ns) (filter test ns)) ≡ true → (among m (filter test ns) ≡ true → among m ns ≡ true) → among m (n ∷ ns) ≡ true
+    by false k rest = or_later (n == m) (among m ns) (rest k)
+    by true k rest = ⊎_elim (λ (first : (n == m) ≡ true). rw first refl) (λ (more : among m (filter test ns) ≡ true). or_later (n == m) (among m ns) (rest more)) (or_cases (n == m) (among m (filter test ns)) k)
 
 -- A list without a greatest number is empty.
 pub greatest_none : (ns : List ℕ) → greatest ns ≡ None → ns ≡ []

@@ -29,7 +29,8 @@ use Rattle.system.specs.Facts.{may_stand, TableIsSound}
 use Rattle.system.specs.Moments.{is_fresh}
 use Rattle.system.proofs.Outcomes.{IsCode, Installs, difference}
 use Rattle.system.proofs.Cases.{Cases}
-use Rattle.system.proofs.ByCases.{by_cases}
+use Rattle.system.proofs.ByCases.{Simple, by_cases}
+use Rattle.system.proofs.Twice.{in_steps}
 use Rattle.system.proofs.Lists.{find_push, find_none_at, below_has}
 use Rattle.system.proofs.Table.{code_serial, code_with_state, in_state_here, in_state_other, unfreed_code}
 use Rattle.system.proofs.Sound.{IsKept, kept, kept_start, same_sizes}
@@ -164,7 +165,7 @@ tied_kept w t r h = record {
   tells = λ name opened i. plain (record { event = event.Tell name; answer = answer.Told }) (λ q s f. f) (λ q s f. f);
   finds_gone = λ name i. plain (record { event = event.Tell name; answer = answer.Gone }) (λ q s f. f) (λ q s f. f);
   operates = λ opened others i. plain (record { event = event.Operate; answer = answer.Census (census w) }) (λ q s f. f) (λ q s f. f);
-  closes = λ opened i. plain (record { event = event.Close; answer = answer.Closed opened.number }) (λ q s f. f) (λ q s f. f);
+  closes = λ number opened i. plain (record { event = event.Close number; answer = answer.Closed opened.number }) (λ q s f. f) (λ q s f. f);
   counts = λ serial code i. plain (record { event = event.Count serial; answer = answer.Count (walk w (id_of code)) }) (λ q s f. f) (λ q s f. f);
   says_state = λ serial code i. plain (record { event = event.CodeState serial; answer = answer.State code.state }) (λ q s f. f) (λ q s f. f);
   resolves = λ method i. plain (record { event = event.Resolve method; answer = code_or_none (in_use_for w.codes method) }) (λ q s f. f) (λ q s f. f);
@@ -180,14 +181,17 @@ pub record IsReached (w : World) : Type 0 where
   pub reclaimed : IsReclaimed w.places w.codes w.log
   pub tied : IsTied (length w.places) w.codes w.log
 
-reached_next : (w : World) (e : Event) → IsReached w → IsReached (after w e)
-reached_next w e h = record {
+pub reached_simply : (w : World) (e : Event) → Simple w e → IsReached w → IsReached (after w e)
+reached_simply w e simple h = record {
   kept = kept w e h.kept;
-  known = by_cases w (λ e a v. NamesKnown v.log) (names_known w h.known) e;
-  reclaimed = by_cases w (λ e a v. IsReclaimed v.places v.codes v.log) (reclaim_kept w h.kept.table h.known h.reclaimed) e;
-  tied = subst (λ n. IsTied n (after w e).codes (after w e).log) (sym (same_sizes w (e ∷ [])).0)
-      (by_cases w (λ e a v. IsTied (length w.places) v.codes v.log) (tied_kept w h.kept.table h.reclaimed h.tied) e);
+  known = by_cases w (λ e a v. NamesKnown v.log) (names_known w h.known) e simple;
+  reclaimed = by_cases w (λ e a v. IsReclaimed v.places v.codes v.log) (reclaim_kept w h.kept.table h.known h.reclaimed) e simple;
+  tied = subst (λ n. IsTied n (after w e).codes (after w e).log) (sym (same_sizes w (e ∷ []) h.kept.table).0)
+      (by_cases w (λ e a v. IsTied (length w.places) v.codes v.log) (tied_kept w h.kept.table h.reclaimed h.tied) e simple);
 }
+
+reached_next : (w : World) (e : Event) → IsReached w → IsReached (after w e)
+reached_next = in_steps IsReached (λ w r. r.kept.table) reached_simply
 
 reached_after : (w : World) (events : List Event) → IsReached w → IsReached (world_after w events)
 reached_after w [] h = h
@@ -203,4 +207,4 @@ reached places slots methods events = reached_after (start_world places slots me
 
 -- A world that events led to has the sizes of its start.
 pub sizes_are : (places slots methods : ℕ) (events : List Event) → (length (world_after (start_world places slots methods) events).places ≡ places) × ((world_after (start_world places slots methods) events).slots ≡ slots)
-sizes_are places slots methods events = let s = same_sizes (start_world places slots methods) events in (s.0 ∙ length-replicate places None, s.1)
+sizes_are places slots methods events = let s = same_sizes (start_world places slots methods) events (kept_start places slots methods).table in (s.0 ∙ length-replicate places None, s.1)

@@ -1,5 +1,5 @@
 -- What the answer to an event says of the poll word that its step met.
-use Rattle.std.specs.Prelude.{◌≡◌, ℕ, ◌==◌, Bool, true, false, List, Option, Some, None, if◌then◌else◌}
+use Rattle.std.specs.Prelude.{◌≡◌, ℕ, ◌<◌, ◌≤◌, ◌==◌, Bool, true, false, List, Option, Some, None, if◌then◌else◌}
 use Rattle.thread_state.specs.declared.poll_rule.Deed.{Deed}
 use Rattle.thread_state.specs.declared.poll_rule.Deed.TheVariants.{Nothing, Load, Store, Exchange}
 use Rattle.system.specs.declared.events.Act.{Act}
@@ -18,12 +18,12 @@ abbrev pub said_by : ℕ → Answer
 said_by found = if found == 0 then answer.Go else answer.Stop found
 
 -- The answer is read off the deed: a poll's off what its load found; a store is a Tell that was told; and the exchange of an
--- accepted Clear finds the number that it is to clear.
+-- accepted Clear finds the number that it is to clear, or a greater one, which stays.
 abbrev pub IsToldBy : Deed → Answer → Type 0
 IsToldBy Nothing said = Unit {0}
 IsToldBy (Load found) said = said ≡ said_by found
 IsToldBy (Store place n) said = said ≡ answer.Told
-IsToldBy (Exchange n found) said = found ≡ n
+IsToldBy (Exchange n found) said = (0 < n) × (n ≤ found)
 
 -- An event without a step has its answer elsewhere.
 abbrev pub IsAnswered : Option PollDeed → Answer → Type 0

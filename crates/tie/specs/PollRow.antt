@@ -1,6 +1,6 @@
 -- The poll row of a world: the word of each place, and the numbers that were armed and cleared there; and which step of the row
 -- each event is.
-use Rattle.std.specs.Prelude.{◌≡◌, ℕ, ◌+◌, Bool, false, not, ◌==◌, List, [], ◌∷◌, filter, Option, Some, None, unwrap_or, if◌then◌else◌}
+use Rattle.std.specs.Prelude.{◌≡◌, ℕ, ◌+◌, Bool, false, not, ◌==◌, List, [], ◌∷◌, filter, Option, Some, None, unwrap_or, find, if◌then◌else◌}
 use Rattle.thread_state.specs.declared.poll_rule.Deed.{Deed}
 use Rattle.thread_state.specs.declared.poll_rule.Deed.TheVariants.{Load, Store, Exchange}
 use Rattle.system.specs.declared.events.Act.TheVariants as act
@@ -11,42 +11,64 @@ use Rattle.system.specs.declared.answers.Answer.TheVariants as answer
 use Rattle.operations.specs.Names.{is_empty}
 use Rattle.thread_state.specs.PollRule.{PlaceState, IsPollKept, RowStep}
 use Rattle.system.specs.Threads.{Thread}
-use Rattle.system.specs.Operations.{Requests, Opened, poll_of}
+use Rattle.system.specs.Operations.{Requests, Opened, Mark, is_marked, poll_of}
+use Rattle.system.specs.Places.{is_uncleared}
 use Rattle.system.specs.Log.{Entry}
-use Rattle.system.specs.World.{World, start_world, thread_at}
+use Rattle.system.specs.World.{World, start_world, thread_at, is_live_target}
 use Rattle.system.specs.Runs.{after, answer_to, world_after}
-use Rattle.system.specs.Ran.{open_in, name_in}
+use Rattle.system.specs.Ran.{name_in}
 use Rattle.system.specs.Safepoints.{is_accepted}
 
--- 1. What the log tells of a place
+-- 1. What the log and the marks tell of a place
 
--- The event, answered so after these entries, tells the open operation to the thread at the place.
+-- The event, answered so after these entries, tells an operation to the thread at the place.
 abbrev pub tells : ℕ → Event → Answer → List Entry → Bool
 tells place (event.Tell name) answer.Told before = name_in place before == name
 tells place event answer before = false
 
--- The accepted event clears the open operation for the thread at the place.
+-- The accepted event clears an operation for the thread at the place.
 abbrev pub clears : ℕ → Event → Bool
 clears place (event.At p act.Clear) = p == place
 clears place event = false
 
+-- The operation of the newest mark, 0 for none; and the marks before it.
+abbrev pub newest : List Mark → ℕ
+newest [] = 0
+newest (mark ∷ marks) = mark.operation
+
+abbrev pub older : List Mark → List Mark
+older [] = []
+older (mark ∷ marks) = marks
+
+-- Each Tell that is told, and each Clear, makes one mark, so the newest mark is that of the newest such entry. The marks before an entry.
+abbrev pub told_before : Event → Answer → List Mark → List Mark
+told_before (event.Tell name) answer.Told told = older told
+told_before event answer told = told
+
+abbrev pub cleared_before : Event → List Mark → List Mark
+cleared_before (event.At place act.Clear) cleared = older cleared
+cleared_before event cleared = cleared
+
 -- The operation that was told last at the place, 0 where none was. It stays when the thread leaves and another one starts there.
-abbrev pub armed_at : ℕ → List Entry → ℕ
-armed_at place [] = 0
-armed_at place (entry ∷ before) = if tells place entry.event entry.answer before then open_in before else armed_at place before
+abbrev pub armed_at : ℕ → List Mark → List Entry → ℕ
+armed_at place told [] = 0
+armed_at place told (entry ∷ before) =
+    if tells place entry.event entry.answer before then newest told else armed_at place (told_before entry.event entry.answer told) before
 
 -- The operations that were told at the place and aren't cleared there, the newest first.
-abbrev pub uncleared_at : ℕ → List Entry → List ℕ
-uncleared_at place [] = []
-uncleared_at place (entry ∷ before) =
-    if tells place entry.event entry.answer before then open_in before ∷ uncleared_at place before
-    else (if clears place entry.event then filter (λ n. not (n == open_in before)) (uncleared_at place before) else uncleared_at place before)
+abbrev pub uncleared_at : ℕ → List Mark → List Mark → List Entry → List ℕ
+uncleared_at place told cleared [] = []
+uncleared_at place told cleared (entry ∷ before) =
+    if tells place entry.event entry.answer before then newest told ∷ uncleared_at place (older told) cleared before
+    else (if clears place entry.event then filter (λ n. not (n == newest cleared)) (uncleared_at place told (older cleared) before)
+    else uncleared_at place (told_before entry.event entry.answer told) (cleared_before entry.event cleared) before)
 
 -- The operation that was told last at the place at the time when nothing told there was last left uncleared.
-abbrev pub cleared_at : ℕ → List Entry → ℕ
-cleared_at place [] = 0
-cleared_at place (entry ∷ before) =
-    if is_empty (uncleared_at place (entry ∷ before)) then armed_at place (entry ∷ before) else cleared_at place before
+abbrev pub cleared_at : ℕ → List Mark → List Mark → List Entry → ℕ
+cleared_at place told cleared [] = 0
+cleared_at place told cleared (entry ∷ before) =
+    if is_empty (uncleared_at place told cleared (entry ∷ before)) then armed_at place told (entry ∷ before)
+    else cleared_at place (told_before entry.event entry.answer told) (cleared_before entry.event cleared) before
 
 -- 2. The row
 
@@ -57,7 +79,7 @@ word_of requests (Some t) = unwrap_or (poll_of requests t.name) 0
 
 -- The poll row of a world.
 abbrev pub row_of : World → ℕ → PlaceState
-row_of w place = record { word = word_of w.requests (thread_at w place); armed = armed_at place w.log; cleared = cleared_at place w.log }
+row_of w place = record { word = word_of w.requests (thread_at w place); armed = armed_at place w.requests.told w.log; cleared = cleared_at place w.requests.told w.requests.cleared w.log }
 
 -- 3. The step that an event is
 
@@ -66,10 +88,19 @@ pub record PollDeed : Type 0 where
   pub place : ℕ
   pub deed : Deed
 
--- The number of the open operation, 0 where none is open.
-abbrev pub number_of : List Opened → ℕ
-number_of [] = 0
-number_of (opened ∷ others) = opened.number
+-- The number of an operation that was found, 0 where none was.
+abbrev pub number_of : Option Opened → ℕ
+number_of None = 0
+number_of (Some opened) = opened.number
+
+-- The operation that a Tell of the name tells: the least that has it as a live target and wasn't told to it.
+abbrev pub tells_next : World → ℕ → ℕ
+tells_next w name = number_of (find (λ o. not (is_marked w.requests.told o.number name)) (filter (λ o. is_live_target w o name) w.requests.opened))
+
+-- The operation that a Clear of the thread clears: the least told one that isn't cleared.
+abbrev pub clears_next : Requests → Option Thread → ℕ
+clears_next requests None = 0
+clears_next requests (Some t) = number_of (find (is_uncleared requests t.name) requests.opened)
 
 -- The place of the thread of this name; the number of places where none has it.
 abbrev pub place_of : List (Option Thread) → ℕ → ℕ
@@ -81,13 +112,13 @@ place_of (Some t ∷ places) name = if t.name == name then 0 else 1 + place_of p
 abbrev pub load : World → ℕ → Option PollDeed
 load w place = Some (record { place = place; deed = Load (row_of w place).word })
 
--- The poller of the place compares its word with the number of the open operation, to exchange it for 0.
+-- The poller of the place compares its word with the number that the Clear clears, to exchange it for 0; a greater number stays.
 abbrev pub exchange : World → ℕ → Option PollDeed
-exchange w place = Some (record { place = place; deed = Exchange (number_of w.requests.opened) (row_of w place).word })
+exchange w place = Some (record { place = place; deed = Exchange (clears_next w.requests (thread_at w place)) (row_of w place).word })
 
--- The armer stores the number of the open operation at the place of the thread.
+-- The armer stores the number that the Tell tells at the place of the thread.
 abbrev pub store : World → ℕ → Option PollDeed
-store w name = Some (record { place = place_of w.places name; deed = Store (place_of w.places name) (number_of w.requests.opened) })
+store w name = Some (record { place = place_of w.places name; deed = Store (place_of w.places name) (tells_next w name) })
 
 -- The step of a Tell: none where the thread is gone.
 abbrev pub told_step : World → ℕ → Answer → Option PollDeed
@@ -125,7 +156,7 @@ step_of w (event.Free serial) said = None
 step_of w event.Start said = None
 step_of w (event.Ask request) said = None
 step_of w event.Open said = None
-step_of w event.Close said = None
+step_of w (event.Close number) said = None
 step_of w event.Operate said = None
 step_of w (event.At place act.Stack) said = None
 step_of w (event.Count serial) said = None

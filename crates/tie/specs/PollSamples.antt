@@ -35,6 +35,17 @@ stops_at_a_return =
 abbrev pub polled_everywhere : List Event
 polled_everywhere = goes_on ++ stops_at_an_edge ++ stops_at_a_return
 
+-- Two handshakes are told before it stops: it stops for the second, clears the first, which leaves the second armed, and clears that.
+abbrev pub cleared_under_a_greater : List Event
+cleared_under_a_greater =
+    goes_on ++ ask_depth (2 ∷ []) ∷ ask_depth (2 ∷ []) ∷ open_oldest ∷ open_oldest ∷ tell 2 ∷ tell 2 ∷ edge 1 ∷ take 1 ∷ finish 1 ∷ clear 1 ∷ cross 1
+    ∷ take 1 ∷ finish 1 ∷ clear 1 ∷ cross 1 ∷ close ∷ close ∷ []
+
+abbrev pub clears_under_a_greater : List PollDeed
+clears_under_a_greater =
+    at_one (Load 0) ∷ at_one (Load 0) ∷ at_one (Load 0) ∷ at_one (Load 0)
+    ∷ at_one (Store 1 1) ∷ at_one (Store 1 2) ∷ at_one (Load 2) ∷ at_one (Exchange 1 2) ∷ at_one (Load 2) ∷ at_one (Exchange 2 2) ∷ at_one (Load 0) ∷ []
+
 abbrev pub polls_everywhere : List PollDeed
 polls_everywhere =
     at_one (Load 0) ∷ at_one (Load 0) ∷ at_one (Load 0) ∷ at_one (Load 0)

@@ -1,5 +1,5 @@
 -- Which steps of the code board an accepted event is. Every other event, and every refused one, is none.
-use Rattle.std.specs.Prelude.{◌≡◌, ℕ, ◌+◌, ℤ, pos, negsuc, Bool, true, false, List, [], ◌∷◌, Option, Some, None, if◌then◌else◌}
+use Rattle.std.specs.Prelude.{◌≡◌, ℕ, ◌+◌, ℤ, pos, negsuc, Bool, true, false, List, [], ◌∷◌, ◌++◌, Option, Some, None, if◌then◌else◌}
 use Rattle.frames.specs.declared.CodeId.{CodeId}
 use Rattle.frames.specs.declared.board_rule.EntryState.TheVariants.{InUse, NotEntrant, Zombie, Vacant}
 use Rattle.frames.specs.declared.board_rule.StepMade.{StepMade}
@@ -14,7 +14,7 @@ use Rattle.system.specs.declared.answers.Answer.TheVariants as answer
 use Rattle.frames.specs.BoardWords.{entry_of, count_of, place_of, the_moment}
 use Rattle.frames.specs.BoardRule.{BoardState, code, IsBoardKept}
 use Rattle.frames.specs.BoardStep.{Actor, keeper, thread, BoardStep}
-use Rattle.method_table.specs.Codes.{id_of, code_of, free_slot, next_serial}
+use Rattle.method_table.specs.Codes.{id_of, code_of, in_use_for, free_slot, next_serial}
 use Rattle.system.specs.Moments.{publishing_at}
 use Rattle.system.specs.World.{World, start_world, thread_at}
 use Rattle.system.specs.Runs.{after, answer_to, world_after}
@@ -86,11 +86,13 @@ act_steps w place act.Hold given = []
 act_steps w place act.Release given = []
 act_steps w place act.Stack given = []
 
--- The steps of an accepted event, by its answer.
+-- The steps of an accepted event, by its answer. An Install over code in use stores that code as not entrant first.
 abbrev pub accepted_steps : World → Event → Answer → List Made
 accepted_steps w (event.At place act) given = act_steps w place act given
 accepted_steps w event.Start given = []
-accepted_steps w (event.Install method) given = for_slot (free_slot w.codes w.slots) (λ slot. of_keeper (StoreEntry (code slot (next_serial w.codes)) InUse))
+accepted_steps w (event.Install method) given =
+    for_code (in_use_for w.codes method) (λ c. of_keeper (StoreEntry c NotEntrant))
+    ++ for_slot (free_slot w.codes w.slots) (λ slot. of_keeper (StoreEntry (code slot (next_serial w.codes)) InUse))
 accepted_steps w (event.Invalidate serial) given = for_code (code_of w.codes serial) (λ c. of_keeper (StoreEntry c NotEntrant))
 accepted_steps w event.Round given = of_keeper (AddMoment (word_by w the_moment))
 accepted_steps w (event.Look serial place) given = for_code (code_of w.codes serial) (λ c. of_keeper (LoadPlace c place (word_by w (place_of place))))
@@ -100,7 +102,7 @@ accepted_steps w (event.Ask request) given = []
 accepted_steps w event.Open given = []
 accepted_steps w (event.Tell name) given = []
 accepted_steps w event.Operate given = []
-accepted_steps w event.Close given = []
+accepted_steps w (event.Close number) given = []
 accepted_steps w (event.Count serial) given = []
 accepted_steps w (event.CodeState serial) given = []
 accepted_steps w (event.Resolve method) given = []

@@ -6,7 +6,7 @@ use Rattle.thread_state.specs.PollRule.{PlaceState}
 use Rattle.system.specs.Log.{Entry}
 use Rattle.system.specs.World.{World, start_world}
 use Rattle.system.specs.Runs.{world_after}
-use Rattle.rows.specs.Rows.{look_before_a_round, reclaimed_after_use, publication_begun_before_the_round, slot_used_again, next_code_of_a_method, place_used_again, two_operations_in_turn, held_in_native, safepoint_of_two_threads}
+use Rattle.rows.specs.Rows.{look_before_a_round, reclaimed_after_use, publication_begun_before_the_round, slot_used_again, next_code_of_a_method, place_used_again, two_operations_in_turn, four_handshakes, held_in_native, safepoint_of_two_threads}
 use Rattle.tie.specs.BoardOf.{word_by}
 use Rattle.tie.specs.PollRow.{row_of}
 
@@ -34,6 +34,14 @@ TwoOperations =
     Polls two_operations_in_turn 1 9 (at 0 0 0 ∷ []) × Polls two_operations_in_turn 1 10 (at 1 1 0 ∷ [])
     × Polls two_operations_in_turn 1 18 (at 1 1 0 ∷ []) × Polls two_operations_in_turn 1 19 (at 0 1 1 ∷ [])
     × Polls two_operations_in_turn 1 23 (at 2 2 1 ∷ []) × Polls two_operations_in_turn 1 27 (at 0 2 2 ∷ [])
+
+-- After each of two Tells; a Clear of the lesser number leaves the greater one armed, until a third is told; a Clear of the second
+-- leaves that, and its own Clear leaves nothing.
+abbrev pub FourHandshakes : Type 0
+FourHandshakes =
+    Polls four_handshakes 1 17 (at 1 1 0 ∷ []) × Polls four_handshakes 1 18 (at 2 2 0 ∷ [])
+    × Polls four_handshakes 1 22 (at 2 2 0 ∷ []) × Polls four_handshakes 1 27 (at 3 3 0 ∷ [])
+    × Polls four_handshakes 1 29 (at 3 3 0 ∷ []) × Polls four_handshakes 1 31 (at 0 3 3 ∷ [])
 
 -- A thread that is held in native code is told, and cleared for it.
 abbrev pub HeldInNative : Type 0

@@ -14,7 +14,7 @@ pub fn events_are_their_polls()
 {}
 
 /// The core answers what a running call reads off the poll word that the event's step meets: a poll goes on exactly where the
-/// word is 0, and otherwise stops for it; an accepted Clear finds its number there.
+/// word is 0, and otherwise stops for it; an accepted Clear finds its number there, or a greater one, which stays.
 pub fn polls_answer_their_words()
     ensures { PollsAnswerTheirWords }
 {}

@@ -1,14 +1,19 @@
 // The words of worked runs, computed on the definitions.
-ghost use Rattle.tie.specs.WorkedRuns.{PlaceUsedAgain, TwoOperations, HeldInNative, TwoThreadsAtASafepoint, LookBeforeARound, ReclaimedAfterUse, PublicationBegunBeforeTheRound, SlotUsedAgain, NextCodeOfAMethod, TwoThreadsCount};
+ghost use Rattle.tie.specs.WorkedRuns.{PlaceUsedAgain, TwoOperations, FourHandshakes, HeldInNative, TwoThreadsAtASafepoint, LookBeforeARound, ReclaimedAfterUse, PublicationBegunBeforeTheRound, SlotUsedAgain, NextCodeOfAMethod, TwoThreadsCount};
 
 /// A name that is gone isn't told, so the next thread at its place polls 0.
 pub fn place_used_again()
     ensures { PlaceUsedAgain }
 {}
 
-/// Two handshakes, one after the other: each arms the place with its number and is cleared there.
+/// Two handshakes, told one after the other: each arms the place with its number and is cleared there.
 pub fn two_operations_in_turn()
     ensures { TwoOperations }
+{}
+
+/// Four handshakes are open: a Clear of a lesser number leaves a greater one armed.
+pub fn four_handshakes()
+    ensures { FourHandshakes }
 {}
 
 /// A thread that is held in native code is told, and cleared for it.

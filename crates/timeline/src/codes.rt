@@ -5,16 +5,25 @@ use crate::subject::Touch;
 use std::alloc::{AllocError, Global};
 use system::answers::Answer;
 
+/// A code in use, and whose it is.
+#[derive(Clone, Copy, Drop)]
+struct Current {
+    method: u64,
+    serial: u64,
+}
+
 /// The codes that aren't freed, each on the least lane that was vacant.
 #[derive(Drop)]
 pub struct Codes {
     rows: Rows,
+    in_use: Vec<Current>,
 }
 
 impl Codes {
     pub fn new(alloc: Global) -> Codes {
         Codes {
             rows: Rows::new(alloc, Group::Codes),
+            in_use: Vec::new(alloc),
         }
     }
 
@@ -27,15 +36,39 @@ impl Codes {
         Some(self.rows.lane(self.rows.find(serial)?))
     }
 
+    /// The method gets this code. The one that was in use for it isn't entrant from then on.
     pub fn install(
         &mut self,
         painted: &mut Painted,
+        method: u64,
         serial: u64,
         at: u64,
     ) -> Result<Lane, AllocError> {
+        if let Some(old) = self.current(method) {
+            self.leave(painted, old, at)?;
+        }
         let row = self.rows.vacant();
         self.rows.begin(painted, row, serial, Paint::InUse, at)?;
+        self.in_use.push(Current { method, serial })?;
         Ok(self.rows.lane(row))
+    }
+
+    fn current(&self, method: u64) -> Option<u64> {
+        for code in &self.in_use {
+            if code.method == method {
+                return Some(code.serial);
+            }
+        }
+        None
+    }
+
+    // The code is in use no more.
+    fn leave(&mut self, painted: &mut Painted, serial: u64, at: u64) -> Result<(), AllocError> {
+        self.in_use.retain(|code| code.serial != serial);
+        match self.rows.find(serial) {
+            None => Ok(()),
+            Some(row) => self.rows.turn(painted, row, Some(Paint::NotEntrant), at),
+        }
     }
 
     /// This was done to the code, and answered so.
@@ -51,7 +84,7 @@ impl Codes {
             return Ok(());
         };
         match (touch, answer) {
-            (Touch::Invalidate, _) => { self.rows.turn(painted, row, Some(Paint::NotEntrant), at) }
+            (Touch::Invalidate, _) => self.leave(painted, serial, at),
             (Touch::Weigh, Answer::Retired) => {
                 self.rows.turn(painted, row, Some(Paint::Zombie), at)
             }

@@ -4,18 +4,19 @@ use crate::rows::{Painted, Rows};
 use operations::Kind;
 use std::alloc::{AllocError, Global};
 
-/// The operations that wait, and the open one.
+/// The operations that wait, and those that are open.
 #[derive(Drop)]
 pub struct Operations {
     rows: Rows,
-    open: Option<usize>,
+    /// Their numbers, the oldest first.
+    open: Vec<u64>,
 }
 
 impl Operations {
     pub fn new(alloc: Global) -> Operations {
         Operations {
             rows: Rows::new(alloc, Group::Operations),
-            open: None,
+            open: Vec::new(alloc),
         }
     }
 
@@ -23,9 +24,26 @@ impl Operations {
         self.rows.len()
     }
 
-    /// The lane of the open operation.
+    /// The lane of the open operation, where there is one alone.
     pub fn lane(&self) -> Option<Lane> {
-        Some(self.rows.lane(self.open?))
+        if self.open.len() == 1 {
+            self.lane_of(self.open[0])
+        } else {
+            None
+        }
+    }
+
+    /// The lane of the operation of this number, or without one of the oldest that is open.
+    pub fn chosen(&self, number: Option<u64>) -> Option<Lane> {
+        match number {
+            Some(number) => self.lane_of(number),
+            None => self.lane_of(*self.open.first()?),
+        }
+    }
+
+    /// The lane of the operation of this number, until it is closed.
+    pub fn lane_of(&self, number: u64) -> Option<Lane> {
+        Some(self.rows.lane(self.rows.find(number)?))
     }
 
     /// A request waits.
@@ -50,18 +68,16 @@ impl Operations {
             Kind::Handshake => Paint::Handshake,
             Kind::Census => Paint::Census,
         };
-        self.open = Some(row);
+        self.open.push(number)?;
         self.rows.turn(painted, row, Some(paint), at)
     }
 
-    /// Nothing is open.
-    pub fn close(&mut self, painted: &mut Painted, at: u64) -> Result<(), AllocError> {
-        match self.open {
+    /// The operation of this number is open no more.
+    pub fn close(&mut self, painted: &mut Painted, number: u64, at: u64) -> Result<(), AllocError> {
+        self.open.retain(|open| *open != number);
+        match self.rows.find(number) {
             None => Ok(()),
-            Some(row) => {
-                self.open = None;
-                self.rows.turn(painted, row, None, at)
-            }
+            Some(row) => self.rows.turn(painted, row, None, at),
         }
     }
 

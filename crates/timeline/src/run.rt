@@ -114,9 +114,13 @@ impl Lanes {
         let lane = match subject {
             Subject::Place(place, _) => self.threads.lane(place),
             Subject::Code(serial, _) => self.codes.lane(serial),
-            Subject::Open | Subject::Tell(_) | Subject::Operate | Subject::Close => {
-                self.operations.lane()
-            }
+            Subject::Open | Subject::Operate => self.operations.lane(),
+            Subject::Close(number) => self.operations.chosen(number),
+            // With several open, which of them was told isn't in the line.
+            Subject::Tell(name) => match self.operations.lane() {
+                Some(lane) => Some(lane),
+                None => self.threads.lane_of(name),
+            },
             _ => None,
         };
         match lane {
@@ -189,8 +193,8 @@ impl Lanes {
                 let lane = self.threads.start(&mut self.painted, *name, *place, at)?;
                 Ok(mark(lane, Shape::Step))
             }
-            (Subject::Install, Answer::Code(serial)) => {
-                let lane = self.codes.install(&mut self.painted, *serial, at)?;
+            (Subject::Install(method), Answer::Code(serial)) => {
+                let lane = self.codes.install(&mut self.painted, method, *serial, at)?;
                 Ok(mark(lane, Shape::Step))
             }
             (Subject::Ask, Answer::Asked(number)) => {
@@ -199,11 +203,11 @@ impl Lanes {
             }
             (Subject::Open, Answer::Opened(number, kind)) => {
                 self.operations.open(&mut self.painted, *number, *kind, at)?;
-                Ok(mark(self.lane_of(subject), Shape::Step))
+                Ok(mark(self.lane_of(Subject::Close(Some(*number))), Shape::Step))
             }
-            (Subject::Close, _) => {
-                let lane = self.lane_of(subject);
-                self.operations.close(&mut self.painted, at)?;
+            (Subject::Close(_), Answer::Closed(number)) => {
+                let lane = self.lane_of(Subject::Close(Some(*number)));
+                self.operations.close(&mut self.painted, *number, at)?;
                 Ok(mark(lane, Shape::Step))
             }
             (Subject::Tell(name), _) => Ok(Spot {

@@ -23,7 +23,8 @@ pub enum Subject {
     Size(u64, u64, u64),
     Place(usize, Act),
     Start,
-    Install,
+    /// By method.
+    Install(u64),
     /// By serial.
     Code(u64, Touch),
     Ask,
@@ -31,7 +32,8 @@ pub enum Subject {
     /// By the thread's name.
     Tell(u64),
     Operate,
-    Close,
+    /// By number, or the oldest.
+    Close(Option<u64>),
 }
 
 impl Subject {
@@ -47,7 +49,7 @@ impl Subject {
         match event {
             Event::At(place, act) => Subject::Place(*place, *act),
             Event::Start => Subject::Start,
-            Event::Install(_) => Subject::Install,
+            Event::Install(method) => Subject::Install(*method),
             Event::Invalidate(serial) => Subject::Code(*serial, Touch::Invalidate),
             Event::Round | Event::Resolve(_) => Subject::Whole,
             Event::Look(serial, place) => Subject::Code(*serial, Touch::Look(*place)),
@@ -57,7 +59,7 @@ impl Subject {
             Event::Open => Subject::Open,
             Event::Tell(name) => Subject::Tell(*name),
             Event::Operate => Subject::Operate,
-            Event::Close => Subject::Close,
+            Event::Close(number) => Subject::Close(*number),
             Event::Count(serial) | Event::CodeState(serial) => Subject::Code(*serial, Touch::Read),
         }
     }

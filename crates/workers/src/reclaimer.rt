@@ -77,8 +77,8 @@ impl<'a, N: Name, J: Errand> Reclaimer<'a, N, J> {
         })
     }
 
-    /// For each method in rising order: takes its code out of use, installs another, and tries once to reclaim the old one, with the
-    /// jobs of one list that are for live threads.
+    /// For each method in rising order: installs a code over the one in use, and tries once to reclaim the old one, with the jobs of one
+    /// list that are for live threads.
     pub fn replace_each<R: Wait>(&mut self, rt: &R, jobs: Vec<Vec<J>>) -> Result<(), RunFault>
         requires { length jobs.items ≡ length self.old.in_use }
         ensures { OnOk result (ReplacedEach self.old self.new) }
@@ -120,13 +120,12 @@ impl<'a, N: Name, J: Errand> Reclaimer<'a, N, J> {
         })
     }
 
-    // Takes the code of a method out of use, installs another, and tries once to reclaim the old one.
+    // Installs a code over that of a method, and tries once to reclaim the old one.
     fn replace<R: Wait>(&mut self, rt: &R, method: usize, jobs: Vec<J>) -> Result<(), RunFault>
         requires { method < length self.old.in_use }
         ensures { OnOk result (Replaced method self.old self.new) }
     {
         let old = self.in_use[method];
-        invalidate(rt, self.shared, old)?;
         let (new, receipt) = install(rt, self.shared, method)?;
         self.in_use[method] = new;
         if self.installed.push(receipt).is_err() {

@@ -42,7 +42,7 @@ fn work_on_first<N: Name, J: Errand, R: Wait + Abort>(
     coordinator: &mut Coordinator<'_, N, J>,
 ) {
     assert!(rt; matches!(coordinator.open(rt), Ok((1, _))));
-    assert!(rt; matches!(coordinator.open(rt), Err(OpenFault::AlreadyOpen)));
+    assert!(rt; matches!(coordinator.open(rt), Err(OpenFault::QueueEmpty)));
     assert!(rt; matches!(coordinator.hold(rt, 0), Err(HoldFault::NotTold)));
     assert!(rt; matches!(coordinator.tell(rt, 3), Err(TellFault::NotOf)));
     assert!(rt; matches!(coordinator.tell(rt, 1), Ok(Told::Told)));
@@ -61,6 +61,7 @@ fn work_on_first<N: Name, J: Errand, R: Wait + Abort>(
     assert!(rt; coordinator.release(rt, 0).is_ok());
     assert!(rt; matches!(coordinator.hold(rt, 0), Err(HoldFault::AlreadyDone)));
     assert!(rt; matches!(coordinator.close(rt), Err(CloseFault::NotDone)));
+    assert!(rt; matches!(coordinator.close_of(rt, 2), Err(CloseFault::NotOf)));
 }
 
 // The second thread, in Java, is told and isn't safe.

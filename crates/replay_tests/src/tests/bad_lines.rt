@@ -21,6 +21,9 @@ ask depth => refused NoTargets
 ask depth 7 7 => refused BadTargets
 open => refused QueueEmpty
 close => refused NothingOpen
+close 7 => refused NothingOpen
+close 1 2 => bad line
+close 07 => bad line
 ",
 };
 
@@ -86,7 +89,7 @@ count => bad line
 count 01 => bad line
 state 1 1 => bad line
 open 1 => bad line
-close 1 => bad line
+close 01 => bad line
 operate 1 => bad line
 tell => bad line
 tell 1 2 => bad line

@@ -59,7 +59,7 @@ fn put_full_system(sides: &mut Sides) -> Result<(), Fail> {
     }
     sides.put_all(&[
         ("start", "refused PlacesFull"),
-        ("install 255", "refused HasCode"),
+        ("install 255", "refused TableFull"),
         ("install 256", "refused NoSuchMethod"),
         ("invalidate 1025", "refused Unknown"),
         ("invalidate 769", "ok"),

@@ -90,7 +90,7 @@ end 0 => ok
 wake 0 => ok
 cross 0 => go
 install 0 => code 1
-install 0 => refused HasCode
+install 0 => refused TableFull
 invalidate 1 => ok
 install 0 => refused TableFull
 round => ok
@@ -166,7 +166,7 @@ cross 0 => go
 ask depth 1 => asked 1
 ask top 1 => asked 2
 open => open 1 handshake
-open => refused AlreadyOpen
+open => open 2 handshake
 tell 1 => told
 exit 0 => refused OperationPending
 edge 0 => stop 1
@@ -179,6 +179,77 @@ close => refused NotDone
 clear 0 => ok
 cross 0 => go
 close => closed 1
+open => refused QueueEmpty
+tell 1 => told
+edge 0 => stop 2
+take 0 => ok
+finish 0 => reply 0
+clear 0 => ok
+cross 0 => go
+close => closed 2
+",
+};
+
+const FOUR_HANDSHAKES: Transcript = Transcript {
+    name: "four_handshakes",
+    lines: "\
+size 1 4 2 => ok
+start => thread 1 place 0
+begin 0 => ok
+end 0 => ok
+wake 0 => ok
+cross 0 => go
+enter 0 1 => entered
+ask depth 1 => asked 1
+ask top 1 => asked 2
+ask depth 1 => asked 3
+ask depth 2 => asked 4
+ask census => asked 5
+open => open 1 handshake
+open => open 2 handshake
+open => open 3 handshake
+open => open 4 handshake
+open => refused AlreadyOpen
+tell 1 => told
+tell 1 => told
+edge 0 => stop 2
+take 0 => ok
+finish 0 => reply 1
+clear 0 => ok
+cross 0 => stop 2
+close 3 => refused NotDone
+close => closed 1
+take 0 => ok
+tell 1 => told
+finish 0 => reply 0
+clear 0 => ok
+finish 0 => reply 1
+clear 0 => ok
+tell 1 => refused AlreadyTold
+cross 0 => go
+close 3 => closed 3
+open => refused AlreadyOpen
+close => closed 2
+close 1 => refused NotOf
+tell 1 => refused NotOf
+tell 2 => gone
+close => closed 4
+open => open 5 census
+",
+};
+
+const SECOND_TOLD_ALONE: Transcript = Transcript {
+    name: "second_told_alone",
+    lines: "\
+size 1 4 2 => ok
+start => thread 1 place 0
+begin 0 => ok
+end 0 => ok
+wake 0 => ok
+cross 0 => go
+ask depth 2 => asked 1
+ask depth 1 => asked 2
+open => open 1 handshake
 open => open 2 handshake
 tell 1 => told
 edge 0 => stop 2
@@ -186,6 +257,10 @@ take 0 => ok
 finish 0 => reply 0
 clear 0 => ok
 cross 0 => go
+exit 0 => exited 1
+start => thread 2 place 0
+tell 2 => gone
+close => closed 1
 close => closed 2
 ",
 };
@@ -544,14 +619,50 @@ close => closed 1
 ",
 };
 
-pub const RUNS: [Transcript; 13] = [
+const INSTALL_OVER: Transcript = Transcript {
+    name: "install_over",
+    lines: "\
+size 1 4 2 => ok
+start => thread 1 place 0
+begin 0 => ok
+end 0 => ok
+wake 0 => ok
+cross 0 => go
+install 0 => code 1
+enter 0 0 1 => entered
+install 0 => code 2
+state 1 => not entrant
+resolve 0 => code 2
+enter 0 0 1 => wrong method
+enter 0 0 2 => entered
+invalidate 1 => refused NotInUse
+look 1 0 => late
+round => ok
+begin 0 => ok
+change 0 => change 1 +1
+change 0 => change 2 +1
+end 0 => ok
+look 1 0 => clear
+weigh 1 => used 1
+install 0 => code 3
+install 0 => code 4
+install 0 => refused TableFull
+state 4 => in use
+state 3 => not entrant
+",
+};
+
+pub const RUNS: [Transcript; 16] = [
     LOOK_BEFORE_A_ROUND,
     RECLAIMED_AFTER_ALL_PUBLISHED,
     PUBLICATION_BEGUN_BEFORE_THE_ROUND,
     SLOT_USED_AGAIN,
+    INSTALL_OVER,
     NEXT_CODE_OF_A_METHOD,
     PLACE_USED_AGAIN,
     TWO_OPERATIONS_IN_TURN,
+    FOUR_HANDSHAKES,
+    SECOND_TOLD_ALONE,
     HELD_IN_NATIVE,
     QUEUE_OF_CENSUSES,
     SAFEPOINT_OF_TWO_THREADS,

@@ -1,5 +1,5 @@
-//! `drive` and `reclaim`, as events.
-use super::{Live, Oracle};
+//! `drive`, `drive_four` and `reclaim`, as events.
+use super::{Live, OPEN, Oracle, Waiting};
 use crate::calls::Handshake;
 use crate::said::Said;
 use frames::Frame;
@@ -8,57 +8,159 @@ use system::answers::Refusal;
 use system::events::{Act, Event};
 use thread_state::State;
 
+impl Waiting {
+    // Whether the request will be of a live thread.
+    fn is_of(&self, name: u64) -> bool {
+        match &self.targets {
+            Some(targets) => targets.contains(&name),
+            None => true,
+        }
+    }
+}
+
 impl Oracle {
-    /// The oldest request, or the open one, from its Open to its Close.
+    /// The oldest open request, or where nothing is open the oldest, from its Open to its Close. All that are open are told, and those
+    /// whose bodies are in their berths are served.
     pub(super) fn drive(&mut self) -> Result<Option<Said>, AllocError> {
-        if !self.may_drive()? {
+        if !self.may_drive(false)? {
             return Ok(None);
         }
-        if self.open.is_none() {
-            let opened = self.open_next()?;
-            if let Said::Refused(_) = &opened {
-                return Ok(Some(opened));
-            }
+        if let Some(refused) = self.begin()? {
+            return Ok(Some(refused));
         }
         let due = self.due()?;
-        for live in &due {
-            match self.tell(live.name)? {
-                Said::Told | Said::Refused(Refusal::AlreadyTold) => {}
-                other => return Ok(Some(other)),
-            }
+        let told = self.tell_all(&due)?;
+        if told != Said::Done {
+            return Ok(Some(told));
         }
         if self.is_census() {
-            Ok(Some(self.drive_census(&due)?))
-        } else {
-            Ok(Some(self.drive_handshake(&due)?))
+            return Ok(Some(self.drive_census(&due)?));
+        }
+        let served = self.serve_all(&due)?;
+        if served != Said::Done {
+            return Ok(Some(served));
+        }
+        match self.close(None)? {
+            Said::Closed(number) => Ok(Some(Said::Handshake(number))),
+            other => Ok(Some(other)),
         }
     }
 
-    // Whether the body of each thread that is due is in its berth, or held.
-    fn may_drive(&mut self) -> Result<bool, AllocError> {
+    /// The same of all that are open and may be opened: they are told and served, and closed.
+    pub(super) fn drive_four(&mut self) -> Result<Option<Said>, AllocError> {
+        if !self.may_drive(true)? {
+            return Ok(None);
+        }
+        if let Some(refused) = self.begin()? {
+            return Ok(Some(refused));
+        }
+        if self.is_census() {
+            return match self.drive()? {
+                Some(Said::Census(_, _)) => Ok(Some(Said::Number(1))),
+                other => Ok(other),
+            };
+        }
+        for _open in 0..OPEN {
+            self.open_next()?;
+        }
+        let due = self.due()?;
+        let told = self.tell_all(&due)?;
+        if told != Said::Done {
+            return Ok(Some(told));
+        }
+        let served = self.serve_all(&due)?;
+        if served != Said::Done {
+            return Ok(Some(served));
+        }
+        Ok(Some(self.close_all()?))
+    }
+
+    // Each that is open is closed. Answers how many.
+    fn close_all(&mut self) -> Result<Said, AllocError> {
+        let mut closed: u64 = 0;
+        for _open in 0..OPEN {
+            match self.close(None)? {
+                Said::Closed(_) => closed = closed.saturating_add(1),
+                Said::Refused(Refusal::NothingOpen) => break,
+                other => return Ok(other),
+            }
+        }
+        Ok(Said::Number(closed))
+    }
+
+    // Where nothing is open the oldest is opened. Answers why not.
+    fn begin(&mut self) -> Result<Option<Said>, AllocError> {
+        if !self.open.is_empty() {
+            return Ok(None);
+        }
+        match self.open_next()? {
+            Said::Opened(_) => Ok(None),
+            other => Ok(Some(other)),
+        }
+    }
+
+    fn tell_all(&mut self, due: &[Live]) -> Result<Said, AllocError> {
+        for live in due {
+            for _open in 0..OPEN + 1 {
+                match self.tell(live.name)? {
+                    Said::Told => {}
+                    Said::Refused(Refusal::AlreadyTold) => break,
+                    other => return Ok(other),
+                }
+            }
+        }
+        Ok(Said::Done)
+    }
+
+    // Whether the body of each thread that is due for the oldest, or for all that are open or may be opened, is in its berth, or held.
+    fn may_drive(&mut self, all: bool) -> Result<bool, AllocError> {
         for index in 0..self.live.len() {
             let Some(live) = self.live.get(index).copied() else {
                 break;
             };
-            if self.will_be_due(live.name) && !self.is_away(live.place)? {
+            let due = if all {
+                self.is_due(live.name) || self.will_be_due(live.name)
+            } else {
+                self.is_awaited(live.name)
+            };
+            if due && !self.is_away(live.place)? {
                 return Ok(false);
             }
         }
         Ok(true)
     }
 
-    // Whether a live thread is due for the open request, or for the oldest where nothing is open.
-    fn will_be_due(&self, name: u64) -> bool {
-        match &self.open {
+    // Whether a live thread is due for the oldest open request, or for the oldest that waits where nothing is open.
+    fn is_awaited(&self, name: u64) -> bool {
+        match self.open.first() {
             Some(open) => open.is_due(name),
             None => match self.waiting.first() {
-                Some(oldest) => match &oldest.targets {
-                    Some(targets) => targets.contains(&name),
-                    None => true,
-                },
+                Some(oldest) => oldest.is_of(name),
                 None => false,
             },
         }
+    }
+
+    // Whether a live thread will be due for one that waits and may be opened.
+    fn will_be_due(&self, name: u64) -> bool {
+        if self.is_census() {
+            return false;
+        }
+        let mut open = self.open.len();
+        for waiting in &self.waiting {
+            let stays = waiting.targets.is_none() && open > 0;
+            if stays || open >= OPEN {
+                return false;
+            }
+            if waiting.is_of(name) {
+                return true;
+            }
+            if waiting.targets.is_none() {
+                return false;
+            }
+            open = open.saturating_add(1);
+        }
+        false
     }
 
     // Whether the thread is in native code or waits, so that it hasn't its body.
@@ -69,29 +171,29 @@ impl Oracle {
     fn due(&self) -> Result<Vec<Live>, AllocError> {
         let mut due = Vec::new(self.alloc);
         for live in &self.live {
-            if self.will_be_due(live.name) {
+            if self.is_due(live.name) {
                 due.push(*live)?;
             }
         }
         Ok(due)
     }
 
-    // What is held is released first; then each that is due is held, published, served and released; and Close.
-    fn drive_handshake(&mut self, due: &[Live]) -> Result<Said, AllocError> {
+    // What is held is released first; then each that is due, and whose body is in its berth, is held, published, served and released.
+    fn serve_all(&mut self, due: &[Live]) -> Result<Said, AllocError> {
         let released = self.release_all()?;
         if released != Said::Done {
             return Ok(released);
         }
         for live in due {
+            if !self.is_away(live.place)? {
+                continue;
+            }
             let served = self.hold_and_serve(live.place)?;
             if served != Said::Done {
                 return Ok(served);
             }
         }
-        match self.close()? {
-            Said::Closed(number) => Ok(Said::Handshake(number)),
-            other => Ok(other),
-        }
+        Ok(Said::Done)
     }
 
     fn hold_and_serve(&mut self, place: usize) -> Result<Said, AllocError> {
@@ -103,7 +205,7 @@ impl Oracle {
         if published != Said::Done {
             return Ok(published);
         }
-        let served = self.finish(place)?;
+        let served = self.finish_all(place)?;
         if served != Said::Done {
             return Ok(served);
         }
@@ -134,14 +236,14 @@ impl Oracle {
         if released != Said::Done {
             return Ok(released);
         }
-        match self.close()? {
+        match self.close(None)? {
             Said::Closed(number) => Ok(Said::Census(number, counts)),
             other => Ok(other),
         }
     }
 
     fn is_operated(&self) -> bool {
-        match &self.open {
+        match self.open.first() {
             Some(open) => open.operated,
             None => false,
         }
@@ -193,7 +295,7 @@ impl Oracle {
         if fault != Said::Done {
             return Ok(Some(fault));
         }
-        if self.open.is_some() || !self.waiting.is_empty() {
+        if !self.open.is_empty() || !self.waiting.is_empty() {
             return Ok(Some(Said::Refused(Refusal::AlreadyOpen)));
         }
         if let Some(handshake) = handshake {

@@ -1,5 +1,5 @@
 //! What is called of requests, one step each, as events.
-use super::{Opened, Oracle, Waiting};
+use super::{Live, Opened, Oracle, Waiting};
 use crate::calls::{Handshake, RequestCall, StepCall};
 use crate::said::Said;
 use operations::{Request, Targets};
@@ -9,13 +9,20 @@ use system::events::{Act, Event};
 use thread_state::State;
 
 impl Opened {
+    /// Whether the request is of a live thread: it is a census or lists the name, and the thread was live at its Open.
+    pub fn is_of(&self, name: u64) -> bool {
+        let listed = match &self.targets {
+            None => true,
+            Some(targets) => targets.contains(&name),
+        };
+        listed && name <= self.names
+    }
+
     /// Whether a live thread has still to be told, served or counted.
     pub fn is_due(&self, name: u64) -> bool {
         match &self.targets {
             None => !self.operated,
-            Some(targets) => {
-                targets.contains(&name) && name <= self.names && !self.done.contains(&name)
-            }
+            Some(_) => self.is_of(name) && !self.done.contains(&name),
         }
     }
 }
@@ -25,14 +32,16 @@ impl Oracle {
     pub(super) fn of_request(&mut self, call: RequestCall) -> Result<Option<Said>, AllocError> {
         Ok(Some(match call {
             RequestCall::Drive => return self.drive(),
+            RequestCall::DriveFour => return self.drive_four(),
             RequestCall::SubmitCensus => self.ask_census()?,
             RequestCall::Submit(handshake) => self.submit(handshake)?,
             RequestCall::Open => self.open_next()?,
-            RequestCall::Close => self.close()?,
+            RequestCall::Close => self.close(None)?,
+            RequestCall::CloseOf(number) => self.close(Some(number))?,
         }))
     }
 
-    /// What a step of the open request is to answer.
+    /// What a step of the open requests is to answer.
     pub(super) fn step(&mut self, call: StepCall) -> Result<Said, AllocError> {
         match call {
             StepCall::Tell(name) => self.tell(name),
@@ -87,20 +96,21 @@ impl Oracle {
         if let Said::Opened(number) = &said {
             if !self.waiting.is_empty() {
                 let Waiting { number: _, targets } = self.waiting.remove(0);
-                self.open = Some(Opened {
+                self.open.push(Opened {
                     number: *number,
                     targets,
                     names: self.names,
                     done: Vec::new(self.alloc),
                     operated: false,
-                });
+                })?;
             }
         }
         Ok(said)
     }
 
-    fn open_number(&self) -> u64 {
-        match &self.open {
+    // The number of the oldest open request.
+    fn oldest(&self) -> u64 {
+        match self.open.first() {
             Some(open) => open.number,
             None => 0,
         }
@@ -108,12 +118,15 @@ impl Oracle {
 
     pub(super) fn tell(&mut self, name: u64) -> Result<Said, AllocError> {
         let said = self.play(Event::Tell(name))?;
-        if said == Said::Told {
-            if let Some(place) = self.place_of(name) {
-                self.arm(place, self.open_number());
+        if said != Said::Told {
+            return Ok(said);
+        }
+        if let Some(place) = self.place_of(name) {
+            if let Some(number) = self.untold(Live { name, place }) {
+                self.arm(place, number);
             }
         }
-        Ok(said)
+        Ok(Said::Told)
     }
 
     // Hold. A thread that a poll has stopped brings its body with its `stop` alone: until then it isn't safe in a running system.
@@ -189,19 +202,19 @@ impl Oracle {
         let Said::Counts(counts) = said else {
             return Ok(said);
         };
-        if let Some(open) = &mut self.open {
+        if let Some(open) = self.open.get_mut(0) {
             open.operated = true;
         }
         let cleared = self.clear_held()?;
         if cleared != Said::Done {
             return Ok(cleared);
         }
-        Ok(Said::Census(self.open_number(), counts))
+        Ok(Said::Census(self.oldest(), counts))
     }
 
     // An open census isn't operated, and all threads are held.
     fn may_operate(&self) -> bool {
-        let Some(open) = &self.open else {
+        let Some(open) = self.open.first() else {
             return false;
         };
         open.targets.is_none() && !open.operated && self.held.len() == self.live.len()
@@ -212,7 +225,7 @@ impl Oracle {
             let Some(place) = self.held.get(index).copied() else {
                 break;
             };
-            let cleared = self.clear(place)?;
+            let cleared = self.clear(place, self.oldest())?;
             if cleared != Said::Done {
                 return Ok(cleared);
             }
@@ -220,10 +233,11 @@ impl Oracle {
         Ok(Said::Done)
     }
 
-    pub(super) fn close(&mut self) -> Result<Said, AllocError> {
-        let said = self.play(Event::Close)?;
-        if let Said::Closed(_) = &said {
-            self.open = None;
+    pub(super) fn close(&mut self, number: Option<u64>) -> Result<Said, AllocError> {
+        let said = self.play(Event::Close(number))?;
+        if let Said::Closed(closed) = &said {
+            let closed = *closed;
+            self.open.retain(|open| open.number != closed);
         }
         Ok(said)
     }

@@ -1,5 +1,5 @@
 //! What a thread calls, as events.
-use super::{Live, Oracle, Reply};
+use super::{Live, OPEN, Oracle, Reply};
 use crate::calls::ThreadCall;
 use crate::said::Said;
 use frames::{CodeId, Frame};
@@ -141,8 +141,8 @@ impl Oracle {
         }
     }
 
-    // Take, for which a thread waits that is held or that a census keeps; a publication; where it was told a handshake that isn't
-    // done, Finish and Clear; and Cross.
+    // Take, for which a thread waits that is held or that a census keeps; a publication; for each handshake that it was told and isn't
+    // done with, Finish and Clear; and Cross.
     fn stop(&mut self, place: usize) -> Result<Option<Said>, AllocError> {
         match self.at(place, Act::Take)? {
             Said::Done => {}
@@ -153,16 +153,31 @@ impl Oracle {
         if published != Said::Done {
             return Ok(Some(published));
         }
-        if self.armed_at(place) != 0 {
-            let served = self.finish(place)?;
-            if served != Said::Done {
-                return Ok(Some(served));
-            }
+        let served = self.finish_all(place)?;
+        if served != Said::Done {
+            return Ok(Some(served));
         }
         match self.at(place, Act::Cross)? {
             Said::Go => Ok(Some(Said::Done)),
             other => Ok(Some(other)),
         }
+    }
+
+    // What was told to the thread and isn't done, in order.
+    pub(super) fn finish_all(&mut self, place: usize) -> Result<Said, AllocError> {
+        let Some(live) = self.live_at(place) else {
+            return Ok(Said::Done);
+        };
+        for _open in 0..OPEN {
+            if self.undone(live).is_none() {
+                break;
+            }
+            let served = self.finish(place)?;
+            if served != Said::Done {
+                return Ok(served);
+            }
+        }
+        Ok(Said::Done)
     }
 
     // Finish and Clear.
@@ -171,22 +186,35 @@ impl Oracle {
         let Said::Reply(reply) = said else {
             return Ok(said);
         };
-        let name = self.name_at(place).unwrap_or(0);
-        if let Some(open) = &mut self.open {
-            open.done.push(name)?;
+        let mut op = 0;
+        if let Some(live) = self.live_at(place) {
+            op = self.undone(live).unwrap_or(0);
+            self.note_done(op, live.name)?;
             self.replies.push(Reply {
-                op: open.number,
-                name,
+                op,
+                name: live.name,
                 reply,
             })?;
         }
-        self.clear(place)
+        self.clear(place, op)
     }
 
-    pub(super) fn clear(&mut self, place: usize) -> Result<Said, AllocError> {
+    // The thread is done with the open request of the number.
+    fn note_done(&mut self, op: u64, name: u64) -> Result<(), AllocError> {
+        for index in 0..self.open.len() {
+            if let Some(open) = self.open.get_mut(index) {
+                if open.number == op {
+                    open.done.push(name)?;
+                }
+            }
+        }
+        Ok(())
+    }
+
+    pub(super) fn clear(&mut self, place: usize, op: u64) -> Result<Said, AllocError> {
         let cleared = self.at(place, Act::Clear)?;
         if cleared == Said::Done {
-            self.arm(place, 0);
+            self.disarm(place, op);
         }
         Ok(cleared)
     }

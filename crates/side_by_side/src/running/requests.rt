@@ -90,7 +90,9 @@ impl<'a, N: Name, J: Errand> Running<'a, N, J> {
             RequestCall::Submit(handshake) => self.submit(rt, alloc, handshake),
             RequestCall::Open => Ok(self.open(rt)),
             RequestCall::Close => Ok(self.close(rt)),
+            RequestCall::CloseOf(number) => Ok(self.close_of(rt, number)),
             RequestCall::Drive => self.drive(rt),
+            RequestCall::DriveFour => self.drive_four(rt),
         }
     }
 
@@ -179,6 +181,20 @@ impl<'a, N: Name, J: Errand> Running<'a, N, J> {
         match self.coordinator.close(rt) {
             Ok((number, _receipt)) => Said::Closed(number),
             Err(fault) => Said::Refused(of_close(fault)),
+        }
+    }
+
+    fn close_of<R: Wait>(&mut self, rt: &R, number: u64) -> Said {
+        match self.coordinator.close_of(rt, number) {
+            Ok(_receipt) => Said::Closed(number),
+            Err(fault) => Said::Refused(of_close(fault)),
+        }
+    }
+
+    fn drive_four<R: Wait>(&mut self, rt: &R) -> Result<Said, AllocError> {
+        match self.coordinator.drive_four(rt) {
+            Ok(closed) => Ok(Said::Number(closed as u64)),
+            Err(fault) => Said::of_drive(fault),
         }
     }
 

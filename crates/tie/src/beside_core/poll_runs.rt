@@ -44,7 +44,7 @@ fn served(events: &mut Vec<Event>, name: u64) -> Result<(), AllocError> {
         0,
         &[Act::Edge, Act::Take, Act::Finish, Act::Clear, Act::Cross],
     )?;
-    events.push(Event::Close)?;
+    events.push(Event::Close(None))?;
     Ok(())
 }
 
@@ -110,6 +110,82 @@ fn two_operations_in_turn(rt: HostRuntime) -> Result<(), Fail> {
     Ok(())
 }
 
+// Two operations are open and told before the thread stops, which serves them in their order.
+fn told_together_by_core(alloc: Global) -> Result<Option<Vec<Said>>, AllocError> {
+    let mut events = Vec::new(alloc);
+    started(&mut events, 0)?;
+    asked(&mut events, alloc, 1)?;
+    asked(&mut events, alloc, 1)?;
+    events.push(Event::Open)?;
+    events.push(Event::Open)?;
+    events.push(Event::Tell(1))?;
+    events.push(Event::Tell(1))?;
+    acts(&mut events, 0, &[Act::Edge])?;
+    acts(
+        &mut events,
+        0,
+        &[Act::Take, Act::Finish, Act::Clear, Act::Cross],
+    )?;
+    acts(
+        &mut events,
+        0,
+        &[Act::Take, Act::Finish, Act::Clear, Act::Cross],
+    )?;
+    events.push(Event::Close(Some(2)))?;
+    events.push(Event::Close(None))?;
+    let Ok(mut core) = System::new(alloc, 1, 4, 2) else {
+        return Ok(None);
+    };
+    Ok(core_says(&mut core, alloc, &events, Of::Row))
+}
+
+// The place is armed with the number.
+fn armed_with(row: &PollRow, armer: &mut Armer, number: u64)
+    requires table { armer.old.table ≡ row.now }
+    requires place { length armer.old.seen.armed ≡ 1 }
+    requires later { slice_index armer.old.seen.armed 0 < number }
+    requires small { number < 2 ^ 40 }
+    ensures table { armer.new.table ≡ armer.old.table }
+    ensures armed { armer.new.seen.armed ≡ number ∷ [] }
+{
+    armer.arm(row, 0, number);
+}
+
+// The place is polled, and polled after a clear of each of two numbers. What the polls met, and which of the two was found.
+fn cleared_in_turn(row: &PollRow, poller: &mut Poller) -> ([u64; 3], (bool, bool))
+    requires table { poller.old.table ≡ row.now }
+{
+    let told = poller.poll(row);
+    let first = poller.clear(row, 1);
+    let between = poller.poll(row);
+    let second = poller.clear(row, 2);
+    let after = poller.poll(row);
+    ([told, between, after], (first, second))
+}
+
+// A clear of the lesser of two numbers leaves the greater one armed.
+#[test]
+fn a_greater_number_stays(rt: HostRuntime) -> Result<(), Fail> {
+    let Some(by_core) = told_together_by_core(rt.alloc())? else {
+        panic!(rt; "refused");
+    };
+    let (row, mut armer, mut poller) = one_place(rt.alloc())?;
+    let started = poller.poll(&row);
+    armed_with(&row, &mut armer, 1);
+    armed_with(&row, &mut armer, 2);
+    let (polls, found) = cleared_in_turn(&row, &mut poller);
+    let said = [
+        Said::Polled(started),
+        Said::Polled(polls[0]),
+        Said::Polled(polls[1]),
+        Said::Polled(polls[2]),
+    ];
+    assert!(rt; by_core.as_slice() == said.as_slice());
+    assert!(rt; started == 0 && polls == [2, 2, 0]);
+    assert!(rt; !found.0 && found.1);
+    Ok(())
+}
+
 // A name that is gone isn't told, and the next thread at its place isn't armed by it.
 #[test]
 fn a_place_is_used_again(rt: HostRuntime) -> Result<(), Fail> {
@@ -122,7 +198,7 @@ fn a_place_is_used_again(rt: HostRuntime) -> Result<(), Fail> {
     events.push(Event::Open)?;
     events.push(Event::Tell(1))?;
     acts(&mut events, 0, &[Act::Edge])?;
-    events.push(Event::Close)?;
+    events.push(Event::Close(None))?;
     served(&mut events, 2)?;
     let Ok(mut core) = System::new(rt.alloc(), 1, 4, 2) else {
         panic!(rt; "no system");
@@ -179,7 +255,7 @@ fn census_by_core(alloc: Global) -> Result<Option<Vec<Said>>, AllocError> {
     events.push(Event::Operate)?;
     acts(&mut events, 0, &[Act::Clear, Act::Release])?;
     acts(&mut events, 1, &[Act::Clear, Act::Release])?;
-    events.push(Event::Close)?;
+    events.push(Event::Close(None))?;
     acts(&mut events, 1, &[Act::Take, Act::Cross])?;
     let Ok(mut core) = System::new(alloc, 3, 4, 2) else {
         return Ok(None);

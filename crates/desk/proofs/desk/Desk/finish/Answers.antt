@@ -3,10 +3,12 @@ use Rattle.std.specs.Prelude.{◌&&◌, slice_get}
 use Rattle.std.proofs.lemmas.Option.{slice_get_read}
 use Rattle.std.proofs.lemmas.Bool.{and_parts}
 use Rattle.desk.specs.declared.entries.Entry.TheVariants as entry
-use Rattle.desk.specs.Machine.{State, lawful, is_due, is_live, finished}
-use Rattle.desk.specs.Fields.{DeskSeen, current_of, names_left, IsIndex, at, Enters}
+use Rattle.desk.specs.Machine.{State, Current, lawful, is_least, is_due, is_live, finished}
+use Rattle.desk.specs.Fields.{DeskSeen, current_of, jobs_left, IsIndex, at, Enters}
+use Rattle.desk.specs.declared.entries.Opened.{Opened}
+use Rattle.desk.proofs.Newest.{same_at}
 use Rattle.desk.proofs.JobsLeft.{set_left}
-use Rattle.desk.proofs.Keeping.{finish_keeps, enters_by, finish_is, finish_not}
+use Rattle.desk.proofs.Keeping.{finish_keeps, enters_by, finish_is, finish_not, open_room, due_entry}
 use Rattle.desk.specs.Replies.{of_number, HasLess}
 use Rattle.desk.proofs.RoomSteps.{due_has_room, finish_has_room}
 use Rattle.desk.proofs.desk.Desk.finish.Goals as goal
@@ -22,6 +24,30 @@ returns-in_default-clause-err g c =
       refl,
     )
 
+pub returns-then-not-may_finish-clause-err : goal.returns-then-not-may_finish-clause-err
+returns-then-not-may_finish-clause-err g c =
+    let i = c.self.inside in let m = c.self.invariant in let o = c.index.result.now in
+    let where_is : IsIndex {J = g.row.J.Denot} c.args.done.op i.opened.items (Some c.in-Some.place) = search rules in
+    let here : slice_get i.opened.items c.in-Some.place ≡ Some o = slice_get_read i.opened.items _ c.in-Some.place o refl where_is.0 c.index.ensures in
+    let not_due : false ≡ (is_due c.args.done.target (current_of o) && is_live c.args.done.target i.live.items) = search rules in (
+      refl,
+      subst (λ (d : DeskSeen). lawful (at d) (entry.Finish c.args.done.op c.args.done.target c.args.done.reply) ≡ false) c.self.view_is
+          (ap (λ (s : State). lawful s (entry.Finish c.args.done.op c.args.done.target c.args.done.reply)) m.0.state
+          ∙ finish_is c.args.done.op c.args.done.target c.args.done.reply i.next_name i.next_number c.in-Some.place i.live.items i.queue i.opened.items o i.codes.table false _ where_is here not_due refl),
+      refl,
+    )
+
+pub finish_at-requires : goal.finish_at-requires
+finish_at-requires g c =
+    let i = c.self.inside in let m = c.self.invariant in let o = c.index.result.now in
+    let where_is : IsIndex {J = g.row.J.Denot} c.args.done.op i.opened.items (Some c.in-Some.place) = search rules in
+    let here : slice_get i.opened.items c.in-Some.place ≡ Some o = slice_get_read i.opened.items _ c.in-Some.place o refl where_is.0 c.index.ensures in
+    let due : (is_due c.args.done.target (current_of o) && is_live c.args.done.target i.live.items) ≡ true = search rules in
+    let both = and_parts (is_due c.args.done.target (current_of o)) (is_live c.args.done.target i.live.items) due in
+    let room = open_room _ _ i.log.book i.next_name i.next_number c.args.done.op c.in-Some.place i.live.items i.queue i.opened.items o i.codes.table m.0 where_is here in
+    let low : 0 < o.left = due_entry c.args.done.target (current_of o) both.0 room.0 in
+    (where_is.0, λ x there. subst (λ (y : Opened g.row.J.Denot). 0 < y.left) (same_at i.opened.items c.in-Some.place o x here there) low)
+
 pub invariant_of-self : goal.invariant_of-self
 invariant_of-self g c =
     let i = c.self.inside in let m = c.self.invariant in let o = c.index.result.now in
@@ -29,15 +55,16 @@ invariant_of-self g c =
     let here : slice_get i.opened.items c.in-Some.place ≡ Some o = slice_get_read i.opened.items _ c.in-Some.place o refl where_is.0 c.index.ensures in
     let made = c.finish_at.ensures.step o here in
     let due : (is_due c.args.done.target (current_of o) && is_live c.args.done.target i.live.items) ≡ true = search rules in
+    let least : is_least c.args.done.op c.args.done.target (map (current_of {J = g.row.J.Denot}) i.opened.items) ≡ true = search rules in
     let both = and_parts (is_due c.args.done.target (current_of o)) (is_live c.args.done.target i.live.items) due in (
-      finish_keeps _ _ i.log.book c.enter_finish.new.self.book i.next_name i.next_number c.args.done.op c.args.done.target c.args.done.reply c.in-Some.place i.live.items i.queue i.opened.items c.finish_at.new.opened.items o made.0 i.codes.table m.0 where_is here made.2 (made.1 ∙ ap (λ t. finished t (current_of o)) c.target-2.ensures) both.0 both.1 (search rules) c.enter_finish.ensures.reserved,
+      finish_keeps _ _ i.log.book c.enter_finish.new.self.book i.next_name i.next_number c.args.done.op c.args.done.target c.args.done.reply c.in-Some.place i.live.items i.queue i.opened.items c.finish_at.new.opened.items o made.0 i.codes.table m.0 where_is here made.2 (made.1 ∙ ap (λ t. finished t (current_of o)) c.target-3.ensures) both.0 both.1 least (search rules) c.enter_finish.ensures.reserved,
       m.1,
       search rules,
       search rules,
       m.4,
       m.5,
-      finish_has_room i.next_number c.args.done.op c.args.done.target c.in-Some.place i.queue i.opened.items c.finish_at.new.opened.items o made.0 i.log.lists c.enter_finish.new.self.lists m.6 where_is here made.2 (made.1 ∙ ap (λ t. finished t (current_of o)) c.target-2.ensures) both.0 c.enter_finish.ensures.count
-          (subst (λ n. HasLess n i.log.lists c.enter_finish.new.self.lists) c.op-2.ensures c.enter_finish.ensures.rooms),
+      finish_has_room i.next_number c.args.done.op c.args.done.target c.in-Some.place i.queue i.opened.items c.finish_at.new.opened.items o made.0 i.log.lists c.enter_finish.new.self.lists m.6 where_is here made.2 (made.1 ∙ ap (λ t. finished t (current_of o)) c.target-3.ensures) both.0 c.enter_finish.ensures.count
+          (subst (λ n. HasLess n i.log.lists c.enter_finish.new.self.lists) c.op-3.ensures c.enter_finish.ensures.rooms),
     )
 
 pub enter_finish-requires-clause-room : goal.enter_finish-requires-clause-room
@@ -47,7 +74,7 @@ enter_finish-requires-clause-room g c =
     let here : slice_get i.opened.items c.in-Some.place ≡ Some o = slice_get_read i.opened.items _ c.in-Some.place o refl where_is.0 c.index.ensures in
     let due : (is_due c.args.done.target (current_of o) && is_live c.args.done.target i.live.items) ≡ true = search rules in
     let both = and_parts (is_due c.args.done.target (current_of o)) (is_live c.args.done.target i.live.items) due in
-    subst (λ n. 0 < (of_number n i.log.lists).room) (sym c.op-2.ensures) (due_has_room i.next_number c.args.done.op c.args.done.target c.in-Some.place i.queue i.opened.items o i.log.lists m.6 where_is here both.0)
+    subst (λ n. 0 < (of_number n i.log.lists).room) (sym c.op-3.ensures) (due_has_room i.next_number c.args.done.op c.args.done.target c.in-Some.place i.queue i.opened.items o i.log.lists m.6 where_is here both.0)
 
 pub returns-clause-ok : goal.returns-clause-ok
 returns-clause-ok g c =
@@ -55,10 +82,11 @@ returns-clause-ok g c =
     let where_is : IsIndex {J = g.row.J.Denot} c.args.done.op i.opened.items (Some c.in-Some.place) = search rules in
     let here : slice_get i.opened.items c.in-Some.place ≡ Some o = slice_get_read i.opened.items _ c.in-Some.place o refl where_is.0 c.index.ensures in
     let due : true ≡ (is_due c.args.done.target (current_of o) && is_live c.args.done.target i.live.items) = search rules in
-    let is : record { book = i.log.book; slots = i.codes.table.slots; methods = i.codes.table.methods; keeper = i.codes.keeper; jobs = map (names_left g.J.Errand.whom) i.opened.items } ≡ c.args.self.now = c.self.view_is in
-    subst (λ (d : DeskSeen). Enters d (record { book = c.enter_finish.new.self.book; slots = i.codes.table.slots; methods = i.codes.table.methods; keeper = i.codes.keeper; jobs = map (names_left g.J.Errand.whom) c.finish_at.new.opened.items }) (entry.Finish c.args.done.op c.args.done.target c.args.done.reply) c.enter_finish.result) is
-    (enters_by (record { book = i.log.book; slots = i.codes.table.slots; methods = i.codes.table.methods; keeper = i.codes.keeper; jobs = map (names_left g.J.Errand.whom) i.opened.items }) (record { book = c.enter_finish.new.self.book; slots = i.codes.table.slots; methods = i.codes.table.methods; keeper = i.codes.keeper; jobs = map (names_left g.J.Errand.whom) c.finish_at.new.opened.items }) _ (entry.Finish c.args.done.op c.args.done.target c.args.done.reply) c.enter_finish.result m.0.state
-    (finish_is c.args.done.op c.args.done.target c.args.done.reply i.next_name i.next_number c.in-Some.place i.live.items i.queue i.opened.items o i.codes.table true where_is here due)
+    let least : is_least c.args.done.op c.args.done.target (map (current_of {J = g.row.J.Denot}) i.opened.items) ≡ true = search rules in
+    let is : record { book = i.log.book; slots = i.codes.table.slots; methods = i.codes.table.methods; keeper = i.codes.keeper; jobs = map (jobs_left g.J.Errand.whom) i.opened.items } ≡ c.args.self.now = c.self.view_is in
+    subst (λ (d : DeskSeen). Enters d (record { book = c.enter_finish.new.self.book; slots = i.codes.table.slots; methods = i.codes.table.methods; keeper = i.codes.keeper; jobs = map (jobs_left g.J.Errand.whom) c.finish_at.new.opened.items }) (entry.Finish c.args.done.op c.args.done.target c.args.done.reply) c.enter_finish.result) is
+    (enters_by (record { book = i.log.book; slots = i.codes.table.slots; methods = i.codes.table.methods; keeper = i.codes.keeper; jobs = map (jobs_left g.J.Errand.whom) i.opened.items }) (record { book = c.enter_finish.new.self.book; slots = i.codes.table.slots; methods = i.codes.table.methods; keeper = i.codes.keeper; jobs = map (jobs_left g.J.Errand.whom) c.finish_at.new.opened.items }) _ (entry.Finish c.args.done.op c.args.done.target c.args.done.reply) c.enter_finish.result m.0.state
+    (finish_is c.args.done.op c.args.done.target c.args.done.reply i.next_name i.next_number c.in-Some.place i.live.items i.queue i.opened.items o i.codes.table true true where_is here due (sym least))
     (search rules) (search rules) refl refl)
 
 pub returns-clause-jobs : goal.returns-clause-jobs
@@ -67,4 +95,4 @@ returns-clause-jobs g c =
     let where_is : IsIndex {J = g.row.J.Denot} c.args.done.op i.opened.items (Some c.in-Some.place) = search rules in
     let here : slice_get i.opened.items c.in-Some.place ≡ Some o = slice_get_read i.opened.items _ c.in-Some.place o refl where_is.0 c.index.ensures in
     let made = c.finish_at.ensures.step o here in
-    ap (map (names_left g.J.Errand.whom)) made.2 ∙ set_left g.J.Errand.whom c.in-Some.place i.opened.items o made.0 here made.3 ∙ ap (λ (d : DeskSeen). d.jobs) c.self.view_is
+    ap (map (jobs_left g.J.Errand.whom)) made.2 ∙ set_left g.J.Errand.whom c.in-Some.place i.opened.items o made.0 here made.3 (ap (λ (x : Current). x.number) made.1) ∙ ap (λ (d : DeskSeen). d.jobs) c.self.view_is

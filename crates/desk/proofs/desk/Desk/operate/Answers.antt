@@ -2,9 +2,11 @@ use Rattle.std.proofs.Common.{map, ap, ◌∙◌, ◌≡◌, ◌<◌, refl, Some
 use Rattle.std.specs.Prelude.{slice_get}
 use Rattle.std.proofs.lemmas.Option.{slice_get_read}
 use Rattle.desk.proofs.Newest.{same_at}
-use Rattle.desk.specs.Fields.{DeskSeen, names_left}
+use Rattle.desk.specs.Machine.{Current}
+use Rattle.desk.specs.Fields.{DeskSeen, jobs_left}
 use Rattle.desk.proofs.JobsLeft.{set_left}
-use Rattle.desk.proofs.Keeping.{operate_keeps, first_index, may_operate_is}
+use Rattle.desk.proofs.OpenLists.{first_index}
+use Rattle.desk.proofs.Keeping.{operate_keeps, may_operate_is}
 use Rattle.desk.proofs.RoomKept.{same_room}
 use Rattle.desk.proofs.RoomSteps.{operate_has_room}
 use Rattle.desk.proofs.desk.Desk.operate.Goals as goal
@@ -33,4 +35,4 @@ returns-clause-jobs g c =
     let low : 0 < length i.opened.items = search rules in
     let here : slice_get i.opened.items 0 ≡ Some o = slice_get_read i.opened.items _ 0 o refl low c.index-3.ensures in
     let made = c.operate_at.ensures.step o here in
-    ap (map (names_left g.J.Errand.whom)) made.2 ∙ set_left g.J.Errand.whom 0 i.opened.items o made.0 here made.3 ∙ ap (λ (d : DeskSeen). d.jobs) c.self.view_is
+    ap (map (jobs_left g.J.Errand.whom)) made.2 ∙ set_left g.J.Errand.whom 0 i.opened.items o made.0 here made.3 (ap (λ (x : Current). x.number) made.1) ∙ ap (λ (d : DeskSeen). d.jobs) c.self.view_is

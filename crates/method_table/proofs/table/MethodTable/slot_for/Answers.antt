@@ -1,40 +1,27 @@
 -- The first test that fails is the first reason, and a slot that is found is the least free one.
-use Rattle.std.proofs.Common.{◌≡◌, ◌<◌, Some, None, ap, sym, ◌∙◌, refl, rules, List, length}
-use Rattle.std.proofs.lemmas.Option.{slice_get_read}
+use Rattle.std.proofs.Common.{◌≡◌, ◌<◌, Some, None, ap, sym, ◌∙◌, rules, List, length}
 use Rattle.method_table.specs.declared.Code.{Code}
 use Rattle.method_table.specs.Kept.{least_free}
-use Rattle.method_table.proofs.KeptLemmas.{free_is, why_has_code, why_full, why_spent, why_not}
+use Rattle.method_table.proofs.KeptLemmas.{free_is, why_full, why_spent, why_not}
 use Rattle.method_table.proofs.table.MethodTable.slot_for.Goals as goal
-
-pub returns-then-is_some-clause-refused : goal.returns-then-is_some-clause-refused
-returns-then-is_some-clause-refused c =
-    let within : c.args.method < length c.self.inside.current.items = (let l = c.if-method-len.false in search rules) in
-    let entry = slice_get_read c.self.inside.current.items _ c.args.method c.index.result.now refl within c.index.ensures in
-    rw (← c.self.view_is) (why_has_code _ _ _ _ _ _ _ c.self.invariant c.args.method c.index.result.now entry (sym c.is_some.ensures ∙ c.if-is_some.true))
 
 pub returns-in_default-clause-refused : goal.returns-in_default-clause-refused
 returns-in_default-clause-refused c =
     let within : c.args.method < length c.self.inside.current.items = (let l = c.if-method-len.false in search rules) in
-    let entry = slice_get_read c.self.inside.current.items _ c.args.method c.index.result.now refl within c.index.ensures in
-    let no_entry = sym c.is_some.ensures ∙ c.if-is_some.false in
     let free : least_free c.self.inside.records.items c.self.inside.slots ≡ None = ap (λ (records : List Code). least_free records c.self.inside.slots) (sym c.deref.ensures.value) ∙ (sym c.least_free.ensures ∙ c.in_default.is) in
-    rw (← c.self.view_is) (why_full _ _ _ _ _ _ _ c.self.invariant c.args.method c.index.result.now entry no_entry free)
+    rw (← c.self.view_is) (why_full _ _ _ _ _ _ _ c.self.invariant c.args.method within free)
 
 pub returns-then-self-gt-LAST_SERIAL-clause-refused : goal.returns-then-self-gt-LAST_SERIAL-clause-refused
 returns-then-self-gt-LAST_SERIAL-clause-refused c =
     let within : c.args.method < length c.self.inside.current.items = (let l = c.if-method-len.false in search rules) in
-    let entry = slice_get_read c.self.inside.current.items _ c.args.method c.index.result.now refl within c.index.ensures in
-    let no_entry = sym c.is_some.ensures ∙ c.if-is_some.false in
     let free : least_free c.self.inside.records.items c.self.inside.slots ≡ Some c.in-Some.slot = ap (λ (records : List Code). least_free records c.self.inside.slots) (sym c.deref.ensures.value) ∙ (sym c.least_free.ensures ∙ c.in-Some.is) in
-    rw (← c.self.view_is) (why_spent _ _ _ _ _ _ _ c.self.invariant c.args.method c.index.result.now entry no_entry c.in-Some.slot free c.if-self-gt-LAST_SERIAL.true)
+    rw (← c.self.view_is) (why_spent _ _ _ _ _ _ _ c.self.invariant c.args.method within c.in-Some.slot free c.if-self-gt-LAST_SERIAL.true)
 
 pub returns-clause-accepted : goal.returns-clause-accepted
 returns-clause-accepted c =
     let within : c.args.method < length c.self.inside.current.items = (let l = c.if-method-len.false in search rules) in
-    let entry = slice_get_read c.self.inside.current.items _ c.args.method c.index.result.now refl within c.index.ensures in
-    let no_entry = sym c.is_some.ensures ∙ c.if-is_some.false in
     let free : least_free c.self.inside.records.items c.self.inside.slots ≡ Some c.in-Some.slot = ap (λ (records : List Code). least_free records c.self.inside.slots) (sym c.deref.ensures.value) ∙ (sym c.least_free.ensures ∙ c.in-Some.is) in
-    rw (← c.self.view_is) (why_not _ _ _ _ _ _ _ c.self.invariant c.args.method c.index.result.now entry no_entry c.in-Some.slot free c.if-self-gt-LAST_SERIAL.false)
+    rw (← c.self.view_is) (why_not _ _ _ _ _ _ _ c.self.invariant c.args.method within c.in-Some.slot free c.if-self-gt-LAST_SERIAL.false)
 
 pub returns-clause-slot : goal.returns-clause-slot
 returns-clause-slot c =

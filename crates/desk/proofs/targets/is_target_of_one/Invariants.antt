@@ -1,0 +1,11 @@
+use Rattle.std.proofs.Common.{◌≡◌, length, map}
+use Rattle.std.specs.List.{list_any}
+use Rattle.desk.specs.Targets.{is_target_of}
+use Rattle.desk.specs.Fields.{current_of}
+use Rattle.desk.proofs.targets.is_target_of_one.Given as goal
+
+abbrev pub invariant-loop-one : goal.invariant-loop-one
+invariant-loop-one g l = list_any (is_target_of l.next l.name) (map current_of l.rest) ≡ list_any (is_target_of l.next l.name) (map current_of l.fn.opened)
+
+abbrev pub decreases-loop-one : goal.decreases-loop-one
+decreases-loop-one g l = length l.rest

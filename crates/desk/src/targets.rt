@@ -1,0 +1,226 @@
+// How names stand to the open requests.
+ghost use Rattle.std.specs.Prelude.{◌≡◌, ◌&&◌, ◌<◌, map, IfSome};
+ghost use Rattle.std.specs.List.{list_any};
+ghost use Rattle.operations.specs.Requests.{is_census};
+ghost use Rattle.desk.specs.Machine.{place_of, has_census};
+ghost use Rattle.desk.specs.Targets.{is_asked, is_owed, is_target_of, standing_at, standing_to, is_untold, is_told, is_undone, untold_in, progress_in, is_due_target, due_after, oldest, name_at};
+ghost use Rattle.desk.specs.Fields.{current_of};
+
+use crate::entries::{Live, Opened, Progress, Standing, Target};
+use crate::lists::{is_among, is_census, is_census_open};
+use operations::Request;
+
+/// Where the name is live.
+pub fn place_of(live: &[Live], name: u64) -> Option<usize>
+    ensures { result ≡ place_of name live.now }
+{
+    let mut rest = live;
+    while let Some((one, others)) = rest.split_first() {
+        if one.name == name {
+            return Some(one.place);
+        }
+        rest = others;
+    }
+    None
+}
+
+/// Who is live at the place.
+pub fn name_at(live: &[Live], place: usize) -> Option<u64>
+    ensures { result ≡ name_at place live.now }
+{
+    let mut rest = live;
+    while let Some((one, others)) = rest.split_first() {
+        if one.place == place {
+            return Some(one.name);
+        }
+        rest = others;
+    }
+    None
+}
+
+// Whether the request is of the name.
+fn is_asked(request: &Request, next: u64, name: u64) -> bool
+    ensures { result ≡ is_asked next name request.now }
+{
+    match request {
+        Request::Census => 0 < name && name < next,
+        Request::Handshake { targets, .. } => is_among(targets.as_slice(), name),
+    }
+}
+
+// Whether a Finish of the name, or the Operate, is still to come.
+fn is_owed<J>(request: &Opened<J>, name: u64) -> bool
+    ensures { result ≡ is_owed name (current_of request.now) }
+{
+    if is_census(&request.request) {
+        !request.operated
+    } else {
+        is_among(request.due.as_slice(), name)
+    }
+}
+
+// Whether the request is of the name, whose thread was live at its Open where it is now.
+fn is_target_of<J>(request: &Opened<J>, next: u64, name: u64) -> bool
+    ensures { result ≡ is_target_of next name (current_of request.now) }
+{
+    is_asked(&request.request, next, name) && name < request.before
+}
+
+fn is_one_asked<J>(opened: &[Opened<J>], next: u64, name: u64) -> bool
+    ensures { result ≡ list_any (λ c. is_asked next name c.request) (map current_of opened.now) }
+{
+    let mut rest = opened;
+    while let Some((one, others)) = rest.split_first() {
+        if is_asked(&one.request, next, name) {
+            return true;
+        }
+        rest = others;
+    }
+    false
+}
+
+fn is_target_of_one<J>(opened: &[Opened<J>], next: u64, name: u64) -> bool
+    ensures { result ≡ list_any (is_target_of next name) (map current_of opened.now) }
+{
+    let mut rest = opened;
+    while let Some((one, others)) = rest.split_first() {
+        if is_target_of(one, next, name) {
+            return true;
+        }
+        rest = others;
+    }
+    false
+}
+
+/// How a name stands to the open requests.
+pub fn standing_to<J>(opened: &[Opened<J>], next: u64, live: &[Live], name: u64) -> Standing
+    ensures { result ≡ standing_to next live.now name (map current_of opened.now) }
+{
+    if opened.is_empty() {
+        return Standing::NothingOpen;
+    }
+    if !is_one_asked(opened, next, name) {
+        return Standing::NotOf;
+    }
+    let Some(place) = place_of(live, name) else {
+        return Standing::Gone;
+    };
+    if !is_target_of_one(opened, next, name) {
+        return Standing::Gone;
+    }
+    Standing::Asked(Target {
+        place,
+        is_census: is_census_open(opened),
+    })
+}
+
+// Whether the request is of the thread and its number greater than the last that it was told.
+fn is_untold<J>(request: &Opened<J>, next: u64, name: u64, last: u64) -> bool
+    ensures { result ≡ is_untold next name last (current_of request.now) }
+{
+    is_target_of(request, next, name) && last < request.number
+}
+
+/// The number of the oldest request that is of a live thread and greater than the last that it was told.
+pub fn untold_in<J>(opened: &[Opened<J>], next: u64, name: u64, last: u64) -> Option<u64>
+    ensures value { result ≡ untold_in next name last (map current_of opened.now) }
+    ensures later { IfSome result (λ number. last < number) }
+{
+    let mut rest = opened;
+    while let Some((one, others)) = rest.split_first() {
+        if is_untold(one, next, name, last) {
+            return Some(one.number);
+        }
+        rest = others;
+    }
+    None
+}
+
+// Whether the request was told to the live thread.
+fn is_told<J>(request: &Opened<J>, next: u64, name: u64, last: u64) -> bool
+    ensures { result ≡ is_told next name last (current_of request.now) }
+{
+    is_target_of(request, next, name) && request.number <= last
+}
+
+fn is_one_told<J>(opened: &[Opened<J>], next: u64, name: u64, last: u64) -> bool
+    ensures { result ≡ list_any (is_told next name last) (map current_of opened.now) }
+{
+    let mut rest = opened;
+    while let Some((one, others)) = rest.split_first() {
+        if is_told(one, next, name, last) {
+            return true;
+        }
+        rest = others;
+    }
+    false
+}
+
+fn is_undone<J>(request: &Opened<J>, next: u64, name: u64, last: u64) -> bool
+    ensures { result ≡ is_undone next name last (current_of request.now) }
+{
+    is_told(request, next, name, last) && is_owed(request, name)
+}
+
+/// How far a live thread is with the open requests up to the last number that it was told.
+pub fn progress_in<J>(opened: &[Opened<J>], next: u64, name: u64, last: u64) -> Progress
+    ensures { result ≡ progress_in next name last (map current_of opened.now) }
+{
+    let mut rest = opened;
+    while let Some((one, others)) = rest.split_first() {
+        if is_undone(one, next, name, last) {
+            return Progress::Undone(one.number);
+        }
+        rest = others;
+    }
+    if is_one_told(opened, next, name, last) {
+        Progress::Done
+    } else {
+        Progress::NotTold
+    }
+}
+
+// Whether the thread was live at the Open and is owed.
+fn is_due_target<J>(thread: Live, request: &Opened<J>) -> bool
+    ensures { result ≡ is_due_target thread (current_of request.now) }
+{
+    thread.name < request.before && is_owed(request, thread.name)
+}
+
+fn is_due<J>(thread: Live, opened: &[Opened<J>]) -> bool
+    ensures { result ≡ list_any (is_due_target thread) (map current_of opened.now) }
+{
+    let mut rest = opened;
+    while let Some((one, others)) = rest.split_first() {
+        if is_due_target(thread, one) {
+            return true;
+        }
+        rest = others;
+    }
+    false
+}
+
+/// The first live thread with a greater name that is due for one of the requests.
+pub fn due_after<J>(opened: &[Opened<J>], live: &[Live], name: u64) -> Option<Live>
+    ensures { result ≡ due_after name (map current_of opened.now) live.now }
+{
+    let mut rest = live;
+    while let Some((one, others)) = rest.split_first() {
+        if name < one.name && is_due(*one, opened) {
+            return Some(*one);
+        }
+        rest = others;
+    }
+    None
+}
+
+/// The oldest request alone.
+pub fn oldest<J>(opened: &[Opened<J>]) -> &[Opened<J>]
+    ensures { map current_of result.now ≡ oldest (map current_of opened.now) }
+{
+    if opened.is_empty() {
+        opened
+    } else {
+        &opened[..1]
+    }
+}
