@@ -69,12 +69,7 @@ impl<'a, N: Name, J: Errand> Coordinator<'a, N, J> {
     }
 
     // The same, with a job for the name that was taken before, if any.
-    fn tell_with<R: Wait>(
-        &mut self,
-        rt: &R,
-        name: u64,
-        hand: Option<J>,
-    ) -> Result<Told, TellFault>
+    fn tell_with<R: Wait>(&mut self, rt: &R, name: u64, hand: Option<J>) -> Result<Told, TellFault>
         ensures said { tell_said name self.old.armer self.new.armer result }
         ensures held { (self.new.held ≡ self.old.held) × (self.new.operated ≡ self.old.operated) }
     {

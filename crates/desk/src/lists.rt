@@ -34,7 +34,10 @@ pub fn found_at(live: &[Live], name: u64) -> Option<usize>
 pub fn lives(live: &[Live], name: u64) -> bool
     ensures { result ≡ is_live name live.now }
 {
-    found_at(live, name).is_some() || live.iter().any(|l| l.name == name)
+    match found_at(live, name) {
+        Some(_) => true,
+        None => live.iter().any(|l| l.name == name),
+    }
 }
 
 /// Whether a place is taken.

@@ -145,7 +145,11 @@ impl<N: Name, J: Errand> Berth<N, J> {
         unreachable!()
     }
 
-    fn try_bring<R: Wait>(&self, rt: &R, body: Body<N>) -> Result<BerthReceipt<N>, (Body<N>, Option<J>)>
+    fn try_bring<R: Wait>(
+        &self,
+        rt: &R,
+        body: Body<N>,
+    ) -> Result<BerthReceipt<N>, (Body<N>, Option<J>)>
         requires body { (body.seat.stored ≢ 0) × (0 < body.name) }
         ensures ok { IfOk result (λ r. r ≡ acted body.seat.place body.name (BerthAct.Released false)) }
         ensures err { IfErr result (λ r. (r.0 ≡ body) × IfSome r.1 (λ j. (J.whom j ≡ body.name) × (0 < J.number j))) }
