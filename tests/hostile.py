@@ -1,13 +1,13 @@
 #!/usr/bin/env python3
-"""Tests that one run of the gate doesn't show: hostile.py [threads|memory] [--crate NAME]
+"""Tests that one run of the gate doesn't show: hostile.py [threads|memory] [--crate NAME] [--built]
 
 threads  Each test that runs several threads, twenty times: it passes each time, within its seconds, and prints the same.
 memory   Each test of refused memory with its first growth refused, with its second, and so on until none is. It passes each time, says
          what was refused, and the growths come to an end where nothing was. Of some crates also tests that were not made for this: they
          pass, or end with the error of refused memory. Needs a C compiler, for the library that refuses the growths.
 
-Without a word it does both. `rt test` proves the tests of each crate first, and builds them. The last line is
-`N passed, M failed`; the status is 0 where none failed.
+Without a word it does both. `rt test` proves the tests of each crate first, and builds them; with `--built` those are run that the
+gate left behind. The last line is `N passed, M failed`; the status is 0 where none failed.
 """
 import argparse
 import pathlib
@@ -158,11 +158,13 @@ def main():
     words = argparse.ArgumentParser(description=__doc__, formatter_class=argparse.RawDescriptionHelpFormatter)
     words.add_argument("what", nargs="?", choices=["threads", "memory"])
     words.add_argument("--crate", choices=sorted({*THREADS, *MEMORY, *ENDING}), help="this crate alone")
+    words.add_argument("--built", action="store_true", help="the tests as they were built last, without a proof")
     asked = words.parse_args()
     chosen = lambda tests, what: {crate: it for crate, it in tests.items() if asked.crate in (None, crate) and asked.what in (None, what)}
     of_threads, of_memory, of_ending = chosen(THREADS, "threads"), chosen(MEMORY, "memory"), chosen(ENDING, "memory")
     tally = Tally()
-    build(tally, sorted({*of_threads, *of_memory, *of_ending}))
+    if not asked.built:
+        build(tally, sorted({*of_threads, *of_memory, *of_ending}))
     threads(tally, of_threads)
     if of_memory or of_ending:
         with tempfile.TemporaryDirectory() as folder:

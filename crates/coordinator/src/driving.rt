@@ -50,7 +50,7 @@ fn open_or_go_on<N: Name, J: Errand>(desk: &mut Desk<N, J>) -> Result<Option<boo
     }
 }
 
-// A thread that is due, and the number of the oldest open request with which it isn't done.
+// A thread that is due, and the number of the oldest open request where it is due for that, else 0.
 #[derive(Drop)]
 struct Due {
     who: Live,
@@ -64,9 +64,18 @@ fn due_above<N: Name, J: Errand>(desk: &Desk<N, J>, name: u64, of_oldest: bool) 
     } else {
         desk.next_due(name)?
     };
-    match desk.progress(who.name, u64::MAX) {
-        Progress::Undone(number) => Some(Due { who, number }),
-        Progress::NotTold | Progress::Done => None,
+    let number = match desk.progress(who.name, u64::MAX) {
+        Progress::Undone(number) if of_oldest || is_awaited(desk, who.name) => number,
+        _ => 0,
+    };
+    Some(Due { who, number })
+}
+
+// Whether the thread of the name is due for the oldest open request.
+fn is_awaited<N: Name, J: Errand>(desk: &Desk<N, J>, name: u64) -> bool {
+    match desk.next_awaited(name.saturating_sub(1)) {
+        Some(first) => first.name == name,
+        None => false,
     }
 }
 
@@ -134,7 +143,7 @@ impl<'a, N: Name, J: Errand> Coordinator<'a, N, J> {
         self.shared.desk().lock(rt).next_due(name)
     }
 
-    // The same, or for the oldest open request alone, with the number of the oldest with which it isn't done.
+    // The same, or for the oldest open request alone, with the number of that where it is due for it.
     fn next_undone<R: Wait>(&self, rt: &R, name: u64, of_oldest: bool) -> Option<Due> {
         let _ = &self.bodies;
         let desk = self.shared.desk().lock(rt);
@@ -202,12 +211,13 @@ impl<'a, N: Name, J: Errand> Coordinator<'a, N, J> {
         unreachable!()
     }
 
-    // Serves a target at once where its body is in its berth, and else once it is there. A target that comes for what it was told serves
-    // itself, and is waited for only to the end: what another runs until then may wait for those that come after it. It waits without
-    // a lock as far as the spins that are left go, and then asleep. Answers how many are left.
+    // Serves a target at once where its body is in its berth, and else, where the oldest open request is of it, once it is there. A
+    // target that comes for what it was told serves itself, and is waited for only to the end: what another runs until then may wait
+    // for those that come after it. It waits without a lock as far as the spins that are left go, and then asleep. Answers how many
+    // are left.
     fn serve_due<R: Wait>(&self, rt: &R, due: Due, spins: u32, to_the_end: bool) -> u32 {
         let Due { who, number } = due;
-        if who.place >= self.places || self.serve_at(rt, who).is_ok() {
+        if who.place >= self.places || self.serve_at(rt, who).is_ok() || number == 0 {
             return spins;
         }
         let left = self.spin(who.place, spins);
