@@ -1,5 +1,5 @@
 //! A berth: where a thread's body is while the thread doesn't own itself.
-ghost use Rattle.std.specs.Prelude.{◌≡◌, ◌≢◌, ◌<◌, ◌^◌, [], OnOk, IfOk, IfErr, IfSome};
+ghost use Rattle.std.specs.Prelude.{◌≡◌, ◌≢◌, ◌<◌, ◌^◌, [], false, OnOk, IfOk, IfErr, IfSome};
 ghost use Rattle.frames.specs.ImageView.{IsCounted};
 ghost use Rattle.thread_list.specs.Berths.{acted, number_of};
 
@@ -180,8 +180,10 @@ impl<N: Name, J: Errand> Berth<N, J> {
         for _ in rt.forever() {
             match self.try_bring(rt, body) {
                 Ok(receipt) => return Ok(receipt),
-                Err((back, Some(job))) => return Err((back, job)),
-                Err((back, None)) => body = back,
+                Err((back, told)) => match told {
+                    Some(job) => return Err((back, job)),
+                    None => body = back,
+                },
             }
             thread::yield_now();
         }
