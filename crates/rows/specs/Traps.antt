@@ -202,7 +202,7 @@ hold_order =
     hold 0 ⇒ refused NotSafe ∷ edge 0 ⇒ stop 1 ∷ take 0 ⇒ ok ∷ hold 0 ⇒ refused NotSafe ∷ finish 0 ⇒ reply 0 ∷
     hold 0 ⇒ refused NotSafe ∷ clear 0 ⇒ ok ∷ hold 0 ⇒ refused AlreadyDone ∷ []
 
--- Code in use is named before a full table; a zombie still takes its slot. (1 place, 2 slots, 2 methods)
+-- No slot is left besides that of the code in use; a zombie still takes its slot. (1 place, 2 slots, 2 methods)
 abbrev pub install_order : List Entry
 install_order =
     install 0 ⇒ code 1 ∷ install 1 ⇒ code 2 ∷ install 0 ⇒ refused TableFull ∷ invalidate 1 ⇒ ok ∷

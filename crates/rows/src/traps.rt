@@ -82,7 +82,7 @@ pub fn hold_order()
     ensures { Plays 1 4 2 Traps.hold_order }
 {}
 
-/// Code in use is named before a full table; a zombie still takes its slot.
+/// No slot is left besides that of the code in use; a zombie still takes its slot.
 pub fn install_order()
     ensures { Plays 1 2 2 Traps.install_order }
 {}
