@@ -5,6 +5,7 @@ pub mod OpenLists
 pub mod Keeping
 pub mod Once
 pub mod Rising
+pub mod LiveNames
 pub mod ReplyLists
 pub mod RoomKept
 pub mod RoomSteps

@@ -36,21 +36,29 @@ HasFree s places = (k : ℕ) × (k < places) × (is_taken k s.live ≡ false)
 abbrev pub room_for : Book → ℕ → Bool
 room_for b more = has_room (length b.history) b.reserved more
 
+-- no test refuses a start: what is left is want of memory
+abbrev pub MayStart : State → ℕ → Book → Type 0
+MayStart s places b = (has_census s.opened ≡ false) × HasFree s places × (s.next_name < 2 ^ 40) × (room_for b 2 ≡ true)
+
 abbrev pub start_refused : State → ℕ → Book → StartFault → Type 0
 start_refused s places b start.SafepointOpen = has_census s.opened ≡ true
 start_refused s places b start.PlacesFull = (has_census s.opened ≡ false) × AllTaken s places
 start_refused s places b start.Spent = (has_census s.opened ≡ false) × HasFree s places × (2 ^ 40 ≤ s.next_name)
 start_refused s places b start.HistoryFull = (has_census s.opened ≡ false) × HasFree s places × (s.next_name < 2 ^ 40) × (room_for b 2 ≡ false)
-start_refused s places b start.NoMemory = (has_census s.opened ≡ false) × HasFree s places × (s.next_name < 2 ^ 40) × (room_for b 2 ≡ true)
+start_refused s places b start.NoMemory = MayStart s places b
 
--- `fits` says whether the jobs are one for each target in order, with the request's ask
+-- no test refuses a request: what is left is want of memory. `fits` says whether the jobs are one for each target in order, with the
+-- request's ask
+abbrev pub MayAsk : State → Request → Bool → Book → Type 0
+MayAsk s r fits b = (s.next_number < 2 ^ 40) × (length s.waiting < 64) × (has_targets r ≡ true) × (are_targets r && fits ≡ true) × (room_for b (3 + steps_of r) ≡ true)
+
 abbrev pub ask_refused : State → Request → Bool → Book → AskFault → Type 0
 ask_refused s r fits b ask.Spent = 2 ^ 40 ≤ s.next_number
 ask_refused s r fits b ask.QueueFull = (s.next_number < 2 ^ 40) × (64 ≤ length s.waiting)
 ask_refused s r fits b ask.NoTargets = (s.next_number < 2 ^ 40) × (length s.waiting < 64) × (has_targets r ≡ false)
 ask_refused s r fits b ask.BadTargets = (s.next_number < 2 ^ 40) × (length s.waiting < 64) × (has_targets r ≡ true) × (are_targets r && fits ≡ false)
 ask_refused s r fits b ask.HistoryFull = (s.next_number < 2 ^ 40) × (length s.waiting < 64) × (has_targets r ≡ true) × (are_targets r && fits ≡ true) × (room_for b (3 + steps_of r) ≡ false)
-ask_refused s r fits b ask.NoMemory = (s.next_number < 2 ^ 40) × (length s.waiting < 64) × (has_targets r ≡ true) × (are_targets r && fits ≡ true) × (room_for b (3 + steps_of r) ≡ true)
+ask_refused s r fits b ask.NoMemory = MayAsk s r fits b
 
 abbrev pub open_refused : State → OpenFault → Type 0
 open_refused s opens.AlreadyOpen = may_open_more s.waiting s.opened ≡ false
@@ -84,10 +92,14 @@ close_refused s number bs close.NotOf = HasOpen s × (chosen number s.opened ≡
 close_refused s number bs close.Held = (c : Current) × (chosen number s.opened ≡ Some c) × (holds_target c.request bs ≡ true)
 close_refused s number bs close.NotDone = (c : Current) × (chosen number s.opened ≡ Some c) × (holds_target c.request bs ≡ false) × (may_close s.live c ≡ false)
 
+-- no test refuses an install: what is left is want of memory
+abbrev pub MayInstall : State → ℕ → Book → Type 0
+MayInstall s m b = (install_fault s.table m ≡ None) × (room_for b 4 ≡ true)
+
 abbrev pub install_refused : State → ℕ → Book → CodeFault → Type 0
 install_refused s m b (code.Install fault) = install_fault s.table m ≡ Some fault
 install_refused s m b code.HistoryFull = (install_fault s.table m ≡ None) × (room_for b 4 ≡ false)
-install_refused s m b code.NoMemory = (install_fault s.table m ≡ None) × (room_for b 4 ≡ true)
+install_refused s m b code.NoMemory = MayInstall s m b
 
 abbrev pub start_fault : RoomFault → StartFault
 start_fault room.HistoryFull = start.HistoryFull

@@ -143,9 +143,13 @@ impl<N: Name> Codes<N> {
     pub fn round(&mut self, board: &Board) -> Result<(), Spent>
         requires board { board.now ≡ N.board }
         ensures ok { OnOk result (self.new.keeper ≡ went_round self.old.keeper self.old.keeper.moment) }
+        ensures accepted { OnOk result (nat_le (2 ^ 40) (self.old.keeper.moment + 1) ≡ false) }
         ensures spent { OnErr result ((self.new.keeper ≡ self.old.keeper) × (2 ^ 40 ≤ self.old.keeper.moment + 1)) }
         ensures table { self.new.table ≡ self.old.table }
     {
+        if self.keeper.is_last_moment() {
+            return Err(Spent);
+        }
         self.keeper.round(board)
     }
 

@@ -11,7 +11,7 @@ ghost use Rattle.method_table.specs.TableView.{install_fault, invalidate_fault, 
 ghost use Rattle.method_table.specs.Codes.{unfreed, id_of, in_use_for};
 ghost use Rattle.desk.specs.CodeBoard.{AreEntries, KeeperWeighs, stored};
 ghost use Rattle.desk.specs.Machine.{Current as CurrentOf, is_legal, is_taken, names_of, lawful, steps_of, is_open};
-ghost use Rattle.desk.specs.Refusals.{start_refused, ask_refused, open_refused, close_refused, install_refused, operate_refused, reclaim_refused, is_idle, AreSettled, are_all, operate_said, chosen, holds_target};
+ghost use Rattle.desk.specs.Refusals.{start_refused, ask_refused, open_refused, close_refused, install_refused, operate_refused, reclaim_refused, is_idle, AreSettled, are_all, MayAsk, MayInstall, MayOperate, MayStart, operate_said, chosen, holds_target};
 ghost use Rattle.desk.specs.Fields.{DeskSeen, at, Enters, EntersInstall, kept_before};
 ghost use Rattle.desk.specs.Targets.{standing, untold, progress, next_due, next_awaited, name_at, open_kind};
 ghost use Rattle.desk.specs.Once.{replies_of};
@@ -106,6 +106,7 @@ impl<N: Name, J: Errand> Desk<N, J> {
     /// Enters the start of the next name in the least place that is free. `has_image` says whether there is memory for its stack.
     pub fn start(&mut self, has_image: bool) -> Result<(u64, usize, Receipt<N>), StartFault>
         ensures ok { IfOk result (λ r. Enters self.old self.new (Entry.Start r.0 r.1) r.2 × (r.1 < N.board.places) × (0 < r.0)) }
+        ensures accepted { OnOk result (MayStart (at self.old) N.board.places self.old.book) }
         ensures image { OnOk result (has_image ≡ true) }
         ensures least { IfOk result (λ r. (k : ℕ) → k < r.1 → is_taken k (at self.old).live ≡ true) }
         ensures reserved { IfOk result (λ r. (self.new.book.reserved ≡ self.old.book.reserved + 1) × (self.new.keeper ≡ self.old.keeper)) }
@@ -162,6 +163,7 @@ impl<N: Name, J: Errand> Desk<N, J> {
         ensures stored { IfOk result (λ r. self.new.keeper ≡ stored r.0.replaced self.old.keeper r.0.code) }
         ensures reserved { IfOk result (λ r. self.new.book.reserved + kept_before r.0.replaced ≡ self.old.book.reserved + 3) }
         ensures jobs { self.new.jobs ≡ self.old.jobs }
+        ensures accepted { OnOk result (MayInstall (at self.old) method self.old.book) }
         ensures err { IfErr result (λ e. (self.new ≡ self.old) × install_refused (at self.old) method self.old.book e) }
     {
         if let Some(fault) = self.codes.refusal(method) {
@@ -224,6 +226,7 @@ impl<N: Name, J: Errand> Desk<N, J> {
         ensures ok { IfOk result (λ r. Enters self.old self.new (Entry.Ask r.0 request) r.1) }
         ensures reserved { OnOk result ((self.new.book.reserved ≡ self.old.book.reserved + (2 + steps_of request)) × (self.new.keeper ≡ self.old.keeper)) }
         ensures jobs { self.new.jobs ≡ self.old.jobs }
+        ensures accepted { OnOk result (MayAsk (at self.old) request (jobs_fit J.whom J.asks request jobs.items) self.old.book) }
         ensures err { IfErr result (λ e. (self.new ≡ self.old) × ask_refused (at self.old) request (jobs_fit J.whom J.asks request jobs.items) self.old.book e.fault) }
         ensures handed_back { IfErr result (λ e. e.jobs ≡ jobs) }
     {
@@ -407,6 +410,7 @@ impl<N: Name, J: Errand> Desk<N, J> {
     pub fn operate(&mut self, bodies: &[Body<N>]) -> Result<(u64, Receipt<N>), OperateFault>
         requires settled { AreSettled bodies.now }
         ensures ok { IfOk result (λ r. Enters self.old self.new (Entry.Operate r.0) r.1) }
+        ensures accepted { OnOk result (MayOperate (at self.old) bodies.now) }
         ensures all { OnOk result (are_all (at self.old).live bodies.now ≡ true) }
         ensures reserved { OnOk result ((self.new.book.reserved + 1 ≡ self.old.book.reserved) × (self.new.keeper ≡ self.old.keeper)) }
         ensures jobs { self.new.jobs ≡ self.old.jobs }
@@ -441,6 +445,7 @@ impl<N: Name, J: Errand> Desk<N, J> {
         ensures clear { IfOk result (λ r. IfSome r.1 (λ _. r.0 ≡ Weighed.Clear)) }
         ensures others { IfOk result (λ r. IfNone r.1 ((self.new.book ≡ self.old.book) × (self.new.slots ≡ self.old.slots) × (self.new.methods ≡ self.old.methods) × (r.0 ≢ Weighed.Clear))) }
         ensures jobs { self.new.jobs ≡ self.old.jobs }
+        ensures accepted { OnOk result (retire_fault (unfreed (at self.old).table.codes serial) ≡ None) }
         ensures err { IfErr result (λ e. (self.new ≡ self.old) × (retire_fault (unfreed (at self.old).table.codes serial) ≡ Some e)) }
     {
         let said = self.codes.weigh(board, serial)?;
@@ -454,6 +459,7 @@ impl<N: Name, J: Errand> Desk<N, J> {
     pub fn round(&mut self, board: &Board) -> Result<(), Spent>
         requires board { board.now ≡ N.board }
         ensures ok { OnOk result (self.new.keeper ≡ went_round self.old.keeper self.old.keeper.moment) }
+        ensures accepted { OnOk result (nat_le (2 ^ 40) (self.old.keeper.moment + 1) ≡ false) }
         ensures spent { OnErr result ((self.new ≡ self.old) × (2 ^ 40 ≤ self.old.keeper.moment + 1)) }
         ensures jobs { self.new.jobs ≡ self.old.jobs }
         ensures book { (self.new.book ≡ self.old.book) × (self.new.slots ≡ self.old.slots) × (self.new.methods ≡ self.old.methods) }
@@ -496,6 +502,7 @@ impl<N: Name, J: Errand> Desk<N, J> {
         requires board { board.now ≡ N.board }
         ensures asked { IfOk result (λ r. IfSome r (λ a. IfSome request (λ asked. Enters self.old self.new (Entry.Ask a.0 asked) a.1))) }
         ensures allowed { OnOk result ((retire_fault (unfreed (at self.old).table.codes serial) ≡ None) × (is_idle (at self.old) ≡ true) × (nat_le (2 ^ 40) (self.old.keeper.moment + 1) ≡ false)) }
+        ensures accepted { OnOk result (IfSome request (λ asked. MayAsk (at self.old) asked (jobs_fit J.whom J.asks asked jobs.items) self.old.book)) }
         ensures wanted { IfOk result (λ r. IfSome r (λ a. request ≢ None)) }
         ensures quiet { IfOk result (λ r. IfNone r ((request ≡ None) × (self.new.book ≡ self.old.book))) }
         ensures sizes { OnOk result ((self.new.slots ≡ self.old.slots) × (self.new.methods ≡ self.old.methods)) }
@@ -548,6 +555,7 @@ impl<N: Name, J: Errand> Desk<N, J> {
         ensures step { IfOk result (λ late. (code : CodeOf) × (unfreed (at self.old).table.codes serial ≡ Some code) × (found : ℕ) × (self.new.keeper ≡ looked_at self.old.keeper (id_of code) place found) × (late ≡ is_late (slot_of self.old.keeper code.slot).left found)) }
         ensures book { (self.new.book ≡ self.old.book) × (self.new.slots ≡ self.old.slots) × (self.new.methods ≡ self.old.methods) }
         ensures jobs { self.new.jobs ≡ self.old.jobs }
+        ensures accepted { OnOk result (retire_fault (unfreed (at self.old).table.codes serial) ≡ None) }
         ensures err { IfErr result (λ e. (self.new ≡ self.old) × (retire_fault (unfreed (at self.old).table.codes serial) ≡ Some e)) }
     {
         self.codes.look(board, serial, place)

@@ -4,6 +4,7 @@ ghost use Rattle.std.specs.List.{list_any, list_all};
 ghost use Rattle.operations.specs.Names.{among};
 ghost use Rattle.operations.specs.Requests.{is_census};
 ghost use Rattle.desk.specs.declared.entries.Opened.{Opened as OpenedOf};
+ghost use Rattle.desk.specs.declared.entries.Live.{Live as LiveOf};
 ghost use Rattle.desk.specs.Machine.{names_of, is_live, is_taken, without, others, live_of, none_live, has_census, awaits_census, may_open_more, may_close, finished, as_operated, is_due, is_least, targets_of, steps_of};
 ghost use Rattle.desk.specs.Refusals.{has_body, are_all, chosen, holds_target};
 ghost use Rattle.desk.specs.JobsFit.{same_ask, are_for, jobs_fit, without_first};
@@ -19,11 +20,24 @@ use std::alloc::{AllocError, Global};
 /// How many handshakes are open at most.
 pub const OPEN: usize = 4;
 
+/// Where a name is live, looked for by halves: none is missed, since live names rise.
+pub fn found_at(live: &[Live], name: u64) -> Option<usize>
+    ensures { IfSome result (λ i. (l : LiveOf) × (slice_get live.now i ≡ Some l) × (l.name ≡ name)) }
+{
+    match live.binary_search_by_key(&name, |l| l.name) {
+        Ok(index) if live[index].name == name => Some(index),
+        _ => None,
+    }
+}
+
 /// Whether a name is live.
 pub fn lives(live: &[Live], name: u64) -> bool
     ensures { result ≡ is_live name live.now }
 {
-    live.iter().any(|l| l.name == name)
+    match found_at(live, name) {
+        Some(_) => true,
+        None => live.iter().any(|l| l.name == name),
+    }
 }
 
 /// Whether a place is taken.
@@ -33,11 +47,11 @@ pub fn taken(live: &[Live], place: usize) -> bool
     live.iter().any(|l| l.place == place)
 }
 
-/// Whether a name is among these.
+/// Whether a name is among these: looked for by halves, since most lists of names rise, and then one by one.
 pub fn is_among(names: &[u64], name: u64) -> bool
     ensures { result ≡ among name names.now }
 {
-    names.iter().any(|x| *x == name)
+    names.binary_search(&name).is_ok() || names.iter().any(|x| *x == name)
 }
 
 /// Whether there is memory for one name more, where there is for its image.

@@ -1,19 +1,24 @@
 // How names stand to the open requests.
-ghost use Rattle.std.specs.Prelude.{◌≡◌, ◌&&◌, ◌<◌, map, IfSome};
+ghost use Rattle.std.specs.Prelude.{◌≡◌, ◌&&◌, ◌<◌, List, map, IfSome};
 ghost use Rattle.std.specs.List.{list_any};
 ghost use Rattle.operations.specs.Requests.{is_census};
-ghost use Rattle.desk.specs.Machine.{place_of, has_census};
+ghost use Rattle.desk.specs.Machine.{Current, names_of, place_of, has_census};
+ghost use Rattle.desk.specs.Rising.{AreRising};
 ghost use Rattle.desk.specs.Targets.{is_asked, is_owed, is_target_of, standing_at, standing_to, is_untold, is_told, is_undone, untold_in, progress_in, is_due_target, due_after, oldest, name_at};
 ghost use Rattle.desk.specs.Fields.{current_of};
 
 use crate::entries::{Live, Opened, Progress, Standing, Target};
-use crate::lists::{is_among, is_census, is_census_open};
+use crate::lists::{found_at, is_among, is_census, is_census_open};
 use operations::Request;
 
 /// Where the name is live.
 pub fn place_of(live: &[Live], name: u64) -> Option<usize>
+    requires rising { AreRising 0 (names_of live.now) }
     ensures { result ≡ place_of name live.now }
 {
+    if let Some(index) = found_at(live, name) {
+        return Some(live[index].place);
+    }
     let mut rest = live;
     while let Some((one, others)) = rest.split_first() {
         if one.name == name {
@@ -22,6 +27,17 @@ pub fn place_of(live: &[Live], name: u64) -> Option<usize>
         rest = others;
     }
     None
+}
+
+// The live names behind this one, or all where it isn't live.
+fn behind(live: &[Live], name: u64) -> &[Live]
+    requires rising { AreRising 0 (names_of live.now) }
+    ensures { (cs : List Current) → due_after name cs result.now ≡ due_after name cs live.now }
+{
+    match found_at(live, name) {
+        Some(index) => &live[index + 1..],
+        None => live,
+    }
 }
 
 /// Who is live at the place.
@@ -94,6 +110,7 @@ fn is_target_of_one<J>(opened: &[Opened<J>], next: u64, name: u64) -> bool
 
 /// How a name stands to the open requests.
 pub fn standing_to<J>(opened: &[Opened<J>], next: u64, live: &[Live], name: u64) -> Standing
+    requires rising { AreRising 0 (names_of live.now) }
     ensures { result ≡ standing_to next live.now name (map current_of opened.now) }
 {
     if opened.is_empty() {
@@ -202,9 +219,10 @@ fn is_due<J>(thread: Live, opened: &[Opened<J>]) -> bool
 
 /// The first live thread with a greater name that is due for one of the requests.
 pub fn due_after<J>(opened: &[Opened<J>], live: &[Live], name: u64) -> Option<Live>
+    requires rising { AreRising 0 (names_of live.now) }
     ensures { result ≡ due_after name (map current_of opened.now) live.now }
 {
-    let mut rest = live;
+    let mut rest = behind(live, name);
     while let Some((one, others)) = rest.split_first() {
         if name < one.name && is_due(*one, opened) {
             return Some(*one);

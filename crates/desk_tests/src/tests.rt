@@ -1,8 +1,9 @@
-//! The desk in one thread: requests up to their limits, a handshake with a job, a code's life, and a history that is full.
+//! The desk in one thread: requests up to their limits, a handshake with a job, a code's life and its replacement, and a history
+//! that is full.
 //!
 //! Each call that may want memory is made again where it is refused for that. So with any one growth refused, as
 //! `tests/hostile.py` refuses them, a test passes or ends with the error of what it was given, and no answer is another.
-ghost use Rattle.std.specs.Prelude.{◌≡◌, [], IfOk};
+ghost use Rattle.std.specs.Prelude.{◌≡◌, ◌≤◌, [], IfOk};
 ghost use Rattle.board.specs.Boards.{first_keeper, first_seat};
 ghost use Rattle.poll.specs.Rows.{first_poller};
 ghost use Rattle.operations.specs.Asks.{reply};
@@ -26,14 +27,16 @@ use std::process::Abort;
 use std::test::*;
 
 mod four;
+mod over;
 
-// A board of one place and one slot.
-fn small_board(alloc: Global) -> Result<(Board, Keeper, ThreadSeat), AllocError>
-    ensures board { IfOk result (λ t. (t.0.slots ≡ 1) × (t.0.places ≡ 1)) }
+// A board of one place and so many slots.
+fn small_board(alloc: Global, slots: usize) -> Result<(Board, Keeper, ThreadSeat), AllocError>
+    requires { slots ≤ 1024 }
+    ensures board { IfOk result (λ t. (t.0.slots ≡ slots) × (t.0.places ≡ 1)) }
     ensures keeper { IfOk result (λ t. t.1 ≡ first_keeper t.0) }
     ensures seat { IfOk result (λ t. t.2 ≡ first_seat t.0 0) }
 {
-    let (board, keeper, mut seats) = Board::new(alloc, 1, 1)?;
+    let (board, keeper, mut seats) = Board::new(alloc, 1, slots)?;
     let seat = seats.swap_remove(0);
     Ok((board, keeper, seat))
 }
@@ -51,16 +54,17 @@ fn small_desk<N: Name, J: Errand>(
     alloc: Global,
     board: &Board,
     keeper: Keeper,
+    slots: u32,
 ) -> Result<Desk<N, J>, AllocError>
     requires board { board.now ≡ N.board }
     requires keeper { keeper ≡ first_keeper board.now }
-    requires sizes { (N.board.slots ≡ 1) × (N.board.places ≡ 1) }
+    requires sizes { (N.board.slots ≡ slots) × (N.board.places ≡ 1) }
 {
-    let table = MethodTable::new(alloc, 1, 2)?;
+    let table = MethodTable::new(alloc, slots, 2)?;
     match Desk::new(alloc, table, keeper, board, 1) {
         Ok(desk) => Ok(desk),
         Err(keeper) => {
-            let table = MethodTable::new(alloc, 1, 2)?;
+            let table = MethodTable::new(alloc, slots, 2)?;
             Desk::new(alloc, table, keeper, board, 1).map_err(|_| AllocError)
         }
     }
@@ -143,7 +147,7 @@ fn ask_census<N: Name, J: Errand, R: Abort>(
     requires keeper { keeper ≡ first_keeper board }
     requires sizes { (N.board.slots ≡ 1) × (N.board.places ≡ 1) }
 {
-    let mut desk = small_desk::<N, J>(alloc, &board, keeper)?;
+    let mut desk = small_desk::<N, J>(alloc, &board, keeper, 1)?;
     for number in 1..65 {
         assert!(rt; matches!(ask(&mut desk, alloc), Ok((n, _)) if n == number));
     }
@@ -219,7 +223,7 @@ fn asked_desk<N: Name, J: Errand, R: Abort>(
     requires keeper { keeper ≡ first_keeper board.now }
     requires sizes { (N.board.slots ≡ 1) × (N.board.places ≡ 1) }
 {
-    let mut desk = small_desk::<N, J>(alloc, board, keeper)?;
+    let mut desk = small_desk::<N, J>(alloc, board, keeper, 1)?;
     assert!(rt; matches!(start(&mut desk), Ok((1, 0, _))));
     assert!(rt; matches!(desk.start(true), Err(StartFault::PlacesFull)));
     let without = desk.submit(handshake(alloc, 1)?, Vec::new(alloc));
@@ -308,7 +312,7 @@ fn reclaim_code<N: Name, J: Errand, R: Abort>(
     requires keeper { keeper ≡ first_keeper board }
     requires sizes { (N.board.slots ≡ 1) × (N.board.places ≡ 1) }
 {
-    let mut desk = small_desk::<N, J>(alloc, &board, keeper)?;
+    let mut desk = small_desk::<N, J>(alloc, &board, keeper, 1)?;
     assert!(rt;
         matches!(install(&mut desk, &board, 0), Ok((new, _)) if new.code.slot == 0 && new.code.serial == 1)
     );
@@ -363,7 +367,7 @@ fn fill<N: Name, J: Errand, R: Abort>(
     requires keeper { keeper ≡ first_keeper board }
     requires sizes { (N.board.slots ≡ 1) × (N.board.places ≡ 1) }
 {
-    let mut desk = small_desk::<N, J>(alloc, &board, keeper)?;
+    let mut desk = small_desk::<N, J>(alloc, &board, keeper, 1)?;
     for name in 1..500_001 {
         assert!(rt; start(&mut desk).is_ok() && desk.exit(name).is_ok());
     }
@@ -384,14 +388,14 @@ fn fill<N: Name, J: Errand, R: Abort>(
 
 #[test]
 fn sixty_four_requests_wait(rt: HostRuntime) -> Result<(), Fail> {
-    let (board, keeper, _seat) = small_board(rt.alloc())?;
+    let (board, keeper, _seat) = small_board(rt.alloc(), 1)?;
     ask_census::<Brand, Job, HostRuntime>(&rt, rt.alloc(), board, keeper)?;
     Ok(())
 }
 
 #[test]
 fn a_handshake_is_answered_once(rt: HostRuntime) -> Result<(), Fail> {
-    let (board, keeper, seat) = small_board(rt.alloc())?;
+    let (board, keeper, seat) = small_board(rt.alloc(), 1)?;
     let (row, poller) = small_row(rt.alloc())?;
     let call: Call = Box::new(
         rt.alloc(),
@@ -408,14 +412,14 @@ fn a_handshake_is_answered_once(rt: HostRuntime) -> Result<(), Fail> {
 
 #[test]
 fn a_code_is_reclaimed(rt: HostRuntime) -> Result<(), Fail> {
-    let (board, keeper, _seat) = small_board(rt.alloc())?;
+    let (board, keeper, _seat) = small_board(rt.alloc(), 1)?;
     reclaim_code::<Brand, Job, HostRuntime>(&rt, rt.alloc(), board, keeper)?;
     Ok(())
 }
 
 #[test]
 fn a_full_history_takes_no_entry(rt: HostRuntime) -> Result<(), Fail> {
-    let (board, keeper, _seat) = small_board(rt.alloc())?;
+    let (board, keeper, _seat) = small_board(rt.alloc(), 1)?;
     fill::<Brand, Job, HostRuntime>(&rt, rt.alloc(), board, keeper)?;
     Ok(())
 }

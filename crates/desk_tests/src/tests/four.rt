@@ -30,7 +30,7 @@ fn four_open<N: Name, J: Errand, R: Abort>(
     requires keeper { keeper ≡ first_keeper board.now }
     requires sizes { (N.board.slots ≡ 1) × (N.board.places ≡ 1) }
 {
-    let mut desk = small_desk::<N, J>(alloc, board, keeper)?;
+    let mut desk = small_desk::<N, J>(alloc, board, keeper, 1)?;
     assert!(rt; start(&mut desk).is_ok());
     for jobs in lists {
         assert!(rt; ask_one(&mut desk, alloc, jobs)?.is_ok());
@@ -122,7 +122,7 @@ fn ask_five<N: Name, J: Errand, R: Abort>(
 
 #[test]
 fn four_handshakes_are_answered_in_order_and_closed_in_any(rt: HostRuntime) -> Result<(), Fail> {
-    let (board, keeper, seat) = small_board(rt.alloc())?;
+    let (board, keeper, seat) = small_board(rt.alloc(), 1)?;
     let (row, poller) = small_row(rt.alloc())?;
     let mut lists = Vec::new(rt.alloc());
     for before in 0..5 {

@@ -1,0 +1,61 @@
+-- Looking for a live name by halves, where live names rise.
+use Rattle.std.proofs.Common.{◌≡◌, ℕ, zero, suc, ◌+◌, ◌≤◌, List, [], ◌∷◌, true, cond, Some, sym, ap, ◌∙◌, subst, arith}
+use Rattle.std.specs.Prelude.{◌&&◌, ◌||◌, ◌==◌, slice_get, slice_index_or, drop}
+use Rattle.std.specs.List.{list_any}
+use Rattle.std.proofs.lemmas.Bool.{eq-eqb, ne_eqb, le-ltb, or_right}
+use Rattle.desk.specs.declared.entries.Live.{Live}
+use Rattle.desk.specs.Machine.{State, Book, Current, names_of, is_live, place_of}
+use Rattle.desk.specs.Fields.{IsKept}
+use Rattle.desk.specs.Rising.{AreRising}
+use Rattle.desk.specs.Targets.{is_due_target, due_after}
+use Rattle.desk.proofs.Rising.{live_names_rise}
+
+-- a name of the list is no less than the least
+no_less : (least i : ℕ) (ls : List Live) (l : Live) → AreRising least (names_of ls) → slice_get ls i ≡ Some l → least ≤ l.name
+no_less least i [] l r here = cc
+no_less least zero (x ∷ ls) l r here =
+    let same : x ≡ l = cc in
+    subst (λ (y : Live). least ≤ y.name) same r.0
+no_less least (suc i) (x ∷ ls) l r here = let k = no_less (x.name + 1) i ls l r.1 here in let h = r.0 in omega arith
+
+-- a name that stands in the list is live
+pub there_lives : (name i : ℕ) (ls : List Live) (l : Live) → slice_get ls i ≡ Some l → l.name ≡ name → is_live name ls ≡ true
+there_lives name i [] l here is = cc
+there_lives name zero (x ∷ ls) l here is =
+    let same : x ≡ l = cc in
+    ap (λ b. b || is_live name ls) (eq-eqb x.name name (ap (λ (y : Live). y.name) same ∙ is))
+there_lives name (suc i) (x ∷ ls) l here is = or_right (x.name == name) (is_live name ls) (there_lives name i ls l here is)
+
+-- its place is where the name is live
+pub place_there : (least name i : ℕ) (ls : List Live) (l d : Live) → AreRising least (names_of ls) → slice_get ls i ≡ Some l → l.name ≡ name → Some (slice_index_or ls i d).place ≡ place_of name ls
+place_there least name i [] l d r here is = cc
+place_there least name zero (x ∷ ls) l d r here is =
+    let same : x ≡ l = cc in
+    sym (ap (λ b. cond b (Some x.place) (place_of name ls)) (eq-eqb x.name name (ap (λ (y : Live). y.name) same ∙ is)))
+place_there least name (suc i) (x ∷ ls) l d r here is =
+    let k = no_less (x.name + 1) i ls l r.1 here in
+    place_there (x.name + 1) name i ls l d r.1 here is
+    ∙ sym (ap (λ b. cond b (Some x.place) (place_of name ls)) (ne_eqb x.name name (λ e. absurd (omega arith))))
+
+none_until : (least name i : ℕ) (cs : List Current) (ls : List Live) (l : Live) → AreRising least (names_of ls) → slice_get ls i ≡ Some l → l.name ≡ name
+    → due_after name cs (drop (suc i) ls) ≡ due_after name cs ls
+none_until least name i cs [] l r here is = cc
+none_until least name zero cs (x ∷ ls) l r here is =
+    let same : x ≡ l = cc in
+    let low : x.name ≡ name = ap (λ (y : Live). y.name) same ∙ is in
+    sym (ap (λ b. cond (b && list_any (is_due_target x) cs) (Some x) (due_after name cs ls)) (le-ltb name x.name (omega arith)))
+none_until least name (suc i) cs (x ∷ ls) l r here is =
+    let k = no_less (x.name + 1) i ls l r.1 here in
+    none_until (x.name + 1) name i cs ls l r.1 here is
+    ∙ sym (ap (λ b. cond (b && list_any (is_due_target x) cs) (Some x) (due_after name cs ls)) (le-ltb name x.name (omega arith)))
+
+-- no greater name stands before it
+pub none_before : (least name i : ℕ) (cs : List Current) (ls : List Live) (l : Live) → AreRising least (names_of ls) → slice_get ls i ≡ Some l → l.name ≡ name
+    → due_after name cs (drop (i + 1) ls) ≡ due_after name cs ls
+none_before least name i cs ls l r here is =
+    let next : i + 1 ≡ suc i = omega arith in
+    ap (λ k. due_after name cs (drop k ls)) next ∙ none_until least name i cs ls l r here is
+
+-- the live names of a desk rise
+pub kept_rise : (slots methods : ℕ) (b : Book) (s : State) → IsKept slots methods b s → AreRising 0 (names_of s.live)
+kept_rise slots methods b s k = subst (λ (t : State). AreRising 0 (names_of t.live)) k.state (live_names_rise slots methods b.history k.legal)
