@@ -16,13 +16,15 @@ use Rattle.thread_list.specs.declared.room.BerthAct.TheVariants.{Settled, Given,
 use Rattle.thread_list.specs.declared.polls.Poll.{Poll}
 use Rattle.thread_list.specs.declared.polls.Poll.TheVariants.{Go, Stop}
 
--- What contracts see of a mutator: its name and place, its state, its body where it has it in hand, and how many methods there are.
+-- What contracts see of a mutator: its name and place, its state, its body where it has it in hand, how many methods there are, and what was
+-- done at its berth when it last gave its body away to go into native code or a wait, or got it back from there or at its start.
 pub record Running : Type 0 where
   pub name : ℕ
   pub place : ℕ
   pub methods : ℕ
   pub state : State
   pub body : Option BodyView
+  pub crossed : Acted
 
 -- The thread has its body in hand in these states. In all others that a mutator is in, the body is in its berth or held.
 abbrev pub owns : State → Bool
@@ -47,19 +49,19 @@ is_there None = false
 is_there (Some p) = true
 
 -- A thread that hasn't its body in hand has the receipt that its berth took it.
-abbrev pub IsGiven : ℕ → ℕ → Option BodyView → Option Acted → Type 0
-IsGiven name place (Some p) given = Unit {0}
-IsGiven name place None given = given ≡ Some (acted place name Given)
+abbrev pub IsGiven : ℕ → ℕ → Option BodyView → Acted → Type 0
+IsGiven name place (Some p) crossed = Unit {0}
+IsGiven name place None crossed = crossed ≡ acted place name Given
 
 -- What a mutator keeps: a body is the thread's own, the thread has it in hand in the states in which it owns itself, its name and its
 -- first body went into its berth when it started, and a body that it hasn't in hand went there since.
-pub record IsRunning (places name place : ℕ) (state : State) (body : Option BodyView) (settled : Acted) (given : Option Acted) : Type 0 where
+pub record IsRunning (places name place : ℕ) (state : State) (body : Option BodyView) (settled crossed : Acted) : Type 0 where
   pub own : IsOf name place body
   pub there : owns state ≡ true → is_there body ≡ true
   pub named : 0 < name
   pub seated : place < places
   pub settled_there : settled ≡ acted place name Settled
-  pub given_there : IsGiven name place body given
+  pub given_there : IsGiven name place body crossed
 
 -- The same thread: what no call changes.
 abbrev pub SameThread : Running → Running → Type 0

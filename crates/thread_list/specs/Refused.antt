@@ -19,6 +19,15 @@ abbrev pub HasNoFrame : Option BodyView → Type 0
 HasNoFrame None = Unit {0}
 HasNoFrame (Some p) = p.image.frames ≡ []
 
+-- The stack has room for one more frame.
+abbrev pub HasRoom : Option BodyView → Type 0
+HasRoom None = Unit {0}
+HasRoom (Some p) = length p.image.frames < 256
+
+-- What a call needs: that the thread is in Java, that there is the method, and room for its frame.
+abbrev pub call_accepted : Running → ℕ → Type 0
+call_accepted m method = (m.state ≡ InJava) × (method < m.methods) × HasRoom m.body
+
 abbrev pub call_refused : Running → ℕ → CallFault → Type 0
 call_refused m method (call.Illegal s) = (s ≡ m.state) × (m.state ≢ InJava)
 call_refused m method call.NoSuchMethod = (m.state ≡ InJava) × (m.methods ≤ method)

@@ -1,5 +1,5 @@
 //! A berth: where a thread's body is while the thread doesn't own itself.
-ghost use Rattle.std.specs.Prelude.{◌≡◌, ◌≢◌, ◌<◌, ◌^◌, [], OnOk, IfOk, IfErr, IfSome};
+ghost use Rattle.std.specs.Prelude.{◌≡◌, ◌≢◌, ◌<◌, ◌^◌, [], false, OnOk, IfOk, IfErr, IfSome};
 ghost use Rattle.frames.specs.ImageView.{IsCounted};
 ghost use Rattle.thread_list.specs.Berths.{acted, number_of};
 
@@ -145,6 +145,51 @@ impl<N: Name, J: Errand> Berth<N, J> {
         unreachable!()
     }
 
+    fn try_bring<R: Wait>(
+        &self,
+        rt: &R,
+        body: Body<N>,
+    ) -> Result<BerthReceipt<N>, (Body<N>, Option<J>)>
+        requires body { (body.seat.stored ≢ 0) × (0 < body.name) }
+        ensures ok { IfOk result (λ r. r ≡ acted body.seat.place body.name (BerthAct.Released false)) }
+        ensures err { IfErr result (λ r. (r.0 ≡ body) × IfSome r.1 (λ j. (J.whom j ≡ body.name) × (0 < J.number j))) }
+    {
+        let mut room = self.room.lock(rt);
+        if let Ok(job) = room.job(body.name()) {
+            return Err((body, Some(job)));
+        }
+        match room.release(body, false) {
+            Ok(receipt) => {
+                let wanted = room.has_sleepers();
+                drop(room);
+                self.ring(wanted);
+                Ok(receipt)
+            }
+            Err(back) => Err((back, None)),
+        }
+    }
+
+    /// A body that was taken out to serve goes back. Where its thread was told more meanwhile it doesn't, and comes back with the oldest
+    /// job.
+    pub fn bring<R: Wait>(&self, rt: &R, body: Body<N>) -> Result<BerthReceipt<N>, (Body<N>, J)>
+        requires body { (body.seat.stored ≢ 0) × (0 < body.name) }
+        ensures ok { IfOk result (λ r. r ≡ acted body.seat.place body.name (BerthAct.Released false)) }
+        ensures told { IfErr result (λ r. (r.0 ≡ body) × (J.whom r.1 ≡ body.name) × (0 < J.number r.1)) }
+    {
+        let mut body = body;
+        for _ in rt.forever() {
+            match self.try_bring(rt, body) {
+                Ok(receipt) => return Ok(receipt),
+                Err((back, told)) => match told {
+                    Some(job) => return Err((back, job)),
+                    None => body = back,
+                },
+            }
+            thread::yield_now();
+        }
+        unreachable!()
+    }
+
     /// The seat and the poller come out for a thread that starts in this place, once no thread has them.
     pub fn start<R: Wait>(&self, rt: &R, place: usize) -> SpareSeat<N>
         ensures { result.seat.place ≡ place }
@@ -170,14 +215,43 @@ impl<N: Name, J: Errand> Berth<N, J> {
         self.room.lock(rt).take(name, place)
     }
 
+    /// Takes the body of the name with its oldest job, or the receipt that there was none, where the body is here; the error is the
+    /// receipt that it wasn't.
+    pub fn take_told<R: Wait>(
+        &self,
+        rt: &R,
+        name: u64,
+        place: usize,
+    ) -> Result<(Body<N>, Result<J, BerthReceipt<N>>), BerthReceipt<N>>
+        ensures body { IfOk result (λ r. (r.0.name ≡ name) × (0 < r.0.name) × (r.0.seat.place ≡ place) × (r.0.seat.stored ≢ 0)) }
+        ensures job { IfOk result (λ r. IfOk r.1 (λ j. (J.whom j ≡ name) × (0 < J.number j))) }
+        ensures no_job { IfOk result (λ r. IfErr r.1 (λ b. (b.name ≡ name) × (b.act ≡ BerthAct.NoJob))) }
+        ensures absent { IfErr result (λ r. r ≡ acted place name BerthAct.Absent) }
+    {
+        let mut room = self.room.lock(rt);
+        let body = room.take(name, place)?;
+        let job = room.job(name);
+        Ok((body, job))
+    }
+
     /// Takes the body of the name out, once it is here and nobody holds it.
     pub fn wake<R: Wait>(&self, rt: &R, name: u64, place: usize) -> Body<N>
         ensures { (result.name ≡ name) × (0 < result.name) × (result.seat.place ≡ place) × (result.seat.stored ≢ 0) }
     {
+        let (body, _resumed) = self.resume(rt, name, place);
+        body
+    }
+
+    /// Takes the body of the name out for its thread to go on, once it is here and nobody holds it, with the receipt that what was told
+    /// to it stayed.
+    pub fn resume<R: Wait>(&self, rt: &R, name: u64, place: usize) -> (Body<N>, BerthReceipt<N>)
+        ensures body { (result.0.name ≡ name) × (0 < result.0.name) × (result.0.seat.place ≡ place) × (result.0.seat.stored ≢ 0) }
+        ensures resumed { result.1 ≡ acted place name BerthAct.Resumed }
+    {
         for _ in rt.forever() {
             let mut room = self.room.lock(rt);
-            if let Ok(body) = room.take(name, place) {
-                return body;
+            if let Some(resumed) = room.resume(name, place) {
+                return resumed;
             }
             room.note_sleeper(true);
             let mut room = self.bell.wait(rt, room);

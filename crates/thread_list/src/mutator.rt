@@ -3,7 +3,7 @@ ghost use Rattle.std.specs.Prelude.{◌≡◌, ◌≢◌, ◌<◌, ◌==◌, ◌
 ghost use Rattle.thread_state.specs.declared.State.TheVariants.{InJava as IsInJava, InVm as IsInVm};
 ghost use Rattle.bodies.specs.Bodies.{BodyView, IsCalled, IsPublished};
 ghost use Rattle.thread_list.specs.Moves.{SameThread, Polls, Leaves, is_running};
-ghost use Rattle.thread_list.specs.Refused.{call_refused, return_refused};
+ghost use Rattle.thread_list.specs.Refused.{call_accepted, call_refused, return_refused};
 
 use crate::polls::{Poll, poll_of};
 use crate::room::BerthReceipt;
@@ -24,7 +24,8 @@ pub struct Mutator<'a, N: Name, J: Errand> {
     pub(crate) state: State,
     pub(crate) body: Option<Body<N>>,
     pub(crate) settled: BerthReceipt<N>,
-    pub(crate) given: Option<BerthReceipt<N>>,
+    /// Of its last crossing at its berth: its body went in, or came out with no job.
+    pub(crate) crossed: BerthReceipt<N>,
 }
 
 impl<'a, N: Name, J: Errand> Model for Mutator<'a, N, J> {
@@ -32,9 +33,9 @@ impl<'a, N: Name, J: Errand> Model for Mutator<'a, N, J> {
 
     ghost Value = { Running };
 
-    ghost view = { λ m. record { name = m.name; place = m.place; methods = m.shared.now.methods; state = m.state; body = m.body } };
+    ghost view = { λ m. record { name = m.name; place = m.place; methods = m.shared.now.methods; state = m.state; body = m.body; crossed = m.crossed } };
 
-    ghost invariant = { λ m. IsRunning N.board.places m.name m.place m.state m.body m.settled m.given };
+    ghost invariant = { λ m. IsRunning N.board.places m.name m.place m.state m.body m.settled m.crossed };
 }
 
 /// Why a thread doesn't enter a method, in the order of the tests.
@@ -86,6 +87,7 @@ impl<'a, N: Name, J: Errand> Mutator<'a, N, J> {
     #[inline(always)]
     pub fn call(&mut self, method: u32, hint: Option<CodeId>) -> Result<Called, CallFault>
         requires slot { IfSome hint (λ c. c.slot < N.board.slots) }
+        ensures accepted { OnOk result (call_accepted self.old method) }
         ensures step { IfOk result (λ said. (old : BodyView) × (new : BodyView) × (self.old.body ≡ Some old) × (self.new.body ≡ Some new) × IsCalled old new method hint said × (new.name ≡ old.name) × (new.poller ≡ old.poller)) }
         ensures state { self.new.state ≡ self.old.state }
         ensures same { SameThread self.old self.new }
@@ -109,6 +111,7 @@ impl<'a, N: Name, J: Errand> Mutator<'a, N, J> {
     /// Returns from the method of the top frame, and polls: one load.
     #[inline(always)]
     pub fn ret(&mut self) -> Result<Poll, ReturnFault>
+        ensures accepted { OnOk result (self.old.state ≡ IsInJava) }
         ensures left { IfOk result (Leaves self.old self.new) }
         ensures same { SameThread self.old self.new }
         ensures err { IfErr result (λ e. (self.new ≡ self.old) × return_refused self.old e) }

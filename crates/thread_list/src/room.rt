@@ -1,5 +1,5 @@
 //! What a berth keeps under its lock.
-ghost use Rattle.std.specs.Prelude.{◌≡◌, ◌<◌, ◌≢◌, Some, None, [], IfOk, IfErr, OnOk, OnErr, IfSome, IfNone};
+ghost use Rattle.std.specs.Prelude.{◌≡◌, ◌<◌, ◌≢◌, Some, None, [], IfOk, IfErr, OnOk, OnErr, OnSome, IfSome, IfNone};
 ghost use Rattle.std.specs.Prelude.{◌++◌, ◌∷◌, ◌≤◌, ◌==◌, true, false, not, length, vec_capacity, if◌then◌else◌};
 ghost use Rattle.frames.specs.ImageView.{IsCounted};
 ghost use Rattle.frames.specs.BoardViews.{stored_as};
@@ -20,6 +20,8 @@ pub enum BerthAct {
     Given,
     /// The body that was held went in; whether a census was operated over it.
     Released(bool),
+    /// The body came out for its thread to go on; what was told to it stayed.
+    Resumed,
     /// The body came out to serve, with the job of this number, or with none (0).
     Served(u64),
     /// The name was taken off, and the place given up.
@@ -28,6 +30,10 @@ pub enum BerthAct {
     Absent,
     /// The name's body was here, or nothing was told to the name.
     NoJob,
+    /// A job of this number went in for the name.
+    Told(u64),
+    /// The name was marked with the census of this number.
+    Marked(u64),
 }
 
 /// That an act was done at a berth of the system of N: at which place, and for which name. Only a room makes one, where it does the
@@ -242,6 +248,19 @@ impl<N: Name, J: Errand> Room<N, J> {
         }
     }
 
+    /// The body of the name comes out for its thread to go on, where it is here and this is the place. What was told to it stays.
+    pub fn resume(&mut self, name: u64, place: usize) -> Option<(Body<N>, BerthReceipt<N>)>
+        ensures receipt { IfSome result (λ r. r.1 ≡ acted place name BerthAct.Resumed) }
+        ensures some { IfSome result (λ r. (self.old.holder ≡ IsAtHome r.0) × (r.0.name ≡ name) × (self.old.place ≡ place) × (self.new ≡ record self.old { holder = IsOut name })) }
+        ensures body { IfSome result (λ r. (r.0.seat.place ≡ place) × (0 < r.0.name) × (r.0.seat.stored ≢ 0)) }
+        ensures none { IfNone result ((self.new ≡ self.old) × (self.old.place ≡ place → (b : _) → self.old.holder ≡ IsAtHome b → b.name ≢ name)) }
+    {
+        match self.take(name, place) {
+            Ok(body) => Some((body, receipt_of(place, name, BerthAct::Resumed))),
+            Err(_) => None,
+        }
+    }
+
     // The body of the name comes out, where it is here.
     fn take_out(&mut self, name: u64) -> Option<Body<N>>
         ensures some { IfSome result (λ b. (self.old.holder ≡ IsAtHome b) × (b.name ≡ name) × (self.new ≡ record self.old { holder = IsOut name })) }
@@ -297,8 +316,9 @@ impl<N: Name, J: Errand> Room<N, J> {
 
     /// A job goes in for its target, behind those that are there. It comes back where the berth bears another name than its target's, or
     /// has no room for another job; it has room for four.
-    pub fn tell(&mut self, job: J) -> Result<(), J>
+    pub fn tell(&mut self, job: J) -> Result<BerthReceipt<N>, J>
         requires number { 0 < J.number job }
+        ensures receipt { IfOk result (λ r. r ≡ acted self.old.place (J.whom job) (BerthAct.Told (J.number job))) }
         ensures ok { OnOk result ((name_of self.old.holder ≡ J.whom job) × (self.new ≡ record self.old { jobs = self.old.jobs ++ told_of J.number J.whom job ∷ [] })) }
         ensures err { IfErr result (λ j. (j ≡ job) × (self.new ≡ self.old) × (0 < J.whom job → name_of self.old.holder ≡ J.whom job → self.old.room ≤ length self.old.jobs)) }
         ensures room { 4 ≤ self.old.room }
@@ -307,8 +327,9 @@ impl<N: Name, J: Errand> Room<N, J> {
         if name == 0 || name != job.target_of() || self.jobs.len() >= self.jobs.capacity() {
             return Err(job);
         }
+        let receipt = receipt_of(self.place, name, BerthAct::Told(job.op_of()));
         self.jobs.push_reserved(job);
-        Ok(())
+        Ok(receipt)
     }
 
     pub fn place(&self) -> usize
@@ -330,16 +351,17 @@ impl<N: Name, J: Errand> Room<N, J> {
     }
 
     /// A census that was told, until it is operated, where the berth bears this name.
-    pub fn mark(&mut self, name: u64, number: u64) -> bool
+    pub fn mark(&mut self, name: u64, number: u64) -> Option<BerthReceipt<N>>
         requires number { 0 < number }
-        ensures yes { result ≡ true → (name_of self.old.holder ≡ name) × (0 < name) × (self.new ≡ record self.old { mark = number }) }
-        ensures no { result ≡ false → (self.new ≡ self.old) × (0 < name → name_of self.old.holder ≢ name) }
+        ensures receipt { IfSome result (λ r. r ≡ acted self.old.place name (BerthAct.Marked number)) }
+        ensures yes { OnSome result ((name_of self.old.holder ≡ name) × (0 < name) × (self.new ≡ record self.old { mark = number })) }
+        ensures no { IfNone result ((self.new ≡ self.old) × (0 < name → name_of self.old.holder ≢ name)) }
     {
         if name == 0 || name != self.name() {
-            return false;
+            return None;
         }
         self.mark = number;
-        true
+        Some(receipt_of(self.place, name, BerthAct::Marked(number)))
     }
 
     /// The body that was held goes in, and the mark of an operated census goes.

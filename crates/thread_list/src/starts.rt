@@ -1,6 +1,7 @@
 //! Threads that start.
 ghost use Rattle.std.specs.Prelude.{◌≡◌, IfOk, IfErr, true, false, [], ◌<◌, OnOk, Some};
 ghost use Rattle.thread_state.specs.declared.State.TheVariants.{InJava as IsInJava};
+ghost use Rattle.thread_list.specs.Berths.{acted};
 ghost use Rattle.desk.specs.declared.entries.Entry.{Entry};
 ghost use Rattle.desk.specs.Machine.{State as DeskState, Book};
 ghost use Rattle.desk.specs.Refusals.{start_refused};
@@ -8,6 +9,7 @@ ghost use Rattle.bodies.specs.Bodies.{BodyView};
 ghost use Rattle.thread_state.specs.declared.poll_rule.Deed.TheVariants.{Load};
 
 use crate::mutator::Mutator;
+use crate::room::BerthAct;
 use crate::serving::served;
 use crate::shared::Shared;
 use bodies::{Body, Name};
@@ -28,6 +30,7 @@ impl<N: Name, J: Errand> Shared<N, J> {
     ) -> Result<(Mutator<'_, N, J>, Receipt<N>), StartFault>
         ensures started { IfOk result (λ r. (r.0.state ≡ IsInJava) × (r.1.entry ≡ Entry.Start r.0.name r.0.place)) }
         ensures methods { IfOk result (λ r. r.0.methods ≡ self.now.methods) }
+        ensures resumed { IfOk result (λ r. r.0.crossed ≡ acted r.0.place r.0.name BerthAct.Resumed) }
         ensures goes_on { IfOk result (λ r. (body : BodyView) × (r.0.body ≡ Some body) × (body.poller.last ≡ Load 0)) }
         ensures refused { IfErr result (λ e. (s : DeskState) × (book : Book) × start_refused s N.board.places book e) }
     {
@@ -38,7 +41,7 @@ impl<N: Name, J: Errand> Shared<N, J> {
         let mut body = Body::new(name, image, berth.start(rt, place));
         body.publish(self.board());
         let settled = berth.settle(rt, body);
-        let mut body = berth.wake(rt, name, place);
+        let (mut body, crossed) = berth.resume(rt, name, place);
         if body.poll(self.row()) != 0 {
             (body, _) = served(rt, self, body);
         }
@@ -49,7 +52,7 @@ impl<N: Name, J: Errand> Shared<N, J> {
             state: State::InJava,
             body: Some(body),
             settled,
-            given: None,
+            crossed,
         };
         Ok((mutator, receipt))
     }

@@ -55,10 +55,11 @@ impl<'a, N: Name, J: Errand> Mutator<'a, N, J> {
         Ok(())
     }
 
-    /// Back from native code: the body comes out of its berth once nobody holds it, and the thread polls. A thread that isn't in
-    /// native code is refused with its state.
+    /// Back from native code: the body comes out of its berth once nobody holds it, without what was told to it, and the thread
+    /// polls. A thread that isn't in native code is refused with its state.
     pub fn from_native<R: Wait>(&mut self, rt: &R) -> Result<Poll, State>
         ensures ok { IfOk result (λ said. (back : WayBack) × (self.old.state ≡ IsInNative back) × ComesBack self.new (IsNativeTrans back) said) }
+        ensures resumed { OnOk result (self.new.crossed ≡ acted self.old.place self.old.name BerthAct.Resumed) }
         ensures same { SameThread self.old self.new }
         ensures err { IfErr result (λ s. (s ≡ self.old.state) × ((back : WayBack) → s ≢ IsInNative back) × (self.new ≡ self.old)) }
     {
@@ -82,10 +83,11 @@ impl<'a, N: Name, J: Errand> Mutator<'a, N, J> {
         Ok(())
     }
 
-    /// Back from a wait: the body comes out of its berth once nobody holds it, and the thread polls. A thread that isn't blocked is
-    /// refused with its state.
+    /// Back from a wait: the body comes out of its berth once nobody holds it, without what was told to it, and the thread polls. A
+    /// thread that isn't blocked is refused with its state.
     pub fn unblock<R: Wait>(&mut self, rt: &R) -> Result<Poll, State>
         ensures ok { IfOk result (λ said. (self.old.state ≡ IsBlocked) × ComesBack self.new IsBlockedTrans said) }
+        ensures resumed { OnOk result (self.new.crossed ≡ acted self.old.place self.old.name BerthAct.Resumed) }
         ensures same { SameThread self.old self.new }
         ensures err { IfErr result (λ s. (s ≡ self.old.state) × (s ≢ IsBlocked) × (self.new ≡ self.old)) }
     {
@@ -128,19 +130,19 @@ impl<'a, N: Name, J: Errand> Mutator<'a, N, J> {
         };
         self.state = to;
         let berth = self.shared.berth_of(&body);
-        self.given = Some(berth.give(rt, body));
+        self.crossed = berth.give(rt, body);
     }
 
     // The body comes out of its berth, and the thread polls: it goes on where the way back leads, or stops there.
     fn come_back<R: Wait>(&mut self, rt: &R, back: Back) -> Poll
         ensures polled { GoesBack self.new back result }
+        ensures resumed { self.new.crossed ≡ acted self.old.place self.old.name BerthAct.Resumed }
         ensures same { SameThread self.old self.new }
     {
-        let mut body = self
-            .shared
-            .berth(self.place)
-            .wake(rt, self.name, self.place);
+        let berth = self.shared.berth(self.place);
+        let (mut body, resumed) = berth.resume(rt, self.name, self.place);
         let found = body.poll(self.shared.row());
+        self.crossed = resumed;
         self.body = Some(body);
         self.state = if found == 0 {
             state_of(back)
@@ -156,7 +158,7 @@ impl<'a, N: Name, J: Errand> Mutator<'a, N, J> {
     pub fn exit<R: Wait>(self, rt: &R) -> Result<Exited<N>, (ExitFault, Mutator<'a, N, J>)>
         ensures exited { IfOk result (λ r. (r.exit.entry ≡ Entry.Exit self.entry.name) × (is_running self.entry.state ≡ true) × HasNoFrame self.entry.body) }
         ensures vacated { IfOk result (λ r. r.vacated ≡ acted self.entry.place self.entry.name BerthAct.Vacated) }
-        ensures refused { IfErr result (λ e. ((e.1 ≡ self.entry) × exit_refused self.entry e.0) ⊎ (HasNoFrame self.entry.body × (e.0 ≡ ExitFault.StackNotEmpty) × (e.1.state ≡ IsInJava) × SameThread self.entry e.1 × exit_refused e.1 e.0)) }
+        ensures refused { IfErr result (λ e. ((e.1 ≡ self.entry) × exit_refused self.entry e.0) ⊎ ((is_running self.entry.state ≡ true) × HasNoFrame self.entry.body × (e.0 ≡ ExitFault.StackNotEmpty) × (e.1.state ≡ IsInJava) × SameThread self.entry e.1 × exit_refused e.1 e.0)) }
     {
         if !is_running(self.state) {
             return Err((ExitFault::Illegal(self.state), self));
@@ -171,7 +173,7 @@ impl<'a, N: Name, J: Errand> Mutator<'a, N, J> {
             state: _,
             body,
             settled,
-            given: _,
+            crossed,
         } = self;
         let Some(body) = body else { unreachable!() };
         match vacate(rt, shared, body) {
@@ -184,7 +186,7 @@ impl<'a, N: Name, J: Errand> Mutator<'a, N, J> {
                     state: State::InJava,
                     body: Some(body),
                     settled,
-                    given: None,
+                    crossed,
                 };
                 Err((ExitFault::StackNotEmpty, back))
             }
