@@ -1,4 +1,5 @@
 mod Held
+mod HoldsMore
 mod Each
 mod Holdings
 mod Closed

@@ -7,7 +7,7 @@ use Rattle.coordinator.specs.declared.faults.Told.TheVariants as told
 use Rattle.coordinator.specs.declared.faults.TellFault.{TellFault}
 use Rattle.coordinator.specs.Refused.{tell_said, tell_stays}
 
-pub staying : (s : State) (name : ℕ) (armer : Arming) (said : Result Told TellFault) → tell_stays s name armer said → tell_said name armer armer said
-staying s name armer (Ok told.Told) stays = cc
+pub staying : {N : Type 0} (s : State) (name : ℕ) (armer : Arming) (said : Result (Told N) TellFault) → tell_stays s name armer said → tell_said name armer armer said
+staying s name armer (Ok (told.Told r)) stays = cc
 staying s name armer (Ok told.Gone) stays = (s, (stays, refl))
 staying s name armer (Err fault) stays = (s, stays, refl)

@@ -24,9 +24,16 @@ use Rattle.coordinator.specs.declared.faults.HoldFault.{HoldFault}
 use Rattle.coordinator.specs.declared.faults.HoldFault.TheVariants as hold
 use Rattle.coordinator.specs.declared.faults.ServeFault.{ServeFault}
 use Rattle.coordinator.specs.declared.faults.ServeFault.TheVariants as serve
+use Rattle.coordinator.specs.declared.faults.ReleaseFault.{ReleaseFault}
+use Rattle.coordinator.specs.declared.faults.ReleaseFault.TheVariants as release
+use Rattle.coordinator.specs.declared.holding.Unheld.{Unheld}
+use Rattle.coordinator.specs.declared.holding.Unheld.TheVariants as unheld
 use Rattle.coordinator.specs.declared.faults.OperateFault.{OperateFault}
 use Rattle.coordinator.specs.declared.faults.OperateFault.TheVariants as operate
 use Rattle.coordinator.specs.Holding.{Holding, is_held, StandsAt, IsServed}
+use Rattle.thread_list.specs.Berths.{acted}
+use Rattle.thread_list.specs.declared.room.BerthAct.{BerthAct}
+use Rattle.thread_list.specs.declared.room.BerthAct.TheVariants as berth
 
 -- The name stands to the open requests as this target.
 abbrev pub IsAsked : State → ℕ → Target → Type 0
@@ -41,9 +48,15 @@ IsUntold s name armer t number = IsAsked s name t × (untold s name (slice_index
 abbrev pub WasTold : State → ℕ → Arming → Target → Type 0
 WasTold s name armer t = IsAsked s name t × (untold s name (slice_index armer.armed t.place) ≡ None)
 
--- Telling arms the place of a target with the oldest that it wasn't told, and no other place.
-abbrev pub tells : State → ℕ → Arming → Arming → Told → Type 0
-tells s name old new told.Told = (t : Target) × (number : ℕ) × IsUntold s name old t number × (new ≡ armed_with old t.place number)
+-- What goes into the berth of a target: the mark of a census, or its job.
+abbrev pub told_act : Bool → ℕ → BerthAct
+told_act true number = berth.Marked number
+told_act false number = berth.Told number
+
+-- Telling puts the oldest request that a target wasn't told into its berth, arms its place with that number, and no other place.
+abbrev pub tells : {N : Type 0} → State → ℕ → Arming → Arming → Told N → Type 0
+tells s name old new (told.Told r)
+    = (t : Target) × (number : ℕ) × IsUntold s name old t number × (new ≡ armed_with old t.place number) × (r ≡ acted t.place name (told_act t.is_census number))
 tells s name old new told.Gone = (standing s name ≡ stand.Gone) × (new ≡ old)
 
 abbrev pub tell_refused : State → ℕ → Arming → TellFault → Type 0
@@ -51,13 +64,13 @@ tell_refused s name armer tell.NothingOpen = standing s name ≡ stand.NothingOp
 tell_refused s name armer tell.NotOf = standing s name ≡ stand.NotOf
 tell_refused s name armer tell.AlreadyTold = (t : Target) × WasTold s name armer t
 
-abbrev pub tell_said : ℕ → Arming → Arming → Result Told TellFault → Type 0
+abbrev pub tell_said : {N : Type 0} → ℕ → Arming → Arming → Result (Told N) TellFault → Type 0
 tell_said name old new (Ok told) = (s : State) × tells s name old new told
 tell_said name old new (Err fault) = (s : State) × tell_refused s name old fault × (new ≡ old)
 
 -- What telling comes to where nothing is armed.
-abbrev pub tell_stays : State → ℕ → Arming → Result Told TellFault → Type 0
-tell_stays s name armer (Ok told.Told) = true ≡ false
+abbrev pub tell_stays : {N : Type 0} → State → ℕ → Arming → Result (Told N) TellFault → Type 0
+tell_stays s name armer (Ok (told.Told r)) = true ≡ false
 tell_stays s name armer (Ok told.Gone) = standing s name ≡ stand.Gone
 tell_stays s name armer (Err fault) = tell_refused s name armer fault
 
@@ -84,6 +97,19 @@ hold_refused c places place hold.AlreadyDone = (place < places) × IsFaultOf c p
 hold_refused c places place hold.Held = (place < places) × IsFaultOf c place None × (is_held place c.held ≡ true)
 hold_refused c places place hold.NotSafe = (place < places) × IsFaultOf c place None × (is_held place c.held ≡ false)
 
+-- Why a thread isn't held: a fault that isn't NotSafe, or the receipt that the body of the thread that may be held wasn't in its berth.
+abbrev pub IsUnheld : {N : Type 0} → Holding → ℕ → ℕ → Unheld N → Type 0
+IsUnheld c places place (unheld.Fault fault) = hold_refused c places place fault × (fault ≢ hold.NotSafe)
+IsUnheld c places place (unheld.NotSafe receipt)
+    = (place < places) × (is_held place c.held ≡ false)
+    × ((s : State) × (name : ℕ) × (name_at place s.live ≡ Some name) × (hold_fault (standing s name) (progress s name (slice_index c.armer.armed place)) ≡ None) × (receipt ≡ acted place name berth.Absent))
+
+-- Why a place has no held thread: there is no such place, no live thread has it, or its thread isn't held.
+abbrev pub HasNoHeld : ℕ → ℕ → ReleaseFault → Type 0
+HasNoHeld places place release.NoSuchPlace = places ≤ place
+HasNoHeld places place release.Vacant = (place < places) × ((s : State) × (name_at place s.live ≡ None))
+HasNoHeld places place release.NotHeld = (place < places) × ((s : State) × (name : ℕ) × (name_at place s.live ≡ Some name))
+
 -- Holding takes the body of the place, behind those that are held.
 abbrev pub Holds : Holding → Holding → ℕ → Type 0
 Holds old new place
@@ -108,10 +134,16 @@ abbrev pub IsServeFault : Holding → ℕ → ℕ → Option ServeFault → Type
 IsServeFault c index place fault
     = (s : State) × (body : BodyView) × (slice_get c.held index ≡ Some body) × (serve_fault (standing s body.name) (progress s body.name (slice_index c.armer.armed place)) ≡ fault)
 
--- Why the thread of a place isn't served: it isn't held, or else the desk says so.
-abbrev pub serve_refused : Holding → ℕ → ServeFault → Type 0
-serve_refused c place fault
-    = ((fault ≡ serve.NotHeld) × (is_held place c.held ≡ false)) ⊎ ((index : ℕ) × (body : BodyView) × StandsAt c.held index place body × IsServeFault c index place (Some fault))
+-- Why the thread of a place that has no held one isn't served.
+abbrev pub unserved : ReleaseFault → ServeFault
+unserved release.NoSuchPlace = serve.NoSuchPlace
+unserved release.Vacant = serve.Vacant
+unserved release.NotHeld = serve.NotHeld
+
+-- Why the thread of a place isn't served: the place has no held one, or else the desk says so.
+abbrev pub serve_refused : Holding → ℕ → ℕ → ServeFault → Type 0
+serve_refused c places place fault
+    = ((is_held place c.held ≡ false) × ((why : ReleaseFault) × HasNoHeld places place why × (fault ≡ unserved why))) ⊎ ((index : ℕ) × (body : BodyView) × StandsAt c.held index place body × IsServeFault c index place (Some fault))
 
 -- Serving the body at the index runs a job on it and enters what the job answered, by the ask on its frames; the others stay.
 abbrev pub Serves : Holding → Holding → ℕ → Entry → Type 0

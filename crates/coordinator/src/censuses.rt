@@ -5,7 +5,7 @@ ghost use Rattle.bodies.specs.Census.{IsCensus};
 ghost use Rattle.desk.specs.declared.entries.Entry.{Entry};
 ghost use Rattle.desk.specs.Machine.{State as DeskState};
 ghost use Rattle.desk.specs.Fields.{Enters, at};
-ghost use Rattle.desk.specs.Refusals.{AreSettled, are_all};
+ghost use Rattle.desk.specs.Refusals.{AreSettled, are_all, MayOperate};
 ghost use Rattle.coordinator.specs.Holding.{AreHeld, AreEach, IsCleared, IsOperated};
 ghost use Rattle.coordinator.specs.Refused.{census_refused};
 
@@ -55,6 +55,7 @@ fn operate_over<N: Name, J: Errand>(
     requires board { board.now ≡ N.board }
     requires few { length bodies.old.items ≤ 64 }
     ensures entered { IfOk result (λ r. Enters desk.old desk.new (Entry.Operate r.0) r.2) }
+    ensures may { OnOk result (MayOperate (at desk.old) bodies.old.items) }
     ensures all { OnOk result (are_all (at desk.old).live bodies.new.items ≡ true) }
     ensures published { OnOk result (AreEach IsPublished bodies.old.items bodies.new.items) }
     ensures counted { IfOk result (λ r. IsCensus bodies.new.items r.1.items) }
@@ -83,6 +84,7 @@ impl<'a, N: Name, J: Errand> Coordinator<'a, N, J> {
         rt: &R,
     ) -> Result<(u64, Vec<(u64, u32)>, Receipt<N>), OperateFault>
         ensures operated { IfOk result (λ r. r.2.entry ≡ Entry.Operate r.0) }
+        ensures all { OnOk result ((s : DeskState) × MayOperate s self.old.held) }
         ensures counted { IfOk result (λ r. IsCensus self.new.held r.1.items) }
         ensures held { IfOk result (λ r. AreEach (IsOperated r.0) self.old.held self.new.held) }
         ensures others { OnOk result ((self.new.armer ≡ self.old.armer) × (self.new.operated ≡ true)) }
@@ -99,6 +101,7 @@ impl<'a, N: Name, J: Errand> Coordinator<'a, N, J> {
         rt: &R,
     ) -> Result<(u64, Vec<(u64, u32)>, Receipt<N>), OperateFault>
         ensures operated { IfOk result (λ r. r.2.entry ≡ Entry.Operate r.0) }
+        ensures all { OnOk result ((s : DeskState) × MayOperate s self.old.held) }
         ensures counted { IfOk result (λ r. IsCensus self.new.held r.1.items) }
         ensures published { OnOk result (AreEach IsPublished self.old.held self.new.held) }
         ensures others { (self.new.armer ≡ self.old.armer) × (self.new.operated ≡ self.old.operated) }

@@ -8,8 +8,9 @@ ghost use Rattle.coordinator.specs.Holding.{held_nothing};
 ghost use Rattle.coordinator.specs.Refused.{MayClose, not_closed};
 
 use crate::teller::Teller;
+use crate::telling::Untold;
 use bodies::{Body, Name};
-use desk::{CloseFault, OpenFault, Receipt};
+use desk::{CloseFault, Live, OpenFault, Receipt};
 use operations::job::Errand;
 use poll::Armer;
 use std::alloc::Global;
@@ -20,7 +21,7 @@ use thread_list::Shared;
 /// Works on requests. There is one for what threads share, since it has the one armer.
 ///
 /// Contracts see the bodies that it holds in the order in which it took them, what the armer knows, and whether the open census is
-/// operated.
+/// operated. Beside that it has room for two lists, which `drive` fills under the desk's lock and goes through without it.
 #[derive(Drop)]
 pub struct Coordinator<'a, N: Name, J: Errand> {
     pub(crate) shared: &'a Shared<N, J>,
@@ -29,6 +30,8 @@ pub struct Coordinator<'a, N: Name, J: Errand> {
     pub(crate) places: usize,
     pub(crate) bodies: Vec<Body<N>>,
     pub(crate) operated: bool,
+    pub(crate) untold: Vec<Untold<J>>,
+    pub(crate) due: Vec<Live>,
 }
 
 impl<'a, N: Name, J: Errand> Model for Coordinator<'a, N, J> {
@@ -58,6 +61,12 @@ impl<'a, N: Name, J: Errand> Coordinator<'a, N, J> {
         let Ok(bodies) = Vec::with_capacity(alloc, places) else {
             return Err(armer);
         };
+        let Ok(untold) = Vec::with_capacity(alloc, places) else {
+            return Err(armer);
+        };
+        let Ok(due) = Vec::with_capacity(alloc, places) else {
+            return Err(armer);
+        };
         Ok(Coordinator {
             shared,
             alloc,
@@ -65,6 +74,8 @@ impl<'a, N: Name, J: Errand> Coordinator<'a, N, J> {
             places,
             bodies,
             operated: false,
+            untold,
+            due,
         })
     }
 

@@ -11,9 +11,9 @@ ghost use Rattle.coordinator.specs.Receipts.{IsAttended};
 ghost use Rattle.thread_list.specs.Berths.{acted};
 
 use crate::coordinator::Coordinator;
-use crate::faults::{DriveFault, Driven, OperateFault, Told};
+use crate::faults::{DriveFault, Driven, OperateFault};
 use crate::holding::is_held;
-use crate::serving::{serve_body, serve_told};
+use crate::serving::{bring_back, serve_body};
 use bodies::{Body, Name, census_of};
 use desk::{Desk, Live, Progress, Receipt};
 use operations::job::Errand;
@@ -50,25 +50,41 @@ fn open_or_go_on<N: Name, J: Errand>(desk: &mut Desk<N, J>) -> Result<Option<boo
     }
 }
 
-// A thread that is due, and the number of the oldest open request where it is due for that, else 0.
-#[derive(Drop)]
-struct Due {
-    who: Live,
-    number: u64,
+// Lists each thread that is due for an open request, or for the oldest of them alone, in the order of their names, as far as there is
+// room.
+fn list_due<N: Name, J: Errand>(
+    desk: &Desk<N, J>,
+    places: usize,
+    of_oldest: bool,
+    list: &mut Vec<Live>,
+) {
+    let mut above = 0;
+    for _ in 0..places {
+        let next = if of_oldest {
+            desk.next_awaited(above)
+        } else {
+            desk.next_due(above)
+        };
+        let Some(who) = next else {
+            return;
+        };
+        above = who.name;
+        if list.len() >= list.capacity() {
+            return;
+        }
+        list.push_reserved(who);
+    }
 }
 
-// The least name above this one that is due for an open request, or for the oldest of them alone.
-fn due_above<N: Name, J: Errand>(desk: &Desk<N, J>, name: u64, of_oldest: bool) -> Option<Due> {
-    let who = if of_oldest {
-        desk.next_awaited(name)?
-    } else {
-        desk.next_due(name)?
-    };
-    let number = match desk.progress(who.name, u64::MAX) {
-        Progress::Undone(number) if of_oldest || is_awaited(desk, who.name) => number,
-        _ => 0,
-    };
-    Some(Due { who, number })
+// The number of the oldest open request where the thread of the name is due for that, else 0.
+fn awaited_of<N: Name, J: Errand>(desk: &Desk<N, J>, name: u64) -> u64 {
+    if !is_awaited(desk, name) {
+        return 0;
+    }
+    match desk.progress(name, u64::MAX) {
+        Progress::Undone(number) => number,
+        Progress::Done | Progress::NotTold => 0,
+    }
 }
 
 // Whether the thread of the name is due for the oldest open request.
@@ -137,42 +153,20 @@ impl<'a, N: Name, J: Errand> Coordinator<'a, N, J> {
         Ok(begun)
     }
 
-    // The least name above this one that is due for an open request, with its place.
-    fn next_due<R: Wait>(&self, rt: &R, name: u64) -> Option<Live> {
-        let _ = &self.bodies;
-        self.shared.desk().lock(rt).next_due(name)
+    // Lists each thread that is due for an open request, or for the oldest of them alone, under one hold of the desk's lock.
+    fn list_due<R: Wait>(&mut self, rt: &R, of_oldest: bool)
+        ensures { self.new ≡ self.old }
+    {
+        self.due.clear();
+        let desk = self.shared.desk().lock(rt);
+        list_due(&desk, self.places, of_oldest, &mut self.due);
     }
 
-    // The same, or for the oldest open request alone, with the number of that where it is due for it.
-    fn next_undone<R: Wait>(&self, rt: &R, name: u64, of_oldest: bool) -> Option<Due> {
+    // The number of the oldest open request where the thread of the name is due for that, else 0.
+    fn awaited<R: Wait>(&self, rt: &R, name: u64) -> u64 {
         let _ = &self.bodies;
         let desk = self.shared.desk().lock(rt);
-        due_above(&desk, name, of_oldest)
-    }
-
-    // Tells each target of each open request.
-    pub(crate) fn tell_all<R: Wait>(&mut self, rt: &R)
-        ensures { (self.new.held ≡ self.old.held) × (self.new.operated ≡ self.old.operated) }
-    {
-        let mut name = 0;
-        for _ in rt.forever() {
-            let Some(due) = self.next_due(rt, name) else {
-                return;
-            };
-            name = due.name;
-            self.tell_whole(rt, name);
-        }
-    }
-
-    // Tells a name all that it wasn't told.
-    fn tell_whole<R: Wait>(&mut self, rt: &R, name: u64)
-        ensures { (self.new.held ≡ self.old.held) × (self.new.operated ≡ self.old.operated) }
-    {
-        for _ in rt.forever() {
-            let Ok(Told::Told) = self.tell(rt, name) else {
-                return;
-            };
-        }
+        awaited_of(&desk, name)
     }
 
     // Serves the targets, one at a time, until the oldest open handshake is closed.
@@ -196,26 +190,31 @@ impl<'a, N: Name, J: Errand> Coordinator<'a, N, J> {
 
     // Serves each target that is due for an open request, or to the end for the oldest, in the order of their names. Answers how many
     // spins are left.
-    pub(crate) fn serve_all<R: Wait>(&self, rt: &R, spins: u32, to_the_end: bool) -> u32 {
+    pub(crate) fn serve_all<R: Wait>(&mut self, rt: &R, spins: u32, to_the_end: bool) -> u32
+        ensures { self.new ≡ self.old }
+    {
+        self.list_due(rt, to_the_end);
+        self.serve_listed(rt, spins, to_the_end)
+    }
+
+    fn serve_listed<R: Wait>(&self, rt: &R, spins: u32, to_the_end: bool) -> u32 {
         let mut left = spins;
-        let mut name = 0;
-        for _ in rt.forever() {
-            let Some(due) = self.next_undone(rt, name, to_the_end) else {
-                return left;
-            };
-            name = due.who.name;
-            left = self.serve_due(rt, due, left, to_the_end);
+        for who in self.due.as_slice() {
+            left = self.serve_due(rt, *who, left, to_the_end);
         }
-        unreachable!()
+        left
     }
 
     // Serves a target at once where its body is in its berth, and else, where the oldest open request is of it, once it is there. A
     // target that comes for what it was told serves itself, and is waited for only to the end: what another runs until then may wait
     // for those that come after it. It waits without a lock as far as the spins that are left go, and then asleep. Answers how many
     // are left.
-    fn serve_due<R: Wait>(&self, rt: &R, due: Due, spins: u32, to_the_end: bool) -> u32 {
-        let Due { who, number } = due;
-        if who.place >= self.places || self.serve_at(rt, who).is_ok() || number == 0 {
+    fn serve_due<R: Wait>(&self, rt: &R, who: Live, spins: u32, to_the_end: bool) -> u32 {
+        if who.place >= self.places || self.serve_at(rt, who).is_ok() {
+            return spins;
+        }
+        let number = self.awaited(rt, who.name);
+        if number == 0 {
             return spins;
         }
         let left = self.spin(who.place, spins);
@@ -248,17 +247,15 @@ impl<'a, N: Name, J: Errand> Coordinator<'a, N, J> {
         ensures attended { IfOk result (λ a. IsAttended due.place due.name a.done a.back) }
         ensures absent { IfErr result (λ r. r ≡ acted due.place due.name BerthAct.Absent) }
     {
-        let berth = self.shared.berth(due.place);
-        let mut body = berth.take(rt, due.name, due.place)?;
-        let done = match berth.job(rt, due.name) {
-            Ok(job) => {
-                let first = serve_body(rt, self.shared, &mut body, job);
-                serve_told(rt, self.shared, &mut body);
-                Ok(first)
-            }
+        let (mut body, told) = self
+            .shared
+            .berth(due.place)
+            .take_told(rt, due.name, due.place)?;
+        let done = match told {
+            Ok(job) => Ok(serve_body(rt, self.shared, &mut body, job)),
             Err(none) => Err(none),
         };
-        let back = berth.release(rt, body, false);
+        let back = bring_back(rt, self.shared, body);
         Ok(Attended { done, back })
     }
 
@@ -309,12 +306,12 @@ impl<'a, N: Name, J: Errand> Coordinator<'a, N, J> {
     fn hold_all<R: Wait>(&mut self, rt: &R)
         ensures { HoldsOn self.old self.new }
     {
-        let mut name = 0;
+        self.list_due(rt, false);
+        self.due.reverse();
         for _ in rt.forever() {
-            let Some(due) = self.next_due(rt, name) else {
+            let Some(due) = self.due.pop() else {
                 return;
             };
-            name = due.name;
             self.hold_at(rt, due);
         }
     }

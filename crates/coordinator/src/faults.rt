@@ -2,12 +2,13 @@
 //! here.
 use bodies::Name;
 use desk::Receipt;
+use thread_list::BerthReceipt;
 
 /// What telling a name came to.
-#[derive(Drop, Clone, Copy, PartialEq, Eq, Debug)]
-pub enum Told {
-    /// The thread stops at its next poll.
-    Told,
+#[derive(Drop)]
+pub enum Told<N: Name> {
+    /// The thread stops at its next poll. The receipt says that its berth has the job, or the mark of the census.
+    Told(BerthReceipt<N>),
     /// No thread of the name was live at the Open of a request that is of it, and is live; nothing was done.
     Gone,
 }
@@ -43,13 +44,22 @@ pub enum HoldFault {
     NotSafe,
 }
 
-/// The coordinator doesn't hold the thread of the place.
+/// Why the thread of a place isn't released.
 #[derive(Drop, Clone, Copy, PartialEq, Eq, Debug)]
-pub struct NotHeld;
+pub enum ReleaseFault {
+    NoSuchPlace,
+    /// No live thread has the place.
+    Vacant,
+    /// The coordinator doesn't hold the thread of the place.
+    NotHeld,
+}
 
-/// Why a held thread isn't served.
+/// Why the thread of a place isn't served.
 #[derive(Drop, Clone, Copy, PartialEq, Eq, Debug)]
 pub enum ServeFault {
+    NoSuchPlace,
+    /// No live thread has the place.
+    Vacant,
     /// The coordinator doesn't hold the thread of the place.
     NotHeld,
     /// No request is open.

@@ -5,15 +5,22 @@ ghost use Rattle.desk.specs.Targets.{standing, progress, name_at};
 ghost use Rattle.desk.specs.Fields.{at};
 ghost use Rattle.coordinator.specs.Holding.{is_held, StandsAt};
 ghost use Rattle.coordinator.specs.Receipts.{Releases};
-ghost use Rattle.coordinator.specs.Refused.{Holds, hold_fault, hold_refused};
+ghost use Rattle.coordinator.specs.Refused.{Holds, hold_fault, hold_refused, IsUnheld, HasNoHeld};
 
 use crate::coordinator::Coordinator;
-use crate::faults::{HoldFault, NotHeld};
+use crate::faults::{HoldFault, ReleaseFault};
 use bodies::{Body, Name};
 use desk::{Desk, Progress, Standing};
 use operations::job::Errand;
 use std::sync::Wait;
 use thread_list::BerthReceipt;
+
+/// Why a thread isn't held: by a fault that was found before, or since it isn't safe, by the receipt that its body isn't in its berth.
+#[derive(Drop)]
+pub enum Unheld<N: Name> {
+    Fault(HoldFault),
+    NotSafe(BerthReceipt<N>),
+}
 
 /// Where the body of the place stands.
 pub fn index_of<N: Name>(bodies: &[Body<N>], place: usize) -> Option<usize>
@@ -74,27 +81,41 @@ impl<'a, N: Name, J: Errand> Coordinator<'a, N, J> {
         ensures held { OnOk result (Holds self.old self.new place) }
         ensures refused { IfErr result (λ e. hold_refused self.old N.board.places place e × (self.new ≡ self.old)) }
     {
+        match self.take_safe(rt, place) {
+            Ok(()) => Ok(()),
+            Err(Unheld::Fault(fault)) => Err(fault),
+            Err(Unheld::NotSafe(_)) => Err(HoldFault::NotSafe),
+        }
+    }
+
+    // The same, with the receipt of its berth where the thread isn't safe.
+    fn take_safe<R: Wait>(&mut self, rt: &R, place: usize) -> Result<(), Unheld<N>>
+        ensures held { OnOk result (Holds self.old self.new place) }
+        ensures refused { IfErr result (λ e. IsUnheld self.old N.board.places place e × (self.new ≡ self.old)) }
+    {
         if place >= self.places {
-            return Err(HoldFault::NoSuchPlace);
+            return Err(Unheld::Fault(HoldFault::NoSuchPlace));
         }
         let last = self.armer.last(place);
         let desk = self.shared.desk().lock(rt);
         let found = fault_at(&desk, place, last);
         drop(desk);
         let Some((name, fault)) = found else {
-            return Err(HoldFault::Vacant);
+            return Err(Unheld::Fault(HoldFault::Vacant));
         };
         if let Some(fault) = fault {
-            return Err(fault);
+            return Err(Unheld::Fault(fault));
         }
         if is_held(self.bodies.as_slice(), place) {
-            return Err(HoldFault::Held);
+            return Err(Unheld::Fault(HoldFault::Held));
         }
-        let Ok(body) = self.shared.berth(place).take(rt, name, place) else {
-            return Err(HoldFault::NotSafe);
-        };
-        self.keep(body);
-        Ok(())
+        match self.shared.berth(place).take(rt, name, place) {
+            Ok(body) => {
+                self.keep(body);
+                Ok(())
+            }
+            Err(absent) => Err(Unheld::NotSafe(absent)),
+        }
     }
 
     // A body that was taken out of its berth is held.
@@ -107,13 +128,33 @@ impl<'a, N: Name, J: Errand> Coordinator<'a, N, J> {
         self.bodies.push_reserved(body);
     }
 
+    // Why a place has no held thread: there is no such place, no live thread has it, or its thread isn't held.
+    pub(crate) fn unheld<R: Wait>(&self, rt: &R, place: usize) -> ReleaseFault
+        ensures { HasNoHeld N.board.places place result }
+    {
+        if place >= self.places {
+            return ReleaseFault::NoSuchPlace;
+        }
+        let desk = self.shared.desk().lock(rt);
+        let found = desk.name_at(place);
+        drop(desk);
+        match found {
+            None => ReleaseFault::Vacant,
+            Some(_) => ReleaseFault::NotHeld,
+        }
+    }
+
     /// Brings the body of a held thread back into its berth. Answers the receipt that it is there.
-    pub fn release<R: Wait>(&mut self, rt: &R, place: usize) -> Result<BerthReceipt<N>, NotHeld>
+    pub fn release<R: Wait>(
+        &mut self,
+        rt: &R,
+        place: usize,
+    ) -> Result<BerthReceipt<N>, ReleaseFault>
         ensures released { IfOk result (Releases self.old self.new place) }
-        ensures refused { OnErr result ((is_held place self.old.held ≡ false) × (self.new ≡ self.old)) }
+        ensures refused { IfErr result (λ e. (is_held place self.old.held ≡ false) × HasNoHeld N.board.places place e × (self.new ≡ self.old)) }
     {
         let Some(index) = index_of(self.bodies.as_slice(), place) else {
-            return Err(NotHeld);
+            return Err(self.unheld(rt, place));
         };
         let body = self.bodies.remove(index);
         let berth = self.shared.berth_of(&body);

@@ -20,5 +20,6 @@ mod telling;
 pub use coordinator::Coordinator;
 pub use desk::{NotReclaimed, ReclaimFault};
 pub use faults::{
-    DriveFault, Driven, HoldFault, NotHeld, OperateFault, Reclaimed, ServeFault, TellFault, Told,
+    DriveFault, Driven, HoldFault, OperateFault, Reclaimed, ReleaseFault, ServeFault, TellFault,
+    Told,
 };

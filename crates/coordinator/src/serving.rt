@@ -1,22 +1,23 @@
 //! Serving a held thread: its job runs on its body.
-ghost use Rattle.std.specs.Prelude.{◌≡◌, ◌≢◌, ◌<◌, ℕ, None, length, IfOk, IfErr};
+ghost use Rattle.std.specs.Prelude.{◌≡◌, ◌≢◌, ◌<◌, ℕ, None, false, length, IfOk, IfErr};
 ghost use Rattle.operations.specs.Asks.{reply};
 ghost use Rattle.bodies.specs.Bodies.{BodyView};
 ghost use Rattle.desk.specs.declared.entries.Entry.{Entry};
 ghost use Rattle.desk.specs.Fields.{at};
 ghost use Rattle.desk.specs.Targets.{standing, progress};
+ghost use Rattle.thread_list.specs.Berths.{acted};
 ghost use Rattle.coordinator.specs.Holding.{StandsAt, IsServed};
-ghost use Rattle.coordinator.specs.Refused.{Serves, IsServeFault, serve_fault, serve_refused};
+ghost use Rattle.coordinator.specs.Refused.{Serves, IsServeFault, serve_fault, serve_refused, unserved};
 
 use crate::coordinator::Coordinator;
-use crate::faults::ServeFault;
+use crate::faults::{ReleaseFault, ServeFault};
 use crate::holding::index_of;
 use bodies::{Body, Name};
 use desk::{Desk, Progress, Receipt, Standing};
 use operations::job::Errand;
 use std::sync::Wait;
 use std::thread;
-use thread_list::{Shared, serve};
+use thread_list::{BerthAct, BerthReceipt, Shared, serve};
 
 // The job that was told to the thread of a held body.
 fn told_job<N: Name, J: Errand, R: Wait>(rt: &R, shared: &Shared<N, J>, body: &Body<N>) -> J
@@ -47,16 +48,36 @@ pub fn serve_body<N: Name, J: Errand, R: Wait>(
     receipt
 }
 
-/// Serves a body that was taken out of its berth, job by job in order, until nothing is told there.
-pub fn serve_told<N: Name, J: Errand, R: Wait>(rt: &R, shared: &Shared<N, J>, body: &mut Body<N>)
-    ensures same { (body.new.name ≡ body.old.name) × (body.new.seat.place ≡ body.old.seat.place) }
-    ensures stored { body.old.seat.stored ≢ 0 → body.new.seat.stored ≢ 0 }
+/// Brings a body that was taken out of its berth back, once what its thread was told meanwhile is served, job by job in order.
+pub fn bring_back<N: Name, J: Errand, R: Wait>(
+    rt: &R,
+    shared: &Shared<N, J>,
+    body: Body<N>,
+) -> BerthReceipt<N>
+    requires body { (body.seat.stored ≢ 0) × (0 < body.name) }
+    ensures { result ≡ acted body.seat.place body.name (BerthAct.Released false) }
 {
+    let mut body = body;
     for _ in rt.forever() {
-        let Ok(job) = shared.berth_of(body).job(rt, body.name()) else {
-            return;
-        };
-        let _ = serve_body(rt, shared, body, job);
+        match shared.berth_of(&body).bring(rt, body) {
+            Ok(receipt) => return receipt,
+            Err((back, job)) => {
+                body = back;
+                let _ = serve_body(rt, shared, &mut body, job);
+            }
+        }
+    }
+    unreachable!()
+}
+
+// Why the thread of a place that has no held one isn't served.
+fn unserved(fault: ReleaseFault) -> ServeFault
+    ensures { result ≡ unserved fault }
+{
+    match fault {
+        ReleaseFault::NoSuchPlace => ServeFault::NoSuchPlace,
+        ReleaseFault::Vacant => ServeFault::Vacant,
+        ReleaseFault::NotHeld => ServeFault::NotHeld,
     }
 }
 
@@ -92,10 +113,10 @@ impl<'a, N: Name, J: Errand> Coordinator<'a, N, J> {
     /// job on it, enters what the job answered, and clears the operation. Answers the receipt of the entry.
     pub fn serve<R: Wait>(&mut self, rt: &R, place: usize) -> Result<Receipt<N>, ServeFault>
         ensures served { IfOk result (λ r. (index : ℕ) × (body : BodyView) × StandsAt self.old.held index place body × IsServeFault self.old index place None × Serves self.old self.new index r.entry) }
-        ensures refused { IfErr result (λ e. serve_refused self.old place e × (self.new ≡ self.old)) }
+        ensures refused { IfErr result (λ e. serve_refused self.old N.board.places place e × (self.new ≡ self.old)) }
     {
         let Some(index) = index_of(self.bodies.as_slice(), place) else {
-            return Err(ServeFault::NotHeld);
+            return Err(unserved(self.unheld(rt, place)));
         };
         if let Some(fault) = self.serve_refusal(rt, index, place) {
             return Err(fault);

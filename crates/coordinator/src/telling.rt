@@ -1,17 +1,19 @@
 //! Telling a name: its job, or the mark of a census, goes into the berth of its thread, and the thread's place is armed.
-ghost use Rattle.std.specs.Prelude.{◌≡◌, ◌<◌, ◌^◌, true, false, length, slice_index, IfSome, IfNone, IfOk, IfErr};
+ghost use Rattle.std.specs.Prelude.{◌≡◌, ◌<◌, ◌^◌, true, false, length, slice_index, IfSome, IfNone, IfOk, IfErr, OnSome};
 ghost use Rattle.thread_state.specs.PollRule.{armed_with};
 ghost use Rattle.desk.specs.Fields.{at};
-ghost use Rattle.coordinator.specs.Refused.{IsUntold, tell_said, tell_stays};
+ghost use Rattle.coordinator.specs.Refused.{IsUntold, tell_said, tell_stays, told_act};
+ghost use Rattle.thread_list.specs.Berths.{acted};
 
 use crate::coordinator::Coordinator;
 use crate::faults::{TellFault, Told};
 use crate::teller::Teller;
 use bodies::Name;
-use desk::{Desk, Standing, Target};
+use desk::{Desk, Live, Standing, Target};
 use operations::job::Errand;
 use std::sync::Wait;
 use std::thread;
+use thread_list::BerthReceipt;
 
 // The oldest open request that is of the name and wasn't told to its thread, with how the name stands to it; or what telling the
 // name comes to without. None where the desk names a place that there isn't.
@@ -20,7 +22,7 @@ fn look_up<N: Name, J: Errand>(
     armer: &Teller,
     places: usize,
     name: u64,
-) -> Result<Option<(Target, u64)>, Result<Told, TellFault>>
+) -> Result<Option<(Target, u64)>, Result<Told<N>, TellFault>>
     requires places { places ≡ length armer.now.seen.armed }
     ensures said { IfErr result (tell_stays (at desk.now) name armer.now.seen) }
     ensures untold { IfOk result (λ o. IfSome o (λ t. IsUntold (at desk.now) name armer.now.seen t.0 t.1)) }
@@ -58,14 +60,93 @@ fn job_of<N: Name, J: Errand>(
     }
 }
 
+/// What a thread is to be told: the number of the oldest open request that is of it and wasn't told to it, with its job there.
+#[derive(Drop)]
+pub struct Untold<J> {
+    name: u64,
+    target: Target,
+    number: u64,
+    job: Option<J>,
+}
+
+// The same of a live thread, and whether it is to be told more. None where it was told all, or the desk names a place that there isn't.
+fn untold_of<N: Name, J: Errand>(
+    desk: &mut Desk<N, J>,
+    armer: &Teller,
+    places: usize,
+    who: Live,
+) -> Option<(Untold<J>, bool)>
+    requires places { places ≡ length armer.now.seen.armed }
+{
+    if who.place >= places {
+        return None;
+    }
+    let number = desk.untold(who.name, armer.last(who.place))?;
+    let has_more = desk.untold(who.name, number).is_some();
+    let target = Target {
+        place: who.place,
+        is_census: desk.open_kind()?,
+    };
+    let job = job_of(desk, number, who.name, !target.is_census);
+    Some((
+        Untold {
+            name: who.name,
+            target,
+            number,
+            job,
+        },
+        has_more,
+    ))
+}
+
+// Lists each thread that is due with what it is to be told next, as far as there is room. Answers whether any is to be told more.
+fn list_untold<N: Name, J: Errand>(
+    desk: &mut Desk<N, J>,
+    armer: &Teller,
+    places: usize,
+    list: &mut Vec<Untold<J>>,
+) -> bool
+    requires places { places ≡ length armer.now.seen.armed }
+{
+    let mut above = 0;
+    let mut has_more = false;
+    for _ in 0..places {
+        let Some(who) = desk.next_due(above) else {
+            return has_more;
+        };
+        above = who.name;
+        if list.len() >= list.capacity() {
+            return true;
+        }
+        if let Some((untold, more)) = untold_of(desk, armer, places, who) {
+            list.push_reserved(untold);
+            has_more = has_more || more;
+        }
+    }
+    has_more
+}
+
 impl<'a, N: Name, J: Errand> Coordinator<'a, N, J> {
     /// Tells a name of the oldest open request that is of it and wasn't told to its thread, which finds it at its next poll. A name
     /// without a live thread is gone, and nothing is done.
-    pub fn tell<R: Wait>(&mut self, rt: &R, name: u64) -> Result<Told, TellFault>
+    pub fn tell<R: Wait>(&mut self, rt: &R, name: u64) -> Result<Told<N>, TellFault>
         ensures said { tell_said name self.old.armer self.new.armer result }
         ensures held { (self.new.held ≡ self.old.held) × (self.new.operated ≡ self.old.operated) }
     {
-        let mut hand: Option<J> = None;
+        self.tell_with(rt, name, None)
+    }
+
+    // The same, with a job for the name that was taken before, if any.
+    fn tell_with<R: Wait>(
+        &mut self,
+        rt: &R,
+        name: u64,
+        hand: Option<J>,
+    ) -> Result<Told<N>, TellFault>
+        ensures said { tell_said name self.old.armer self.new.armer result }
+        ensures held { (self.new.held ≡ self.old.held) × (self.new.operated ≡ self.old.operated) }
+    {
+        let mut hand = hand;
         for _ in rt.forever() {
             if let Some(said) = self.try_tell(rt, name, &mut hand) {
                 return said;
@@ -82,7 +163,7 @@ impl<'a, N: Name, J: Errand> Coordinator<'a, N, J> {
         rt: &R,
         name: u64,
         hand: &mut Option<J>,
-    ) -> Option<Result<Told, TellFault>>
+    ) -> Option<Result<Told<N>, TellFault>>
         ensures said { IfSome result (λ r. tell_said name self.old.armer self.new.armer r) }
         ensures again { IfNone result (self.new ≡ self.old) }
         ensures held { (self.new.held ≡ self.old.held) × (self.new.operated ≡ self.old.operated) }
@@ -98,14 +179,69 @@ impl<'a, N: Name, J: Errand> Coordinator<'a, N, J> {
         if job.is_some() {
             *hand = job;
         }
-        if self.put(rt, name, target, number, hand) {
-            Some(Ok(Told::Told))
-        } else {
-            None
+        let receipt = self.put(rt, name, target, number, hand)?;
+        Some(Ok(Told::Told(receipt)))
+    }
+
+    // Tells each target of each open request.
+    pub(crate) fn tell_all<R: Wait>(&mut self, rt: &R)
+        ensures { (self.new.held ≡ self.old.held) × (self.new.operated ≡ self.old.operated) }
+    {
+        for _ in rt.forever() {
+            let has_more = self.list_untold(rt);
+            self.tell_listed(rt);
+            if !has_more {
+                return;
+            }
         }
     }
 
-    // The job in hand, or the mark of the census, goes into the berth, and the place is armed.
+    // Lists each thread that is due with what it is to be told next, under one hold of the desk's lock, the least name last. Answers
+    // whether any is to be told more.
+    fn list_untold<R: Wait>(&mut self, rt: &R) -> bool
+        ensures { self.new ≡ self.old }
+    {
+        let mut desk = self.shared.desk().lock(rt);
+        let has_more = list_untold(&mut desk, &self.armer, self.places, &mut self.untold);
+        drop(desk);
+        self.untold.reverse();
+        has_more
+    }
+
+    // Tells each thread of the list, the last first, and empties it.
+    fn tell_listed<R: Wait>(&mut self, rt: &R)
+        ensures { (self.new.held ≡ self.old.held) × (self.new.operated ≡ self.old.operated) }
+    {
+        for _ in rt.forever() {
+            let Some(untold) = self.untold.pop() else {
+                return;
+            };
+            self.tell_at(rt, untold);
+        }
+    }
+
+    // Tells a thread what was listed for it. Where its berth bears another name or none, the name is told as by `tell`.
+    fn tell_at<R: Wait>(&mut self, rt: &R, untold: Untold<J>)
+        ensures { (self.new.held ≡ self.old.held) × (self.new.operated ≡ self.old.operated) }
+    {
+        let Untold {
+            name,
+            target,
+            number,
+            job,
+        } = untold;
+        let mut hand = job;
+        if target.place < self.places
+            && self.armer.last(target.place) < number
+            && self.put(rt, name, target, number, &mut hand).is_some()
+        {
+            return;
+        }
+        let _ = self.tell_with(rt, name, hand);
+    }
+
+    // The job in hand, or the mark of the census, goes into the berth, and the place is armed. Answers the receipt of the one or the
+    // other. A job of another operation or for another name is dropped.
     fn put<R: Wait>(
         &mut self,
         rt: &R,
@@ -113,32 +249,31 @@ impl<'a, N: Name, J: Errand> Coordinator<'a, N, J> {
         target: Target,
         number: u64,
         hand: &mut Option<J>,
-    ) -> bool
+    ) -> Option<BerthReceipt<N>>
         requires place { target.place < length self.old.armer.armed }
         requires later { slice_index self.old.armer.armed target.place < number }
-        ensures armed { result ≡ true → self.new.armer ≡ armed_with self.old.armer target.place number }
-        ensures refused { result ≡ false → self.new.armer ≡ self.old.armer }
+        ensures armed { OnSome result (self.new.armer ≡ armed_with self.old.armer target.place number) }
+        ensures receipt { IfSome result (λ r. r ≡ acted target.place name (told_act target.is_census number)) }
+        ensures refused { IfNone result (self.new.armer ≡ self.old.armer) }
         ensures held { (self.new.held ≡ self.old.held) × (self.new.operated ≡ self.old.operated) }
     {
         let shared = self.shared;
         let mut room = shared.berth(target.place).room().lock(rt);
         if room.place() != target.place || number >= 1 << 40 {
-            return false;
+            return None;
         }
         if target.is_census {
             return self.armer.mark(&mut room, shared.row(), name, number);
         }
-        let Some(job) = hand.take() else {
-            return false;
-        };
-        if job.op_of() != number {
-            return false;
+        let job = hand.take()?;
+        if job.op_of() != number || job.target_of() != name {
+            return None;
         }
         match self.armer.tell(&mut room, shared.row(), job) {
-            Ok(()) => true,
+            Ok(receipt) => Some(receipt),
             Err(back) => {
                 *hand = Some(back);
-                false
+                None
             }
         }
     }

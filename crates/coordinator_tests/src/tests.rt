@@ -12,6 +12,7 @@ mod census;
 mod exits;
 mod four;
 mod invalidated;
+mod late;
 mod leaving;
 mod many;
 mod meeting;

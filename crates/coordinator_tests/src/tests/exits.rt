@@ -20,7 +20,7 @@ fn tell_all<N: Name, J: Errand, R: Wait + Abort>(rt: &R, coordinator: &mut Coord
     assert!(rt; matches!(coordinator.open(rt), Ok((1, _))));
     assert!(rt; matches!(coordinator.tell(rt, 1), Ok(Told::Gone)));
     assert!(rt; matches!(coordinator.tell(rt, 3), Err(TellFault::NotOf)));
-    assert!(rt; matches!(coordinator.tell(rt, 2), Ok(Told::Told)));
+    assert!(rt; matches!(coordinator.tell(rt, 2), Ok(Told::Told(_))));
 }
 
 // The next handshake is opened and told to the name 3.
@@ -30,7 +30,7 @@ fn tell_third<N: Name, J: Errand, R: Wait + Abort>(
 ) {
     assert!(rt; matches!(coordinator.close(rt), Ok((1, _))));
     assert!(rt; matches!(coordinator.open(rt), Ok((2, _))));
-    assert!(rt; matches!(coordinator.tell(rt, 3), Ok(Told::Told)));
+    assert!(rt; matches!(coordinator.tell(rt, 3), Ok(Told::Told(_))));
     assert!(rt; coordinator.close(rt).is_err());
 }
 

@@ -1,10 +1,11 @@
-//! Four handshakes are worked on at once: over two running threads, and step by step.
+//! Handshakes are open beside each other: four are worked on at once, over two running threads and step by step, and of two the first is
+//! closed while the second waits.
 ghost use Rattle.std.specs.Prelude.{◌≡◌};
 ghost use Rattle.operations.specs.Asks.{reply};
 
 use super::{heed, names_to, run_until, started, wait_for};
 use bodies::Name;
-use coordinator::{Coordinator, DriveFault, HoldFault, ServeFault, TellFault, Told};
+use coordinator::{Coordinator, DriveFault, Driven, HoldFault, ServeFault, TellFault, Told};
 use desk::{CloseFault, OpenFault};
 use frames::image::Image;
 use operations::job::{Call, Errand, Job};
@@ -16,7 +17,7 @@ use std::sync::Wait;
 use std::sync::atomic::{AtomicBool, AtomicU64, Ordering};
 use std::test::*;
 use std::thread::{Threads, join};
-use thread_list::{Mutator, Parts, Shared};
+use thread_list::{Mutator, Parts, Poll, Shared};
 
 // A handshake of one name that asks for its depth waits, with the last of the jobs.
 fn ask_one<N: Name, J: Errand, R: Wait>(
@@ -268,7 +269,7 @@ fn work_on_first<N: Name, J: Errand, R: Wait + Abort>(
     }
     assert!(rt; matches!(coordinator.open(rt), Err(OpenFault::AlreadyOpen)));
     for _ in 0..3 {
-        assert!(rt; matches!(coordinator.tell(rt, 1), Ok(Told::Told)));
+        assert!(rt; matches!(coordinator.tell(rt, 1), Ok(Told::Told(_))));
     }
     assert!(rt; matches!(coordinator.tell(rt, 1), Err(TellFault::AlreadyTold)));
     assert!(rt; matches!(coordinator.tell(rt, 3), Err(TellFault::NotOf)));
@@ -291,7 +292,7 @@ fn work_on_second<N: Name, J: Errand, R: Wait + Abort>(
     coordinator: &mut Coordinator<'_, N, J>,
 ) {
     for _ in 0..2 {
-        assert!(rt; matches!(coordinator.tell(rt, 2), Ok(Told::Told)));
+        assert!(rt; matches!(coordinator.tell(rt, 2), Ok(Told::Told(_))));
     }
     assert!(rt; coordinator.hold(rt, 1).is_ok());
     assert!(rt; coordinator.serve(rt, 1).is_ok() && coordinator.serve(rt, 1).is_ok());
@@ -347,5 +348,78 @@ fn four_are_told_and_served_in_order(rt: HostRuntime) -> Result<(), Fail> {
             .map_err(|_| AllocError)?;
     }
     work_step_by_step::<Brand, Job, HostRuntime>(&rt, rt.alloc(), parts, jobs)?;
+    Ok(())
+}
+
+// Two handshakes are open. The first is of a thread in native code, and is closed while the second is of one that calls nothing.
+fn close_first<N: Name, J: Errand, R: Wait + Abort>(
+    rt: &R,
+    coordinator: &mut Coordinator<'_, N, J>,
+) {
+    assert!(rt; matches!(coordinator.open(rt), Ok((1, _))));
+    assert!(rt; matches!(coordinator.open(rt), Ok((2, _))));
+    assert!(rt; matches!(coordinator.drive(rt), Ok((Driven::Handshake(1), _))));
+    assert!(rt; matches!(coordinator.close(rt), Err(CloseFault::NotDone)));
+}
+
+// The thread comes to a poll and serves itself, and the second is closed.
+fn close_second<N: Name, J: Errand, R: Wait + Abort>(
+    rt: &R,
+    coordinator: &mut Coordinator<'_, N, J>,
+    thread: &mut Mutator<'_, N, J>,
+) {
+    assert!(rt; matches!(thread.back_edge(), Ok(Poll::Stop(2))));
+    assert!(rt; thread.stop(rt).is_ok());
+    assert!(rt; matches!(coordinator.drive(rt), Ok((Driven::Handshake(2), _))));
+}
+
+fn drive_past_second<N: Name, J: Errand, R: Wait + Abort>(
+    rt: &R,
+    alloc: Global,
+    parts: Parts,
+    jobs: Vec<J>,
+) -> Result<(), AllocError>
+    requires tables { (parts.board ≡ N.board) × (parts.row ≡ N.poll_row) }
+{
+    let Ok((shared, armer)) = Shared::<N, J>::new(alloc, parts) else {
+        return Err(AllocError);
+    };
+    let Ok(mut coordinator) = Coordinator::new(&shared, armer, alloc) else {
+        return Err(AllocError);
+    };
+    let mut first = started(rt, alloc, &shared)?;
+    let mut second = started(rt, alloc, &shared)?;
+    assert!(rt; first.to_native(rt).is_ok());
+    let mut two = jobs;
+    let last = two.pop();
+    ask_one(rt, alloc, &shared, 1, two.pop())?;
+    ask_one(rt, alloc, &shared, 2, last)?;
+    close_first(rt, &mut coordinator);
+    assert!(rt; are_replies(rt, &shared, 1, [(1, 0)].as_slice())?);
+    assert!(rt; are_replies(rt, &shared, 2, [].as_slice())?);
+    close_second(rt, &mut coordinator, &mut second);
+    assert!(rt; are_replies(rt, &shared, 2, [(2, 0)].as_slice())?);
+    assert!(rt; first.from_native(rt).is_ok());
+    assert!(rt; first.exit(rt).is_ok());
+    assert!(rt; second.exit(rt).is_ok());
+    Ok(())
+}
+
+// The jobs are for 1 and 2. A drive that slept for the target of the second handshake would never return.
+#[test]
+fn the_oldest_is_closed_past_a_later_one(rt: HostRuntime) -> Result<(), Fail> {
+    let parts = Parts::new(rt.alloc(), 2, 4, 2).map_err(|_| AllocError)?;
+    let mut jobs = Vec::new(rt.alloc());
+    for before in 0..2 {
+        let call: Call = Box::new(
+            rt.alloc(),
+            |image: &Image| -> u64
+                ensures { result ≡ reply Ask.Depth image.now.frames }
+            { image.depth() as u64 },
+        )?;
+        jobs.push(Job::new(1 + before, Ask::Depth, call))
+            .map_err(|_| AllocError)?;
+    }
+    drive_past_second::<Brand, Job, HostRuntime>(&rt, rt.alloc(), parts, jobs)?;
     Ok(())
 }

@@ -93,32 +93,43 @@ fn close<N: Name, J: Errand, R: Wait>(rt: &R, coordinator: &mut Coordinator<'_, 
     false
 }
 
-// Tells the thread of this name, which exits meanwhile: it has one reply where it was told, and none where it was gone.
+// Whether the handshake of a name has one reply where its thread was told, and none where it was gone.
+fn are_replies<N: Name, J: Errand, R: Wait>(
+    rt: &R,
+    shared: &Shared<N, J>,
+    name: u64,
+    was_told: bool,
+) -> Result<bool, AllocError> {
+    let replies = shared.replies(rt, name)?;
+    if !was_told {
+        return Ok(replies.is_empty());
+    }
+    Ok(replies.len() == 1 && replies[0] == (name, 0))
+}
+
+// Tells the thread of this name, which exits meanwhile. Answers whether it was told, and not gone; None where a call went wrong.
 fn tell<N: Name, J: Errand, R: Wait>(
     rt: &R,
     shared: &Shared<N, J>,
     coordinator: &mut Coordinator<'_, N, J>,
     asked: &AtomicU64,
     name: u64,
-) -> Result<bool, AllocError> {
+) -> Result<Option<bool>, AllocError> {
     if coordinator.open(rt).is_err() {
-        return Ok(false);
+        return Ok(None);
     }
     asked.store(name, Ordering::SeqCst);
     let Ok(told) = coordinator.tell(rt, name) else {
-        return Ok(false);
+        return Ok(None);
     };
-    if !close(rt, coordinator) {
-        return Ok(false);
+    let was_told = matches!(told, Told::Told(_));
+    if close(rt, coordinator) && are_replies(rt, shared, name, was_told)? {
+        return Ok(Some(was_told));
     }
-    let replies = shared.replies(rt, name)?;
-    Ok(match told {
-        Told::Told => replies.len() == 1 && replies[0] == (name, 0),
-        Told::Gone => replies.is_empty(),
-    })
+    Ok(None)
 }
 
-// Asks and tells one thread after the other. The handshake of a name has that number.
+// Asks and tells one thread after the other. The handshake of a name has that number. Answers which were told.
 fn tell_all<N: Name, J: Errand, R: Wait>(
     rt: &R,
     alloc: Global,
@@ -127,22 +138,38 @@ fn tell_all<N: Name, J: Errand, R: Wait>(
     live: &AtomicU64,
     asked: &AtomicU64,
     jobs: Vec<Vec<J>>,
-) -> Result<bool, AllocError> {
+) -> Result<Option<Vec<bool>>, AllocError> {
     let mut coordinator = coordinator;
     let mut left = jobs;
+    let mut told = Vec::new(alloc);
     for name in 1..EXITS + 1 {
         let Some(jobs) = left.pop() else {
-            return Ok(false);
+            return Ok(None);
         };
         if !wait_for(name, live) {
-            return Ok(false);
+            return Ok(None);
         }
         ask(rt, alloc, shared, name, jobs)?;
-        if !tell(rt, shared, &mut coordinator, asked, name)? {
+        let Some(was_told) = tell(rt, shared, &mut coordinator, asked, name)? else {
+            return Ok(None);
+        };
+        told.push(was_told).map_err(|_| AllocError)?;
+    }
+    Ok(Some(told))
+}
+
+// Whether all replies are what they were, now that threads have started in the place of each and exited.
+fn are_as_before<N: Name, J: Errand, R: Wait>(
+    rt: &R,
+    shared: &Shared<N, J>,
+    told: &[bool],
+) -> Result<bool, AllocError> {
+    for before in 0..told.len() {
+        if !are_replies(rt, shared, before as u64 + 1, told[before])? {
             return Ok(false);
         }
     }
-    Ok(true)
+    Ok(told.len() as u64 == EXITS)
 }
 
 fn race<N: Name + Send + Sync, J: Errand + Send, R: Threads + Wait + Sync + Abort>(
@@ -166,8 +193,11 @@ fn race<N: Name + Send + Sync, J: Errand + Send, R: Threads + Wait + Sync + Abor
         || exit_all(rt, alloc, &shared, &live, &asked),
         || tell_all(rt, alloc, &shared, coordinator, &live, &asked, jobs),
     );
-    let told = told?;
-    assert!(rt; exited && told);
+    assert!(rt; exited);
+    let Some(told) = told? else {
+        panic!(rt; "a call went wrong");
+    };
+    assert!(rt; are_as_before(rt, &shared, told.as_slice())?);
     Ok(())
 }
 

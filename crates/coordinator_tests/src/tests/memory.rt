@@ -10,6 +10,7 @@ use coordinator::{
 };
 use desk::{AskFault, OpenFault, Refused, StartFault};
 use frames::image::Image;
+use method_table::table::RetireFault;
 use operations::job::{Call, Errand, Job};
 use operations::{Ask, Request};
 use poll::Armer;
@@ -68,58 +69,55 @@ fn made<'a, N: Name, J: Errand>(
     }
 }
 
-// A handshake of both threads.
-fn handshake(alloc: Global) -> Result<Request, AllocError> {
-    Ok(Request::Handshake {
-        targets: both(alloc)?,
-        ask: Ask::Depth,
-    })
-}
-
-// The handshake waits under the number 1. Where memory is refused the jobs come back and nothing waits.
-fn ask<N: Name, J: Errand, R: Wait + Abort>(
+// Whether the history tells what it did before a refused call: both threads are live, nothing is open or waits, and of all numbers the
+// handshake's alone, which is 2, has replies, so many.
+fn is_as_before<N: Name, J: Errand, R: Wait>(
     rt: &R,
-    alloc: Global,
     shared: &Shared<N, J>,
     coordinator: &mut Coordinator<'_, N, J>,
-    jobs: Vec<J>,
-) -> Result<Met, AllocError> {
-    let (request, again) = (handshake(alloc)?, handshake(alloc)?);
-    let Err(refused) = shared.submit(rt, request, jobs) else {
-        return Ok(Met::Nothing);
-    };
-    let Refused { fault, jobs } = refused;
-    assert!(rt; matches!(fault, AskFault::NoMemory) && jobs.len() == 2);
-    assert!(rt; matches!(coordinator.drive(rt), Err(DriveFault::QueueEmpty)));
-    assert!(rt; matches!(shared.submit(rt, again, jobs), Ok((1, _))));
-    Ok(Met::Submit)
+    replies: usize,
+) -> Result<bool, AllocError> {
+    let live = shared.live(rt)?;
+    let is_idle = matches!(coordinator.drive(rt), Err(DriveFault::QueueEmpty));
+    let is_answered = shared.replies(rt, 2)?.len() == replies;
+    let are_none = shared.replies(rt, 1)?.is_empty() && shared.replies(rt, 3)?.is_empty();
+    Ok(live.len() == 2 && live[0] == 1 && live[1] == 2 && is_idle && is_answered && are_none)
 }
 
-// A census waits under the number 2.
+// Whether these are the jobs of both threads, that ask this.
+fn are_jobs<J: Errand>(jobs: &[J], ask: Ask) -> bool {
+    jobs.len() == 2
+        && jobs[0].target_of() == 1
+        && jobs[1].target_of() == 2
+        && jobs[0].ask_of() == ask
+        && jobs[1].ask_of() == ask
+}
+
+// A census waits under the number 1. Where memory is refused nothing waits, and the next try has that number.
 fn ask_census<N: Name, J: Errand, R: Wait + Abort>(
     rt: &R,
     alloc: Global,
     shared: &Shared<N, J>,
-) -> Met {
-    if matches!(
-        shared.submit(rt, Request::Census, Vec::new(alloc)),
-        Ok((2, _))
-    ) {
-        return Met::Nothing;
-    }
-    assert!(rt;
-        matches!(
-            shared.submit(rt, Request::Census, Vec::new(alloc)),
-            Ok((2, _))
-        )
-    );
-    Met::Submit
+    coordinator: &mut Coordinator<'_, N, J>,
+) -> Result<Met, AllocError> {
+    let refused = match shared.submit(rt, Request::Census, Vec::new(alloc)) {
+        Ok((number, _receipt)) => {
+            assert!(rt; number == 1);
+            return Ok(Met::Nothing);
+        }
+        Err(refused) => refused,
+    };
+    let Refused { fault, jobs } = refused;
+    assert!(rt; matches!(fault, AskFault::NoMemory) && jobs.is_empty());
+    assert!(rt; is_as_before(rt, shared, coordinator, 0)?);
+    assert!(rt; matches!(shared.submit(rt, Request::Census, jobs), Ok((1, _))));
+    Ok(Met::Submit)
 }
 
 // Whether this is the census, of three frames of code 1.
 fn is_counted(driven: &Driven) -> bool {
     match driven {
-        Driven::Census(number, list) => *number == 2 && list.len() == 1 && list[0] == (1, 3),
+        Driven::Census(number, list) => *number == 1 && list.len() == 1 && list[0] == (1, 3),
         Driven::Handshake(_) => false,
     }
 }
@@ -150,39 +148,82 @@ fn count<N: Name, J: Errand, R: Wait + Abort>(
     Met::Census
 }
 
+// A handshake that asks both threads for their frames of code 1.
+fn handshake(alloc: Global) -> Result<Request, AllocError> {
+    Ok(Request::Handshake {
+        targets: both(alloc)?,
+        ask: Ask::CountOf(1),
+    })
+}
+
+// The handshake waits under the number 2. Where memory is refused its jobs come back, and the next try has that number.
+fn ask<N: Name, J: Errand, R: Wait + Abort>(
+    rt: &R,
+    alloc: Global,
+    shared: &Shared<N, J>,
+    coordinator: &mut Coordinator<'_, N, J>,
+    jobs: Vec<J>,
+) -> Result<Met, AllocError> {
+    let (request, again) = (handshake(alloc)?, handshake(alloc)?);
+    let refused = match shared.submit(rt, request, jobs) {
+        Ok((number, _receipt)) => {
+            assert!(rt; number == 2);
+            return Ok(Met::Nothing);
+        }
+        Err(refused) => refused,
+    };
+    let Refused { fault, jobs } = refused;
+    assert!(rt; matches!(fault, AskFault::NoMemory) && are_jobs(jobs.as_slice(), Ask::CountOf(1)));
+    assert!(rt; is_as_before(rt, shared, coordinator, 0)?);
+    assert!(rt; matches!(shared.submit(rt, again, jobs), Ok((2, _))));
+    Ok(Met::Submit)
+}
+
+// The handshake is worked on: the first thread has two frames of code 1, the second one.
+fn drive_counts<N: Name, J: Errand, R: Wait + Abort>(
+    rt: &R,
+    shared: &Shared<N, J>,
+    coordinator: &mut Coordinator<'_, N, J>,
+) -> Result<(), AllocError> {
+    assert!(rt; matches!(coordinator.drive(rt), Ok((Driven::Handshake(2), _))));
+    let replies = shared.replies(rt, 2)?;
+    assert!(rt; replies.len() == 2 && replies.contains(&(1, 2)) && replies.contains(&(2, 1)));
+    Ok(())
+}
+
 // The code that both threads use is tried. Where memory is refused the jobs come back.
 fn try_reclaim<N: Name, J: Errand, R: Wait + Abort>(
     rt: &R,
+    shared: &Shared<N, J>,
     coordinator: &mut Coordinator<'_, N, J>,
     jobs: Vec<J>,
-) -> Met {
+) -> Result<Met, AllocError> {
     let refused = match coordinator.reclaim(rt, 1, jobs) {
         Ok(said) => {
             assert!(rt; matches!(said, Reclaimed::Used(3)));
-            return Met::Nothing;
+            return Ok(Met::Nothing);
         }
         Err(refused) => refused,
     };
     let NotReclaimed { fault, jobs } = refused;
-    assert!(rt; matches!(fault, ReclaimFault::Ask(AskFault::NoMemory)) && jobs.len() == 2);
-    assert!(rt; matches!(coordinator.drive(rt), Err(DriveFault::QueueEmpty)));
+    assert!(rt; matches!(fault, ReclaimFault::Ask(AskFault::NoMemory)));
+    assert!(rt; are_jobs(jobs.as_slice(), Ask::Depth));
+    assert!(rt; is_as_before(rt, shared, coordinator, 2)?);
     assert!(rt; matches!(coordinator.reclaim(rt, 1, jobs), Ok(Reclaimed::Used(3))));
-    Met::Reclaim
+    Ok(Met::Reclaim)
 }
 
-// A thread that has called method 0 so many times is in native code.
-fn away<'a, N: Name, J: Errand, R: Wait + Abort>(
+// A thread that has called method 0 so many times goes into native code.
+fn go_away<N: Name, J: Errand, R: Wait + Abort>(
     rt: &R,
-    alloc: Global,
-    shared: &'a Shared<N, J>,
+    shared: &Shared<N, J>,
+    thread: &mut Mutator<'_, N, J>,
     calls: u64,
-) -> Result<Mutator<'a, N, J>, AllocError> {
-    let mut thread = started(rt, alloc, shared)?;
+) {
     for _ in 0..calls {
         assert!(rt; matches!(thread.call(0, shared.hint(0)), Ok(Called::Compiled(1))));
     }
     assert!(rt; thread.to_native(rt).is_ok());
-    Ok(thread)
 }
 
 // A thread comes back from native code, returns so many times and exits.
@@ -195,12 +236,50 @@ fn finish<N: Name, J: Errand, R: Wait + Abort>(rt: &R, thread: Mutator<'_, N, J>
     assert!(rt; thread.exit(rt).is_ok());
 }
 
-// A handshake, a census and a reclaim over two threads.
+// A census, a handshake, and a reclaim that finds the code in use, over two threads in native code.
+fn ask_all<N: Name, J: Errand, R: Wait + Abort>(
+    rt: &R,
+    alloc: Global,
+    shared: &Shared<N, J>,
+    coordinator: &mut Coordinator<'_, N, J>,
+    counts: Vec<J>,
+    depths: Vec<J>,
+) -> Result<Met, AllocError> {
+    let waits = ask_census(rt, alloc, shared, coordinator)?;
+    let counted = count(rt, alloc, shared, coordinator);
+    let asked = ask(rt, alloc, shared, coordinator, counts)?;
+    drive_counts(rt, shared, coordinator)?;
+    assert!(rt; shared.peek_counts() == 3 && shared.invalidate(rt, 1).is_ok());
+    let tried = try_reclaim(rt, shared, coordinator, depths)?;
+    Ok(waits.or(counted).or(asked).or(tried))
+}
+
+// No thread is on the code: it is freed, and isn't known any more.
+fn free<N: Name, J: Errand, R: Wait + Abort>(
+    rt: &R,
+    alloc: Global,
+    coordinator: &mut Coordinator<'_, N, J>,
+) {
+    let freed = coordinator.reclaim(rt, 1, Vec::new(alloc));
+    assert!(rt; matches!(freed, Ok(Reclaimed::Freed(_))));
+    let unknown = coordinator.reclaim(rt, 1, Vec::new(alloc));
+    assert!(rt;
+        matches!(
+            unknown,
+            Err(NotReclaimed {
+                fault: ReclaimFault::Code(RetireFault::Unknown),
+                ..
+            })
+        )
+    );
+}
+
+// Two threads are counted by a census and by a handshake; their code is reclaimed once they have left it.
 fn work<N: Name, J: Errand, R: Wait + Abort>(
     rt: &R,
     alloc: Global,
     parts: Parts,
-    jobs: Vec<J>,
+    counts: Vec<J>,
     depths: Vec<J>,
 ) -> Result<Met, AllocError>
     requires tables { (parts.board ≡ N.board) × (parts.row ≡ N.poll_row) }
@@ -212,42 +291,43 @@ fn work<N: Name, J: Errand, R: Wait + Abort>(
     if shared.install(rt, 0).is_err() {
         return Err(AllocError);
     }
-    let first = away(rt, alloc, &shared, 2)?;
-    let second = away(rt, alloc, &shared, 1)?;
-    let asked = ask(rt, alloc, &shared, &mut coordinator, jobs)?;
-    assert!(rt; matches!(coordinator.drive(rt), Ok((Driven::Handshake(1), _))));
-    let waits = ask_census(rt, alloc, &shared);
-    let counted = count(rt, alloc, &shared, &mut coordinator);
-    assert!(rt; shared.peek_counts() == 3 && shared.invalidate(rt, 1).is_ok());
-    let tried = try_reclaim(rt, &mut coordinator, depths);
+    let mut first = started(rt, alloc, &shared)?;
+    let mut second = started(rt, alloc, &shared)?;
+    go_away(rt, &shared, &mut first, 2);
+    go_away(rt, &shared, &mut second, 1);
+    let asked = ask_all(rt, alloc, &shared, &mut coordinator, counts, depths)?;
     finish(rt, first, 2);
     finish(rt, second, 1);
-    let freed = coordinator.reclaim(rt, 1, Vec::new(alloc));
-    assert!(rt; matches!(freed, Ok(Reclaimed::Freed(_))));
-    Ok(made.or(asked).or(waits).or(counted).or(tried))
+    free(rt, alloc, &mut coordinator);
+    Ok(made.or(asked))
 }
 
-// The run with what it takes.
+// The run with what it takes: jobs that count frames of code 1, and jobs that ask for the depth, for each thread.
 fn run<R: Wait + Abort>(rt: &R, alloc: Global) -> Result<Met, AllocError> {
     let parts = Parts::new(alloc, 2, 4, 2).map_err(|_| AllocError)?;
-    let mut jobs = Vec::new(alloc);
+    let mut counts = Vec::new(alloc);
     let mut depths = Vec::new(alloc);
     for turn in 0..4 {
+        let ask = if turn < 2 {
+            Ask::CountOf(1)
+        } else {
+            Ask::Depth
+        };
         let call: Call = Box::new(
             alloc,
-            |image: &Image| -> u64
-                ensures { result ≡ reply Ask.Depth image.now.frames }
-            { image.depth() as u64 },
+            move |image: &Image| -> u64
+                ensures { result ≡ reply ask image.now.frames }
+            { ask.reply_on(image) },
         )
         .map_err(|_| AllocError)?;
-        let job = Job::new(1 + turn % 2, Ask::Depth, call);
+        let job = Job::new(1 + turn % 2, ask, call);
         if turn < 2 {
-            jobs.push(job).map_err(|_| AllocError)?;
+            counts.push(job).map_err(|_| AllocError)?;
         } else {
             depths.push(job).map_err(|_| AllocError)?;
         }
     }
-    work::<Brand, Job, R>(rt, alloc, parts, jobs, depths)
+    work::<Brand, Job, R>(rt, alloc, parts, counts, depths)
 }
 
 // It passes whichever allocation is refused.
@@ -255,7 +335,7 @@ fn run<R: Wait + Abort>(rt: &R, alloc: Global) -> Result<Met, AllocError> {
 fn what_lacks_memory_is_tried_again(rt: HostRuntime) -> Result<(), Fail> {
     match run(&rt, rt.alloc()) {
         Ok(met) => println!(rt; "{}", met.text())?,
-        Err(AllocError) => println!(rt; "refused before the run")?,
+        Err(AllocError) => println!(rt; "what a run or its checks take was refused")?,
     }
     Ok(())
 }

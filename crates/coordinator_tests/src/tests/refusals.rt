@@ -4,7 +4,9 @@ ghost use Rattle.operations.specs.Asks.{reply};
 
 use super::{ask_both, started};
 use bodies::Name;
-use coordinator::{Coordinator, HoldFault, NotHeld, OperateFault, ServeFault, TellFault, Told};
+use coordinator::{
+    Coordinator, HoldFault, OperateFault, ReleaseFault, ServeFault, TellFault, Told,
+};
 use desk::{CloseFault, OpenFault};
 use frames::image::Image;
 use operations::job::{Call, Errand, Job};
@@ -25,8 +27,10 @@ fn refuse_all<N: Name, J: Errand, R: Wait + Abort>(
     assert!(rt; matches!(coordinator.tell(rt, 1), Err(TellFault::NothingOpen)));
     assert!(rt; matches!(coordinator.hold(rt, 2), Err(HoldFault::NoSuchPlace)));
     assert!(rt; matches!(coordinator.hold(rt, 0), Err(HoldFault::NothingOpen)));
+    assert!(rt; matches!(coordinator.serve(rt, 2), Err(ServeFault::NoSuchPlace)));
     assert!(rt; matches!(coordinator.serve(rt, 0), Err(ServeFault::NotHeld)));
-    assert!(rt; matches!(coordinator.release(rt, 0), Err(NotHeld)));
+    assert!(rt; matches!(coordinator.release(rt, 2), Err(ReleaseFault::NoSuchPlace)));
+    assert!(rt; matches!(coordinator.release(rt, 0), Err(ReleaseFault::NotHeld)));
     assert!(rt;
         matches!(
             operate_fault(rt, coordinator),
@@ -45,7 +49,7 @@ fn work_on_first<N: Name, J: Errand, R: Wait + Abort>(
     assert!(rt; matches!(coordinator.open(rt), Err(OpenFault::QueueEmpty)));
     assert!(rt; matches!(coordinator.hold(rt, 0), Err(HoldFault::NotTold)));
     assert!(rt; matches!(coordinator.tell(rt, 3), Err(TellFault::NotOf)));
-    assert!(rt; matches!(coordinator.tell(rt, 1), Ok(Told::Told)));
+    assert!(rt; matches!(coordinator.tell(rt, 1), Ok(Told::Told(_))));
     assert!(rt; matches!(coordinator.tell(rt, 1), Err(TellFault::AlreadyTold)));
     assert!(rt; coordinator.hold(rt, 0).is_ok());
     assert!(rt; matches!(coordinator.hold(rt, 0), Err(HoldFault::Held)));
@@ -69,7 +73,7 @@ fn tell_second<N: Name, J: Errand, R: Wait + Abort>(
     rt: &R,
     coordinator: &mut Coordinator<'_, N, J>,
 ) {
-    assert!(rt; matches!(coordinator.tell(rt, 2), Ok(Told::Told)));
+    assert!(rt; matches!(coordinator.tell(rt, 2), Ok(Told::Told(_))));
     assert!(rt; matches!(coordinator.hold(rt, 1), Err(HoldFault::NotSafe)));
 }
 
@@ -87,8 +91,8 @@ fn begin_count<N: Name, J: Errand, R: Wait + Abort>(
     assert!(rt; matches!(coordinator.close(rt), Ok((1, _))));
     assert!(rt; matches!(coordinator.open(rt), Ok((2, _))));
     assert!(rt; matches!(coordinator.tell(rt, 3), Err(TellFault::NotOf)));
-    assert!(rt; matches!(coordinator.tell(rt, 1), Ok(Told::Told)));
-    assert!(rt; matches!(coordinator.tell(rt, 2), Ok(Told::Told)));
+    assert!(rt; matches!(coordinator.tell(rt, 1), Ok(Told::Told(_))));
+    assert!(rt; matches!(coordinator.tell(rt, 2), Ok(Told::Told(_))));
     assert!(rt; coordinator.hold(rt, 0).is_ok());
     assert!(rt; matches!(coordinator.serve(rt, 0), Err(ServeFault::NotOf)));
     assert!(rt;
@@ -145,6 +149,8 @@ fn work_step_by_step<N: Name, J: Errand, R: Wait + Abort>(
         return Err(AllocError);
     };
     assert!(rt; matches!(coordinator.hold(rt, 0), Err(HoldFault::Vacant)));
+    assert!(rt; matches!(coordinator.serve(rt, 0), Err(ServeFault::Vacant)));
+    assert!(rt; matches!(coordinator.release(rt, 0), Err(ReleaseFault::Vacant)));
     let mut first = started(rt, alloc, &shared)?;
     let mut second = started(rt, alloc, &shared)?;
     refuse_all(rt, &mut coordinator);

@@ -1,5 +1,5 @@
 use Rattle.std.proofs.Common.{◌≡◌}
-use Rattle.coordinator.proofs.coordinator.Coordinator.tell_whole.Given as goal
+use Rattle.coordinator.proofs.coordinator.Coordinator.tell_listed.Given as goal
 
 abbrev pub invariant-loop : goal.invariant-loop
 invariant-loop g l =

@@ -1,0 +1,26 @@
+-- What is held goes on to be held.
+use Rattle.std.proofs.Common.{◌≡◌, List, [], ◌∷◌, ◌++◌, refl, sym, ap, ◌∙◌, subst}
+use Rattle.bodies.specs.Bodies.{BodyView}
+use Rattle.coordinator.specs.Holding.{Holding}
+use Rattle.coordinator.specs.Driving.{HoldsOn}
+
+none_more : (xs : List BodyView) → xs ≡ xs ++ []
+none_more [] = refl
+none_more (x ∷ xs) = ap (λ t. x ∷ t) (none_more xs)
+
+together : (xs ys zs : List BodyView) → (xs ++ ys) ++ zs ≡ xs ++ (ys ++ zs)
+together [] ys zs = refl
+together (x ∷ xs) ys zs = ap (λ t. x ∷ t) (together xs ys zs)
+
+-- the same is held
+pub holds_same : (old new : Holding) → new ≡ old → HoldsOn old new
+holds_same old new e = (([], ap (λ (h : Holding). h.held) e ∙ none_more old.held), ap (λ (h : Holding). h.operated) e)
+
+-- more is held, and then more behind that
+pub holds_then : (a b c : Holding) → HoldsOn a b → HoldsOn b c → HoldsOn a c
+holds_then a b c p q =
+    ((p.0.0 ++ q.0.0, q.0.1 ∙ (ap (λ t. t ++ q.0.0) p.0.1 ∙ together a.held p.0.0 q.0.0)), q.1 ∙ p.1)
+
+-- and then what is held stays
+pub holds_so : (a b c d : Holding) → HoldsOn a b → HoldsOn b c → d ≡ c → HoldsOn a d
+holds_so a b c d p q e = subst (λ (x : Holding). HoldsOn a x) (sym e) (holds_then a b c p q)
