@@ -139,13 +139,12 @@ fn entry(serial: u64, state: EntryState) -> Entry {
     Entry { serial, state }
 }
 
-// The core answers a method's next code, while a frame of the old one stands.
+// The core answers a method's next code, installed over the old one while a frame of that stands.
 fn next_code_by_core(alloc: Global) -> Result<Option<Vec<Said>>, AllocError> {
     let mut events = Vec::new(alloc);
     started(&mut events, 0)?;
     events.push(Event::Install(0))?;
     acts(&mut events, 0, &[Act::Enter(0, Some(1))])?;
-    events.push(Event::Invalidate(1))?;
     events.push(Event::Install(0))?;
     acts(
         &mut events,
@@ -178,8 +177,7 @@ fn a_method_has_its_next_code(rt: HostRuntime) -> Result<(), Fail> {
     keeper.install(&board, C);
     let entered = seat.enter(&board, C);
     assert!(rt; entered);
-    keeper.invalidate(&board, C);
-    keeper.install(&board, NEXT);
+    keeper.replace(&board, C, NEXT);
     let old_entered = seat.enter(&board, C);
     let next_entered = seat.enter(&board, NEXT);
     assert!(rt; next_entered);
