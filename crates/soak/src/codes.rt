@@ -9,12 +9,13 @@ pub struct Codes {
     left: Vec<u64>,
     // Whether it is freed, for each serial from 1 on.
     freed: Vec<bool>,
-    slots: usize,
+    // The serial of the code in each slot, 0 for none.
+    slots: Vec<u64>,
 }
 
 impl Codes {
     /// No code of any method. Refused only for want of memory.
-    pub fn new(alloc: Global, methods: u32, slots: usize) -> Result<Codes, AllocError> {
+    pub fn new(alloc: Global, methods: u32, slots: u32) -> Result<Codes, AllocError> {
         let mut in_use = Vec::new(alloc);
         for _ in 0..methods {
             in_use.push(None).map_err(|_| AllocError)?;
@@ -23,7 +24,7 @@ impl Codes {
             in_use,
             left: Vec::new(alloc),
             freed: Vec::new(alloc),
-            slots,
+            slots: vec![in alloc; 0; slots as usize]?,
         })
     }
 
@@ -49,7 +50,7 @@ impl Codes {
                 taken = taken.saturating_add(1);
             }
         }
-        taken >= self.slots
+        taken >= self.slots.len()
     }
 
     /// Whether the code of the serial was installed, and isn't freed.
@@ -60,6 +61,11 @@ impl Codes {
         }
     }
 
+    /// The serial of the code in a slot, 0 for none.
+    pub fn in_slot(&self, slot: u32) -> u64 {
+        self.slots.get(slot as usize).copied().unwrap_or(0)
+    }
+
     /// A code that is invalidated and not freed: the first from this one on, in a circle. None without one.
     pub fn left(&self, from: usize) -> Option<u64> {
         if self.left.is_empty() {
@@ -68,12 +74,15 @@ impl Codes {
         Some(self.left[from % self.left.len()])
     }
 
-    /// A code was installed, of the next serial.
-    pub fn note_installed(&mut self, method: u32) -> Result<(), AllocError> {
+    /// A code was installed in a slot, of the next serial.
+    pub fn note_installed(&mut self, method: u32, slot: u32) -> Result<(), AllocError> {
         self.freed.push(false).map_err(|_| AllocError)?;
         let serial = self.freed.len() as u64;
         if let Some(current) = self.in_use.get_mut(method as usize) {
             *current = Some(serial);
+        }
+        if let Some(stands) = self.slots.get_mut(slot as usize) {
+            *stands = serial;
         }
         Ok(())
     }
@@ -91,6 +100,11 @@ impl Codes {
         self.left.retain(|other| *other != serial);
         if let Some(is_freed) = self.freed.get_mut(serial.wrapping_sub(1) as usize) {
             *is_freed = true;
+        }
+        for stands in self.slots.iter_mut() {
+            if *stands == serial {
+                *stands = 0;
+            }
         }
     }
 

@@ -7,6 +7,7 @@ use crate::requests::targets_of;
 use crate::rng::Choices;
 use crate::signals::Signals;
 use crate::tally::Tally;
+use crate::words::Words;
 use crate::wrong::{Step, Wrong};
 use bodies::Name;
 use coordinator::{Coordinator, NotReclaimed, ReclaimFault, Reclaimed};
@@ -37,6 +38,7 @@ pub struct Driver<'a, N: Name, J: Errand, R> {
     pub(crate) places: usize,
     pub(crate) choices: Choices,
     pub(crate) codes: Codes,
+    pub(crate) words: Words<'a, N, J>,
     /// Lists of a job for each name, from 1 on.
     pub(crate) jobs: Vec<Vec<J>>,
     /// What each operation asks, by its number from 1 on; None for a census.
@@ -48,7 +50,7 @@ pub struct Driver<'a, N: Name, J: Errand, R> {
 #[derive(Clone, Copy, Drop)]
 pub struct Sizes {
     pub places: usize,
-    pub slots: usize,
+    pub slots: u32,
     pub methods: u32,
 }
 
@@ -64,6 +66,7 @@ impl<'a, N: Name, J: Errand, R: Wait> Driver<'a, N, J, R> {
         jobs: Vec<Vec<J>>,
     ) -> Result<Driver<'a, N, J, R>, Wrong>
         requires armer { armer ≡ full_armer N.poll_row N.board.places }
+        requires slots { sizes.slots ≡ N.board.slots }
     {
         let codes = Codes::new(alloc, sizes.methods, sizes.slots)?;
         let Ok(coordinator) = Coordinator::new(shared, armer, alloc) else {
@@ -78,6 +81,7 @@ impl<'a, N: Name, J: Errand, R: Wait> Driver<'a, N, J, R> {
             places: sizes.places,
             choices: Choices::new(seed),
             codes,
+            words: Words::new(shared, sizes.slots),
             jobs,
             asks: Vec::new(alloc),
             tally: Tally::new(),
@@ -137,16 +141,24 @@ impl<'a, N: Name, J: Errand, R: Wait> Driver<'a, N, J, R> {
                     self.signals.note_invalidated(method, old);
                     self.codes.note_invalidated(method, old)?;
                 }
-                self.codes.note_installed(method)?;
-                self.tally.installed = self.tally.installed.saturating_add(1);
-                if serial != self.codes.last() {
-                    return Err(Wrong::Answer(Step::Install));
-                }
-                Ok(())
+                self.note_installed(method, serial)
             }
             Err(CodeFault::Install(InstallFault::TableFull)) if are_full => Ok(()),
             Err(_) => Err(Wrong::Answer(Step::Install)),
         }
+    }
+
+    // A code was installed, and is its method's hint.
+    fn note_installed(&mut self, method: u32, serial: u64) -> Result<(), Wrong> {
+        let Some(code) = self.shared.hint(method) else {
+            return Err(Wrong::Answer(Step::Install));
+        };
+        self.codes.note_installed(method, code.slot)?;
+        self.tally.installed = self.tally.installed.saturating_add(1);
+        if code.serial != serial || serial != self.codes.last() {
+            return Err(Wrong::Answer(Step::Install));
+        }
+        Ok(())
     }
 
     // Invalidates the code of the method. Where it has none, one that is invalidated or freed is refused.

@@ -16,6 +16,7 @@ mod signals;
 mod tally;
 mod threads;
 mod verdict;
+mod words;
 mod wrong;
 
 use driver::Sizes;
@@ -34,7 +35,7 @@ use thread_list::Parts;
 use wrong::Wrong;
 
 // Few slots, so that they are used again, and hardly more than there are methods.
-const SLOTS: usize = 7;
+const SLOTS: u32 = 7;
 
 const METHODS: u32 = 5;
 
@@ -110,7 +111,7 @@ fn make_run<R: Threads + Wait + Sync>(
         slots: SLOTS,
         methods: METHODS,
     };
-    let Ok(parts) = Parts::new(alloc, sizes.places, SLOTS, METHODS as usize) else {
+    let Ok(parts) = Parts::new(alloc, sizes.places, sizes.slots as usize, METHODS as usize) else {
         return Err(Wrong::NoMemory);
     };
     let names = threads.saturating_add(rounds.saturating_mul(RENEWALS));

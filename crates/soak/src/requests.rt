@@ -1,6 +1,6 @@
 //! What the main thread asks of the others: handshakes and censuses, driven or made step by step.
 use crate::driver::Driver;
-use crate::verdict::{check_census, check_names, check_replies, sum_of};
+use crate::verdict::{check_census, check_names, check_replies};
 use crate::wrong::{Step, Wrong};
 use bodies::Name;
 use coordinator::{DriveFault, Driven, HoldFault, OperateFault, ServeFault};
@@ -221,14 +221,14 @@ impl<'a, N: Name, J: Errand, R: Wait> Driver<'a, N, J, R> {
         Ok(())
     }
 
-    /// A census step by step. While all are held the count words have what it counted.
+    /// A census step by step. While all are held each count word has what it counted of the code there.
     pub fn count_by_hand(&mut self) -> Result<(), Wrong> {
         let asked = self.submit_census()?;
         self.open(asked.op)?;
         let live = self.shared.live(self.rt)?;
         self.tell_all(live.as_slice())?;
         let list = self.operate()?;
-        let counted = self.shared.peek_counts();
+        let are_counted = self.words.are(list.as_slice(), &self.codes);
         for place in 0..self.places {
             let _ = self.coordinator.release(self.rt, place);
         }
@@ -241,7 +241,7 @@ impl<'a, N: Name, J: Errand, R: Wait> Driver<'a, N, J, R> {
             Err(_) => return Err(Wrong::Answer(Step::Close)),
         }
         self.tally.censuses = self.tally.censuses.saturating_add(1);
-        if sum_of(list.as_slice()) != counted {
+        if !are_counted {
             return Err(Wrong::Counts(asked.op));
         }
         check_census(asked.op, list.as_slice(), &self.codes)

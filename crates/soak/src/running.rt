@@ -36,6 +36,7 @@ pub fn run<N: Name + Send, J: Errand + Send, R: Threads + Wait + Sync>(
     jobs: Vec<Vec<J>>,
 ) -> Result<Tally, Wrong>
     requires tables { (parts.board ≡ N.board) × (parts.row ≡ N.poll_row) }
+    requires slots { plan.sizes.slots ≡ N.board.slots }
 {
     let Ok((shared, armer)) = Shared::<N, J>::new(alloc, parts) else {
         return Err(Wrong::NoMemory);
@@ -54,6 +55,7 @@ fn run_over<'a, N: Name + Send, J: Errand + Send, R: Threads + Wait + Sync>(
     jobs: Vec<Vec<J>>,
 ) -> Result<Tally, Wrong>
     requires armer { armer ≡ full_armer N.poll_row N.board.places }
+    requires slots { plan.sizes.slots ≡ N.board.slots }
 {
     let driver = Driver::new(
         rt, alloc, shared, signals, armer, plan.sizes, plan.seed, jobs,

@@ -70,13 +70,14 @@ pub fn check_census(op: u64, list: &[(u64, u32)], codes: &Codes) -> Result<(), W
     Ok(())
 }
 
-/// How many frames a census has counted.
-pub fn sum_of(list: &[(u64, u32)]) -> u64 {
-    let mut sum: u64 = 0;
+/// How many frames a census has counted of a code.
+pub fn count_of(list: &[(u64, u32)], serial: u64) -> u64 {
     for entry in list {
-        sum = sum.saturating_add(entry.1 as u64);
+        if entry.0 == serial {
+            return entry.1 as u64;
+        }
     }
-    sum
+    0
 }
 
 /// Each thread that stopped for a handshake has a reply of it, by the stack that it had then. The list has what each operation asked, by

@@ -44,7 +44,7 @@ pub enum Wrong {
     Entered(u64),
     /// The list of this census doesn't rise by serial, has a code without frames, or has one that isn't there.
     Census(u64),
-    /// While all were held, the sum of the count words wasn't that of the census.
+    /// While all were held, a count word wasn't what the census had of the code there.
     Counts(u64),
     /// A name has more than one reply of this handshake.
     Twice(u64),
