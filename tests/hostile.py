@@ -4,7 +4,9 @@
 threads  Each test that runs several threads, twenty times: it passes each time, within its seconds, and prints the same.
 memory   Each test of refused memory with its first growth refused, with its second, and so on until none is. It passes each time, says
          what was refused, and the growths come to an end where nothing was. Of some crates also tests that were not made for this: they
-         pass, or end with the error of refused memory. Needs a C compiler, for the library that refuses the growths.
+         pass, or end with the error of refused memory. Needs a C compiler, for the library that refuses the growths. Not run are tests
+         that pass whatever is refused and say nothing, as `monitor`, `interp`, `method_table` and `model` have them: it couldn't be
+         seen that anything was refused, nor where the growths end.
 
 Without a word it does both. `rt test` proves the tests of each crate first, and builds them; with `--built` those are run that the
 gate left behind. The last line is `N passed, M failed`; the status is 0 where none failed.
@@ -27,37 +29,47 @@ MOST_GROWTHS = 2000
 QUIET_GROWTHS = 20
 
 THREADS = {
-    "poll": ["no_arming_is_lost_to_a_clear", "the_armer_is_in_another_thread"],
-    "board": ["stopped::a_publication_is_looked_at_from_another_thread_at_each_boundary"],
+    "poll": ["tests::no_arming_is_lost_to_a_clear", "tests::the_armer_is_in_another_thread"],
+    "board": ["tests::stopped::a_publication_is_looked_at_from_another_thread_at_each_boundary"],
+    "thread_list_tests": ["tests::threads::four_threads_call_and_return"],
     "coordinator_tests": [
-        "census::a_census_counts_what_the_words_count",
-        "invalidated::no_call_enters_what_is_seen_invalidated",
-        "leaving::a_thread_that_exits_is_gone_or_has_answered",
-        "many::sixty_four_threads_shake_hands_a_thousand_times",
-        "meeting::one_job_waits_for_the_other",
+        "tests::census::a_census_counts_what_the_words_count",
+        "tests::four::four_are_closed_over_two_running_threads",
+        "tests::invalidated::no_call_enters_what_is_seen_invalidated",
+        "tests::leaving::a_thread_that_exits_is_gone_or_has_answered",
+        "tests::many::sixty_four_threads_shake_hands_a_thousand_times",
+        "tests::meeting::one_job_waits_for_the_other",
     ],
+    "monitor": ["running_tests::four_threads_run_a_loop_of_calls", "running_tests::two_ticks_meet"],
 }
 
 # Those of a list meet the same at each growth.
 MEMORY = {
-    "system_tests": [["refused_memory::refused_memory_stops_a_run_before_its_event"]],
+    "system_tests": [["tests::refused_memory::refused_memory_stops_a_run_before_its_event"]],
     "replay_tests": [
         [
-            "refused_memory::refused_memory_leaves_the_answers_before_a_line",
-            "refused_memory::refused_memory_leaves_as_many_answers_of_a_block",
+            "tests::refused_memory::refused_memory_leaves_the_answers_before_a_line",
+            "tests::refused_memory::refused_memory_leaves_as_many_answers_of_a_block",
         ]
     ],
-    "script": [["refused_memory_is_told"]],
-    "poll": [["a_row_is_made_whole_or_not_at_all"]],
-    "board": [["a_board_is_made_whole_or_not_at_all"]],
-    "coordinator_tests": [["memory::what_lacks_memory_is_tried_again"]],
+    "script": [["tests::refused_memory_is_told"]],
+    "poll": [["tests::a_row_is_made_whole_or_not_at_all"]],
+    "board": [["tests::a_board_is_made_whole_or_not_at_all"]],
+    "coordinator_tests": [["tests::memory::what_lacks_memory_is_tried_again"]],
 }
 NONE_REFUSED = "no growth was refused"
+# What runs of these must have met, each in some of them.
+TO_MEET = {"coordinator_tests": ["a request was refused", "the list of a census was refused", "a reclaim was refused"]}
 PASSED = "test result: ok"
 
 # These pass, or end with one of the errors.
 ENDING = {
-    "desk_tests": ["sixty_four_requests_wait", "a_handshake_is_answered_once", "a_code_is_reclaimed", "a_full_history_takes_no_entry"],
+    "desk_tests": [
+        "tests::sixty_four_requests_wait",
+        "tests::a_handshake_is_answered_once",
+        "tests::a_code_is_reclaimed",
+        "tests::a_full_history_takes_no_entry",
+    ],
 }
 # What std answers where a block, or the block of a box, isn't given.
 ERRORS = ("error: AllocError\n", "error: AllocFailed { .. }\n")
@@ -89,7 +101,7 @@ def ran(words, seconds, **devices):
 
 def test_of(crate, test, **devices):
     """A run of one test of a crate, as `rt test` built it."""
-    return ran([CRATES / crate / "out" / f"{crate}_tests", f"tests::{test}"], SECONDS, **devices)
+    return ran([CRATES / crate / "out" / f"{crate}_tests", test], SECONDS, **devices)
 
 
 def build(tally, crates):
@@ -151,7 +163,8 @@ def memory(tally, groups_of, library):
             for test, (notes, faults) in sweeps.items():
                 met = [note for note in notes if note != NONE_REFUSED]
                 name = f"{crate}, {test}, {len(met)} growths refused: {', '.join(dict.fromkeys(met))}"
-                tally.judge(name, faults or unlike or ([] if met else ["nothing was refused"]))
+                unmet = [f"never met: {note}" for note in TO_MEET.get(crate, []) if note not in met]
+                tally.judge(name, faults or unlike or unmet or ([] if met else ["nothing was refused"]))
 
 
 def main():

@@ -169,6 +169,25 @@ def files(tally, folder, right, wrong):
     tally.run("run of an empty file", ["run", "/dev/null"], b"", b"monitor: NotJson at -\n", 1)
 
 
+def two_faults(tally, folder, right, wrong):
+    """Of two faults the first in the order is told: words, file, script, and then the write."""
+    missing = f"{folder}/none.json"
+    for words in (["run", missing, "--threads", "0"], ["run", wrong, "--threads", "65"], ["run", missing, "--threads"], ["check", missing, "4"]):
+        tally.run(f"bad words of {words[0]}, and no right file", words, b"", BAD_WORDS, 2)
+    tally.run("bad words, the output closed", ["run", right, "--threads", "0"], b"", BAD_WORDS, 2, preexec_fn=closing(1))
+    for form in ("check", "run"):
+        for name, file, told in (("a wrong file", wrong, WRONG_ANSWER), ("a file missing", missing, NOT_READ)):
+            tally.run(f"{form} of {name}, the output closed", [form, file], b"", told, 1, preexec_fn=closing(1))
+            with open("/dev/full", "wb") as full:
+                tally.run(f"{form} of {name}, a full output", [form, file], b"", told, 1, stdout=full)
+    tally.run("replay, input and output closed", ["replay"], b"", READ_FAILED, 1, stdin=subprocess.DEVNULL, preexec_fn=both_closed)
+
+
+def both_closed():
+    os.close(0)
+    os.close(1)
+
+
 def inputs(tally, folder):
     tally.run("an empty input", ["replay"])
     tally.run("a last line without an end", ["replay"], b"ok\nbad line\n", given=b"size 1 1 1\nsta")
@@ -268,6 +287,7 @@ def tested(program):
         bad_words(tally, right)
         good_words(tally, right)
         files(tally, folder, right, wrong)
+        two_faults(tally, folder, right, wrong)
         inputs(tally, folder)
         outputs(tally, right, wrong)
         little_memory(tally, ["check", right], b"", RIGHT_ANSWER)

@@ -2,7 +2,8 @@
 """Runs scripts on threads again and again: runs.py PROGRAM [TIMES]
 
 A loop of calls on 1, 2, 3 and 64 threads, and a script of 256 methods on 4, each TIMES times (100 unless told otherwise). A run
-must say the same each time, but for whether some frame was compiled. The last line is `N passed, M failed`; the status is 0 where
+must say the same each time. That some frame was compiled is no matter of the schedule: each thread's first mark calls method 0, and
+is made before the threads run and while that method's code is in use. The last line is `N passed, M failed`; the status is 0 where
 none failed.
 """
 import pathlib
@@ -21,15 +22,14 @@ def chain(methods):
     return '{"methods":[' + ",".join([*calls, '["native","block"]']) + "]}"
 
 
-def said(threads, ending, codes, compiled):
+def said(threads, ending, codes):
     lines = [f"threads {threads}", *(f"thread {name} {ending}" for name in range(1, threads + 1))]
-    return "\n".join([*lines, f"compiled {compiled}", f"codes {codes} freed {codes}", "counts 0", ""]).encode()
+    return "\n".join([*lines, "compiled yes", f"codes {codes} freed {codes}", "counts 0", ""]).encode()
 
 
 def is_said(program, script, threads, ending, codes):
     ran = subprocess.run([program, "run", script, "--threads", str(threads)], capture_output=True, timeout=SECONDS)
-    is_right = ran.stdout in [said(threads, ending, codes, compiled) for compiled in ("yes", "no")]
-    if not is_right or ran.stderr or ran.returncode:
+    if (ran.stdout, ran.stderr, ran.returncode) != (said(threads, ending, codes), b"", 0):
         print(f"FAILED: {script} on {threads} threads: {ran.stdout!r} {ran.stderr!r} {ran.returncode}")
         return False
     return True

@@ -77,6 +77,42 @@ fn scripts_are_answered(rt: HostRuntime) -> Result<(), Fail> {
     Ok(())
 }
 
+// The same from a source to a sink: a fault is told and nothing is written.
+#[test]
+fn scripts_are_checked(rt: HostRuntime) -> Result<(), Fail> {
+    for (text, written, told) in [
+        (LOOP_OF_CALLS, "ok 2\n", ""),
+        (
+            b"{\"methods\":[[{\"call\":1}]]}".as_slice(),
+            "",
+            "BadCall at 0.0",
+        ),
+        (b"{\"methods\":[[".as_slice(), "", "NotJson at -"),
+        (
+            b"{\"methods\":[[],[\"tick\",{\"loop\":0,\"body\":[]}]]}".as_slice(),
+            "",
+            "BadLoop at 1.1",
+        ),
+    ] {
+        let mut drip = Drip {
+            rest: text,
+            step: 1000,
+            calls: 0,
+            bad_call: 0,
+        };
+        let mut basin = new_basin(rt.alloc(), 1000, 0, false);
+        match run(rt.alloc(), &mut drip, &mut basin) {
+            Ok(()) => assert_eq!(rt; told, ""),
+            Err(fault) => {
+                assert_eq!(rt; fault.to_string(rt.alloc())?.as_str(), told);
+                assert_eq!(rt; fault.status(), 1);
+            }
+        }
+        assert_eq!(rt; basin.got.as_slice(), written.as_bytes());
+    }
+    Ok(())
+}
+
 #[test]
 fn hostile_texts_are_answered(rt: HostRuntime) -> Result<(), Fail> {
     let alloc = rt.alloc();
