@@ -91,6 +91,50 @@ pub fn compare<N: Name, J: Errand, R: Wait>(
     counts(sizes, oracle, running)
 }
 
+/// The same of what is too much to look at after each call: the replies of every number, also of the next, and the frames of each thread
+/// that is away.
+pub fn compare_all<N: Name, J: Errand, R: Wait>(
+    rt: &R,
+    alloc: Global,
+    oracle: &mut Oracle,
+    running: &Running<'_, N, J>,
+) -> Result<Option<Difference>, AllocError> {
+    if let Some(found) = all_replies(rt, alloc, oracle, running)? {
+        return Ok(Some(found));
+    }
+    all_stacks(rt, alloc, oracle, running)
+}
+
+fn all_replies<N: Name, J: Errand, R: Wait>(
+    rt: &R,
+    alloc: Global,
+    oracle: &Oracle,
+    running: &Running<'_, N, J>,
+) -> Result<Option<Difference>, AllocError> {
+    for op in 0..oracle.asked.saturating_add(2) {
+        let seen = replies(rt, alloc, op, oracle, running)?;
+        if seen.is_some() {
+            return Ok(seen);
+        }
+    }
+    Ok(None)
+}
+
+fn all_stacks<N: Name, J: Errand, R: Wait>(
+    rt: &R,
+    alloc: Global,
+    oracle: &mut Oracle,
+    running: &Running<'_, N, J>,
+) -> Result<Option<Difference>, AllocError> {
+    for turn in 0..running.threads.len() {
+        let seen = stack(rt, alloc, turn as u64, oracle, running)?;
+        if seen.is_some() {
+            return Ok(seen);
+        }
+    }
+    Ok(None)
+}
+
 // The count word of each slot, and their sum.
 fn counts<N: Name, J: Errand>(
     sizes: Sizes,
@@ -215,8 +259,8 @@ fn live<N: Name, J: Errand, R: Wait>(
     Ok(unlike(Seen::Live, Said::Names(names), Said::Names(found)))
 }
 
-/// Whether both sides have the same replies of the operation.
-pub fn replies<N: Name, J: Errand, R: Wait>(
+// Whether both sides have the same replies of the operation.
+fn replies<N: Name, J: Errand, R: Wait>(
     rt: &R,
     alloc: Global,
     op: u64,

@@ -4,15 +4,17 @@
 
 mod codes;
 mod driving;
+pub mod losses;
 mod requests;
 mod threads;
 
 use crate::calls::Call;
 use crate::said::Said;
 use frames::CodeId;
+use losses::Loss;
 use std::alloc::{AllocError, Global};
 use system::System;
-use system::answers::Refusal;
+use system::answers::{Answer, Refusal};
 use system::events::{Act, Event};
 use thread_state::State;
 
@@ -68,9 +70,13 @@ pub struct Oracle {
     alloc: Global,
     /// Whether a thread may be stopped by a census, which can't be operated then, since only one thread makes all calls.
     reckless: bool,
+    /// What it is to lose; None where it is right.
+    pub loss: Option<Loss>,
     /// In the order of their names.
     pub live: Vec<Live>,
     pub names: u64,
+    /// How many operation numbers are given out.
+    pub asked: u64,
     pub waiting: Vec<Waiting>,
     /// The oldest first.
     pub open: Vec<Opened>,
@@ -104,8 +110,10 @@ impl Oracle {
             system,
             alloc,
             reckless,
+            loss: None,
             live: Vec::new(alloc),
             names: 0,
+            asked: 0,
             waiting: Vec::new(alloc),
             open: Vec::new(alloc),
             held: Vec::new(alloc),
@@ -132,7 +140,13 @@ impl Oracle {
 
     /// Plays one event.
     pub fn play(&mut self, event: Event) -> Result<Said, AllocError> {
+        if let Some(said) = self.lose(&event) {
+            return Ok(said);
+        }
         let answer = self.system.apply(self.alloc, event)?;
+        if let Answer::Asked(number) = &answer {
+            self.asked = *number;
+        }
         Said::of_answer(self.alloc, answer)
     }
 

@@ -2,10 +2,13 @@
 ghost use Rattle.std.specs.Prelude.{◌≡◌, ◌<◌};
 ghost use Rattle.poll.specs.Rows.{full_armer};
 
+mod sweep;
+
 use crate::calls::{Call, CodeCall, RequestCall, ThreadCall};
-use crate::compare::{Difference, Seen, compare, replies, unlike};
+use crate::compare::{Difference, Seen, compare, compare_all, unlike};
 use crate::draw::Draw;
 use crate::habits::{Habits, Phase};
+use crate::oracle::losses::Loss;
 use crate::oracle::{Live, Oracle};
 use crate::running::{Running, Sizes};
 use crate::said::Said;
@@ -18,12 +21,13 @@ use std::sync::Wait;
 use thread_list::{Parts, Shared};
 use thread_state::State;
 
-/// The schedule of a seed: so many calls on a system of these sizes.
+/// The schedule of a seed: so many calls on a system of these sizes, and what the core loses of them.
 #[derive(Clone, Copy, PartialEq, Eq, Debug, Drop)]
 pub struct Plan {
     pub seed: u64,
     pub calls: u64,
     pub sizes: Sizes,
+    pub loss: Option<Loss>,
 }
 
 /// How many calls were made, and what they came to.
@@ -45,6 +49,8 @@ pub enum Stopped {
     NoMemory,
     /// The two sides differ: at the call of the number.
     Differ(u64, Call, Difference),
+    /// So many calls were made alone, and then all that were drawn would have waited.
+    Few(u64),
 }
 
 impl From<AllocError> for Stopped {
@@ -55,6 +61,9 @@ impl From<AllocError> for Stopped {
 
 // How many draws there are for a call that has nothing to wait for.
 const DRAWS: u32 = 1000;
+
+// After so many calls all is compared, and not only what is seen at little cost.
+const ALL: u64 = 100;
 
 // How many requests there can be at the end: those that wait, and those that are open.
 const REQUESTS: u32 = 69;
@@ -68,9 +77,12 @@ struct Pair<'a, N: Name, J: Errand> {
     oracle: Oracle,
     running: Running<'a, N, J>,
     tally: Tally,
+    // The call that was made last.
+    last: Call,
 }
 
-/// Plays the schedule of a seed on both sides, and then brings all threads home and frees all codes. Answers what the calls came to.
+/// Plays the schedule of a seed on both sides, then enters, looks for and weighs all codes, brings all threads home and frees all codes.
+/// Answers what the calls came to.
 pub fn play<N: Name, J: Errand, R: Wait>(
     rt: &R,
     alloc: Global,
@@ -117,8 +129,14 @@ fn play_with<N: Name, J: Errand, R: Wait>(
         oracle: core_of(alloc, plan)?,
         running,
         tally: Tally::none(),
+        last: Call::Start,
     };
     pair.play_all(rt, plan)
+}
+
+// In every sixteenth seed a poll may stop a thread for a census, which then stays open for good.
+fn is_reckless(plan: Plan) -> bool {
+    plan.seed % 16 == 0
 }
 
 fn core_of(alloc: Global, plan: Plan) -> Result<Oracle, AllocError> {
@@ -127,8 +145,9 @@ fn core_of(alloc: Global, plan: Plan) -> Result<Oracle, AllocError> {
         slots,
         methods,
     } = plan.sizes;
-    let reckless = plan.seed % 16 == 0;
-    Oracle::new(alloc, places, slots, methods, reckless)
+    let mut oracle = Oracle::new(alloc, places, slots, methods, is_reckless(plan))?;
+    oracle.loss = plan.loss;
+    Ok(oracle)
 }
 
 /// What making a call came to.
@@ -191,6 +210,7 @@ impl<'a, N: Name, J: Errand> Pair<'a, N, J> {
         };
         let said = self.running.answer(rt, self.alloc, sizes, &call)?;
         let made = self.tally.note(&said);
+        self.last = call;
         if matches!(said, Said::Opened(_)) && self.oracle.open.len() > 1 {
             self.tally.beside = self.tally.beside.saturating_add(1);
         }
@@ -215,7 +235,19 @@ impl<'a, N: Name, J: Errand> Pair<'a, N, J> {
             return Ok(answers);
         }
         let turn = self.tally.calls;
-        compare(rt, self.alloc, sizes, turn, &mut self.oracle, &self.running)
+        let seen = compare(rt, self.alloc, sizes, turn, &mut self.oracle, &self.running)?;
+        if seen.is_some() || turn % ALL != 0 {
+            return Ok(seen);
+        }
+        compare_all(rt, self.alloc, &mut self.oracle, &self.running)
+    }
+
+    // All that can be seen of both, between two calls.
+    fn compare_all<R: Wait>(&mut self, rt: &R) -> Result<(), Stopped> {
+        match compare_all(rt, self.alloc, &mut self.oracle, &self.running)? {
+            None => Ok(()),
+            Some(found) => Err(Stopped::Differ(self.tally.calls, self.last, found)),
+        }
     }
 
     // The schedule, and then all that brings the threads home. Answers what the calls came to.
@@ -223,10 +255,13 @@ impl<'a, N: Name, J: Errand> Pair<'a, N, J> {
         requires sizes { (plan.sizes.places ≡ N.board.places) × (plan.sizes.slots ≡ N.board.slots) }
     {
         self.play_by(rt, plan)?;
-        if self.bring_home(rt, plan.sizes)? {
-            self.free_all(rt, plan.sizes)?;
+        if self.tally.calls < plan.calls && !is_reckless(plan) {
+            return Err(Stopped::Few(self.tally.calls));
         }
-        self.compare_replies(rt)?;
+        self.try_codes(rt, plan.sizes)?;
+        self.bring_home(rt, plan.sizes)?;
+        self.free_all(rt, plan.sizes)?;
+        self.compare_all(rt)?;
         self.tally.replies = self.oracle.replies.len() as u64;
         Ok(self.tally)
     }
@@ -242,7 +277,7 @@ impl<'a, N: Name, J: Errand> Pair<'a, N, J> {
         Ok(())
     }
 
-    // Draws calls until one has nothing to wait for.
+    // Draws calls until one has nothing to wait for. None is made where that is never so.
     fn make_next<R: Wait>(
         &mut self,
         rt: &R,
@@ -274,9 +309,8 @@ impl<'a, N: Name, J: Errand> Pair<'a, N, J> {
         Vec::from_slice(self.alloc, self.oracle.live.as_slice())
     }
 
-    // All requests are worked on to their Close, and all threads exit. Not so where a census keeps a thread for good: then nothing is
-    // answered for.
-    fn bring_home<R: Wait>(&mut self, rt: &R, sizes: Sizes) -> Result<bool, Stopped>
+    // All requests are worked on to their Close, and all threads exit. Not so where a census keeps a thread for good.
+    fn bring_home<R: Wait>(&mut self, rt: &R, sizes: Sizes) -> Result<(), Stopped>
         requires sizes { (sizes.places ≡ N.board.places) × (sizes.slots ≡ N.board.slots) }
     {
         let live = self.live()?;
@@ -288,21 +322,23 @@ impl<'a, N: Name, J: Errand> Pair<'a, N, J> {
         rt: &R,
         sizes: Sizes,
         live: &[Live],
-    ) -> Result<bool, Stopped>
+    ) -> Result<(), Stopped>
         requires sizes { (sizes.places ≡ N.board.places) × (sizes.slots ≡ N.board.slots) }
     {
         for thread in live {
             if !self.send_away(rt, sizes, *thread)? {
-                return Ok(false);
+                return Ok(());
             }
         }
         if !self.drive_all(rt, sizes)? {
-            return Ok(false);
+            return Ok(());
         }
+        // Now all bodies are in their berths.
+        self.compare_all(rt)?;
         for thread in live {
             self.take_home(rt, sizes, *thread)?;
         }
-        Ok(true)
+        Ok(())
     }
 
     // All requests are worked on to their Close. Whether none is left.
@@ -377,29 +413,6 @@ impl<'a, N: Name, J: Errand> Pair<'a, N, J> {
             self.make(rt, sizes, Call::Code(CodeCall::Free(serial)))?;
             self.make(rt, sizes, Call::Code(CodeCall::Invalidate(serial)))?;
             self.make(rt, sizes, Call::Code(CodeCall::Reclaim(serial, None)))?;
-        }
-        Ok(())
-    }
-
-    // The replies of each operation.
-    fn compare_replies<R: Wait>(&mut self, rt: &R) -> Result<(), Stopped> {
-        let mut op = 0;
-        for index in 0..self.oracle.replies.len() {
-            let Some(reply) = self.oracle.replies.get(index).copied() else {
-                break;
-            };
-            if reply.op == op {
-                continue;
-            }
-            op = reply.op;
-            let seen = replies(rt, self.alloc, op, &self.oracle, &self.running)?;
-            if let Some(found) = seen {
-                return Err(Stopped::Differ(
-                    self.tally.calls,
-                    Call::Request(RequestCall::Close),
-                    found,
-                ));
-            }
         }
         Ok(())
     }

@@ -1,5 +1,7 @@
 //! What a call answers, in one language for both sides.
-use coordinator::{DriveFault, HoldFault, OperateFault, ReclaimFault, ServeFault, TellFault};
+use coordinator::{
+    DriveFault, HoldFault, OperateFault, ReclaimFault, ReleaseFault, ServeFault, TellFault,
+};
 use desk::{AskFault, CloseFault, CodeFault, OpenFault, StartFault};
 use frames::{CodeId, Frame};
 use method_table::table::{FreeFault, InstallFault, InvalidateFault, RetireFault};
@@ -244,8 +246,18 @@ pub fn of_hold(fault: HoldFault) -> Refusal {
     }
 }
 
+pub fn of_release(fault: ReleaseFault) -> Refusal {
+    match fault {
+        ReleaseFault::NoSuchPlace => Refusal::NoSuchPlace,
+        ReleaseFault::Vacant => Refusal::Illegal(State::Vacant),
+        ReleaseFault::NotHeld => Refusal::NotHeld,
+    }
+}
+
 pub fn of_serve(fault: ServeFault) -> Refusal {
     match fault {
+        ServeFault::NoSuchPlace => Refusal::NoSuchPlace,
+        ServeFault::Vacant => Refusal::Illegal(State::Vacant),
         ServeFault::NotHeld => Refusal::NotHeld,
         ServeFault::NothingOpen => Refusal::NothingOpen,
         ServeFault::NotOf => Refusal::NotOf,

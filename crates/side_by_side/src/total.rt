@@ -2,6 +2,7 @@
 ghost use Rattle.std.specs.Prelude.{◌≡◌, ◌≤◌, ◌<◌, IfOk};
 ghost use Rattle.operations.specs.Asks.{reply};
 
+use crate::oracle::losses::Loss;
 use crate::play::{Plan, Stopped, Tally, play};
 use crate::running::Sizes;
 use frames::image::Image;
@@ -13,7 +14,7 @@ use std::marker::Brand;
 use std::sync::Wait;
 use thread_list::Parts;
 
-/// How many calls a schedule has.
+/// How many calls a schedule has. It has fewer only where a census keeps threads for good.
 pub const CALLS: u64 = 1000;
 
 // For each name that may be asked there are so many jobs that ask for the depth, as many for the top, and one for the count of each
@@ -64,6 +65,10 @@ impl fmt::Display for Found {
         let seed = self.seed;
         match &self.stopped {
             Stopped::NoMemory => write!(f, "seed {seed}: no memory"),
+            Stopped::Few(calls) => write!(
+                f,
+                "seed {seed}: only {calls} calls found nothing to wait for"
+            ),
             Stopped::Differ(number, call, unlike) => {
                 let seen = unlike.seen;
                 let core = &unlike.core;
@@ -86,7 +91,7 @@ pub fn play_all<R: Wait>(rt: &R, alloc: Global, seeds: u64, first: u64) -> Resul
     };
     for index in 0..seeds {
         let seed = first.saturating_add(index);
-        match play_seed(rt, alloc, seed) {
+        match play_seed(rt, alloc, seed, None) {
             Ok(tally) => total.all.add(tally),
             Err(stopped) => return Err(Found { seed, stopped }),
         }
@@ -123,8 +128,13 @@ fn ask_of(index: u64) -> Ask {
     }
 }
 
-/// Plays the schedule of one seed.
-pub fn play_seed<R: Wait>(rt: &R, alloc: Global, seed: u64) -> Result<Tally, Stopped> {
+/// Plays the schedule of one seed, beside a core that may lose something.
+pub fn play_seed<R: Wait>(
+    rt: &R,
+    alloc: Global,
+    seed: u64,
+    loss: Option<Loss>,
+) -> Result<Tally, Stopped> {
     let sizes = sizes_of(seed);
     let slots = sizes.slots as usize;
     let methods = sizes.methods as usize;
@@ -150,6 +160,7 @@ pub fn play_seed<R: Wait>(rt: &R, alloc: Global, seed: u64) -> Result<Tally, Sto
         seed,
         calls: CALLS,
         sizes,
+        loss,
     };
     play::<Brand, Job, R>(rt, alloc, plan, parts, jobs)
 }

@@ -144,15 +144,12 @@ impl Oracle {
         Ok(Said::Done)
     }
 
-    // Release. Where nothing is held there is no need for a thread, or a place.
+    // Release.
     fn release(&mut self, place: usize) -> Result<Said, AllocError> {
         match self.at(place, Act::Release)? {
             Said::Done => {
                 self.held.retain(|held| *held != place);
                 Ok(Said::Done)
-            }
-            Said::Refused(Refusal::NoSuchPlace | Refusal::Illegal(State::Vacant)) => {
-                Ok(Said::Refused(Refusal::NotHeld))
             }
             other => Ok(other),
         }
@@ -175,11 +172,13 @@ impl Oracle {
         self.finish(place)
     }
 
+    // Of a place that isn't held: whatever the state of its thread.
     fn refused_to_serve(&mut self, place: usize) -> Result<Said, AllocError> {
         match self.at(place, Act::Finish)? {
-            Said::Refused(Refusal::NoSuchPlace | Refusal::Illegal(_)) => {
-                Ok(Said::Refused(Refusal::NotHeld))
+            Said::Refused(Refusal::Illegal(State::Vacant)) => {
+                Ok(Said::Refused(Refusal::Illegal(State::Vacant)))
             }
+            Said::Refused(Refusal::Illegal(_)) => Ok(Said::Refused(Refusal::NotHeld)),
             other => Ok(other),
         }
     }

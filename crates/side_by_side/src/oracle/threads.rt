@@ -1,4 +1,5 @@
 //! What a thread calls, as events.
+use super::losses::Lost;
 use super::{Live, OPEN, Oracle, Reply};
 use crate::calls::ThreadCall;
 use crate::said::Said;
@@ -190,13 +191,20 @@ impl Oracle {
         if let Some(live) = self.live_at(place) {
             op = self.undone(live).unwrap_or(0);
             self.note_done(op, live.name)?;
-            self.replies.push(Reply {
+            self.note_reply(Reply {
                 op,
                 name: live.name,
                 reply,
             })?;
         }
         self.clear(place, op)
+    }
+
+    fn note_reply(&mut self, reply: Reply) -> Result<(), AllocError> {
+        if !self.loses(Lost::Reply) {
+            self.replies.push(reply)?;
+        }
+        Ok(())
     }
 
     // The thread is done with the open request of the number.

@@ -3,9 +3,9 @@ ghost use Rattle.std.specs.Prelude.{◌<◌, length, IfSome};
 
 use super::Running;
 use crate::calls::{Handshake, RequestCall, StepCall};
-use crate::said::{Said, of_close, of_hold, of_open, of_serve, of_tell};
+use crate::said::{Said, of_close, of_hold, of_open, of_release, of_serve, of_tell};
 use bodies::Name;
-use coordinator::{Driven, NotHeld, NotReclaimed, Reclaimed, Told};
+use coordinator::{Driven, NotReclaimed, Reclaimed, Told};
 use desk::Refused;
 use operations::job::Errand;
 use operations::{Ask, Request, Targets};
@@ -143,7 +143,7 @@ impl<'a, N: Name, J: Errand> Running<'a, N, J> {
 
     fn tell<R: Wait>(&mut self, rt: &R, name: u64) -> Said {
         match self.coordinator.tell(rt, name) {
-            Ok(Told::Told) => Said::Told,
+            Ok(Told::Told(_)) => Said::Told,
             Ok(Told::Gone) => Said::Gone,
             Err(fault) => Said::Refused(of_tell(fault)),
         }
@@ -173,7 +173,7 @@ impl<'a, N: Name, J: Errand> Running<'a, N, J> {
     fn release<R: Wait>(&mut self, rt: &R, place: usize) -> Said {
         match self.coordinator.release(rt, place) {
             Ok(_receipt) => Said::Done,
-            Err(NotHeld) => Said::Refused(Refusal::NotHeld),
+            Err(fault) => Said::Refused(of_release(fault)),
         }
     }
 
