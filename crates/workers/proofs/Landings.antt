@@ -1,5 +1,5 @@
 -- Where a thread goes on after a poll.
-use Rattle.std.proofs.Common.{◌≡◌, Bool, true, false, Some, refl, ap, sym, ◌∙◌, subst}
+use Rattle.std.proofs.Common.{◌≡◌, Bool, true, false, Some, refl, ap, sym, ◌∙◌}
 use Rattle.thread_state.specs.declared.Back.{Back}
 use Rattle.thread_state.specs.declared.Back.TheVariants.{Java, Vm}
 use Rattle.thread_state.specs.declared.State.{State}

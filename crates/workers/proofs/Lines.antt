@@ -1,9 +1,12 @@
 -- Lines in rising name, one more at a time.
-use Rattle.std.proofs.Common.{◌≡◌, ◌∙◌, ◌+◌, ℕ, suc, List, [], ◌∷◌, ◌++◌, length, arith}
-use Rattle.script.specs.declared.code.Op.{Op}
+use Rattle.std.proofs.Common.{◌≡◌, ◌+◌, ℕ, suc, List, [], ◌∷◌, ◌++◌, length, arith}
 use Rattle.workers.specs.declared.summary.Line.{Line}
-use Rattle.workers.specs.Summaries.{EndsWith, AreLines}
+use Rattle.workers.specs.Ended.{Reported}
+use Rattle.workers.specs.Summaries.{Tells, AreLines}
 
-pub line_more : (code : List (List Op)) (name : ℕ) (ls : List Line) (l : Line) → AreLines code name ls → l.name ≡ name + length ls → EndsWith code l → AreLines code name (ls ++ l ∷ [])
-line_more code name [] l are is ends = (omega (arith, is), ends, tt)
-line_more code name (x ∷ ls) l (here, end, rest) is ends = (here, end, line_more code (suc name) ls l rest (omega (arith, is)) ends)
+pub line_more : (name : ℕ) (rs : List Reported) (ls : List Line) (r : Reported) (l : Line)
+    → AreLines name rs ls → l.name ≡ name + length ls → Tells r l → AreLines name (rs ++ r ∷ []) (ls ++ l ∷ [])
+line_more name [] [] r l are is tells = (omega (arith, is), tells, tt)
+line_more name [] (y ∷ ls) r l are is tells = absurd are
+line_more name (x ∷ rs) [] r l are is tells = absurd are
+line_more name (x ∷ rs) (y ∷ ls) r l (here, told, rest) is tells = (here, told, line_more (suc name) rs ls r l rest (omega (arith, is)) tells)

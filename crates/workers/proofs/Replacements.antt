@@ -1,9 +1,9 @@
 -- Codes that are installed, replaced and freed one after the other.
-use Rattle.std.proofs.Common.{◌≡◌, ◌∙◌, ◌+◌, ℕ, suc, List, [], ◌∷◌, ◌++◌, length, length-append, inl, inr, refl, ap, sym, subst, append_assoc, slice_index, arith}
+use Rattle.std.proofs.Common.{◌≡◌, ◌∙◌, ◌+◌, ◌*◌, ℕ, suc, List, [], ◌∷◌, ◌++◌, length, length-append, inl, inr, refl, ap, sym, subst, append_assoc, slice_index, arith}
 use Rattle.std.proofs.lemmas.List.{length-set}
 use Rattle.desk.specs.Machine.{Stands}
 use Rattle.desk.specs.declared.entries.Entry.TheVariants.{Free}
-use Rattle.workers.specs.Replacing.{Codes, IsInstall, AreInstalls, IsKept, Replaced, ReplacedFirst, CountsMore, AreFreed, FreesSome}
+use Rattle.workers.specs.Replacing.{Codes, IsInstall, AreInstalls, InstallsEach, IsKept, Replaced, ReplacedFirst, ReplacedEach, CountsMore, AreFreed, FreesSome}
 
 -- one more code behind the others
 installs_more : (method : ℕ) (ss : List ℕ) (rs : List Stands) (s : ℕ) (r : Stands)
@@ -86,3 +86,11 @@ some_more ss s old new (more, is, freed) = (more, is, frees_none ss more s freed
 
 pub some_and_one : (ss : List ℕ) (s : ℕ) (old mid : List Stands) (r : Stands) → FreesSome ss old mid → r.entry ≡ Free s → FreesSome (ss ++ s ∷ []) old (mid ++ r ∷ [])
 some_and_one ss s old mid r (more, is, freed) one = (more ++ r ∷ [], ap (λ rs. rs ++ r ∷ []) is ∙ append_assoc old more (r ∷ []), frees_one ss more s r freed one)
+
+-- once the code of each method was replaced, two a method were installed, and as many are freed, left or in use
+pub two_each : (methods : ℕ) (begun replaced : Codes) → InstallsEach methods begun → ReplacedEach begun replaced
+    → (length replaced.installed ≡ 2 * methods) × (length replaced.freed + length replaced.left + length replaced.in_use ≡ 2 * methods)
+two_each methods begun replaced (uses, installs, are, left, freed) (first, (same, more, kept)) =
+    let none_left : length begun.left ≡ 0 = ap length left in
+    let none_freed : length begun.freed ≡ 0 = ap length freed in
+    (omega (arith, uses, installs, more), omega (arith, uses, same, kept, none_left, none_freed))

@@ -1,5 +1,5 @@
 -- How the run of a trace ends, and how many marks it makes.
-use Rattle.std.specs.Prelude.{◌≡◌, ℕ, zero, suc, Bool, List, map, Result, Ok, Err, ⊤}
+use Rattle.std.specs.Prelude.{◌≡◌, ℕ, zero, suc, Bool, false, List, length, map, Result, Ok, Err, ⊤}
 use Rattle.script.specs.declared.code.Op.{Op}
 use Rattle.script.specs.Body.{Body}
 use Rattle.script.specs.Checked.{AreChecked}
@@ -8,13 +8,15 @@ use Rattle.interp.specs.declared.mark.Mark.{Mark}
 use Rattle.interp.specs.declared.runner.Runner.{Runner}
 use Rattle.interp.specs.declared.runner.Outcome.{Outcome}
 use Rattle.interp.specs.declared.runner.Outcome.TheVariants as outcome
-use Rattle.interp.specs.Trace.{Trace, finished, overflowed, made, trace}
+use Rattle.interp.specs.Trace.{Trace, finished, overflowed, made, after, trace}
+use Rattle.interp.specs.Chain.{Chain}
 use Rattle.interp.specs.Left.{Left, made_by}
 use Rattle.desk.specs.declared.entries.Entry.{Entry}
 use Rattle.desk.specs.declared.entries.Entry.TheVariants.{Exit}
 use Rattle.workers.specs.declared.worker.Refused.{Refused}
 use Rattle.workers.specs.declared.report.Ending.{Ending}
 use Rattle.workers.specs.declared.report.Ending.TheVariants.{Finished, Overflow, OutOfFuel}
+use Rattle.workers.specs.Marks.{Working, Does}
 
 -- An ending, and the marks made by then.
 pub record Ended : Type 0 where
@@ -51,9 +53,23 @@ pub record Reported : Type 0 where
   pub made : ℕ
   pub compiled : Bool
 
--- Where that is the code of a checked script, a thread exited by its name, and its run of the script ended as it reports.
+-- A thread of that name, no frame of which was compiled so far, made so many first marks of the trace, one after the other; whether some frame is compiled now follows from how each method was entered.
+pub record HasMade (w : Trace) (name : ℕ) (marks : ℕ) (compiled : Bool) : Type 0 where
+  pub first : List Mark
+  pub rest : Trace
+  pub whole : w ≡ after first rest
+  pub count : marks ≡ length first
+  pub old : Working
+  pub new : Working
+  pub named : old.thread.name ≡ name
+  pub fresh : old.compiled ≡ false
+  pub steps : Chain Does old first new
+  pub told : compiled ≡ new.compiled
+
+-- Where that is the code of a checked script, a thread exited by its name, its run of the script ended as it reports, and some frame was compiled as it reports.
 abbrev pub IsReport : List (List Op) → Reported → Type 0
-IsReport code r = (bs : List Body) → code ≡ map routine bs → AreChecked bs → (r.exited ≡ Exit r.name) × EndsAs most (trace bs) r.ending r.made
+IsReport code r = (bs : List Body) → code ≡ map routine bs → AreChecked bs
+    → (r.exited ≡ Exit r.name) × EndsAs most (trace bs) r.ending r.made × HasMade (trace bs) r.name r.made r.compiled
 
 abbrev pub ending_of : Outcome Refused → Result Ending Refused
 ending_of outcome.Finished = Ok Finished
@@ -61,9 +77,14 @@ ending_of outcome.Overflow = Ok Overflow
 ending_of outcome.OutOfFuel = Ok OutOfFuel
 ending_of (outcome.Refused refused) = Err refused
 
--- Where that is the code of a checked script, the thread of that name has made the first mark, and the runner has the others left.
-abbrev pub IsBegun : List (List Op) → ℕ → ℕ → Runner → Type 0
-IsBegun code name own r = (bs : List Body) → code ≡ map routine bs → AreChecked bs → (m : Mark) × (t : Trace) × (trace bs ≡ made m t) × (own ≡ name) × Left r t × (made_by r ≡ 1)
+-- The worker made that mark first.
+abbrev pub IsFirst : Mark → Working → Type 0
+IsFirst m w = (s : Working) × (s.compiled ≡ false) × Does s m w
+
+-- Where that is the code of a checked script, the worker, of the thread of that name, has made the first mark, and the runner has the others left.
+abbrev pub IsBegun : List (List Op) → ℕ → Working → Runner → Type 0
+IsBegun code name w r = (bs : List Body) → code ≡ map routine bs → AreChecked bs
+    → (m : Mark) × (t : Trace) × (trace bs ≡ made m t) × (w.thread.name ≡ name) × Left r t × (made_by r ≡ 1) × IsFirst m w
 
 -- What contracts see of a task: the code that it runs, and the thread's name.
 pub record Tasked : Type 0 where

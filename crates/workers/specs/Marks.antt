@@ -1,5 +1,5 @@
 -- What a mark of a script does to a running thread, which is in Java before and after.
-use Rattle.std.specs.Prelude.{◌≡◌, ◌⊎◌, ◌≤◌, ◌^◌, ℕ, ◌||◌, Bool, true, false, Option, Some, None}
+use Rattle.std.specs.Prelude.{◌≡◌, ◌⊎◌, ◌≤◌, ◌^◌, ℕ, ◌||◌, Bool, true, false, Option, Some}
 use Rattle.thread_state.specs.declared.Back.TheVariants.{Java}
 use Rattle.thread_state.specs.declared.State.{State}
 use Rattle.thread_state.specs.declared.State.TheVariants.{InJava, InVm, NativeTrans, BlockedTrans, AtPoll, Serving}
@@ -12,7 +12,7 @@ use Rattle.interp.specs.declared.mark.Mark.{Mark}
 use Rattle.interp.specs.declared.mark.Mark.TheVariants as mark
 use Rattle.thread_list.specs.declared.polls.Poll.{Poll}
 use Rattle.thread_list.specs.declared.polls.Poll.TheVariants.{Go}
-use Rattle.thread_list.specs.Moves.{Running, Polls, Leaves, ComesBack}
+use Rattle.thread_list.specs.Moves.{Running, SameThread, Polls, Leaves, ComesBack}
 use Rattle.thread_list.specs.declared.mutator.CallFault.{CallFault}
 use Rattle.thread_list.specs.declared.mutator.CallFault.TheVariants.{NoSuchMethod}
 use Rattle.thread_list.specs.Refused.{call_refused, return_refused}
@@ -79,6 +79,10 @@ Marked old before mark.Native new after = GoesNative new × (after ≡ before)
 Marked old before mark.Vm new after = GoesVm old new × (after ≡ before)
 Marked old before mark.Block new after = Blocks new × (after ≡ before)
 Marked old before mark.Tick new after = (new ≡ old) × (after ≡ before)
+
+-- What a mark of a worker leads to.
+abbrev pub Does : Working → Mark → Working → Type 0
+Does s m t = Marked s.thread s.compiled m t.thread t.compiled × SameThread s.thread t.thread
 
 -- Why a method isn't entered: the thread refuses, or the number is above those that methods have.
 abbrev pub enter_refused : Running → ℕ → CallFault → Type 0

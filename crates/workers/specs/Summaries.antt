@@ -1,16 +1,13 @@
 -- What a run tells, and how that is spelled.
-use Rattle.std.specs.Prelude.{◌≡◌, ◌≤◌, ◌||◌, ◌*◌, ℕ, suc, Bool, true, false, List, [], ◌∷◌, ◌++◌, codes, decimal, length, map, if◌then◌else◌, ⊤}
+use Rattle.std.specs.Prelude.{◌≡◌, ◌≤◌, ◌||◌, ◌*◌, ℕ, suc, Bool, true, false, List, [], ◌∷◌, ◌++◌, All, Ok, codes, decimal, length, ⊤}
 use Rattle.std.specs.List.{flat_map}
 use Rattle.script.specs.declared.code.Op.{Op}
-use Rattle.script.specs.Body.{Body}
-use Rattle.script.specs.Checked.{AreChecked}
-use Rattle.script.specs.Layout.{routine}
-use Rattle.interp.specs.Trace.{trace}
 use Rattle.workers.specs.declared.report.Ending.{Ending}
 use Rattle.workers.specs.declared.report.Ending.TheVariants.{Finished, Overflow, OutOfFuel}
 use Rattle.workers.specs.declared.summary.Line.{Line}
 use Rattle.workers.specs.declared.summary.Summary.{Summary}
-use Rattle.workers.specs.Ended.{Reported, after_marks, ended, most}
+use Rattle.workers.specs.Ended.{Reported, IsReport}
+use Rattle.workers.specs.Replacing.{IsTally}
 
 abbrev pub ending_text : Ending → List ℕ
 ending_text Finished = codes "finished"
@@ -31,22 +28,28 @@ summary_text s = (codes "threads " ++ decimal (length s.lines.items) ++ codes "\
     ++ (codes "codes " ++ decimal s.installed ++ codes " freed " ++ decimal s.freed ++ codes "\n")
     ++ (codes "counts " ++ decimal s.counts ++ codes "\n")
 
--- Where that is the code of a checked script, its run ends as the line tells.
-abbrev pub EndsWith : List (List Op) → Line → Type 0
-EndsWith code l = (bs : List Body) → code ≡ map routine bs → AreChecked bs → ended most (trace bs) ≡ after_marks l.ending l.made
+-- The line says what the thread reported, no mark of which was refused.
+abbrev pub Tells : Reported → Line → Type 0
+Tells r l = (r.name ≡ l.name) × (r.ending ≡ Ok l.ending) × (r.made ≡ l.made)
 
--- The lines of threads that ran that code, in rising name from one on.
-abbrev pub AreLines : List (List Op) → ℕ → List Line → Type 0
-AreLines code name [] = ⊤
-AreLines code name (l ∷ ls) = (l.name ≡ name) × EndsWith code l × AreLines code (suc name) ls
+-- The lines of threads that reported so, one for each, in rising name from that one on.
+abbrev pub AreLines : ℕ → List Reported → List Line → Type 0
+AreLines name [] [] = ⊤
+AreLines name [] (l ∷ ls) = ⊥
+AreLines name (r ∷ rs) [] = ⊥
+AreLines name (r ∷ rs) (l ∷ ls) = (l.name ≡ name) × Tells r l × AreLines (suc name) rs ls
 
 abbrev pub some_compiled : List Reported → Bool
 some_compiled [] = false
 some_compiled (r ∷ rs) = r.compiled || some_compiled rs
 
--- What a run of that code by so many threads tells: each of them has its line; two codes for each method were installed, and no more than these freed.
+-- What a run of that code by so many threads tells: each of them reported and has its line, and some frame was compiled just where one of them reported so; two codes for each method were installed, and no more freed than these, each by its receipt.
 pub record IsSummary (code : List (List Op)) (threads : ℕ) (s : Summary) : Type 0 where
-  pub lines : AreLines code 1 s.lines.items
+  pub reports : List Reported
+  pub ran : All (IsReport code) reports
+  pub lines : AreLines 1 reports s.lines.items
   pub count : length s.lines.items ≡ threads
+  pub compiled : s.compiled ≡ some_compiled reports
+  pub codes_done : IsTally (length code) s.installed s.freed
   pub installed : s.installed ≡ 2 * length code
   pub freed : s.freed ≤ s.installed

@@ -1,9 +1,10 @@
 //! The codes of a run: what the thread does that installs and reclaims them.
-ghost use Rattle.std.specs.Prelude.{◌≡◌, ◌==◌, ◌≤◌, ◌<◌, ◌+◌, IfOk, IfSome, OnOk, length};
+ghost use Rattle.std.specs.Prelude.{◌≡◌, ◌==◌, ◌≤◌, ◌<◌, ◌+◌, List, IfOk, IfSome, OnOk, length};
 ghost use Rattle.std.specs.List.{filter, list_any};
 ghost use Rattle.poll.specs.Rows.{full_armer};
+ghost use Rattle.desk.specs.Machine.{Stands};
 ghost use Rattle.desk.specs.declared.entries.Entry.{Entry};
-ghost use Rattle.workers.specs.Replacing.{IsInstall, InstallsEach, IsKept, Replaced, ReplacedEach, FreesSome};
+ghost use Rattle.workers.specs.Replacing.{IsInstall, InstallsEach, IsKept, Replaced, ReplacedEach, FreesSome, Reclaims};
 
 use crate::fault::RunFault;
 use bodies::Name;
@@ -98,7 +99,8 @@ impl<'a, N: Name, J: Errand> Reclaimer<'a, N, J> {
     /// Takes all codes out of use, and reclaims all that are left, without jobs.
     pub fn finish<R: Wait>(self, rt: &R, alloc: Global) -> Result<Tally, RunFault>
         ensures installed { IfOk result (λ t. t.installed ≡ length self.entry.installed) }
-        ensures freed { IfOk result (λ t. t.freed ≤ length self.entry.freed + length self.entry.left + length self.entry.in_use) }
+        ensures freed { IfOk result (λ t. (frees : List Stands) × Reclaims self.entry frees × (t.freed ≡ length frees)) }
+        ensures few { IfOk result (λ t. t.freed ≤ length self.entry.freed + length self.entry.left + length self.entry.in_use) }
     {
         let Reclaimer {
             shared,

@@ -161,7 +161,7 @@ fn run_in<
     let mut reclaimer = reclaimer;
     reclaimer.replace_each(rt, jobs)?;
     let reports = join_all(rt, code, handles)?;
-    let lines = lines_of(alloc, code, reports.as_slice())?;
+    let lines = lines_of(alloc, reports.as_slice())?;
     let compiled = some_compiled(reports.as_slice());
     let Tally {
         installed,

@@ -1,12 +1,10 @@
 //! What a run came to, and its text.
-ghost use Rattle.std.specs.Prelude.{◌≡◌, ◌+◌, All, IfOk, length, Some};
-ghost use Rattle.workers.specs.Ended.{IsReport};
-ghost use Rattle.workers.specs.Summaries.{ending_text, line_text, summary_text, EndsWith, AreLines, some_compiled};
+ghost use Rattle.std.specs.Prelude.{◌≡◌, ◌+◌, IfOk, length, Some};
+ghost use Rattle.workers.specs.Summaries.{ending_text, line_text, summary_text, Tells, AreLines, some_compiled};
 
 use crate::fault::RunFault;
 use crate::report::{Ending, Report};
 use bodies::Name;
-use script::Code;
 use std::alloc::Global;
 use std::fmt;
 
@@ -66,29 +64,22 @@ impl fmt::Display for Summary {
 }
 
 /// The lines of threads that reported in rising name from 1 on. Refused where one didn't, or had a mark refused.
-pub fn lines_of<N: Name>(
-    alloc: Global,
-    code: &Code,
-    reports: &[Report<N>],
-) -> Result<Vec<Line>, RunFault>
-    requires { All (IsReport code.now) reports.now }
-    ensures lines { IfOk result (λ lines. AreLines code.now 1 lines.items) }
+pub fn lines_of<N: Name>(alloc: Global, reports: &[Report<N>]) -> Result<Vec<Line>, RunFault>
+    ensures lines { IfOk result (λ lines. AreLines 1 reports.now lines.items) }
     ensures len { IfOk result (λ lines. length lines.items ≡ length reports.now) }
 {
     let mut lines = Vec::with_capacity(alloc, reports.len())?;
     for report in reports {
-        let line = line_of(code, report, lines.len() as u64 + 1)?;
+        let line = line_of(report, lines.len() as u64 + 1)?;
         lines.push_reserved(line);
     }
     Ok(lines)
 }
 
 // The line of the thread of a name.
-fn line_of<N: Name>(code: &Code, report: &Report<N>, name: u64) -> Result<Line, RunFault>
-    requires { IsReport code.now report.now }
-    ensures { IfOk result (λ line. (line.name ≡ name) × EndsWith code.now line) }
+fn line_of<N: Name>(report: &Report<N>, name: u64) -> Result<Line, RunFault>
+    ensures { IfOk result (λ line. (line.name ≡ name) × Tells report.now line) }
 {
-    let _ = code;
     let Ok(ending) = report.ending() else {
         return Err(RunFault::Refused);
     };

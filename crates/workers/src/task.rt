@@ -1,5 +1,5 @@
 //! A thread's run of a script, from its first mark to its exit.
-ghost use Rattle.std.specs.Prelude.{◌≡◌, IfOk, OnOk};
+ghost use Rattle.std.specs.Prelude.{◌≡◌, false, IfOk, OnOk};
 ghost use Rattle.interp.specs.Left.{made_by};
 ghost use Rattle.workers.specs.Ended.{IsBegun, IsReport, ending_of};
 
@@ -33,7 +33,7 @@ impl<'a, N: Name, J: Errand, R, G> Model for Task<'a, N, J, R, G> {
 
     ghost view = { λ t. record { code = t.code.now; name = t.name } };
 
-    ghost invariant = { λ t. IsBegun t.code.now t.name t.worker.thread.name t.runner };
+    ghost invariant = { λ t. IsBegun t.code.now t.name t.worker t.runner };
 }
 
 /// Why a task isn't begun.
@@ -45,12 +45,13 @@ pub enum BeginFault {
 }
 
 impl<'a, N: Name, J: Errand, R: Wait, G: Gate> Task<'a, N, J, R, G> {
-    /// Makes the first mark of a script by a worker. All memory that the run ever needs is taken here.
+    /// Makes the first mark of a script by a worker, whose first it is. All memory that the run ever needs is taken here.
     pub fn begin(
         alloc: Global,
         code: &'a Code,
         worker: Worker<'a, N, J, R, G>,
     ) -> Result<Task<'a, N, J, R, G>, BeginFault>
+        requires { worker.compiled ≡ false }
         ensures begun { IfOk result (λ t. (t.code ≡ code.now) × (t.name ≡ worker.entry.thread.name)) }
     {
         let name = worker.name();

@@ -3,7 +3,7 @@ ghost use Rattle.std.specs.Prelude.{◌≡◌, ◌||◌, OnOk, IfOk, IfErr, true
 ghost use Rattle.thread_state.specs.declared.State.TheVariants.{InJava};
 ghost use Rattle.thread_list.specs.Moves.{Running, SameThread};
 ghost use Rattle.desk.specs.declared.entries.Entry.{Entry};
-ghost use Rattle.workers.specs.Marks.{Marked, IsRefused, Enters, enter_refused, is_compiled};
+ghost use Rattle.workers.specs.Marks.{Does, IsRefused, Enters, enter_refused, is_compiled};
 
 use crate::crossings::{block, go_native, go_vm, leave, turn, unwind};
 use crate::gate::Gate;
@@ -123,7 +123,7 @@ impl<'a, N: Name, J: Errand, R: Wait, G: Gate> Steps for Worker<'a, N, J, R, G> 
     /// The fault of the mutator's call.
     type Refusal = Refused;
 
-    ghost marked = { λ s m t. Marked s.thread s.compiled m t.thread t.compiled × SameThread s.thread t.thread };
+    ghost marked = { λ s m t. Does s m t };
 
     ghost refused = { λ s m e t. (t ≡ s) × IsRefused s.thread m e };
 

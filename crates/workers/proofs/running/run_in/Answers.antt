@@ -1,6 +1,32 @@
-use Rattle.std.proofs.Common.{subst, sym, All}
-use Rattle.workers.specs.Ended.{IsReport}
+use Rattle.std.proofs.Common.{rules, ◌∙◌, List, ap, subst, length, arith}
+use Rattle.workers.specs.Ended.{Reported}
+use Rattle.workers.specs.Replacing.{IsTally}
+use Rattle.workers.specs.Summaries.{AreLines, some_compiled}
+use Rattle.workers.proofs.Replacements.{two_each}
 use Rattle.workers.proofs.running.run_in.Goals as goal
 
-pub lines_of-requires : goal.lines_of-requires
-lines_of-requires g c = subst (λ rs. All (IsReport c.args.code.now) rs) (sym c.as_slice.ensures.value) c.in_ok-reports.ensures.reports
+pub returns : goal.returns
+returns g c =
+    let done = c.in_ok-installed.ensures in
+    let (frees, reclaims, count) = done.freed in
+    let (all, rest) = two_each (length c.args.code.now) c.args.reclaimer c.replace_each.new.self c.requires.codes c.in_ok-replace_each.ensures in
+    let tally : IsTally (length c.args.code.now) c.in_ok-installed.field-0.installed c.in_ok-installed.field-0.freed = record {
+      begun = c.args.reclaimer;
+      replaced = c.replace_each.new.self;
+      frees = frees;
+      installs = c.requires.codes;
+      replaces = c.in_ok-replace_each.ensures;
+      reclaims = reclaims;
+      installed_all = done.installed;
+      freed_all = count;
+    } in
+    record {
+      reports = c.in_ok-reports.reports.items;
+      ran = c.in_ok-reports.ensures.reports;
+      lines = subst (λ (rs : List Reported). AreLines 1 rs c.in_ok-lines.lines.items) c.as_slice.ensures.value c.in_ok-lines.ensures.lines;
+      count = search rules;
+      compiled = c.some_compiled-compiled.ensures ∙ ap some_compiled c.as_slice-2.ensures.value;
+      codes_done = tally;
+      installed = done.installed ∙ all;
+      freed = omega (arith, done.few, rest, done.installed, all);
+    }
