@@ -32,13 +32,15 @@ THREADS = {
     "poll": ["tests::no_arming_is_lost_to_a_clear", "tests::the_armer_is_in_another_thread"],
     "board": ["tests::stopped::a_publication_is_looked_at_from_another_thread_at_each_boundary"],
     "thread_list_tests": ["tests::threads::four_threads_call_and_return"],
-    "coordinator_tests": [
-        "tests::census::a_census_counts_what_the_words_count",
+    "handshake_tests": [
         "tests::four::four_are_closed_over_two_running_threads",
-        "tests::invalidated::no_call_enters_what_is_seen_invalidated",
-        "tests::leaving::a_thread_that_exits_is_gone_or_has_answered",
         "tests::many::sixty_four_threads_shake_hands_a_thousand_times",
         "tests::meeting::one_job_waits_for_the_other",
+    ],
+    "race_tests": [
+        "tests::census::a_census_counts_what_the_words_count",
+        "tests::invalidated::no_call_enters_what_is_seen_invalidated",
+        "tests::leaving::a_thread_that_exits_is_gone_or_has_answered",
     ],
     "monitor": ["running_tests::four_threads_run_a_loop_of_calls", "running_tests::two_ticks_meet"],
 }
@@ -55,11 +57,11 @@ MEMORY = {
     "script": [["tests::refused_memory_is_told"]],
     "poll": [["tests::a_row_is_made_whole_or_not_at_all"]],
     "board": [["tests::a_board_is_made_whole_or_not_at_all"]],
-    "coordinator_tests": [["tests::memory::what_lacks_memory_is_tried_again"]],
+    "reclaim_tests": [["tests::memory::what_lacks_memory_is_tried_again"]],
 }
 NONE_REFUSED = "no growth was refused"
 # What runs of these must have met, each in some of them.
-TO_MEET = {"coordinator_tests": ["a request was refused", "the list of a census was refused", "a reclaim was refused"]}
+TO_MEET = {"reclaim_tests": ["a request was refused", "the list of a census was refused", "a reclaim was refused"]}
 PASSED = "test result: ok"
 
 # These pass, or end with one of the errors.

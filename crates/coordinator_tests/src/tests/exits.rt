@@ -2,9 +2,9 @@
 ghost use Rattle.std.specs.Prelude.{◌≡◌};
 ghost use Rattle.operations.specs.Asks.{reply};
 
-use super::{ask_both, started};
 use bodies::Name;
 use coordinator::{Coordinator, TellFault, Told};
+use coordinator_testing::{ask_both, started};
 use frames::image::Image;
 use operations::job::{Call, Errand, Job};
 use operations::{Ask, Request, Targets};

@@ -2,11 +2,11 @@
 ghost use Rattle.std.specs.Prelude.{◌≡◌};
 ghost use Rattle.operations.specs.Asks.{reply};
 
-use super::{ask_both, started};
 use bodies::Name;
 use coordinator::{
     Coordinator, HoldFault, OperateFault, ReleaseFault, ServeFault, TellFault, Told,
 };
+use coordinator_testing::{ask_both, started};
 use desk::{CloseFault, OpenFault};
 use frames::image::Image;
 use operations::job::{Call, Errand, Job};

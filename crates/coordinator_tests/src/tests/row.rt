@@ -2,9 +2,9 @@
 ghost use Rattle.std.specs.Prelude.{◌≡◌};
 ghost use Rattle.operations.specs.Asks.{reply};
 
-use super::{both, started};
 use bodies::{Called, Name};
 use coordinator::{Coordinator, Driven, NotReclaimed, ReclaimFault, Reclaimed};
+use coordinator_testing::{both, started};
 use frames::image::Image;
 use method_table::table::RetireFault;
 use operations::job::{Call, Errand, Job};

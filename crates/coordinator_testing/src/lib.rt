@@ -1,0 +1,101 @@
+//! What the tests of requests over running threads share. It promises nothing: those tests compare what it answers.
+#![tactic(auto)]
+
+use bodies::Name;
+use operations::job::Errand;
+use operations::{Ask, Request, Targets};
+use std::alloc::{AllocError, Global};
+use std::sync::Wait;
+use std::sync::atomic::{AtomicBool, AtomicU64, Ordering};
+use std::thread;
+use thread_list::{Mutator, Poll, Shared};
+
+/// A thread that starts where a place is vacant.
+pub fn started<'a, N: Name, J: Errand, R: Wait>(
+    rt: &R,
+    alloc: Global,
+    shared: &'a Shared<N, J>,
+) -> Result<Mutator<'a, N, J>, AllocError> {
+    match shared.start(rt, alloc) {
+        Ok((thread, _receipt)) => Ok(thread),
+        Err(_) => Err(AllocError),
+    }
+}
+
+/// The names from 1 to this one.
+pub fn names_to(alloc: Global, last: u64) -> Result<Targets, AllocError> {
+    let mut names = Vec::new(alloc);
+    for name in 0..last {
+        names.push(name + 1).map_err(|_| AllocError)?;
+    }
+    Ok(Targets::from_vec(names))
+}
+
+/// The names 1 and 2.
+pub fn both(alloc: Global) -> Result<Targets, AllocError> {
+    names_to(alloc, 2)
+}
+
+/// A handshake of the names 1 and 2 that asks for their depth waits.
+pub fn ask_both<N: Name, J: Errand, R: Wait>(
+    rt: &R,
+    alloc: Global,
+    shared: &Shared<N, J>,
+    jobs: Vec<J>,
+) -> Result<(), AllocError> {
+    let request = Request::Handshake {
+        targets: both(alloc)?,
+        ask: Ask::Depth,
+    };
+    match shared.submit(rt, request, jobs) {
+        Ok(_) => Ok(()),
+        Err(_) => Err(AllocError),
+    }
+}
+
+/// How often is looked whether others have come so far.
+pub const TURNS: u32 = 1_000_000;
+
+/// Waits until others have come so far. Answers whether they have.
+pub fn wait_for(far: u64, turn: &AtomicU64) -> bool {
+    for _ in 0..TURNS {
+        if turn.load(Ordering::SeqCst) >= far {
+            return true;
+        }
+        thread::yield_now();
+    }
+    false
+}
+
+/// Stops where the poll says so. Answers whether it could.
+pub fn heed<N: Name, J: Errand, R: Wait>(
+    rt: &R,
+    thread: &mut Mutator<'_, N, J>,
+    said: Poll,
+) -> bool {
+    match said {
+        Poll::Go => true,
+        Poll::Stop(_) => thread.stop(rt).is_ok(),
+    }
+}
+
+/// Makes back edges, and stops where it is told to, until all is done.
+pub fn run_until<N: Name, J: Errand, R: Wait>(
+    rt: &R,
+    thread: &mut Mutator<'_, N, J>,
+    done: &AtomicBool,
+) -> bool {
+    for _ in rt.forever() {
+        let Ok(said) = thread.back_edge() else {
+            return false;
+        };
+        if !heed(rt, thread, said) {
+            return false;
+        }
+        if done.load(Ordering::SeqCst) {
+            return true;
+        }
+        thread::yield_now();
+    }
+    unreachable!()
+}

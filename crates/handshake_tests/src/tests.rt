@@ -1,0 +1,4 @@
+//! Handshakes beside running threads.
+mod four;
+mod many;
+mod meeting;

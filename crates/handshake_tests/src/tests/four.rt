@@ -1,0 +1,425 @@
+//! Handshakes are open beside each other: four are worked on at once, over two running threads and step by step, and of two the first is
+//! closed while the second waits.
+ghost use Rattle.std.specs.Prelude.{◌≡◌};
+ghost use Rattle.operations.specs.Asks.{reply};
+
+use bodies::Name;
+use coordinator::{Coordinator, DriveFault, Driven, HoldFault, ServeFault, TellFault, Told};
+use coordinator_testing::{heed, names_to, run_until, started, wait_for};
+use desk::{CloseFault, OpenFault};
+use frames::image::Image;
+use operations::job::{Call, Errand, Job};
+use operations::{Ask, Request, Targets};
+use std::alloc::{AllocError, Global};
+use std::marker::Brand;
+use std::process::Abort;
+use std::sync::Wait;
+use std::sync::atomic::{AtomicBool, AtomicU64, Ordering};
+use std::test::*;
+use std::thread::{Threads, join};
+use thread_list::{Mutator, Parts, Poll, Shared};
+
+// A handshake of one name that asks for its depth waits, with the last of the jobs.
+fn ask_one<N: Name, J: Errand, R: Wait>(
+    rt: &R,
+    alloc: Global,
+    shared: &Shared<N, J>,
+    name: u64,
+    job: Option<J>,
+) -> Result<(), AllocError> {
+    let mut names = Vec::new(alloc);
+    names.push(name).map_err(|_| AllocError)?;
+    let mut jobs = Vec::new(alloc);
+    if let Some(job) = job {
+        jobs.push(job).map_err(|_| AllocError)?;
+    }
+    let request = Request::Handshake {
+        targets: Targets::from_vec(names),
+        ask: Ask::Depth,
+    };
+    match shared.submit(rt, request, jobs) {
+        Ok(_) => Ok(()),
+        Err(_) => Err(AllocError),
+    }
+}
+
+// A handshake of both names waits.
+fn ask_both<N: Name, J: Errand, R: Wait>(
+    rt: &R,
+    alloc: Global,
+    shared: &Shared<N, J>,
+    ask: Ask,
+    jobs: Vec<J>,
+) -> Result<(), AllocError> {
+    let request = Request::Handshake {
+        targets: names_to(alloc, 2)?,
+        ask,
+    };
+    match shared.submit(rt, request, jobs) {
+        Ok(_) => Ok(()),
+        Err(_) => Err(AllocError),
+    }
+}
+
+// Three handshakes wait: of both names, of the first, and of the second. The jobs are for 1, 2, 1, 2.
+fn ask_three<N: Name, J: Errand, R: Wait>(
+    rt: &R,
+    alloc: Global,
+    shared: &Shared<N, J>,
+    jobs: Vec<J>,
+) -> Result<(), AllocError> {
+    let mut pair = jobs;
+    let third = pair.pop();
+    let second = pair.pop();
+    ask_both(rt, alloc, shared, Ask::Depth, pair)?;
+    ask_one(rt, alloc, shared, 1, second)?;
+    ask_one(rt, alloc, shared, 2, third)
+}
+
+// A thread calls method 0 as often as its name says, runs until all is done, and returns. Answers whether it could.
+fn call_and_run<N: Name, J: Errand, R: Wait>(
+    rt: &R,
+    shared: &Shared<N, J>,
+    thread: &mut Mutator<'_, N, J>,
+    there: &AtomicU64,
+    done: &AtomicBool,
+) -> bool {
+    let calls = thread.name();
+    for _ in 0..calls {
+        if thread.call(0, shared.hint(0)).is_err() {
+            return false;
+        }
+    }
+    there.fetch_add(1, Ordering::SeqCst);
+    let ran = run_until(rt, thread, done);
+    for _ in 0..calls {
+        let Ok(said) = thread.ret() else {
+            return false;
+        };
+        if !heed(rt, thread, said) {
+            return false;
+        }
+    }
+    ran
+}
+
+// The whole life of a thread.
+fn live<N: Name, J: Errand, R: Wait>(
+    rt: &R,
+    alloc: Global,
+    shared: &Shared<N, J>,
+    there: &AtomicU64,
+    done: &AtomicBool,
+) -> bool {
+    let Ok(mut thread) = started(rt, alloc, shared) else {
+        return false;
+    };
+    if !call_and_run(rt, shared, &mut thread, there, done) {
+        return false;
+    }
+    thread.exit(rt).is_ok()
+}
+
+// Both threads at once.
+fn live_both<N: Name + Send + Sync, J: Errand + Send, R: Threads + Wait + Sync>(
+    rt: &R,
+    alloc: Global,
+    shared: &Shared<N, J>,
+    there: &AtomicU64,
+    done: &AtomicBool,
+) -> bool {
+    let (one, other) = join(
+        rt,
+        || live(rt, alloc, shared, there, done),
+        || live(rt, alloc, shared, there, done),
+    );
+    one && other
+}
+
+// Works on four handshakes at once, where both threads are there.
+fn drive<N: Name, J: Errand, R: Wait>(
+    rt: &R,
+    alloc: Global,
+    shared: &Shared<N, J>,
+    coordinator: Coordinator<'_, N, J>,
+    there: &AtomicU64,
+    depths: Vec<J>,
+    counts: Vec<J>,
+) -> Result<bool, AllocError> {
+    let mut coordinator = coordinator;
+    if !wait_for(2, there) {
+        return Ok(false);
+    }
+    ask_three(rt, alloc, shared, depths)?;
+    ask_both(rt, alloc, shared, Ask::CountOf(1), counts)?;
+    let driven = coordinator.drive_four(rt);
+    let again = coordinator.drive_four(rt);
+    Ok(matches!(driven, Ok(4)) && matches!(again, Err(DriveFault::QueueEmpty)))
+}
+
+// The same, and then the threads are let go.
+fn coordinate<N: Name, J: Errand, R: Wait>(
+    rt: &R,
+    alloc: Global,
+    shared: &Shared<N, J>,
+    coordinator: Coordinator<'_, N, J>,
+    there: &AtomicU64,
+    done: &AtomicBool,
+    depths: Vec<J>,
+    counts: Vec<J>,
+) -> bool {
+    let driven = drive(rt, alloc, shared, coordinator, there, depths, counts);
+    done.store(true, Ordering::SeqCst);
+    matches!(driven, Ok(true))
+}
+
+// Whether the replies of an operation are these, in any order.
+fn are_replies<N: Name, J: Errand, R: Wait>(
+    rt: &R,
+    shared: &Shared<N, J>,
+    op: u64,
+    expected: &[(u64, u64)],
+) -> Result<bool, AllocError> {
+    let said = shared.replies(rt, op)?;
+    Ok(said.len() == expected.len() && expected.iter().all(|e| said.iter().any(|r| r == e)))
+}
+
+fn drive_over_two<N: Name + Send + Sync, J: Errand + Send, R: Threads + Wait + Sync + Abort>(
+    rt: &R,
+    alloc: Global,
+    parts: Parts,
+    depths: Vec<J>,
+    counts: Vec<J>,
+) -> Result<(), AllocError>
+    requires tables { (parts.board ≡ N.board) × (parts.row ≡ N.poll_row) }
+{
+    let Ok((shared, armer)) = Shared::<N, J>::new(alloc, parts) else {
+        return Err(AllocError);
+    };
+    let Ok(coordinator) = Coordinator::new(&shared, armer, alloc) else {
+        return Err(AllocError);
+    };
+    if shared.install(rt, 0).is_err() {
+        return Err(AllocError);
+    }
+    let there = AtomicU64::new(0);
+    let done = AtomicBool::new(false);
+    let (lived, driven) = join(
+        rt,
+        || live_both(rt, alloc, &shared, &there, &done),
+        || coordinate(
+            rt,
+            alloc,
+            &shared,
+            coordinator,
+            &there,
+            &done,
+            depths,
+            counts,
+        ),
+    );
+    assert!(rt; lived && driven);
+    assert!(rt; are_replies(rt, &shared, 1, [(1, 1), (2, 2)].as_slice())?);
+    assert!(rt; are_replies(rt, &shared, 2, [(1, 1)].as_slice())?);
+    assert!(rt; are_replies(rt, &shared, 3, [(2, 2)].as_slice())?);
+    assert!(rt; are_replies(rt, &shared, 4, [(1, 1), (2, 2)].as_slice())?);
+    Ok(())
+}
+
+// The jobs ask for the depth of 1, 2, 1 and 2, and for the frames of code 1 of both.
+#[test]
+fn four_are_closed_over_two_running_threads(rt: HostRuntime) -> Result<(), Fail> {
+    let parts = Parts::new(rt.alloc(), 2, 4, 2).map_err(|_| AllocError)?;
+    let mut depths = Vec::new(rt.alloc());
+    let mut counts = Vec::new(rt.alloc());
+    for before in 0..4 {
+        let name = 1 + before % 2;
+        let depth: Call = Box::new(
+            rt.alloc(),
+            |image: &Image| -> u64
+                ensures { result ≡ reply Ask.Depth image.now.frames }
+            { image.depth() as u64 },
+        )?;
+        depths
+            .push(Job::new(name, Ask::Depth, depth))
+            .map_err(|_| AllocError)?;
+    }
+    for name in 1..3 {
+        let count: Call = Box::new(
+            rt.alloc(),
+            |image: &Image| -> u64
+                ensures { result ≡ reply (Ask.CountOf 1) image.now.frames }
+            { Ask::CountOf(1).reply_on(image) },
+        )?;
+        counts
+            .push(Job::new(name, Ask::CountOf(1), count))
+            .map_err(|_| AllocError)?;
+    }
+    drive_over_two::<Brand, Job, HostRuntime>(&rt, rt.alloc(), parts, depths, counts)?;
+    Ok(())
+}
+
+// The first thread is told its three in order, held and served, while the second is told nothing.
+fn work_on_first<N: Name, J: Errand, R: Wait + Abort>(
+    rt: &R,
+    coordinator: &mut Coordinator<'_, N, J>,
+) {
+    for number in 1..5 {
+        assert!(rt; matches!(coordinator.open(rt), Ok((n, _)) if n == number));
+    }
+    assert!(rt; matches!(coordinator.open(rt), Err(OpenFault::AlreadyOpen)));
+    for _ in 0..3 {
+        assert!(rt; matches!(coordinator.tell(rt, 1), Ok(Told::Told(_))));
+    }
+    assert!(rt; matches!(coordinator.tell(rt, 1), Err(TellFault::AlreadyTold)));
+    assert!(rt; matches!(coordinator.tell(rt, 3), Err(TellFault::NotOf)));
+    assert!(rt; matches!(coordinator.hold(rt, 1), Err(HoldFault::NotTold)));
+    assert!(rt; coordinator.hold(rt, 0).is_ok());
+    assert!(rt; coordinator.serve(rt, 0).is_ok() && coordinator.serve(rt, 0).is_ok());
+    assert!(rt; matches!(coordinator.close_of(rt, 2), Err(CloseFault::Held)));
+    assert!(rt; matches!(coordinator.close_of(rt, 3), Err(CloseFault::NotDone)));
+    assert!(rt; matches!(coordinator.close_of(rt, 5), Err(CloseFault::NotOf)));
+    assert!(rt; coordinator.serve(rt, 0).is_ok());
+    assert!(rt; matches!(coordinator.serve(rt, 0), Err(ServeFault::AlreadyDone)));
+    assert!(rt; coordinator.release(rt, 0).is_ok());
+    assert!(rt; coordinator.close_of(rt, 4).is_ok() && coordinator.close_of(rt, 2).is_ok());
+    assert!(rt; matches!(coordinator.close(rt), Err(CloseFault::NotDone)));
+}
+
+// Then the second is, and what is left is closed.
+fn work_on_second<N: Name, J: Errand, R: Wait + Abort>(
+    rt: &R,
+    coordinator: &mut Coordinator<'_, N, J>,
+) {
+    for _ in 0..2 {
+        assert!(rt; matches!(coordinator.tell(rt, 2), Ok(Told::Told(_))));
+    }
+    assert!(rt; coordinator.hold(rt, 1).is_ok());
+    assert!(rt; coordinator.serve(rt, 1).is_ok() && coordinator.serve(rt, 1).is_ok());
+    assert!(rt; matches!(coordinator.close(rt), Err(CloseFault::Held)));
+    assert!(rt; coordinator.release(rt, 1).is_ok());
+    assert!(rt; matches!(coordinator.close(rt), Ok((1, _))));
+    assert!(rt; matches!(coordinator.close(rt), Ok((3, _))));
+    assert!(rt; matches!(coordinator.close(rt), Err(CloseFault::NothingOpen)));
+}
+
+fn work_step_by_step<N: Name, J: Errand, R: Wait + Abort>(
+    rt: &R,
+    alloc: Global,
+    parts: Parts,
+    jobs: Vec<J>,
+) -> Result<(), AllocError>
+    requires tables { (parts.board ≡ N.board) × (parts.row ≡ N.poll_row) }
+{
+    let Ok((shared, armer)) = Shared::<N, J>::new(alloc, parts) else {
+        return Err(AllocError);
+    };
+    let Ok(mut coordinator) = Coordinator::new(&shared, armer, alloc) else {
+        return Err(AllocError);
+    };
+    let mut first = started(rt, alloc, &shared)?;
+    let mut second = started(rt, alloc, &shared)?;
+    assert!(rt; first.to_native(rt).is_ok() && second.to_native(rt).is_ok());
+    let mut four = jobs;
+    let last = four.pop();
+    ask_three(rt, alloc, &shared, four)?;
+    ask_one(rt, alloc, &shared, 1, last)?;
+    work_on_first(rt, &mut coordinator);
+    work_on_second(rt, &mut coordinator);
+    assert!(rt; first.from_native(rt).is_ok() && second.from_native(rt).is_ok());
+    assert!(rt; first.exit(rt).is_ok());
+    assert!(rt; second.exit(rt).is_ok());
+    Ok(())
+}
+
+// The jobs are for 1, 2, 1, 2 and 1.
+#[test]
+fn four_are_told_and_served_in_order(rt: HostRuntime) -> Result<(), Fail> {
+    let parts = Parts::new(rt.alloc(), 2, 4, 2).map_err(|_| AllocError)?;
+    let mut jobs = Vec::new(rt.alloc());
+    for before in 0..5 {
+        let call: Call = Box::new(
+            rt.alloc(),
+            |image: &Image| -> u64
+                ensures { result ≡ reply Ask.Depth image.now.frames }
+            { image.depth() as u64 },
+        )?;
+        jobs.push(Job::new(1 + before % 2, Ask::Depth, call))
+            .map_err(|_| AllocError)?;
+    }
+    work_step_by_step::<Brand, Job, HostRuntime>(&rt, rt.alloc(), parts, jobs)?;
+    Ok(())
+}
+
+// Two handshakes are open. The first is of a thread in native code, and is closed while the second is of one that calls nothing.
+fn close_first<N: Name, J: Errand, R: Wait + Abort>(
+    rt: &R,
+    coordinator: &mut Coordinator<'_, N, J>,
+) {
+    assert!(rt; matches!(coordinator.open(rt), Ok((1, _))));
+    assert!(rt; matches!(coordinator.open(rt), Ok((2, _))));
+    assert!(rt; matches!(coordinator.drive(rt), Ok((Driven::Handshake(1), _))));
+    assert!(rt; matches!(coordinator.close(rt), Err(CloseFault::NotDone)));
+}
+
+// The thread comes to a poll and serves itself, and the second is closed.
+fn close_second<N: Name, J: Errand, R: Wait + Abort>(
+    rt: &R,
+    coordinator: &mut Coordinator<'_, N, J>,
+    thread: &mut Mutator<'_, N, J>,
+) {
+    assert!(rt; matches!(thread.back_edge(), Ok(Poll::Stop(2))));
+    assert!(rt; thread.stop(rt).is_ok());
+    assert!(rt; matches!(coordinator.drive(rt), Ok((Driven::Handshake(2), _))));
+}
+
+fn drive_past_second<N: Name, J: Errand, R: Wait + Abort>(
+    rt: &R,
+    alloc: Global,
+    parts: Parts,
+    jobs: Vec<J>,
+) -> Result<(), AllocError>
+    requires tables { (parts.board ≡ N.board) × (parts.row ≡ N.poll_row) }
+{
+    let Ok((shared, armer)) = Shared::<N, J>::new(alloc, parts) else {
+        return Err(AllocError);
+    };
+    let Ok(mut coordinator) = Coordinator::new(&shared, armer, alloc) else {
+        return Err(AllocError);
+    };
+    let mut first = started(rt, alloc, &shared)?;
+    let mut second = started(rt, alloc, &shared)?;
+    assert!(rt; first.to_native(rt).is_ok());
+    let mut two = jobs;
+    let last = two.pop();
+    ask_one(rt, alloc, &shared, 1, two.pop())?;
+    ask_one(rt, alloc, &shared, 2, last)?;
+    close_first(rt, &mut coordinator);
+    assert!(rt; are_replies(rt, &shared, 1, [(1, 0)].as_slice())?);
+    assert!(rt; are_replies(rt, &shared, 2, [].as_slice())?);
+    close_second(rt, &mut coordinator, &mut second);
+    assert!(rt; are_replies(rt, &shared, 2, [(2, 0)].as_slice())?);
+    assert!(rt; first.from_native(rt).is_ok());
+    assert!(rt; first.exit(rt).is_ok());
+    assert!(rt; second.exit(rt).is_ok());
+    Ok(())
+}
+
+// The jobs are for 1 and 2. A drive that slept for the target of the second handshake would never return.
+#[test]
+fn the_oldest_is_closed_past_a_later_one(rt: HostRuntime) -> Result<(), Fail> {
+    let parts = Parts::new(rt.alloc(), 2, 4, 2).map_err(|_| AllocError)?;
+    let mut jobs = Vec::new(rt.alloc());
+    for before in 0..2 {
+        let call: Call = Box::new(
+            rt.alloc(),
+            |image: &Image| -> u64
+                ensures { result ≡ reply Ask.Depth image.now.frames }
+            { image.depth() as u64 },
+        )?;
+        jobs.push(Job::new(1 + before, Ask::Depth, call))
+            .map_err(|_| AllocError)?;
+    }
+    drive_past_second::<Brand, Job, HostRuntime>(&rt, rt.alloc(), parts, jobs)?;
+    Ok(())
+}

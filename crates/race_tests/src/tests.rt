@@ -1,0 +1,4 @@
+//! Threads that go on meanwhile.
+mod census;
+mod invalidated;
+mod leaving;

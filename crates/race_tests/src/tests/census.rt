@@ -1,0 +1,286 @@
+//! A census over threads in Java, in native code, blocked, at a poll and in the VM: it counts what the count words count.
+ghost use Rattle.std.specs.Prelude.{◌≡◌};
+
+use bodies::Name;
+use coordinator::Coordinator;
+use coordinator_testing::{TURNS, heed, run_until, started, wait_for};
+use operations::Request;
+use operations::job::{Errand, Job};
+use std::alloc::{AllocError, Global};
+use std::marker::Brand;
+use std::process::Abort;
+use std::sync::Wait;
+use std::sync::atomic::{AtomicBool, AtomicU64, Ordering};
+use std::test::*;
+use std::thread;
+use std::thread::{Threads, join, map_indices};
+use thread_list::{Mutator, Parts, Poll, Shared};
+
+// How many threads there are: one for each way to be found.
+const THREADS: usize = 5;
+
+// Of the threads' indices: who is found where. The thread of index 0 is in Java.
+const IN_NATIVE: usize = 1;
+
+const BLOCKED: usize = 2;
+
+const AT_POLL: usize = 3;
+
+const IN_VM: usize = 4;
+
+// Goes where the thread of this index is found.
+fn go<N: Name, J: Errand, R: Wait>(rt: &R, thread: &mut Mutator<'_, N, J>, index: usize) -> bool {
+    if index == IN_NATIVE {
+        return thread.to_native(rt).is_ok();
+    }
+    if index == IN_VM {
+        return thread.to_vm().is_ok();
+    }
+    if index != BLOCKED {
+        return true;
+    }
+    if thread.to_vm().is_err() {
+        return false;
+    }
+    thread.block(rt).is_ok()
+}
+
+// Waits until all is done.
+fn wait_done<R: Wait>(rt: &R, done: &AtomicBool) {
+    for _ in rt.forever() {
+        if done.load(Ordering::SeqCst) {
+            return;
+        }
+        thread::yield_now();
+    }
+}
+
+// Makes back edges until it is told to stop, and stays at that poll for a while.
+fn linger<N: Name, J: Errand, R: Wait>(rt: &R, thread: &mut Mutator<'_, N, J>) -> bool {
+    for _ in rt.forever() {
+        match thread.back_edge() {
+            Ok(Poll::Go) => thread::yield_now(),
+            Ok(Poll::Stop(_)) => break,
+            Err(_) => return false,
+        }
+    }
+    for _ in 0..300 {
+        thread::yield_now();
+    }
+    thread.stop(rt).is_ok()
+}
+
+// Polls on the way from the VM into Java, and stops where it is told to.
+fn leave_vm<N: Name, J: Errand, R: Wait>(rt: &R, thread: &mut Mutator<'_, N, J>) -> bool {
+    match thread.from_vm() {
+        Ok(said) => heed(rt, thread, said),
+        Err(_) => false,
+    }
+}
+
+// Comes back into Java: from native code or a wait once all is done, from a poll after a while, and from the VM at once.
+fn come_back<N: Name, J: Errand, R: Wait>(
+    rt: &R,
+    thread: &mut Mutator<'_, N, J>,
+    index: usize,
+    done: &AtomicBool,
+) -> bool {
+    match index {
+        IN_NATIVE => {
+            wait_done(rt, done);
+            thread.from_native(rt).is_ok()
+        }
+        BLOCKED => {
+            wait_done(rt, done);
+            if thread.unblock(rt).is_err() {
+                return false;
+            }
+            leave_vm(rt, thread)
+        }
+        AT_POLL => linger(rt, thread),
+        IN_VM => leave_vm(rt, thread),
+        _ => true,
+    }
+}
+
+// Calls method 0 once more than the index says.
+fn call_all<N: Name, J: Errand>(
+    shared: &Shared<N, J>,
+    thread: &mut Mutator<'_, N, J>,
+    index: usize,
+) -> bool {
+    for _ in 0..index {
+        if thread.call(0, shared.hint(0)).is_err() {
+            return false;
+        }
+    }
+    thread.call(0, shared.hint(0)).is_ok()
+}
+
+// Returns from all methods and exits.
+fn end<N: Name, J: Errand, R: Wait>(rt: &R, thread: Mutator<'_, N, J>, index: usize) -> bool {
+    let mut thread = thread;
+    for _ in 0..index {
+        if thread.ret().is_err() {
+            return false;
+        }
+    }
+    if thread.ret().is_err() {
+        return false;
+    }
+    thread.exit(rt).is_ok()
+}
+
+// A thread starts, calls, goes where it is found, comes back, and exits.
+fn live<N: Name, J: Errand, R: Wait>(
+    rt: &R,
+    alloc: Global,
+    shared: &Shared<N, J>,
+    index: usize,
+    there: &AtomicU64,
+    done: &AtomicBool,
+) -> bool {
+    let Ok(mut thread) = started(rt, alloc, shared) else {
+        return false;
+    };
+    if !call_all(shared, &mut thread, index) {
+        return false;
+    }
+    if !go(rt, &mut thread, index) {
+        return false;
+    }
+    there.fetch_add(1, Ordering::SeqCst);
+    if !come_back(rt, &mut thread, index, done) {
+        return false;
+    }
+    if !run_until(rt, &mut thread, done) {
+        return false;
+    }
+    end(rt, thread, index)
+}
+
+// Holds the thread of a place once its body is in its berth.
+fn hold<N: Name, J: Errand, R: Wait>(
+    rt: &R,
+    coordinator: &mut Coordinator<'_, N, J>,
+    place: usize,
+) -> bool {
+    for _ in 0..TURNS {
+        if coordinator.hold(rt, place).is_ok() {
+            return true;
+        }
+        thread::yield_now();
+    }
+    false
+}
+
+// Each thread in a thread of its own.
+fn live_all<N: Name + Send + Sync, J: Errand + Send, R: Threads + Wait + Sync>(
+    rt: &R,
+    alloc: Global,
+    shared: &Shared<N, J>,
+    there: &AtomicU64,
+    done: &AtomicBool,
+) -> bool {
+    match map_indices(
+        rt,
+        alloc,
+        THREADS,
+        &|i| live(rt, alloc, shared, i, there, done),
+    ) {
+        Ok(lived) => lived.iter().all(|it| *it),
+        Err(_) => false,
+    }
+}
+
+// Tells all threads and holds each.
+fn hold_all<N: Name, J: Errand, R: Wait>(rt: &R, coordinator: &mut Coordinator<'_, N, J>) -> bool {
+    for name in 1..6 {
+        if coordinator.tell(rt, name).is_err() {
+            return false;
+        }
+    }
+    for place in 0..THREADS {
+        if !hold(rt, coordinator, place) {
+            return false;
+        }
+    }
+    true
+}
+
+// Works on a census over all threads; the counts are those of the count words.
+fn count<N: Name, J: Errand, R: Wait>(
+    rt: &R,
+    shared: &Shared<N, J>,
+    coordinator: &mut Coordinator<'_, N, J>,
+) -> bool {
+    if coordinator.open(rt).is_err() {
+        return false;
+    }
+    if !hold_all(rt, coordinator) {
+        return false;
+    }
+    let Ok((_, list, _)) = coordinator.operate(rt) else {
+        return false;
+    };
+    let counted = list.len() == 1 && list[0] == (1, 15) && shared.peek_counts() == 15;
+    for place in 0..THREADS {
+        if coordinator.release(rt, place).is_err() {
+            return false;
+        }
+    }
+    let closed = coordinator.close(rt).is_ok();
+    counted && closed
+}
+
+// Opens a census once all threads are there, works on it, and lets the threads end.
+fn coordinate<N: Name, J: Errand, R: Wait>(
+    rt: &R,
+    alloc: Global,
+    shared: &Shared<N, J>,
+    coordinator: Coordinator<'_, N, J>,
+    there: &AtomicU64,
+    done: &AtomicBool,
+) -> bool {
+    let mut coordinator = coordinator;
+    let came = wait_for(THREADS as u64, there);
+    let asked = shared.submit(rt, Request::Census, Vec::new(alloc)).is_ok();
+    let counted = count(rt, shared, &mut coordinator);
+    done.store(true, Ordering::SeqCst);
+    came && asked && counted
+}
+
+fn count_all<N: Name + Send + Sync, J: Errand + Send, R: Threads + Wait + Sync + Abort>(
+    rt: &R,
+    alloc: Global,
+    parts: Parts,
+) -> Result<(), AllocError>
+    requires tables { (parts.board ≡ N.board) × (parts.row ≡ N.poll_row) }
+{
+    let Ok((shared, armer)) = Shared::<N, J>::new(alloc, parts) else {
+        return Err(AllocError);
+    };
+    let Ok(coordinator) = Coordinator::new(&shared, armer, alloc) else {
+        return Err(AllocError);
+    };
+    if shared.install(rt, 0).is_err() {
+        return Err(AllocError);
+    }
+    let there = AtomicU64::new(0);
+    let done = AtomicBool::new(false);
+    let (lived, counted) = join(
+        rt,
+        || live_all(rt, alloc, &shared, &there, &done),
+        || coordinate(rt, alloc, &shared, coordinator, &there, &done),
+    );
+    assert!(rt; lived && counted);
+    assert!(rt; shared.peek_counts() == 0);
+    Ok(())
+}
+
+#[test]
+fn a_census_counts_what_the_words_count(rt: HostRuntime) -> Result<(), Fail> {
+    let parts = Parts::new(rt.alloc(), THREADS, 4, 2).map_err(|_| AllocError)?;
+    count_all::<Brand, Job, HostRuntime>(&rt, rt.alloc(), parts)?;
+    Ok(())
+}

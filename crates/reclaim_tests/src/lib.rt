@@ -1,0 +1,5 @@
+//! Tests of what reclaiming answers, and of requests for which memory is refused, in one thread, through the public calls of `coordinator`.
+#![tactic(auto)]
+
+#[cfg(test)]
+mod tests;

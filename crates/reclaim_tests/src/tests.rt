@@ -1,0 +1,3 @@
+//! Codes reclaimed, and growths refused.
+mod late;
+mod memory;
