@@ -1,7 +1,7 @@
 -- Which jobs fit a request, and which are left of it.
 use Rattle.std.specs.Prelude.{ℕ, List, [], ◌∷◌, ◌++◌, Bool, true, false, ◌&&◌, ◌==◌, length, if◌then◌else◌}
 use Rattle.operations.specs.Names.{among}
-use Rattle.desk.specs.Machine.{Asked, targets_of}
+use Rattle.desk.specs.Machine.{Asked, Current, targets_of, open_of, passes}
 use Rattle.operations.specs.declared.Ask.{Ask}
 use Rattle.operations.specs.declared.Ask.TheVariants.{Depth, CountOf, Top}
 use Rattle.operations.specs.declared.Request.{Request}
@@ -17,6 +17,15 @@ same_ask Top Top = true
 same_ask (CountOf s) Depth = false
 same_ask (CountOf s) (CountOf t) = s == t
 same_ask (CountOf s) Top = false
+
+-- the request is a handshake that asks this
+abbrev pub asks_it : Ask → Request → Bool
+asks_it ask Census = false
+asks_it ask (Handshake targets asked) = same_ask asked ask
+
+-- the open request of the number asks this
+abbrev pub is_asked_by : ℕ → Ask → List Current → Bool
+is_asked_by n ask cs = passes (λ c. asks_it ask c.request) (open_of n cs)
 
 -- the jobs are one for each target in order, with this ask
 abbrev pub are_for : {J : Type 0} → (J → ℕ) → (J → Ask) → List ℕ → Ask → List J → Bool

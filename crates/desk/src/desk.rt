@@ -1,5 +1,5 @@
 //! The desk: what all threads ask of the coordinator, in one history.
-ghost use Rattle.std.specs.Prelude.{◌≡◌, ◌==◌, ◌&&◌, ℕ, ◌+◌, ◌<◌, ◌≤◌, ◌^◌, List, [], ◌∷◌, ◌++◌, length, true, false, nat_le, Some, None, IfOk, IfErr, IfSome, IfNone, OnOk, OnSome, map, option_map, OnErr, ◌≢◌, vec_len, vec_capacity};
+ghost use Rattle.std.specs.Prelude.{◌≡◌, ◌==◌, ◌&&◌, ℕ, ◌+◌, ◌<◌, ◌≤◌, ◌^◌, List, [], ◌∷◌, ◌++◌, length, true, false, nat_le, Some, None, IfOk, IfErr, IfSome, IfNone, OnOk, OnSome, map, option_map, OnErr, ◌≢◌, ◌⊎◌, vec_len, vec_capacity};
 ghost use Rattle.frames.specs.ImageView.{IsSettled};
 ghost use Rattle.frames.specs.BoardViews.{went_round, looked_at, slot_of, entry_stored, not_entrant, in_state};
 ghost use Rattle.frames.specs.declared.board_rule.EntryState.TheVariants.{Vacant};
@@ -15,7 +15,7 @@ ghost use Rattle.desk.specs.Refusals.{start_refused, ask_refused, open_refused, 
 ghost use Rattle.desk.specs.Fields.{DeskSeen, at, Enters, EntersInstall, kept_before};
 ghost use Rattle.desk.specs.Targets.{standing, untold, progress, next_due, next_awaited, name_at, open_kind};
 ghost use Rattle.desk.specs.Once.{replies_of};
-ghost use Rattle.desk.specs.JobsFit.{jobs_fit, left_of, has_job, job_taken, jobs_closed, jobs_opened};
+ghost use Rattle.desk.specs.JobsFit.{jobs_fit, left_of, has_job, job_taken, jobs_closed, jobs_opened, is_asked_by};
 
 use crate::codes::Codes;
 use crate::entries::{Carried, Entry, Live, Opened, Progress, Standing};
@@ -24,18 +24,18 @@ use crate::faults::{
     Refused, StartFault, start_fault,
 };
 use crate::lists::{
-    OPEN, are_all, finish_at, holds_target, index_of, is_census, is_census_open, is_idle, is_least,
-    job_of, jobs_fit, keep_live, least_free, leave, lives, make_room, may_close, may_finish,
-    may_open_more, names_of, operate_at, place_chosen, steps_of, targets_of,
+    OPEN, are_all, asks, finish_at, holds_target, index_of, is_census, is_census_open, is_idle,
+    is_least, job_of, jobs_fit, keep_live, least_free, leave, lives, make_room, may_close,
+    may_finish, may_open_more, names_of, operate_at, place_chosen, steps_of, targets_of,
 };
 use crate::log::{Log, Receipt, RoomFault};
 use crate::targets::{due_after, name_at, oldest, progress_in, standing_to, untold_in};
 use board::{Board, Keeper, Spent, Weighed};
 use bodies::{Body, Name};
 use method_table::table::{FreeFault, Installed, InvalidateFault, MethodTable, RetireFault};
-use operations::Request;
 use operations::job::{Done, Errand};
 use operations::queue::{Queue, Unqueued, Waiting};
+use operations::{Ask, Request};
 use std::alloc::{AllocError, Global};
 use std::marker::{Model, PhantomData};
 
@@ -84,6 +84,7 @@ impl<N: Name, J: Errand> Desk<N, J> {
         requires places { places ≡ N.board.places }
         ensures book { IfOk result (λ d. (d.book.history ≡ []) × (d.book.reserved ≡ 0)) }
         ensures sizes { IfOk result (λ d. (d.slots ≡ table.slots) × (d.methods ≡ table.methods)) }
+        ensures keeper { IfOk result (λ d. d.keeper ≡ keeper.seen) }
         ensures jobs { IfOk result (λ d. d.jobs ≡ []) }
         ensures handed_back { IfErr result (λ k. k ≡ keeper) }
     {
@@ -340,11 +341,35 @@ impl<N: Name, J: Errand> Desk<N, J> {
     }
 
     /// Enters what a job gave on a settled body, or hands it back where it isn't lawful: the operation is open and the body's thread a
-    /// live target that has no Finish, and has one for each open operation with a lesser number of which it is a live target.
+    /// live target that has no Finish, and has one for each open operation with a lesser number of which it is a live target. A job that
+    /// asked for something else than the operation is handed back too.
     pub fn finish(&mut self, body: &Body<N>, done: Done) -> Result<Receipt<N>, Done>
         requires name { body.now.name ≡ done.target }
         requires settled { IsSettled body.now.image }
         requires reply { done.reply ≡ reply done.ask body.now.image.frames }
+        ensures ok { IfOk result (λ r. Enters self.old self.new (Entry.Finish done.op done.target done.reply) r) }
+        ensures asked { OnOk result (is_asked_by done.op done.ask (at self.old).opened ≡ true) }
+        ensures reserved { OnOk result ((self.new.book.reserved + 1 ≡ self.old.book.reserved) × (self.new.keeper ≡ self.old.keeper)) }
+        ensures jobs { self.new.jobs ≡ self.old.jobs }
+        ensures err { IfErr result (λ d. (d ≡ done) × ((lawful (at self.old) (Entry.Finish done.op done.target done.reply) ≡ false) ⊎ (is_asked_by done.op done.ask (at self.old).opened ≡ false)) × (self.new ≡ self.old)) }
+    {
+        if !self.asks(done.op(), done.ask()) {
+            return Err(done);
+        }
+        self.enter_done(body, done)
+    }
+
+    // Whether the open request of the number asks this.
+    fn asks(&self, number: u64, ask: Ask) -> bool
+        ensures { result ≡ is_asked_by number ask (at self.now).opened }
+    {
+        let _ = &self.log;
+        asks(self.opened.as_slice(), number, ask)
+    }
+
+    // Enters what a job gave, where that is lawful.
+    fn enter_done(&mut self, body: &Body<N>, done: Done) -> Result<Receipt<N>, Done>
+        requires name { body.now.name ≡ done.target }
         ensures ok { IfOk result (λ r. Enters self.old self.new (Entry.Finish done.op done.target done.reply) r) }
         ensures reserved { OnOk result ((self.new.book.reserved + 1 ≡ self.old.book.reserved) × (self.new.keeper ≡ self.old.keeper)) }
         ensures jobs { self.new.jobs ≡ self.old.jobs }
@@ -443,6 +468,7 @@ impl<N: Name, J: Errand> Desk<N, J> {
         ensures retired { IfOk result (λ r. IfSome r.1 (λ receipt. Enters self.old self.new (Entry.Retire serial) receipt)) }
         ensures weighed { IfOk result (λ r. (code : CodeOf) × (unfreed (at self.old).table.codes serial ≡ Some code) × KeeperWeighs N.board.places (id_of code) self.old.keeper self.new.keeper r.0) }
         ensures clear { IfOk result (λ r. IfSome r.1 (λ _. r.0 ≡ Weighed.Clear)) }
+        ensures reserved { IfOk result (λ r. IfSome r.1 (λ _. self.new.book.reserved + 1 ≡ self.old.book.reserved)) }
         ensures others { IfOk result (λ r. IfNone r.1 ((self.new.book ≡ self.old.book) × (self.new.slots ≡ self.old.slots) × (self.new.methods ≡ self.old.methods) × (r.0 ≢ Weighed.Clear))) }
         ensures jobs { self.new.jobs ≡ self.old.jobs }
         ensures accepted { OnOk result (retire_fault (unfreed (at self.old).table.codes serial) ≡ None) }
@@ -504,6 +530,7 @@ impl<N: Name, J: Errand> Desk<N, J> {
         ensures allowed { OnOk result ((retire_fault (unfreed (at self.old).table.codes serial) ≡ None) × (is_idle (at self.old) ≡ true) × (nat_le (2 ^ 40) (self.old.keeper.moment + 1) ≡ false)) }
         ensures accepted { OnOk result (IfSome request (λ asked. MayAsk (at self.old) asked (jobs_fit J.whom J.asks asked jobs.items) self.old.book)) }
         ensures wanted { IfOk result (λ r. IfSome r (λ a. request ≢ None)) }
+        ensures reserved { IfOk result (λ r. IfSome r (λ a. IfSome request (λ asked. self.new.book.reserved ≡ self.old.book.reserved + (2 + steps_of asked)))) }
         ensures quiet { IfOk result (λ r. IfNone r ((request ≡ None) × (self.new.book ≡ self.old.book))) }
         ensures sizes { OnOk result ((self.new.slots ≡ self.old.slots) × (self.new.methods ≡ self.old.methods)) }
         ensures round { OnOk result (self.new.keeper ≡ went_round self.old.keeper self.old.keeper.moment) }

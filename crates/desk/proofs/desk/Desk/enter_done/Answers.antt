@@ -11,7 +11,7 @@ use Rattle.desk.proofs.JobsLeft.{set_left}
 use Rattle.desk.proofs.Keeping.{finish_keeps, enters_by, finish_is, finish_not, open_room, due_entry}
 use Rattle.desk.specs.Replies.{of_number, HasLess}
 use Rattle.desk.proofs.RoomSteps.{due_has_room, finish_has_room}
-use Rattle.desk.proofs.desk.Desk.finish.Goals as goal
+use Rattle.desk.proofs.desk.Desk.enter_done.Goals as goal
 
 pub returns-in_default-clause-err : goal.returns-in_default-clause-err
 returns-in_default-clause-err g c =
