@@ -5,13 +5,13 @@
 # `make runs` runs scripts on threads, each a hundred times, and then with each thread and each growth of memory refused in turn;
 # `make hostile` runs the tests of threads twenty times, and those of refused memory with each growth refused in turn;
 # `make soak` runs threads at random over what they share, with one seed after the other, for MINUTES.
-# `make side SEEDS=1000 FIRST=21` plays as many random schedules, from that seed on, on the running layer and on the core beside it.
+# `make side SEEDS=1000 FIRST=22` plays as many random schedules, from that seed on, on the running layer and on the core beside it.
 # `make pictures` draws the pictures of PICTURES, which are in examples, again.
 .PHONY: run test examples embed bench hostile runs soak side pictures
 
 MINUTES ?= 10
 SEEDS ?= 1000
-FIRST ?= 21
+FIRST ?= 22
 PICTURES = handshake_native safepoint_census reclaiming
 
 run:

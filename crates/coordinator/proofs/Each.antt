@@ -15,7 +15,8 @@ use Rattle.desk.specs.declared.faults.OperateFault.TheVariants.{NothingOpen, Not
 use Rattle.desk.specs.Machine.{State, Current}
 use Rattle.operations.specs.Requests.{is_census}
 use Rattle.desk.specs.Refusals.{AreSettled, has_body, are_all, front_is, MayOperate, operate_refused}
-use Rattle.coordinator.specs.Holding.{is_held, AreHeld, AreEach, IsCleared, IsOperated}
+use Rattle.thread_list.specs.Moves.{IsCleared, IsOperated}
+use Rattle.coordinator.specs.Holding.{is_held, AreHeld, AreEach}
 
 some_is : {A : Type 0} (x y : A) → Some x ≡ Some y → x ≡ y
 some_is x y e = cc
@@ -107,6 +108,9 @@ operated_keeps op a b o =
     let p = published_keeps a o.0 o.1 in
     let q = cleared_keeps op o.0 b o.2 in
     (q.0 ∙ p.0, q.1 ∙ p.1, λ h. q.2 (p.2 h))
+
+pub operated_frames : (op : ℕ) (a b : BodyView) → IsOperated op a b → b.image.frames ≡ a.image.frames
+operated_frames op a b o = ap (λ (i : ImageView). i.frames) o.2.2 ∙ o.1.frames_stay
 
 -- Where no frames change, a census counts the same.
 each_total : (R : BodyView → BodyView → Type 0) (serial : ℕ) (xs ys : List BodyView) → ((a b : BodyView) → R a b → b.image.frames ≡ a.image.frames) → AreEach R xs ys → total_count serial ys ≡ total_count serial xs

@@ -1,9 +1,8 @@
 -- What a coordinator holds.
 use Rattle.std.specs.Prelude.{◌≡◌, ◌≢◌, ◌<◌, ◌==◌, ℕ, Bool, true, false, List, [], ◌∷◌, Some, slice_get}
 use Rattle.std.specs.List.{list_any}
-use Rattle.bodies.specs.Bodies.{BodyView, IsPublished}
+use Rattle.bodies.specs.Bodies.{BodyView}
 use Rattle.thread_state.specs.declared.poll_rule.Arming.{Arming}
-use Rattle.thread_state.specs.PollRule.{exchanged}
 use Rattle.poll.specs.Rows.{RowId, full_armer}
 
 -- The held bodies in the order in which they were taken, what the armer knows, and whether the open census is operated.
@@ -35,16 +34,3 @@ AreEach R [] [] = Unit {0}
 AreEach R [] (b ∷ bs) = false ≡ true
 AreEach R (a ∷ rest) [] = false ≡ true
 AreEach R (a ∷ rest) (b ∷ bs) = R a b × AreEach R rest bs
-
--- The operation is cleared for a body.
-abbrev pub IsCleared : ℕ → BodyView → BodyView → Type 0
-IsCleared op old new
-    = (op ≢ 0 → (found : ℕ) × (new.poller ≡ exchanged old.poller op found)) × (new.name ≡ old.name) × (new.image ≡ old.image) × (new.seat ≡ old.seat)
-
--- A body is published, and the operation is cleared for it.
-abbrev pub IsOperated : ℕ → BodyView → BodyView → Type 0
-IsOperated op old new = (published : BodyView) × IsPublished old published × IsCleared op published new
-
--- The same, where a job was run between.
-abbrev pub IsServed : ℕ → BodyView → BodyView → Type 0
-IsServed op old new = IsOperated op old new

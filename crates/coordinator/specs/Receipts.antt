@@ -4,21 +4,32 @@ use Rattle.std.specs.List.{remove}
 use Rattle.bodies.specs.Bodies.{BodyView}
 use Rattle.desk.specs.declared.entries.Entry.TheVariants.{Finish, Ask}
 use Rattle.desk.specs.Machine.{Stands}
+use Rattle.operations.specs.declared.Ask.{Ask}
+use Rattle.operations.specs.Asks.{reply}
 use Rattle.operations.specs.declared.Request.{Request}
-use Rattle.thread_list.specs.Berths.{Acted, acted}
-use Rattle.thread_list.specs.declared.room.BerthAct.TheVariants.{Released, NoJob}
+use Rattle.thread_list.specs.Berths.{Acted, Moved, moved, Went}
+use Rattle.thread_list.specs.declared.room.BerthAct.TheVariants.{NoJob}
+use Rattle.thread_list.specs.declared.room.BodyAct.TheVariants.{Held, Released}
 use Rattle.coordinator.specs.Holding.{Holding, StandsAt}
 
--- The body of the place is held no more, and by the receipt it went into its berth.
-abbrev pub Releases : Holding → Holding → ℕ → Acted → Type 0
+-- The body of the place is held no more, and by the receipt it went into its berth as it was.
+abbrev pub Releases : Holding → Holding → ℕ → Moved → Type 0
 Releases old new place receipt
     = (index : ℕ) × (body : BodyView) × StandsAt old.held index place body × (new ≡ record old { held = remove old.held index })
-    × (receipt ≡ acted place body.name (Released old.operated))
+    × (receipt ≡ moved body (Released old.operated))
 
--- What was told to the thread of the name was done and entered, or nothing was told to it, and its body went back.
-abbrev pub IsAttended : ℕ → ℕ → Result Stands Acted → Acted → Type 0
-IsAttended place name (Ok r) back = ((number : ℕ) × (reply : ℕ) × (r.entry ≡ Finish number name reply)) × (back ≡ acted place name (Released false))
-IsAttended place name (Err r) back = (r.name ≡ name) × (r.act ≡ NoJob) × (back ≡ acted place name (Released false))
+-- A body that was served went back with its frames.
+abbrev pub IsBrought : BodyView → Moved → Type 0
+IsBrought body back = Went body.seat.place body.name (Released false) back × (back.body.image.frames ≡ body.image.frames)
+
+-- What the oldest job that was told to a thread answered by the body's frames is entered, or nothing was told to it.
+abbrev pub IsAnswered : BodyView → Result Stands Acted → Type 0
+IsAnswered body (Ok r) = (number : ℕ) × (ask : Ask) × (r.entry ≡ Finish number body.name (reply ask body.image.frames))
+IsAnswered body (Err r) = (r.name ≡ body.name) × (r.act ≡ NoJob)
+
+-- The body of the thread of the name came out of its berth, what was told to it was done on it, and it went back with its frames.
+abbrev pub IsAttended : ℕ → ℕ → Moved → Result Stands Acted → Moved → Type 0
+IsAttended place name out done back = Went place name Held out × IsAnswered out.body done × IsBrought out.body back
 
 -- The request, where there is one, waits under the number.
 abbrev pub IsAskOf : Option Request → Option (ℕ × Stands) → Type 0

@@ -30,8 +30,10 @@ use Rattle.coordinator.specs.declared.holding.Unheld.{Unheld}
 use Rattle.coordinator.specs.declared.holding.Unheld.TheVariants as unheld
 use Rattle.coordinator.specs.declared.faults.OperateFault.{OperateFault}
 use Rattle.coordinator.specs.declared.faults.OperateFault.TheVariants as operate
-use Rattle.coordinator.specs.Holding.{Holding, is_held, StandsAt, IsServed}
-use Rattle.thread_list.specs.Berths.{acted}
+use Rattle.coordinator.specs.Holding.{Holding, is_held, StandsAt}
+use Rattle.thread_list.specs.Moves.{IsServed}
+use Rattle.thread_list.specs.Berths.{Moved, acted, moved}
+use Rattle.thread_list.specs.declared.room.BodyAct.TheVariants as body_act
 use Rattle.thread_list.specs.declared.room.BerthAct.{BerthAct}
 use Rattle.thread_list.specs.declared.room.BerthAct.TheVariants as berth
 
@@ -110,10 +112,10 @@ HasNoHeld places place release.NoSuchPlace = places ≤ place
 HasNoHeld places place release.Vacant = (place < places) × ((s : State) × (name_at place s.live ≡ None))
 HasNoHeld places place release.NotHeld = (place < places) × ((s : State) × (name : ℕ) × (name_at place s.live ≡ Some name))
 
--- Holding takes the body of the place, behind those that are held.
-abbrev pub Holds : Holding → Holding → ℕ → Type 0
-Holds old new place
-    = (s : State) × (body : BodyView) × (name_at place s.live ≡ Some body.name) × (hold_fault (standing s body.name) (progress s body.name (slice_index old.armer.armed place)) ≡ None)
+-- Holding takes the body of the place as it was in its berth, behind those that are held.
+abbrev pub Holds : Holding → Holding → ℕ → Moved → Type 0
+Holds old new place receipt
+    = (s : State) × (body : BodyView) × (receipt ≡ moved body body_act.Held) × (name_at place s.live ≡ Some body.name) × (hold_fault (standing s body.name) (progress s body.name (slice_index old.armer.armed place)) ≡ None)
     × (is_held place old.held ≡ false) × (body.seat.place ≡ place) × (new ≡ record old { held = old.held ++ body ∷ [] })
 
 -- How far a held thread is with what it was told says why it isn't served.

@@ -6,7 +6,8 @@ ghost use Rattle.desk.specs.declared.entries.Entry.{Entry};
 ghost use Rattle.desk.specs.Machine.{State as DeskState};
 ghost use Rattle.desk.specs.Fields.{Enters, at};
 ghost use Rattle.desk.specs.Refusals.{AreSettled, are_all, MayOperate};
-ghost use Rattle.coordinator.specs.Holding.{AreHeld, AreEach, IsCleared, IsOperated};
+ghost use Rattle.coordinator.specs.Holding.{AreHeld, AreEach};
+ghost use Rattle.thread_list.specs.Moves.{IsCleared, IsOperated};
 ghost use Rattle.coordinator.specs.Refused.{census_refused};
 
 use crate::coordinator::Coordinator;

@@ -19,17 +19,18 @@ use desk::{Desk, Live, Progress, Receipt};
 use operations::job::Errand;
 use std::sync::Wait;
 use std::{hint, thread};
-use thread_list::{BerthAct, BerthReceipt, Shared};
+use thread_list::{BerthAct, BerthReceipt, BodyReceipt, Shared};
 
 /// How often a `drive` looks at poll words without a lock before it sleeps: about as long as a thread takes to its next poll.
 pub const SPINS: u32 = 500;
 
-// The receipts of a target that was served where its body was: of what its oldest job answered, or that it had none, and that its body
-// went back.
+// The receipts of a target that was served where its body was: that its body came out, of what its oldest job answered, or that it had
+// none, and that its body went back.
 #[derive(Drop)]
 struct Attended<N: Name> {
+    out: BodyReceipt<N>,
     done: Result<Receipt<N>, BerthReceipt<N>>,
-    back: BerthReceipt<N>,
+    back: BodyReceipt<N>,
 }
 
 /// Nothing is open and nothing waits.
@@ -244,10 +245,10 @@ impl<'a, N: Name, J: Errand> Coordinator<'a, N, J> {
     // isn't there.
     fn serve_at<R: Wait>(&self, rt: &R, due: Live) -> Result<Attended<N>, BerthReceipt<N>>
         requires { due.place < N.board.places }
-        ensures attended { IfOk result (λ a. IsAttended due.place due.name a.done a.back) }
+        ensures attended { IfOk result (λ a. IsAttended due.place due.name a.out a.done a.back) }
         ensures absent { IfErr result (λ r. r ≡ acted due.place due.name BerthAct.Absent) }
     {
-        let (mut body, told) = self
+        let (mut body, out, told) = self
             .shared
             .berth(due.place)
             .take_told(rt, due.name, due.place)?;
@@ -256,7 +257,7 @@ impl<'a, N: Name, J: Errand> Coordinator<'a, N, J> {
             Err(none) => Err(none),
         };
         let back = bring_back(rt, self.shared, body);
-        Ok(Attended { done, back })
+        Ok(Attended { out, done, back })
     }
 
     // Holds all live threads, operates the open census over them, brings them back and closes it.
@@ -323,8 +324,8 @@ impl<'a, N: Name, J: Errand> Coordinator<'a, N, J> {
         if due.place >= self.places || is_held(self.bodies.as_slice(), due.place) {
             return;
         }
-        let body = self.shared.berth(due.place).wake(rt, due.name, due.place);
-        self.keep(body);
+        let (body, taken) = self.shared.berth(due.place).hold(rt, due.name, due.place);
+        self.keep(body, taken);
     }
 
     // Brings all held bodies back.

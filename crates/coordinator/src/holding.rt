@@ -1,6 +1,7 @@
 //! Holding a thread: the coordinator takes its body out of its berth, and brings it back.
 ghost use Rattle.std.specs.Prelude.{◌≡◌, ◌≢◌, ◌<◌, ◌++◌, ◌∷◌, [], ℕ, false, IfSome, IfNone, IfOk, OnOk, IfErr, OnErr, length};
 ghost use Rattle.bodies.specs.Bodies.{BodyView};
+ghost use Rattle.thread_list.specs.Berths.{moved};
 ghost use Rattle.desk.specs.Targets.{standing, progress, name_at};
 ghost use Rattle.desk.specs.Fields.{at};
 ghost use Rattle.coordinator.specs.Holding.{is_held, StandsAt};
@@ -13,7 +14,7 @@ use bodies::{Body, Name};
 use desk::{Desk, Progress, Standing};
 use operations::job::Errand;
 use std::sync::Wait;
-use thread_list::BerthReceipt;
+use thread_list::{BerthReceipt, BodyAct, BodyReceipt};
 
 /// Why a thread isn't held: by a fault that was found before, or since it isn't safe, by the receipt that its body isn't in its berth.
 #[derive(Drop)]
@@ -76,21 +77,22 @@ fn fault_at<N: Name, J: Errand>(
 }
 
 impl<'a, N: Name, J: Errand> Coordinator<'a, N, J> {
-    /// Holds the thread of a place, which was told an open request and isn't done with it: takes its body out of its berth.
-    pub fn hold<R: Wait>(&mut self, rt: &R, place: usize) -> Result<(), HoldFault>
-        ensures held { OnOk result (Holds self.old self.new place) }
+    /// Holds the thread of a place, which was told an open request and isn't done with it: takes its body out of its berth. Answers
+    /// the receipt of that.
+    pub fn hold<R: Wait>(&mut self, rt: &R, place: usize) -> Result<BodyReceipt<N>, HoldFault>
+        ensures held { IfOk result (Holds self.old self.new place) }
         ensures refused { IfErr result (λ e. hold_refused self.old N.board.places place e × (self.new ≡ self.old)) }
     {
         match self.take_safe(rt, place) {
-            Ok(()) => Ok(()),
+            Ok(taken) => Ok(taken),
             Err(Unheld::Fault(fault)) => Err(fault),
             Err(Unheld::NotSafe(_)) => Err(HoldFault::NotSafe),
         }
     }
 
     // The same, with the receipt of its berth where the thread isn't safe.
-    fn take_safe<R: Wait>(&mut self, rt: &R, place: usize) -> Result<(), Unheld<N>>
-        ensures held { OnOk result (Holds self.old self.new place) }
+    fn take_safe<R: Wait>(&mut self, rt: &R, place: usize) -> Result<BodyReceipt<N>, Unheld<N>>
+        ensures held { IfOk result (Holds self.old self.new place) }
         ensures refused { IfErr result (λ e. IsUnheld self.old N.board.places place e × (self.new ≡ self.old)) }
     {
         if place >= self.places {
@@ -110,22 +112,22 @@ impl<'a, N: Name, J: Errand> Coordinator<'a, N, J> {
             return Err(Unheld::Fault(HoldFault::Held));
         }
         match self.shared.berth(place).take(rt, name, place) {
-            Ok(body) => {
-                self.keep(body);
-                Ok(())
-            }
+            Ok((body, taken)) => Ok(self.keep(body, taken)),
             Err(absent) => Err(Unheld::NotSafe(absent)),
         }
     }
 
-    // A body that was taken out of its berth is held.
-    pub(crate) fn keep(&mut self, body: Body<N>)
+    // A body is held as it was taken out of its berth. Answers the receipt of that.
+    pub(crate) fn keep(&mut self, body: Body<N>, taken: BodyReceipt<N>) -> BodyReceipt<N>
+        requires taken { taken ≡ moved body BodyAct.Held }
         requires apart { is_held body.seat.place self.old.held ≡ false }
         requires body { (0 < body.name) × (body.seat.stored ≢ 0) }
-        ensures { self.new ≡ record self.old { held = self.old.held ++ body ∷ [] } }
+        ensures held { self.new ≡ record self.old { held = self.old.held ++ body ∷ [] } }
+        ensures taken { result ≡ taken }
     {
         let _ = body.place();
         self.bodies.push_reserved(body);
+        taken
     }
 
     // Why a place has no held thread: there is no such place, no live thread has it, or its thread isn't held.
@@ -145,11 +147,7 @@ impl<'a, N: Name, J: Errand> Coordinator<'a, N, J> {
     }
 
     /// Brings the body of a held thread back into its berth. Answers the receipt that it is there.
-    pub fn release<R: Wait>(
-        &mut self,
-        rt: &R,
-        place: usize,
-    ) -> Result<BerthReceipt<N>, ReleaseFault>
+    pub fn release<R: Wait>(&mut self, rt: &R, place: usize) -> Result<BodyReceipt<N>, ReleaseFault>
         ensures released { IfOk result (Releases self.old self.new place) }
         ensures refused { IfErr result (λ e. (is_held place self.old.held ≡ false) × HasNoHeld N.board.places place e × (self.new ≡ self.old)) }
     {

@@ -5,8 +5,9 @@ ghost use Rattle.bodies.specs.Bodies.{BodyView};
 ghost use Rattle.desk.specs.declared.entries.Entry.{Entry};
 ghost use Rattle.desk.specs.Fields.{at};
 ghost use Rattle.desk.specs.Targets.{standing, progress};
-ghost use Rattle.thread_list.specs.Berths.{acted};
-ghost use Rattle.coordinator.specs.Holding.{StandsAt, IsServed};
+ghost use Rattle.coordinator.specs.Receipts.{IsBrought};
+ghost use Rattle.coordinator.specs.Holding.{StandsAt};
+ghost use Rattle.thread_list.specs.Moves.{IsServed};
 ghost use Rattle.coordinator.specs.Refused.{Serves, IsServeFault, serve_fault, serve_refused, unserved};
 
 use crate::coordinator::Coordinator;
@@ -17,17 +18,17 @@ use desk::{Desk, Progress, Receipt, Standing};
 use operations::job::Errand;
 use std::sync::Wait;
 use std::thread;
-use thread_list::{BerthAct, BerthReceipt, Shared, serve};
+use thread_list::{BodyReceipt, Due, Shared, serve};
 
 // The job that was told to the thread of a held body.
-fn told_job<N: Name, J: Errand, R: Wait>(rt: &R, shared: &Shared<N, J>, body: &Body<N>) -> J
+fn told_job<N: Name, J: Errand, R: Wait>(rt: &R, shared: &Shared<N, J>, body: &Body<N>) -> Due<J>
     ensures { (J.whom result ≡ body.now.name) × (0 < J.number result) }
 {
     for _ in rt.forever() {
-        if let Ok(job) = shared.berth_of(body).job(rt, body.name()) {
-            return job;
+        match shared.berth_of(body).job(rt, body.name()) {
+            Ok(job) => return job,
+            Err(_) => thread::yield_now(),
         }
-        thread::yield_now();
     }
     unreachable!()
 }
@@ -37,7 +38,7 @@ pub fn serve_body<N: Name, J: Errand, R: Wait>(
     rt: &R,
     shared: &Shared<N, J>,
     body: &mut Body<N>,
-    job: J,
+    job: Due<J>,
 ) -> Receipt<N>
     requires { (J.whom job ≡ body.old.name) × (0 < J.number job) }
     ensures entry { result.entry ≡ Entry.Finish (J.number job) body.old.name (reply (J.asks job) body.old.image.frames) }
@@ -53,9 +54,9 @@ pub fn bring_back<N: Name, J: Errand, R: Wait>(
     rt: &R,
     shared: &Shared<N, J>,
     body: Body<N>,
-) -> BerthReceipt<N>
+) -> BodyReceipt<N>
     requires body { (body.seat.stored ≢ 0) × (0 < body.name) }
-    ensures { result ≡ acted body.seat.place body.name (BerthAct.Released false) }
+    ensures { IsBrought body result }
 {
     let mut body = body;
     for _ in rt.forever() {

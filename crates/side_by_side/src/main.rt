@@ -1,4 +1,4 @@
-//! The running layer beside the core, by a random schedule: `side_by_side` plays 20 schedules of 1,000 calls, those of the seeds from
+//! The running layer beside the core, by a random schedule: `side_by_side` plays 21 schedules of 1,000 calls, those of the seeds from
 //! 1 on; `side_by_side SEEDS` plays as many, and `side_by_side SEEDS FIRST` those from FIRST on. One thread makes all calls of threads
 //! and of the coordinator, and plays the events that each call is on a `System`; after each call all that can be seen of both is
 //! compared. With words it prints what the calls came to. The first difference is printed in one line, and then the status is 1. So it

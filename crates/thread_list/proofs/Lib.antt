@@ -1,5 +1,6 @@
 pub mod Berthed
 pub mod Popped
+pub mod Turned
 pub mod Made
 pub mod Crosses
 pub mod InOrder

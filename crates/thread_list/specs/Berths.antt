@@ -1,6 +1,8 @@
 -- Berths.
 use Rattle.std.specs.Prelude.{◌≡◌, ◌≢◌, ◌<◌, ◌≤◌, ◌+◌, ◌-◌, ◌^◌, ℕ, Bool, true, false, nat_le, List, [], ◌∷◌, min, length, slice_index_or, Option, Some, None, Vec, vec_capacity}
+use Rattle.bodies.specs.Bodies.{BodyView}
 use Rattle.thread_list.specs.declared.room.BerthAct.{BerthAct}
+use Rattle.thread_list.specs.declared.room.BodyAct.{BodyAct}
 use Rattle.thread_list.specs.declared.room.Holder.{Holder}
 use Rattle.thread_list.specs.declared.room.Holder.TheVariants.{Vacant, Away, Out, Home}
 
@@ -17,6 +19,18 @@ pub record Acted : Type 0 where
 
 abbrev pub acted : ℕ → ℕ → BerthAct → Acted
 acted place name act = record { place = place; name = name; act = act }
+
+-- which body went into its berth or came out of it, as it was then, and how
+pub record Moved : Type 0 where
+  pub body : BodyView
+  pub act : BodyAct
+
+abbrev pub moved : BodyView → BodyAct → Moved
+moved body act = record { body = body; act = act }
+
+-- the body of this name and place went so
+abbrev pub Went : ℕ → ℕ → BodyAct → Moved → Type 0
+Went place name act m = (m.act ≡ act) × (m.body.name ≡ name) × (m.body.seat.place ≡ place)
 
 -- the number of the job that came out with a body, 0 for none
 abbrev pub number_of : {J : Type 0} → (J → ℕ) → Option J → ℕ

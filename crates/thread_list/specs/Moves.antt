@@ -1,30 +1,32 @@
 -- What contracts see of a mutator, what its type keeps, and what a poll leads to.
-use Rattle.std.specs.Prelude.{◌≡◌, ◌≢◌, ◌<◌, ◌==◌, ◌++◌, ◌∷◌, [], ℕ, Option, Some, None, Bool, true, false, if◌then◌else◌}
+use Rattle.std.specs.Prelude.{◌≡◌, ◌≢◌, ◌⊎◌, ◌<◌, ◌==◌, ◌++◌, ◌∷◌, [], ℕ, Option, Some, None, Bool, true, false, if◌then◌else◌}
 use Rattle.thread_state.specs.declared.State.{State}
 use Rattle.thread_state.specs.declared.State.TheVariants.{InJava, InVm, AtPoll}
-use Rattle.thread_state.specs.declared.poll_rule.Deed.TheVariants.{Load}
-use Rattle.thread_state.specs.PollRule.{polled}
+use Rattle.thread_state.specs.PollRule.{polled, exchanged}
 use Rattle.thread_state.specs.declared.Back.{Back}
 use Rattle.thread_state.specs.States.{cross, either, state_of}
 use Rattle.frames.specs.declared.Frame.{Frame}
-use Rattle.frames.specs.ImageView.{HasFrames}
-use Rattle.bodies.specs.Bodies.{BodyView}
+use Rattle.frames.specs.ImageView.{HasFrames, IsSettled}
+use Rattle.bodies.specs.Bodies.{BodyView, IsPublished}
+use Rattle.operations.specs.declared.Ask.{Ask}
+use Rattle.operations.specs.Asks.{reply}
 use Rattle.desk.specs.declared.entries.Entry.{Entry}
 use Rattle.desk.specs.Machine.{Stands}
-use Rattle.thread_list.specs.Berths.{Acted, acted}
-use Rattle.thread_list.specs.declared.room.BerthAct.TheVariants.{Settled, Given, Served}
+use Rattle.thread_list.specs.Berths.{Moved, moved, Went}
+use Rattle.thread_list.specs.declared.room.BodyAct.TheVariants.{Settled, Given, Resumed, Served, Vacated}
 use Rattle.thread_list.specs.declared.polls.Poll.{Poll}
 use Rattle.thread_list.specs.declared.polls.Poll.TheVariants.{Go, Stop}
 
--- What contracts see of a mutator: its name and place, its state, its body where it has it in hand, how many methods there are, and what was
--- done at its berth when it last gave its body away to go into native code or a wait, or got it back from there or at its start.
+-- What contracts see of a mutator: its name and place, its state, its body where it has it in hand, how many methods there are, and how its
+-- body last went: into its berth on the way into native code or a wait, or out of it from there, at its start, or where an exit was
+-- refused after it had served.
 pub record Running : Type 0 where
   pub name : ℕ
   pub place : ℕ
   pub methods : ℕ
   pub state : State
   pub body : Option BodyView
-  pub crossed : Acted
+  pub crossed : Moved
 
 -- The thread has its body in hand in these states. In all others that a mutator is in, the body is in its berth or held.
 abbrev pub owns : State → Bool
@@ -49,18 +51,19 @@ is_there None = false
 is_there (Some p) = true
 
 -- A thread that hasn't its body in hand has the receipt that its berth took it.
-abbrev pub IsGiven : ℕ → ℕ → Option BodyView → Acted → Type 0
+abbrev pub IsGiven : ℕ → ℕ → Option BodyView → Moved → Type 0
 IsGiven name place (Some p) crossed = Unit {0}
-IsGiven name place None crossed = crossed ≡ acted place name Given
+IsGiven name place None crossed = Went place name Given crossed
 
 -- What a mutator keeps: a body is the thread's own, the thread has it in hand in the states in which it owns itself, its name and its
--- first body went into its berth when it started, and a body that it hasn't in hand went there since.
-pub record IsRunning (places name place : ℕ) (state : State) (body : Option BodyView) (settled crossed : Acted) : Type 0 where
+-- first body, with an empty stack, went into its berth when it started, and a body that it hasn't in hand went there since.
+pub record IsRunning (places name place : ℕ) (state : State) (body : Option BodyView) (settled crossed : Moved) : Type 0 where
   pub own : IsOf name place body
   pub there : owns state ≡ true → is_there body ≡ true
   pub named : 0 < name
   pub seated : place < places
-  pub settled_there : settled ≡ acted place name Settled
+  pub settled_there : Went place name Settled settled
+  pub settled_empty : settled.body.image.frames ≡ []
   pub given_there : IsGiven name place body crossed
 
 -- The same thread: what no call changes.
@@ -94,19 +97,62 @@ Leaves old new said
     from_java : State
     from_java = InJava
 
--- A turn of a thread that has stopped: its body came out of its berth to serve, and where a job came with it, what the job answered is
--- entered.
-abbrev pub IsTurn : ℕ → ℕ → Acted → Option Stands → Type 0
-IsTurn place name out None = out ≡ acted place name (Served 0)
-IsTurn place name out (Some r) = (number : ℕ) × (reply : ℕ) × (0 < number) × (out ≡ acted place name (Served number)) × (r.entry ≡ Entry.Finish number name reply)
+-- The operation is cleared for a body.
+abbrev pub IsCleared : ℕ → BodyView → BodyView → Type 0
+IsCleared op old new
+    = (op ≢ 0 → (found : ℕ) × (new.poller ≡ exchanged old.poller op found)) × (new.name ≡ old.name) × (new.image ≡ old.image) × (new.seat ≡ old.seat)
 
--- A thread that has its body back polls, and goes on where its way back leads, or stops there. What else became of its body while
--- it was away isn't known.
-abbrev pub GoesBack : Running → Back → Poll → Type 0
-GoesBack new back said
-    = (found : ℕ) × (after : BodyView) × (new.body ≡ Some after) × (after.poller.last ≡ Load found) × (either (found == 0) (state_of back) back ≡ Some new.state) × (said ≡ poll_of found)
+-- A body is published, and the operation is cleared for it.
+abbrev pub IsOperated : ℕ → BodyView → BodyView → Type 0
+IsOperated op old new = (published : BodyView) × IsPublished old published × IsCleared op published new
+
+-- The same, where a job was run between.
+abbrev pub IsServed : ℕ → BodyView → BodyView → Type 0
+IsServed op old new = IsOperated op old new
+
+-- A turn of a thread that has stopped: its body came out of its berth to serve and was published, and where a job came with it, the
+-- entry of what the job answered is by the body's frames, and the operation is cleared for it.
+abbrev pub IsTurn : ℕ → ℕ → Moved → Option Stands → BodyView → Type 0
+IsTurn place name out None after = Went place name (Served 0) out × IsPublished out.body after
+IsTurn place name out (Some r) after
+    = (number : ℕ) × (ask : Ask) × (0 < number) × Went place name (Served number) out × (r.entry ≡ Entry.Finish number name (reply ask out.body.image.frames)) × IsServed number out.body after
+
+-- A turn after which a poll let the thread go on.
+abbrev pub IsLastTurn : ℕ → ℕ → Moved → Option Stands → BodyView → Type 0
+IsLastTurn place name out finish new = (after : BodyView) × IsTurn place name out finish after × (new ≡ as_polled after 0)
+
+-- The body in hand went into its berth.
+abbrev pub Gives : Running → Running → Type 0
+Gives old new = (before : BodyView) × (old.body ≡ Some before) × (new.body ≡ None) × (new.crossed ≡ moved before Given)
+
+-- A thread that has this body back polls, and goes on where its way back leads, or stops there.
+abbrev pub GoesBack : BodyView → Running → Back → Poll → Type 0
+GoesBack body new back said
+    = (found : ℕ) × (new.body ≡ Some (as_polled body found)) × (either (found == 0) (state_of back) back ≡ Some new.state) × (said ≡ poll_of found)
 
 -- The same, said of the state in which it polls.
-abbrev pub ComesBack : Running → State → Poll → Type 0
-ComesBack new from said
-    = (found : ℕ) × (after : BodyView) × (new.body ≡ Some after) × (after.poller.last ≡ Load found) × (cross from (found == 0) ≡ Some new.state) × (said ≡ poll_of found)
+abbrev pub ComesBack : BodyView → Running → State → Poll → Type 0
+ComesBack body new from said
+    = (found : ℕ) × (new.body ≡ Some (as_polled body found)) × (cross from (found == 0) ≡ Some new.state) × (said ≡ poll_of found)
+
+-- The thread's body came out of its berth, for it to go on.
+abbrev pub IsResumed : Running → Type 0
+IsResumed new = Went new.place new.name Resumed new.crossed
+
+-- The body came out of its berth for its thread to go on, and a poll let it; or it came out to serve, and a poll after that did.
+abbrev pub GoesOn : ℕ → ℕ → Moved → BodyView → Type 0
+GoesOn place name out body
+    = (Went place name Resumed out × (body ≡ as_polled out.body 0)) ⊎ ((finish : Option Stands) × IsLastTurn place name out finish body)
+
+-- A thread that has started goes on with the body that came out of its berth.
+abbrev pub IsStarted : Running → BodyView → Type 0
+IsStarted new body = GoesOn new.place new.name new.crossed body
+
+-- A place was given up by the name, with an empty stack that is published.
+abbrev pub IsVacated : ℕ → ℕ → Moved → Type 0
+IsVacated place name m = Went place name Vacated m × (m.body.image.frames ≡ []) × IsSettled m.body.image
+
+-- A thread that served and whose stack has frames then goes on with the body that came out of its berth.
+abbrev pub IsKept : ℕ → ℕ → Moved → Option BodyView → Type 0
+IsKept place name out None = true ≡ false
+IsKept place name out (Some body) = (finish : Option Stands) × IsLastTurn place name out finish body

@@ -1,9 +1,10 @@
 //! A berth: where a thread's body is while the thread doesn't own itself.
 ghost use Rattle.std.specs.Prelude.{◌≡◌, ◌≢◌, ◌<◌, ◌^◌, [], false, OnOk, IfOk, IfErr, IfSome};
 ghost use Rattle.frames.specs.ImageView.{IsCounted};
-ghost use Rattle.thread_list.specs.Berths.{acted, number_of};
+ghost use Rattle.thread_list.specs.Berths.{acted, moved, number_of};
 
-use crate::room::{BerthAct, BerthReceipt, Room};
+use crate::due::Due;
+use crate::room::{BerthAct, BerthReceipt, BodyAct, BodyReceipt, Room};
 use board::Board;
 use bodies::{Body, Name, SpareSeat};
 use operations::job::Errand;
@@ -53,9 +54,9 @@ impl<N: Name, J: Errand> Berth<N, J> {
         }
     }
 
-    fn try_give<R: Wait>(&self, rt: &R, body: Body<N>) -> Result<BerthReceipt<N>, Body<N>>
+    fn try_give<R: Wait>(&self, rt: &R, body: Body<N>) -> Result<BodyReceipt<N>, Body<N>>
         requires body { (body.seat.stored ≢ 0) × (0 < body.name) }
-        ensures ok { IfOk result (λ r. r ≡ acted body.seat.place body.name BerthAct.Given) }
+        ensures ok { IfOk result (λ r. r ≡ moved body BodyAct.Given) }
         ensures err { IfErr result (λ b. b ≡ body) }
     {
         let mut room = self.room.lock(rt);
@@ -67,9 +68,9 @@ impl<N: Name, J: Errand> Berth<N, J> {
     }
 
     /// The body goes in.
-    pub fn give<R: Wait>(&self, rt: &R, body: Body<N>) -> BerthReceipt<N>
+    pub fn give<R: Wait>(&self, rt: &R, body: Body<N>) -> BodyReceipt<N>
         requires body { (body.seat.stored ≢ 0) × (0 < body.name) }
-        ensures { result ≡ acted body.seat.place body.name BerthAct.Given }
+        ensures { result ≡ moved body BodyAct.Given }
     {
         let mut body = body;
         for _ in rt.forever() {
@@ -82,9 +83,9 @@ impl<N: Name, J: Errand> Berth<N, J> {
         unreachable!()
     }
 
-    fn try_settle<R: Wait>(&self, rt: &R, body: Body<N>) -> Result<BerthReceipt<N>, Body<N>>
+    fn try_settle<R: Wait>(&self, rt: &R, body: Body<N>) -> Result<BodyReceipt<N>, Body<N>>
         requires body { (body.seat.stored ≢ 0) × (0 < body.name) }
-        ensures ok { IfOk result (λ r. r ≡ acted body.seat.place body.name BerthAct.Settled) }
+        ensures ok { IfOk result (λ r. r ≡ moved body BodyAct.Settled) }
         ensures err { IfErr result (λ b. b ≡ body) }
     {
         let mut room = self.room.lock(rt);
@@ -96,9 +97,9 @@ impl<N: Name, J: Errand> Berth<N, J> {
     }
 
     /// Name and body of a thread that starts go in.
-    pub fn settle<R: Wait>(&self, rt: &R, body: Body<N>) -> BerthReceipt<N>
+    pub fn settle<R: Wait>(&self, rt: &R, body: Body<N>) -> BodyReceipt<N>
         requires body { (body.seat.stored ≢ 0) × (0 < body.name) }
-        ensures { result ≡ acted body.seat.place body.name BerthAct.Settled }
+        ensures { result ≡ moved body BodyAct.Settled }
     {
         let mut body = body;
         for _ in rt.forever() {
@@ -116,9 +117,9 @@ impl<N: Name, J: Errand> Berth<N, J> {
         rt: &R,
         body: Body<N>,
         operated: bool,
-    ) -> Result<BerthReceipt<N>, Body<N>>
+    ) -> Result<BodyReceipt<N>, Body<N>>
         requires body { (body.seat.stored ≢ 0) × (0 < body.name) }
-        ensures ok { IfOk result (λ r. r ≡ acted body.seat.place body.name (BerthAct.Released operated)) }
+        ensures ok { IfOk result (λ r. r ≡ moved body (BodyAct.Released operated)) }
         ensures err { IfErr result (λ b. b ≡ body) }
     {
         let mut room = self.room.lock(rt);
@@ -130,9 +131,9 @@ impl<N: Name, J: Errand> Berth<N, J> {
     }
 
     /// A held body goes back. Where a census was operated over it, nothing keeps the thread any more.
-    pub fn release<R: Wait>(&self, rt: &R, body: Body<N>, operated: bool) -> BerthReceipt<N>
+    pub fn release<R: Wait>(&self, rt: &R, body: Body<N>, operated: bool) -> BodyReceipt<N>
         requires body { (body.seat.stored ≢ 0) × (0 < body.name) }
-        ensures { result ≡ acted body.seat.place body.name (BerthAct.Released operated) }
+        ensures { result ≡ moved body (BodyAct.Released operated) }
     {
         let mut body = body;
         for _ in rt.forever() {
@@ -149,14 +150,15 @@ impl<N: Name, J: Errand> Berth<N, J> {
         &self,
         rt: &R,
         body: Body<N>,
-    ) -> Result<BerthReceipt<N>, (Body<N>, Option<J>)>
+    ) -> Result<BodyReceipt<N>, (Body<N>, Option<Due<J>>)>
         requires body { (body.seat.stored ≢ 0) × (0 < body.name) }
-        ensures ok { IfOk result (λ r. r ≡ acted body.seat.place body.name (BerthAct.Released false)) }
+        ensures ok { IfOk result (λ r. r ≡ moved body (BodyAct.Released false)) }
         ensures err { IfErr result (λ r. (r.0 ≡ body) × IfSome r.1 (λ j. (J.whom j ≡ body.name) × (0 < J.number j))) }
     {
         let mut room = self.room.lock(rt);
-        if let Ok(job) = room.job(body.name()) {
-            return Err((body, Some(job)));
+        match room.job(body.name()) {
+            Ok(job) => return Err((body, Some(job))),
+            Err(_none) => {}
         }
         match room.release(body, false) {
             Ok(receipt) => {
@@ -171,9 +173,9 @@ impl<N: Name, J: Errand> Berth<N, J> {
 
     /// A body that was taken out to serve goes back. Where its thread was told more meanwhile it doesn't, and comes back with the oldest
     /// job.
-    pub fn bring<R: Wait>(&self, rt: &R, body: Body<N>) -> Result<BerthReceipt<N>, (Body<N>, J)>
+    pub fn bring<R: Wait>(&self, rt: &R, body: Body<N>) -> Result<BodyReceipt<N>, (Body<N>, Due<J>)>
         requires body { (body.seat.stored ≢ 0) × (0 < body.name) }
-        ensures ok { IfOk result (λ r. r ≡ acted body.seat.place body.name (BerthAct.Released false)) }
+        ensures ok { IfOk result (λ r. r ≡ moved body (BodyAct.Released false)) }
         ensures told { IfErr result (λ r. (r.0 ≡ body) × (J.whom r.1 ≡ body.name) × (0 < J.number r.1)) }
     {
         let mut body = body;
@@ -207,46 +209,61 @@ impl<N: Name, J: Errand> Berth<N, J> {
         unreachable!()
     }
 
-    /// Takes the body of the name, where it is here; the error is the receipt that it wasn't.
-    pub fn take<R: Wait>(&self, rt: &R, name: u64, place: usize) -> Result<Body<N>, BerthReceipt<N>>
-        ensures body { IfOk result (λ b. (b.name ≡ name) × (0 < b.name) × (b.seat.place ≡ place) × (b.seat.stored ≢ 0)) }
+    /// Takes the body of the name to be held, where it is here; the error is the receipt that it wasn't.
+    pub fn take<R: Wait>(
+        &self,
+        rt: &R,
+        name: u64,
+        place: usize,
+    ) -> Result<(Body<N>, BodyReceipt<N>), BerthReceipt<N>>
+        ensures held { IfOk result (λ r. r.1 ≡ moved r.0 BodyAct.Held) }
+        ensures body { IfOk result (λ r. (r.0.name ≡ name) × (0 < r.0.name) × (r.0.seat.place ≡ place) × (r.0.seat.stored ≢ 0)) }
         ensures absent { IfErr result (λ r. r ≡ acted place name BerthAct.Absent) }
     {
         self.room.lock(rt).take(name, place)
     }
 
-    /// Takes the body of the name with its oldest job, or the receipt that there was none, where the body is here; the error is the
-    /// receipt that it wasn't.
+    /// Takes the body of the name to serve it, with its oldest job, or the receipt that there was none, where the body is here; the
+    /// error is the receipt that it wasn't.
     pub fn take_told<R: Wait>(
         &self,
         rt: &R,
         name: u64,
         place: usize,
-    ) -> Result<(Body<N>, Result<J, BerthReceipt<N>>), BerthReceipt<N>>
+    ) -> Result<(Body<N>, BodyReceipt<N>, Result<Due<J>, BerthReceipt<N>>), BerthReceipt<N>>
+        ensures held { IfOk result (λ r. r.1 ≡ moved r.0 BodyAct.Held) }
         ensures body { IfOk result (λ r. (r.0.name ≡ name) × (0 < r.0.name) × (r.0.seat.place ≡ place) × (r.0.seat.stored ≢ 0)) }
-        ensures job { IfOk result (λ r. IfOk r.1 (λ j. (J.whom j ≡ name) × (0 < J.number j))) }
-        ensures no_job { IfOk result (λ r. IfErr r.1 (λ b. (b.name ≡ name) × (b.act ≡ BerthAct.NoJob))) }
+        ensures job { IfOk result (λ r. IfOk r.2 (λ j. (J.whom j ≡ name) × (0 < J.number j))) }
+        ensures no_job { IfOk result (λ r. IfErr r.2 (λ b. (b.name ≡ name) × (b.act ≡ BerthAct.NoJob))) }
         ensures absent { IfErr result (λ r. r ≡ acted place name BerthAct.Absent) }
     {
         let mut room = self.room.lock(rt);
-        let body = room.take(name, place)?;
+        let (body, receipt) = room.take(name, place)?;
         let job = room.job(name);
-        Ok((body, job))
+        Ok((body, receipt, job))
     }
 
-    /// Takes the body of the name out, once it is here and nobody holds it.
-    pub fn wake<R: Wait>(&self, rt: &R, name: u64, place: usize) -> Body<N>
-        ensures { (result.name ≡ name) × (0 < result.name) × (result.seat.place ≡ place) × (result.seat.stored ≢ 0) }
-    {
-        let (body, _resumed) = self.resume(rt, name, place);
-        body
-    }
-
-    /// Takes the body of the name out for its thread to go on, once it is here and nobody holds it, with the receipt that what was told
-    /// to it stayed.
-    pub fn resume<R: Wait>(&self, rt: &R, name: u64, place: usize) -> (Body<N>, BerthReceipt<N>)
+    /// Takes the body of the name to be held, once it is here.
+    pub fn hold<R: Wait>(&self, rt: &R, name: u64, place: usize) -> (Body<N>, BodyReceipt<N>)
         ensures body { (result.0.name ≡ name) × (0 < result.0.name) × (result.0.seat.place ≡ place) × (result.0.seat.stored ≢ 0) }
-        ensures resumed { result.1 ≡ acted place name BerthAct.Resumed }
+        ensures held { result.1 ≡ moved result.0 BodyAct.Held }
+    {
+        for _ in rt.forever() {
+            let mut room = self.room.lock(rt);
+            if let Ok(held) = room.take(name, place) {
+                return held;
+            }
+            room.note_sleeper(true);
+            let mut room = self.bell.wait(rt, room);
+            room.note_sleeper(false);
+        }
+        unreachable!()
+    }
+
+    /// Takes the body of the name out for its thread to go on, once it is here and nobody holds it. What was told to it stays.
+    pub fn resume<R: Wait>(&self, rt: &R, name: u64, place: usize) -> (Body<N>, BodyReceipt<N>)
+        ensures body { (result.0.name ≡ name) × (0 < result.0.name) × (result.0.seat.place ≡ place) × (result.0.seat.stored ≢ 0) }
+        ensures resumed { result.1 ≡ moved result.0 BodyAct.Resumed }
     {
         for _ in rt.forever() {
             let mut room = self.room.lock(rt);
@@ -266,10 +283,10 @@ impl<N: Name, J: Errand> Berth<N, J> {
         rt: &R,
         name: u64,
         place: usize,
-    ) -> (Body<N>, Option<J>, BerthReceipt<N>)
+    ) -> (Body<N>, Option<Due<J>>, BodyReceipt<N>)
         ensures body { (result.0.name ≡ name) × (0 < result.0.name) × (result.0.seat.place ≡ place) × (result.0.seat.stored ≢ 0) }
         ensures job { IfSome result.1 (λ j. (J.whom j ≡ name) × (0 < J.number j)) }
-        ensures receipt { result.2 ≡ acted place name (BerthAct.Served (number_of J.number result.1)) }
+        ensures receipt { result.2 ≡ moved result.0 (BodyAct.Served (number_of J.number result.1)) }
     {
         for _ in rt.forever() {
             let mut room = self.room.lock(rt);
@@ -304,7 +321,7 @@ impl<N: Name, J: Errand> Berth<N, J> {
     }
 
     /// The oldest job that was told to a thread whose body is out; the error is the receipt that there was none.
-    pub fn job<R: Wait>(&self, rt: &R, name: u64) -> Result<J, BerthReceipt<N>>
+    pub fn job<R: Wait>(&self, rt: &R, name: u64) -> Result<Due<J>, BerthReceipt<N>>
         ensures job { IfOk result (λ j. (J.whom j ≡ name) × (0 < J.number j)) }
         ensures no_job { IfErr result (λ r. (r.name ≡ name) × (r.act ≡ BerthAct.NoJob)) }
     {
@@ -317,10 +334,10 @@ impl<N: Name, J: Errand> Berth<N, J> {
         rt: &R,
         body: Body<N>,
         board: &Board,
-    ) -> Result<BerthReceipt<N>, Body<N>>
+    ) -> Result<BodyReceipt<N>, Body<N>>
         requires board { board.now ≡ N.board }
         requires empty { (body.image.frames ≡ []) × IsCounted body.image }
-        ensures ok { IfOk result (λ r. r ≡ acted body.seat.place body.name BerthAct.Vacated) }
+        ensures ok { IfOk result (λ r. r ≡ moved body BodyAct.Vacated) }
         ensures err { IfErr result (λ b. b ≡ body) }
     {
         let mut room = self.room.lock(rt);

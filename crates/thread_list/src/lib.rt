@@ -11,6 +11,7 @@
 #![tactic(auto)]
 
 mod berth;
+mod due;
 mod hints;
 mod mutator;
 mod parts;
@@ -22,10 +23,11 @@ mod starts;
 mod waits;
 
 pub use berth::Berth;
+pub use due::Due;
 pub use mutator::{CallFault, Mutator, ReturnFault};
 pub use parts::{MOST_METHODS, MOST_PLACES, MOST_SLOTS, Parts, PartsFault};
 pub use polls::{Poll, poll_of};
-pub use room::{BerthAct, BerthReceipt, Holder, Room};
+pub use room::{BerthAct, BerthReceipt, BodyAct, BodyReceipt, Holder, Room};
 pub use serving::{Turn, serve, served};
 pub use shared::{Exited, Shared};
 pub use waits::ExitFault;

@@ -6,7 +6,7 @@ ghost use Rattle.thread_list.specs.Moves.{SameThread, Polls, Leaves, is_running}
 ghost use Rattle.thread_list.specs.Refused.{call_accepted, call_refused, return_refused};
 
 use crate::polls::{Poll, poll_of};
-use crate::room::BerthReceipt;
+use crate::room::BodyReceipt;
 use crate::shared::Shared;
 use bodies::{Body, Called, Name};
 use frames::CodeId;
@@ -23,9 +23,9 @@ pub struct Mutator<'a, N: Name, J: Errand> {
     pub(crate) place: usize,
     pub(crate) state: State,
     pub(crate) body: Option<Body<N>>,
-    pub(crate) settled: BerthReceipt<N>,
-    /// Of its last crossing at its berth: its body went in, or came out with no job.
-    pub(crate) crossed: BerthReceipt<N>,
+    pub(crate) settled: BodyReceipt<N>,
+    /// Of its last crossing at its berth: its body went in, or came out.
+    pub(crate) crossed: BodyReceipt<N>,
 }
 
 impl<'a, N: Name, J: Errand> Model for Mutator<'a, N, J> {

@@ -3,29 +3,78 @@ ghost use Rattle.std.specs.Prelude.{◌≡◌, ◌<◌, ◌≢◌, Some, None, [
 ghost use Rattle.std.specs.Prelude.{◌++◌, ◌∷◌, ◌≤◌, ◌==◌, true, false, not, length, vec_capacity, if◌then◌else◌};
 ghost use Rattle.frames.specs.ImageView.{IsCounted};
 ghost use Rattle.frames.specs.BoardViews.{stored_as};
-ghost use Rattle.thread_list.specs.Berths.{told_of, name_of, slept, awaits_job, IsRoom, acted, number_of};
+ghost use Rattle.thread_list.specs.Berths.{told_of, name_of, slept, awaits_job, IsRoom, acted, moved, number_of};
 ghost use Rattle.thread_list.specs.declared.room.Holder.TheVariants.{Vacant as IsVacant, Away as IsAway, Out as IsOut, Home as IsAtHome};
 
+use crate::due::Due;
 use board::Board;
 use bodies::{Body, Name, SpareSeat};
 use operations::job::Errand;
 use std::marker::{Model, PhantomData};
+use std::snapshot::Snapshot;
 
-/// What was done under the lock of a berth.
+/// How a body went into its berth or came out of it.
+#[derive(Clone, Copy, PartialEq, Eq, Debug, Drop)]
+pub enum BodyAct {
+    /// It went in with its name, as its thread started.
+    Settled,
+    /// Its thread gave it.
+    Given,
+    /// Whoever held it brought it back; whether a census was operated over it.
+    Released(bool),
+    /// It came out for its thread to go on; what was told to it stayed.
+    Resumed,
+    /// It came out to serve, with the job of this number, or with none (0).
+    Served(u64),
+    /// It came out to be held, or to be served by another.
+    Held,
+    /// Its name was taken off, and its place given up.
+    Vacated,
+}
+
+/// That a body went into its berth or came out of it, in the system of N: which, as it was then, and how. Only a room makes one,
+/// where it takes or gives the body, and it can't be copied.
+#[derive(Drop)]
+pub struct BodyReceipt<N: Name> {
+    name: u64,
+    act: BodyAct,
+    body: Snapshot<Body<N>>,
+}
+
+impl<N: Name> Model for BodyReceipt<N> {
+    ghost use Rattle.std.specs.Prelude.{◌≡◌};
+    ghost use Rattle.thread_list.specs.Berths.{Moved, moved};
+
+    ghost Value = { Moved };
+
+    ghost view = { λ r. moved r.body.value r.act };
+
+    ghost invariant = { λ r. r.name ≡ r.body.value.name };
+}
+
+impl<N: Name> BodyReceipt<N> {
+    /// The name of the thread whose body it was.
+    pub fn name(&self) -> u64
+        ensures { result ≡ self.now.body.name }
+    {
+        let _ = &self.act;
+        self.name
+    }
+}
+
+fn moved_by<N: Name>(body: &Body<N>, act: BodyAct) -> BodyReceipt<N>
+    ensures { result ≡ moved body.now act }
+{
+    BodyReceipt {
+        name: body.name(),
+        act,
+        body: Snapshot::of(body),
+    }
+}
+
+/// What else was done, or not found, under the lock of a berth.
 #[derive(Clone, Copy, PartialEq, Eq, Debug, Drop)]
 pub enum BerthAct {
-    /// Name and body of a thread that starts went in.
-    Settled,
-    /// The body went in.
-    Given,
-    /// The body that was held went in; whether a census was operated over it.
-    Released(bool),
-    /// The body came out for its thread to go on; what was told to it stayed.
-    Resumed,
-    /// The body came out to serve, with the job of this number, or with none (0).
-    Served(u64),
-    /// The name was taken off, and the place given up.
-    Vacated,
     /// No body of the name was here.
     Absent,
     /// The name's body was here, or nothing was told to the name.
@@ -52,16 +101,6 @@ impl<N: Name> Model for BerthReceipt<N> {
     ghost Value = { Acted };
 
     ghost view = { λ r. record { place = r.place; name = r.name; act = r.act } };
-}
-
-impl<N: Name> BerthReceipt<N> {
-    /// The name of the thread for which the act was done.
-    pub fn name(&self) -> u64
-        ensures { result ≡ self.now.name }
-    {
-        let _ = &self.act;
-        self.name
-    }
 }
 
 fn receipt_of<N: Name>(place: usize, name: u64, act: BerthAct) -> BerthReceipt<N>
@@ -197,9 +236,9 @@ impl<N: Name, J: Errand> Room<N, J> {
     }
 
     /// Name and body of a thread that starts go in.
-    pub fn settle(&mut self, body: Body<N>) -> Result<BerthReceipt<N>, Body<N>>
+    pub fn settle(&mut self, body: Body<N>) -> Result<BodyReceipt<N>, Body<N>>
         requires body { (body.seat.stored ≢ 0) × (0 < body.name) }
-        ensures receipt { IfOk result (λ r. r ≡ acted body.seat.place body.name BerthAct.Settled) }
+        ensures receipt { IfOk result (λ r. r ≡ moved body BodyAct.Settled) }
         ensures ok { OnOk result ((self.old.holder ≡ IsAway) × (self.new ≡ record self.old { holder = IsAtHome body })) }
         ensures err { IfErr result (λ b. (b ≡ body) × (self.new ≡ self.old) × (self.old.holder ≡ IsAway → self.old.place ≢ body.seat.place)) }
     {
@@ -209,15 +248,15 @@ impl<N: Name, J: Errand> Room<N, J> {
         if self.place != body.place() {
             return Err(body);
         }
-        let receipt = receipt_of(body.place(), body.name(), BerthAct::Settled);
+        let receipt = moved_by(&body, BodyAct::Settled);
         self.holder = Holder::Home(body);
         Ok(receipt)
     }
 
     /// The body goes in. It comes back where the berth bears another name, or has a body.
-    pub fn give(&mut self, body: Body<N>) -> Result<BerthReceipt<N>, Body<N>>
+    pub fn give(&mut self, body: Body<N>) -> Result<BodyReceipt<N>, Body<N>>
         requires body { (body.seat.stored ≢ 0) × (0 < body.name) }
-        ensures receipt { IfOk result (λ r. r ≡ acted body.seat.place body.name BerthAct.Given) }
+        ensures receipt { IfOk result (λ r. r ≡ moved body BodyAct.Given) }
         ensures ok { OnOk result ((self.old.holder ≡ IsOut body.name) × (self.new ≡ record self.old { holder = IsAtHome body })) }
         ensures err { IfErr result (λ b. (b ≡ body) × (self.new ≡ self.old) × (self.old.holder ≡ IsOut body.name → self.old.place ≢ body.seat.place)) }
     {
@@ -227,38 +266,54 @@ impl<N: Name, J: Errand> Room<N, J> {
         if name != body.name() || self.place != body.place() {
             return Err(body);
         }
-        let receipt = receipt_of(body.place(), name, BerthAct::Given);
+        let receipt = moved_by(&body, BodyAct::Given);
         self.holder = Holder::Home(body);
         Ok(receipt)
     }
 
-    /// The body of the name comes out, where it is here and this is the place.
-    pub fn take(&mut self, name: u64, place: usize) -> Result<Body<N>, BerthReceipt<N>>
-        ensures ok { IfOk result (λ b. (self.old.holder ≡ IsAtHome b) × (b.name ≡ name) × (self.old.place ≡ place) × (self.new ≡ record self.old { holder = IsOut name })) }
-        ensures body { IfOk result (λ b. (b.seat.place ≡ place) × (0 < b.name) × (b.seat.stored ≢ 0)) }
+    /// The body of the name comes out to be held, where it is here and this is the place; the error is the receipt that it isn't here.
+    pub fn take(
+        &mut self,
+        name: u64,
+        place: usize,
+    ) -> Result<(Body<N>, BodyReceipt<N>), BerthReceipt<N>>
+        ensures receipt { IfOk result (λ r. r.1 ≡ moved r.0 BodyAct.Held) }
+        ensures ok { IfOk result (λ r. (self.old.holder ≡ IsAtHome r.0) × (r.0.name ≡ name) × (self.old.place ≡ place) × (self.new ≡ record self.old { holder = IsOut name })) }
+        ensures body { IfOk result (λ r. (r.0.seat.place ≡ place) × (0 < r.0.name) × (r.0.seat.stored ≢ 0)) }
         ensures absent { IfErr result (λ r. (r ≡ acted place name BerthAct.Absent) × (self.new ≡ self.old)) }
         ensures err { OnErr result (self.old.place ≡ place → (b : _) → self.old.holder ≡ IsAtHome b → b.name ≢ name) }
     {
-        if self.place != place {
-            return Err(receipt_of(place, name, BerthAct::Absent));
-        }
-        match self.take_out(name) {
-            Some(body) => Ok(body),
+        match self.take_here(name, place) {
+            Some(body) => {
+                let receipt = moved_by(&body, BodyAct::Held);
+                Ok((body, receipt))
+            }
             None => Err(receipt_of(place, name, BerthAct::Absent)),
         }
     }
 
     /// The body of the name comes out for its thread to go on, where it is here and this is the place. What was told to it stays.
-    pub fn resume(&mut self, name: u64, place: usize) -> Option<(Body<N>, BerthReceipt<N>)>
-        ensures receipt { IfSome result (λ r. r.1 ≡ acted place name BerthAct.Resumed) }
+    pub fn resume(&mut self, name: u64, place: usize) -> Option<(Body<N>, BodyReceipt<N>)>
+        ensures receipt { IfSome result (λ r. r.1 ≡ moved r.0 BodyAct.Resumed) }
         ensures some { IfSome result (λ r. (self.old.holder ≡ IsAtHome r.0) × (r.0.name ≡ name) × (self.old.place ≡ place) × (self.new ≡ record self.old { holder = IsOut name })) }
         ensures body { IfSome result (λ r. (r.0.seat.place ≡ place) × (0 < r.0.name) × (r.0.seat.stored ≢ 0)) }
         ensures none { IfNone result ((self.new ≡ self.old) × (self.old.place ≡ place → (b : _) → self.old.holder ≡ IsAtHome b → b.name ≢ name)) }
     {
-        match self.take(name, place) {
-            Ok(body) => Some((body, receipt_of(place, name, BerthAct::Resumed))),
-            Err(_) => None,
+        let body = self.take_here(name, place)?;
+        let receipt = moved_by(&body, BodyAct::Resumed);
+        Some((body, receipt))
+    }
+
+    // The body of the name comes out, where it is here and this is the place.
+    fn take_here(&mut self, name: u64, place: usize) -> Option<Body<N>>
+        ensures some { IfSome result (λ b. (self.old.holder ≡ IsAtHome b) × (b.name ≡ name) × (self.old.place ≡ place) × (self.new ≡ record self.old { holder = IsOut name })) }
+        ensures body { IfSome result (λ b. (b.seat.place ≡ place) × (0 < b.name) × (b.seat.stored ≢ 0)) }
+        ensures none { IfNone result ((self.new ≡ self.old) × (self.old.place ≡ place → (b : _) → self.old.holder ≡ IsAtHome b → b.name ≢ name)) }
+    {
+        if self.place != place {
+            return None;
         }
+        self.take_out(name)
     }
 
     // The body of the name comes out, where it is here.
@@ -277,8 +332,8 @@ impl<N: Name, J: Errand> Room<N, J> {
     }
 
     /// The body of the name comes out to serve, with its oldest job. It stays where it was told a census that isn't operated.
-    pub fn serve(&mut self, name: u64) -> Option<(Body<N>, Option<J>, BerthReceipt<N>)>
-        ensures receipt { IfSome result (λ r. r.2 ≡ acted self.old.place name (BerthAct.Served (number_of J.number r.1))) }
+    pub fn serve(&mut self, name: u64) -> Option<(Body<N>, Option<Due<J>>, BodyReceipt<N>)>
+        ensures receipt { IfSome result (λ r. r.2 ≡ moved r.0 (BodyAct.Served (number_of J.number r.1))) }
         ensures body { IfSome result (λ r. (self.old.holder ≡ IsAtHome r.0) × (r.0.name ≡ name) × (0 < r.0.name) × (r.0.seat.place ≡ self.old.place) × (r.0.seat.stored ≢ 0) × (self.old.mark ≡ 0)) }
         ensures job { IfSome result (λ r. IfSome r.1 (λ j. (J.whom j ≡ name) × (0 < J.number j) × (self.old.jobs ≡ told_of J.number J.whom j ∷ self.new.jobs))) }
         ensures no_job { IfSome result (λ r. IfNone r.1 ((self.old.jobs ≡ []) × (self.new.jobs ≡ []))) }
@@ -290,16 +345,16 @@ impl<N: Name, J: Errand> Room<N, J> {
         }
         let body = self.take_out(name)?;
         if self.jobs.is_empty() {
-            let receipt = receipt_of(self.place, name, BerthAct::Served(0));
+            let receipt = moved_by(&body, BodyAct::Served(0));
             return Some((body, None, receipt));
         }
         let job = self.jobs.remove(0);
-        let receipt = receipt_of(self.place, name, BerthAct::Served(job.op_of()));
-        Some((body, Some(job), receipt))
+        let receipt = moved_by(&body, BodyAct::Served(job.op_of()));
+        Some((body, Some(Due::new(job)), receipt))
     }
 
     /// The oldest job of the name, whose body is out.
-    pub fn job(&mut self, name: u64) -> Result<J, BerthReceipt<N>>
+    pub fn job(&mut self, name: u64) -> Result<Due<J>, BerthReceipt<N>>
         ensures ok { IfOk result (λ j. (J.whom j ≡ name) × (0 < J.number j) × (self.old.jobs ≡ told_of J.number J.whom j ∷ self.new.jobs)) }
         ensures same { self.new ≡ record self.old { jobs = self.new.jobs } }
         ensures no_job { IfErr result (λ r. (r ≡ acted self.old.place name BerthAct.NoJob) × (self.new ≡ self.old)) }
@@ -311,7 +366,7 @@ impl<N: Name, J: Errand> Room<N, J> {
         if out != name || self.jobs.is_empty() {
             return Err(receipt_of(self.place, name, BerthAct::NoJob));
         }
-        Ok(self.jobs.remove(0))
+        Ok(Due::new(self.jobs.remove(0)))
     }
 
     /// A job goes in for its target, behind those that are there. It comes back where the berth bears another name than its target's, or
@@ -365,13 +420,13 @@ impl<N: Name, J: Errand> Room<N, J> {
     }
 
     /// The body that was held goes in, and the mark of an operated census goes.
-    pub fn release(&mut self, body: Body<N>, operated: bool) -> Result<BerthReceipt<N>, Body<N>>
+    pub fn release(&mut self, body: Body<N>, operated: bool) -> Result<BodyReceipt<N>, Body<N>>
         requires body { (body.seat.stored ≢ 0) × (0 < body.name) }
-        ensures receipt { IfOk result (λ r. r ≡ acted body.seat.place body.name (BerthAct.Released operated)) }
+        ensures receipt { IfOk result (λ r. r ≡ moved body (BodyAct.Released operated)) }
         ensures ok { OnOk result ((self.old.holder ≡ IsOut body.name) × (self.new ≡ record self.old { holder = IsAtHome body; mark = if operated then 0 else self.old.mark })) }
         ensures err { IfErr result (λ b. (b ≡ body) × (self.new ≡ self.old) × (self.old.holder ≡ IsOut body.name → self.old.place ≢ body.seat.place)) }
     {
-        let receipt = receipt_of(body.place(), body.name(), BerthAct::Released(operated));
+        let receipt = moved_by(&body, BodyAct::Released(operated));
         self.give(body)?;
         if operated {
             self.mark = 0;
@@ -380,10 +435,10 @@ impl<N: Name, J: Errand> Room<N, J> {
     }
 
     /// The name is taken off and the place is given up: one store of 0. The body comes back where something is told to it.
-    pub fn exit(&mut self, body: Body<N>, board: &Board) -> Result<BerthReceipt<N>, Body<N>>
+    pub fn exit(&mut self, body: Body<N>, board: &Board) -> Result<BodyReceipt<N>, Body<N>>
         requires board { board.now ≡ N.board }
         requires empty { (body.image.frames ≡ []) × IsCounted body.image }
-        ensures receipt { IfOk result (λ r. r ≡ acted body.seat.place body.name BerthAct.Vacated) }
+        ensures receipt { IfOk result (λ r. r ≡ moved body BodyAct.Vacated) }
         ensures ok { OnOk result ((self.old.holder ≡ IsOut body.name) × (self.old.jobs ≡ []) × (self.old.mark ≡ 0) × (self.new ≡ record self.old { holder = IsVacant (record { seat = stored_as body.seat 0; poller = body.poller }) })) }
         ensures err { IfErr result (λ b. (b ≡ body) × (self.new ≡ self.old) × (self.old.holder ≡ IsOut body.name → self.old.place ≡ body.seat.place → self.old.jobs ≡ [] → self.old.mark ≢ 0)) }
     {
@@ -397,7 +452,7 @@ impl<N: Name, J: Errand> Room<N, J> {
         {
             return Err(body);
         }
-        let receipt = receipt_of(body.place(), name, BerthAct::Vacated);
+        let receipt = moved_by(&body, BodyAct::Vacated);
         self.holder = Holder::Vacant(body.vacate(board));
         Ok(receipt)
     }

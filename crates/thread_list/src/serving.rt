@@ -1,13 +1,14 @@
 //! What a thread does while it has stopped.
 ghost use Rattle.std.specs.Prelude.{◌≡◌, ◌≢◌, ◌<◌, ℕ};
-ghost use Rattle.thread_list.specs.Moves.{IsTurn};
+ghost use Rattle.thread_list.specs.Berths.{moved};
+ghost use Rattle.thread_list.specs.Moves.{IsTurn, IsLastTurn};
 ghost use Rattle.frames.specs.ImageView.{IsSettled};
 ghost use Rattle.operations.specs.Asks.{reply};
-ghost use Rattle.thread_state.specs.declared.poll_rule.Deed.TheVariants.{Load};
 ghost use Rattle.thread_state.specs.PollRule.{exchanged};
 ghost use Rattle.desk.specs.declared.entries.Entry.{Entry};
 
-use crate::room::BerthReceipt;
+use crate::due::Due;
+use crate::room::{BodyAct, BodyReceipt};
 use crate::shared::Shared;
 use bodies::{Body, Name};
 use desk::Receipt;
@@ -15,16 +16,17 @@ use operations::job::Errand;
 use std::sync::Wait;
 use std::thread;
 
-/// The receipts of a turn of a thread that has stopped: that its body came out of its berth to serve, and, where a job came out with
-/// it, of the entry of what the job answered.
+/// The receipts of a thread that has stopped: that its body went into its berth, and of its last turn, that the body came out to serve,
+/// and, where a job came out with it, of the entry of what the job answered.
 #[derive(Drop)]
 pub struct Turn<N: Name> {
-    pub out: BerthReceipt<N>,
+    pub given: BodyReceipt<N>,
+    pub out: BodyReceipt<N>,
     pub finish: Option<Receipt<N>>,
 }
 
 /// A thread that has stopped gives its body to its berth, takes it back once nobody holds it and no census keeps it, publishes its
-/// stack, serves what it was told, and polls, until a poll goes on. Answers the body with its last turn.
+/// stack, serves what it was told, and polls, until a poll goes on. Answers the body with the receipts of its stop.
 pub fn served<N: Name, J: Errand, R: Wait>(
     rt: &R,
     shared: &Shared<N, J>,
@@ -32,18 +34,38 @@ pub fn served<N: Name, J: Errand, R: Wait>(
 ) -> (Body<N>, Turn<N>)
     requires body { (body.seat.stored ≢ 0) × (0 < body.name) }
     ensures same { (result.0.name ≡ body.name) × (result.0.seat.place ≡ body.seat.place) × (result.0.seat.stored ≢ 0) }
-    ensures goes_on { result.0.poller.last ≡ Load 0 }
-    ensures turn { IsTurn body.seat.place body.name result.1.out result.1.finish }
+    ensures given { result.1.given ≡ moved body BodyAct.Given }
+    ensures turn { IsLastTurn body.seat.place body.name result.1.out result.1.finish result.0 }
 {
-    let mut body = body;
+    let (mut body, mut turn) = take_turn(rt, shared, body);
     for _ in rt.forever() {
-        let (turned, turn) = take_turn(rt, shared, body);
-        body = turned;
         if body.poll(shared.row()) == 0 {
             return (body, turn);
         }
+        (body, turn) = take_another(rt, shared, body, turn.given);
     }
     unreachable!()
+}
+
+// One more turn, with the receipt of the first.
+fn take_another<N: Name, J: Errand, R: Wait>(
+    rt: &R,
+    shared: &Shared<N, J>,
+    body: Body<N>,
+    given: BodyReceipt<N>,
+) -> (Body<N>, Turn<N>)
+    requires body { (body.seat.stored ≢ 0) × (0 < body.name) }
+    ensures same { (result.0.name ≡ body.name) × (result.0.seat.place ≡ body.seat.place) × (result.0.seat.stored ≢ 0) }
+    ensures given { result.1.given ≡ given }
+    ensures turn { IsTurn body.seat.place body.name result.1.out result.1.finish result.0 }
+{
+    let (body, turn) = take_turn(rt, shared, body);
+    let Turn {
+        given: _,
+        out,
+        finish,
+    } = turn;
+    (body, Turn { given, out, finish })
 }
 
 // One turn: the body goes to its berth, comes out to serve, is published, and serves the job that came out with it.
@@ -54,26 +76,28 @@ fn take_turn<N: Name, J: Errand, R: Wait>(
 ) -> (Body<N>, Turn<N>)
     requires body { (body.seat.stored ≢ 0) × (0 < body.name) }
     ensures same { (result.0.name ≡ body.name) × (result.0.seat.place ≡ body.seat.place) × (result.0.seat.stored ≢ 0) }
-    ensures settled { IsSettled result.0.image }
-    ensures turn { IsTurn body.seat.place body.name result.1.out result.1.finish }
+    ensures given { result.1.given ≡ moved body BodyAct.Given }
+    ensures turn { IsTurn body.seat.place body.name result.1.out result.1.finish result.0 }
 {
     let name = body.name();
     let place = body.place();
     let berth = shared.berth_of(&body);
-    berth.give(rt, body);
-    let (mut body, job, out) = berth.serve(rt, name, place);
+    let given = berth.give(rt, body);
+    let (mut body, told, out) = berth.serve(rt, name, place);
     body.publish(shared.board());
-    let finish = match job {
-        Some(job) => {
-            let (receipt, others) = serve(rt, shared, &mut body, job);
-            if others {
-                give_way(shared, place);
-            }
-            Some(receipt)
+    let job = match told {
+        Some(job) => job,
+        None => {
+            let finish = None;
+            return (body, Turn { given, out, finish });
         }
-        None => None,
     };
-    (body, Turn { out, finish })
+    let (receipt, others) = serve(rt, shared, &mut body, job);
+    if others {
+        give_way(shared, place);
+    }
+    let finish = Some(receipt);
+    (body, Turn { given, out, finish })
 }
 
 // How often a thread that has served itself yields at most while others have still to: where more threads run than there are processors,
@@ -96,7 +120,7 @@ pub fn serve<N: Name, J: Errand, R: Wait>(
     rt: &R,
     shared: &Shared<N, J>,
     body: &mut Body<N>,
-    job: J,
+    job: Due<J>,
 ) -> (Receipt<N>, bool)
     requires job { (J.whom job ≡ body.old.name) × (0 < J.number job) }
     requires settled { IsSettled body.old.image }
@@ -105,8 +129,8 @@ pub fn serve<N: Name, J: Errand, R: Wait>(
     ensures body { (body.new.name ≡ body.old.name) × (body.new.image ≡ body.old.image) × (body.new.seat ≡ body.old.seat) }
     ensures cleared { (found : ℕ) × (body.new.poller ≡ exchanged body.old.poller (J.number job) found) }
 {
-    let n = job.op_of();
-    let done = body.run(job);
+    let n = job.number();
+    let done = job.run_on(body);
     let (receipt, others) = shared.finish(rt, body, done);
     body.clear(shared.row(), n);
     (receipt, others)

@@ -14,7 +14,7 @@ ghost use Rattle.desk.specs.Refusals.{ask_refused, install_refused};
 
 use crate::berth::Berth;
 use crate::hints::Hints;
-use crate::room::{BerthAct, BerthReceipt};
+use crate::room::{BodyAct, BodyReceipt};
 use board::Board;
 use bodies::{Body, Name};
 use desk::{CodeFault, Desk, NotLive, Receipt, Refused, live_names_rise};
@@ -56,7 +56,7 @@ impl<N: Name, J: Errand> Model for Shared<N, J> {
 /// The receipts of a thread that is gone: that its berth gave its place up, and of the entry of its exit.
 #[derive(Drop)]
 pub struct Exited<N: Name> {
-    pub vacated: BerthReceipt<N>,
+    pub vacated: BodyReceipt<N>,
     pub exit: Receipt<N>,
 }
 
@@ -231,10 +231,10 @@ impl<N: Name, J: Errand> Shared<N, J> {
     }
 
     /// Enters that a thread exits whose berth gave its place up.
-    pub fn leave<R: Wait>(&self, rt: &R, vacated: BerthReceipt<N>) -> Exited<N>
-        requires { vacated.act ≡ BerthAct.Vacated }
+    pub fn leave<R: Wait>(&self, rt: &R, vacated: BodyReceipt<N>) -> Exited<N>
+        requires { vacated.act ≡ BodyAct.Vacated }
         ensures vacated { result.vacated ≡ vacated }
-        ensures exit { result.exit.entry ≡ Entry.Exit vacated.name }
+        ensures exit { result.exit.entry ≡ Entry.Exit vacated.body.name }
     {
         let name = vacated.name();
         for _ in rt.forever() {

@@ -1,15 +1,14 @@
 //! Threads that start.
-ghost use Rattle.std.specs.Prelude.{◌≡◌, IfOk, IfErr, true, false, [], ◌<◌, OnOk, Some};
+ghost use Rattle.std.specs.Prelude.{◌≡◌, ◌≢◌, IfOk, IfErr, true, false, [], ◌<◌, OnOk, Some};
 ghost use Rattle.thread_state.specs.declared.State.TheVariants.{InJava as IsInJava};
-ghost use Rattle.thread_list.specs.Berths.{acted};
+ghost use Rattle.thread_list.specs.Moves.{IsStarted, GoesOn};
 ghost use Rattle.desk.specs.declared.entries.Entry.{Entry};
 ghost use Rattle.desk.specs.Machine.{State as DeskState, Book};
 ghost use Rattle.desk.specs.Refusals.{start_refused};
 ghost use Rattle.bodies.specs.Bodies.{BodyView};
-ghost use Rattle.thread_state.specs.declared.poll_rule.Deed.TheVariants.{Load};
 
 use crate::mutator::Mutator;
-use crate::room::BerthAct;
+use crate::room::BodyReceipt;
 use crate::serving::served;
 use crate::shared::Shared;
 use bodies::{Body, Name};
@@ -30,8 +29,7 @@ impl<N: Name, J: Errand> Shared<N, J> {
     ) -> Result<(Mutator<'_, N, J>, Receipt<N>), StartFault>
         ensures started { IfOk result (λ r. (r.0.state ≡ IsInJava) × (r.1.entry ≡ Entry.Start r.0.name r.0.place)) }
         ensures methods { IfOk result (λ r. r.0.methods ≡ self.now.methods) }
-        ensures resumed { IfOk result (λ r. r.0.crossed ≡ acted r.0.place r.0.name BerthAct.Resumed) }
-        ensures goes_on { IfOk result (λ r. (body : BodyView) × (r.0.body ≡ Some body) × (body.poller.last ≡ Load 0)) }
+        ensures goes_on { IfOk result (λ r. (body : BodyView) × (r.0.body ≡ Some body) × IsStarted r.0 body) }
         ensures refused { IfErr result (λ e. (s : DeskState) × (book : Book) × start_refused s N.board.places book e) }
     {
         let image = new_image(alloc);
@@ -41,10 +39,7 @@ impl<N: Name, J: Errand> Shared<N, J> {
         let mut body = Body::new(name, image, berth.start(rt, place));
         body.publish(self.board());
         let settled = berth.settle(rt, body);
-        let (mut body, crossed) = berth.resume(rt, name, place);
-        if body.poll(self.row()) != 0 {
-            (body, _) = served(rt, self, body);
-        }
+        let (body, crossed) = self.go_on(rt, name, place);
         let mutator = Mutator {
             shared: self,
             name,
@@ -55,6 +50,21 @@ impl<N: Name, J: Errand> Shared<N, J> {
             crossed,
         };
         Ok((mutator, receipt))
+    }
+
+    // The body of a thread that starts comes out of its berth, and the thread polls, and serves where it is told to stop. Answers the
+    // body with the receipt that it came out last.
+    fn go_on<R: Wait>(&self, rt: &R, name: u64, place: usize) -> (Body<N>, BodyReceipt<N>)
+        requires place { place < N.board.places }
+        ensures body { (result.0.name ≡ name) × (0 < result.0.name) × (result.0.seat.place ≡ place) × (result.0.seat.stored ≢ 0) }
+        ensures goes_on { GoesOn place name result.1 result.0 }
+    {
+        let (mut body, resumed) = self.berth(place).resume(rt, name, place);
+        if body.poll(self.row()) == 0 {
+            return (body, resumed);
+        }
+        let (body, turn) = served(rt, self, body);
+        (body, turn.out)
     }
 
     // Enters the start of the next name, where there is an image for it.

@@ -1,18 +1,20 @@
 //! What a thread calls that may wait for others: it gives its body away and gets it back.
 ghost use Rattle.std.specs.Prelude.{◌≡◌, ◌≢◌, ◌<◌, ◌==◌, ◌⊎◌, [], ℕ, true, false, Some, None, IfOk, OnOk, IfErr, length};
-ghost use Rattle.thread_list.specs.Berths.{acted};
+ghost use Rattle.thread_list.specs.Berths.{moved};
+ghost use Rattle.frames.specs.ImageView.{IsSettled};
+ghost use Rattle.bodies.specs.Bodies.{BodyView};
 ghost use Rattle.thread_state.specs.declared.Back.{Back as WayBack};
 ghost use Rattle.thread_state.specs.declared.State.TheVariants.{InJava as IsInJava, InVm as IsInVm, InNative as IsInNative, Blocked as IsBlocked, NativeTrans as IsNativeTrans, BlockedTrans as IsBlockedTrans, AtPoll as IsAtPoll, Serving as IsServing};
 ghost use Rattle.thread_state.specs.declared.Move.TheVariants as movement;
 ghost use Rattle.thread_state.specs.States as table;
 ghost use Rattle.desk.specs.declared.entries.Entry.{Entry};
 ghost use Rattle.thread_list.specs.declared.polls.Poll.TheVariants.{Go as GoesOn};
-ghost use Rattle.thread_list.specs.Moves.{SameThread, ComesBack, GoesBack, IsTurn, is_running, owns};
+ghost use Rattle.thread_list.specs.Moves.{SameThread, ComesBack, GoesBack, Gives, IsResumed, IsTurn, IsLastTurn, IsVacated, IsKept, as_polled, is_running, owns};
 ghost use Rattle.thread_list.specs.Refused.{exit_refused, HasNoFrame};
 
 use crate::mutator::{Mutator, is_running};
 use crate::polls::{Poll, poll_of};
-use crate::room::{BerthAct, BerthReceipt};
+use crate::room::{BodyAct, BodyReceipt};
 use crate::serving::{Turn, served};
 use crate::shared::{Exited, Shared};
 use bodies::{Body, Name};
@@ -42,7 +44,8 @@ impl<'a, N: Name, J: Errand> Mutator<'a, N, J> {
     /// From Java or the VM into native code, without a poll: the body goes into its berth, where it may be held. A thread that is
     /// in neither is refused with its state.
     pub fn to_native<R: Wait>(&mut self, rt: &R) -> Result<(), State>
-        ensures ok { OnOk result ((table.step self.old.state movement.ToNative ≡ Some self.new.state) × (self.new.body ≡ None)) }
+        ensures ok { OnOk result (table.step self.old.state movement.ToNative ≡ Some self.new.state) }
+        ensures given { OnOk result (Gives self.old self.new) }
         ensures same { SameThread self.old self.new }
         ensures err { IfErr result (λ s. (s ≡ self.old.state) × (table.step s movement.ToNative ≡ None) × (self.new ≡ self.old)) }
     {
@@ -58,8 +61,8 @@ impl<'a, N: Name, J: Errand> Mutator<'a, N, J> {
     /// Back from native code: the body comes out of its berth once nobody holds it, without what was told to it, and the thread
     /// polls. A thread that isn't in native code is refused with its state.
     pub fn from_native<R: Wait>(&mut self, rt: &R) -> Result<Poll, State>
-        ensures ok { IfOk result (λ said. (back : WayBack) × (self.old.state ≡ IsInNative back) × ComesBack self.new (IsNativeTrans back) said) }
-        ensures resumed { OnOk result (self.new.crossed ≡ acted self.old.place self.old.name BerthAct.Resumed) }
+        ensures ok { IfOk result (λ said. (back : WayBack) × (self.old.state ≡ IsInNative back) × ComesBack self.new.crossed.body self.new (IsNativeTrans back) said) }
+        ensures resumed { OnOk result (IsResumed self.new) }
         ensures same { SameThread self.old self.new }
         ensures err { IfErr result (λ s. (s ≡ self.old.state) × ((back : WayBack) → s ≢ IsInNative back) × (self.new ≡ self.old)) }
     {
@@ -72,7 +75,8 @@ impl<'a, N: Name, J: Errand> Mutator<'a, N, J> {
     /// From the VM into a wait that the runtime knows of, without a poll: the body goes into its berth, where it may be held. A
     /// thread that isn't in the VM is refused with its state.
     pub fn block<R: Wait>(&mut self, rt: &R) -> Result<(), State>
-        ensures ok { OnOk result ((self.old.state ≡ IsInVm) × (self.new.state ≡ IsBlocked) × (self.new.body ≡ None)) }
+        ensures ok { OnOk result ((self.old.state ≡ IsInVm) × (self.new.state ≡ IsBlocked)) }
+        ensures given { OnOk result (Gives self.old self.new) }
         ensures same { SameThread self.old self.new }
         ensures err { IfErr result (λ s. (s ≡ self.old.state) × (s ≢ IsInVm) × (self.new ≡ self.old)) }
     {
@@ -86,8 +90,8 @@ impl<'a, N: Name, J: Errand> Mutator<'a, N, J> {
     /// Back from a wait: the body comes out of its berth once nobody holds it, without what was told to it, and the thread polls. A
     /// thread that isn't blocked is refused with its state.
     pub fn unblock<R: Wait>(&mut self, rt: &R) -> Result<Poll, State>
-        ensures ok { IfOk result (λ said. (self.old.state ≡ IsBlocked) × ComesBack self.new IsBlockedTrans said) }
-        ensures resumed { OnOk result (self.new.crossed ≡ acted self.old.place self.old.name BerthAct.Resumed) }
+        ensures ok { IfOk result (λ said. (self.old.state ≡ IsBlocked) × ComesBack self.new.crossed.body self.new IsBlockedTrans said) }
+        ensures resumed { OnOk result (IsResumed self.new) }
         ensures same { SameThread self.old self.new }
         ensures err { IfErr result (λ s. (s ≡ self.old.state) × (s ≢ IsBlocked) × (self.new ≡ self.old)) }
     {
@@ -98,10 +102,11 @@ impl<'a, N: Name, J: Errand> Mutator<'a, N, J> {
     }
 
     /// After a poll that answered Stop: the thread stops, serves what it was told, and goes on where its last poll goes on. A thread
-    /// that isn't at a poll is refused with its state. Answers the receipts of the last turn in which it served.
+    /// that isn't at a poll is refused with its state. Answers the receipts that its body went into its berth, and of the last turn in
+    /// which it served.
     pub fn stop<R: Wait>(&mut self, rt: &R) -> Result<Turn<N>, State>
-        ensures turned { IfOk result (λ turn. IsTurn self.old.place self.old.name turn.out turn.finish) }
-        ensures ok { OnOk result ((back : WayBack) × (self.old.state ≡ IsAtPoll back) × ComesBack self.new (IsServing back) GoesOn) }
+        ensures given { IfOk result (λ turn. (before : BodyView) × (self.old.body ≡ Some before) × (turn.given ≡ moved before BodyAct.Given)) }
+        ensures ok { IfOk result (λ turn. (back : WayBack) × (after : BodyView) × (self.old.state ≡ IsAtPoll back) × IsTurn self.old.place self.old.name turn.out turn.finish after × ComesBack after self.new (IsServing back) GoesOn) }
         ensures same { SameThread self.old self.new }
         ensures err { IfErr result (λ s. (s ≡ self.old.state) × ((back : WayBack) → s ≢ IsAtPoll back) × (self.new ≡ self.old)) }
     {
@@ -122,7 +127,8 @@ impl<'a, N: Name, J: Errand> Mutator<'a, N, J> {
         requires running { is_running self.old.state ≡ true }
         requires safe { table.is_safe to ≡ true }
         requires away { owns to ≡ false }
-        ensures state { (self.new.state ≡ to) × (self.new.body ≡ None) }
+        ensures state { self.new.state ≡ to }
+        ensures given { Gives self.old self.new }
         ensures same { SameThread self.old self.new }
     {
         let Some(body) = self.body.take() else {
@@ -135,8 +141,8 @@ impl<'a, N: Name, J: Errand> Mutator<'a, N, J> {
 
     // The body comes out of its berth, and the thread polls: it goes on where the way back leads, or stops there.
     fn come_back<R: Wait>(&mut self, rt: &R, back: Back) -> Poll
-        ensures polled { GoesBack self.new back result }
-        ensures resumed { self.new.crossed ≡ acted self.old.place self.old.name BerthAct.Resumed }
+        ensures polled { GoesBack self.new.crossed.body self.new back result }
+        ensures resumed { IsResumed self.new }
         ensures same { SameThread self.old self.new }
     {
         let berth = self.shared.berth(self.place);
@@ -157,8 +163,8 @@ impl<'a, N: Name, J: Errand> Mutator<'a, N, J> {
     /// body that came back from serving may have frames that a holder left there; then it is refused in Java, where it served.
     pub fn exit<R: Wait>(self, rt: &R) -> Result<Exited<N>, (ExitFault, Mutator<'a, N, J>)>
         ensures exited { IfOk result (λ r. (r.exit.entry ≡ Entry.Exit self.entry.name) × (is_running self.entry.state ≡ true) × HasNoFrame self.entry.body) }
-        ensures vacated { IfOk result (λ r. r.vacated ≡ acted self.entry.place self.entry.name BerthAct.Vacated) }
-        ensures refused { IfErr result (λ e. ((e.1 ≡ self.entry) × exit_refused self.entry e.0) ⊎ ((is_running self.entry.state ≡ true) × HasNoFrame self.entry.body × (e.0 ≡ ExitFault.StackNotEmpty) × (e.1.state ≡ IsInJava) × SameThread self.entry e.1 × exit_refused e.1 e.0)) }
+        ensures vacated { IfOk result (λ r. IsVacated self.entry.place self.entry.name r.vacated) }
+        ensures refused { IfErr result (λ e. ((e.1 ≡ self.entry) × exit_refused self.entry e.0) ⊎ ((is_running self.entry.state ≡ true) × HasNoFrame self.entry.body × (e.0 ≡ ExitFault.StackNotEmpty) × (e.1.state ≡ IsInJava) × SameThread self.entry e.1 × exit_refused e.1 e.0 × IsKept self.entry.place self.entry.name e.1.crossed e.1.body)) }
     {
         if !is_running(self.state) {
             return Err((ExitFault::Illegal(self.state), self));
@@ -173,12 +179,12 @@ impl<'a, N: Name, J: Errand> Mutator<'a, N, J> {
             state: _,
             body,
             settled,
-            crossed,
+            crossed: _,
         } = self;
         let Some(body) = body else { unreachable!() };
         match vacate(rt, shared, body) {
             Ok(vacated) => Ok(shared.leave(rt, vacated)),
-            Err(body) => {
+            Err((body, crossed)) => {
                 let back = Mutator {
                     shared,
                     name,
@@ -205,26 +211,32 @@ impl<'a, N: Name, J: Errand> Mutator<'a, N, J> {
     }
 }
 
-// Publishes an empty stack and gives the place up, after all that was told is served. The body comes back where it has frames.
+// Publishes an empty stack and gives the place up, after all that was told is served. The body comes back where it has frames then,
+// with the receipt that it came out to serve.
 fn vacate<N: Name, J: Errand, R: Wait>(
     rt: &R,
     shared: &Shared<N, J>,
     body: Body<N>,
-) -> Result<BerthReceipt<N>, Body<N>>
+) -> Result<BodyReceipt<N>, (Body<N>, BodyReceipt<N>)>
     requires body { (body.seat.stored ≢ 0) × (0 < body.name) }
-    ensures vacated { IfOk result (λ r. r ≡ acted body.seat.place body.name BerthAct.Vacated) }
-    ensures same { IfErr result (λ b. (b.name ≡ body.name) × (b.seat.place ≡ body.seat.place) × (b.seat.stored ≢ 0)) }
-    ensures frames { IfErr result (λ b. 0 < length b.image.frames) }
+    requires empty { body.image.frames ≡ [] }
+    ensures vacated { IfOk result (IsVacated body.seat.place body.name) }
+    ensures same { IfErr result (λ b. (b.0.name ≡ body.name) × (b.0.seat.place ≡ body.seat.place) × (b.0.seat.stored ≢ 0)) }
+    ensures kept { IfErr result (λ b. IsKept body.seat.place body.name b.1 (Some b.0)) }
+    ensures frames { IfErr result (λ b. 0 < length b.0.image.frames) }
 {
     let mut body = body;
     for _ in rt.forever() {
-        if body.depth() > 0 {
-            return Err(body);
-        }
         body.publish(shared.board());
         match shared.berth_of(&body).exit(rt, body, shared.board()) {
             Ok(vacated) => return Ok(vacated),
-            Err(back) => (body, _) = served(rt, shared, back),
+            Err(back) => {
+                let (back, turn) = served(rt, shared, back);
+                if back.depth() > 0 {
+                    return Err((back, turn.out));
+                }
+                body = back;
+            }
         }
     }
     unreachable!()

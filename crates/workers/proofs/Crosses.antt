@@ -9,7 +9,7 @@ use Rattle.operations.specs.declared.job.errands.Errand as errand
 use Rattle.bodies.proofs.body.Body.TheSendSync as body
 use Rattle.interp.proofs.runner.Runner.TheSendSync as runner
 use Rattle.thread_list.proofs.Crosses.{shared_crosses}
-use Rattle.thread_list.proofs.room.BerthReceipt.TheSendSync as receipt
+use Rattle.thread_list.proofs.room.BodyReceipt.TheSendSync as receipt
 use Rattle.thread_list.specs.contracts.mutator.Mutator as Mutator
 use Rattle.workers.specs.contracts.worker.Worker as Worker
 use Rattle.workers.specs.contracts.task.Task as Task

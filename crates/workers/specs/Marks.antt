@@ -31,7 +31,7 @@ goes_on state = state
 
 -- A thread that was at a poll in that state stopped there, until its last poll let it go on. In any other state nothing happened.
 abbrev pub SettlesFrom : State → Running → Running → Type 0
-SettlesFrom (AtPoll back) old new = ComesBack new (Serving back) Go
+SettlesFrom (AtPoll back) old new = (after : BodyView) × ComesBack after new (Serving back) Go
 SettlesFrom state old new = new ≡ old
 
 abbrev pub Settles : Running → Running → Type 0
@@ -47,7 +47,7 @@ Turns old new = (mid : Running) × (said : Poll) × Polls old mid InJava said ×
 
 -- The thread was in native code, and polled as it came back.
 abbrev pub GoesNative : Running → Type 0
-GoesNative new = (mid : Running) × (said : Poll) × ComesBack mid (NativeTrans Java) said × Settles mid new
+GoesNative new = (mid : Running) × (said : Poll) × ComesBack mid.crossed.body mid (NativeTrans Java) said × Settles mid new
 
 -- The thread came from the VM, with a poll.
 abbrev pub ComesFromVm : Running → Running → Type 0
@@ -58,7 +58,7 @@ GoesVm old new = ComesFromVm (record old { state = InVm }) new
 
 -- The thread was blocked, polled as it came back into the VM, and came from there.
 abbrev pub Blocks : Running → Type 0
-Blocks new = (mid : Running) × (vm : Running) × (said : Poll) × ComesBack mid BlockedTrans said × Settles mid vm × ComesFromVm vm new
+Blocks new = (mid : Running) × (vm : Running) × (said : Poll) × ComesBack mid.crossed.body mid BlockedTrans said × Settles mid vm × ComesFromVm vm new
 
 abbrev pub is_compiled : Called → Bool
 is_compiled (Compiled serial) = true

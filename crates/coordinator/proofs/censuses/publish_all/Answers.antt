@@ -2,7 +2,7 @@ use Rattle.std.proofs.Common.{◌≡◌, ◌<◌, ◌≤◌, ◌∙◌, Some, �
 use Rattle.std.specs.Prelude.{slice_get}
 use Rattle.std.proofs.lemmas.Option.{slice_get_read}
 use Rattle.bodies.specs.Bodies.{IsPublished}
-use Rattle.coordinator.specs.Holding.{IsCleared}
+use Rattle.thread_list.specs.Moves.{IsCleared}
 use Rattle.coordinator.proofs.Each.{at_first, at_next, at_last}
 use Rattle.coordinator.proofs.censuses.publish_all.Goals as goal
 

@@ -1,6 +1,6 @@
 use Rattle.std.proofs.Common.{◌≡◌, vec_capacity}
 use Rattle.bodies.specs.Bodies.{IsPublished}
-use Rattle.coordinator.specs.Holding.{IsCleared}
+use Rattle.thread_list.specs.Moves.{IsCleared}
 use Rattle.coordinator.proofs.Each.{AreSoFar}
 use Rattle.coordinator.proofs.censuses.publish_all.Given as goal
 

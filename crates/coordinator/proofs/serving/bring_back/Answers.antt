@@ -1,6 +1,6 @@
 use Rattle.std.proofs.Common.{◌≡◌, ◌≢◌, ◌<◌, ◌∙◌, ap, sym, subst}
 use Rattle.bodies.specs.Bodies.{BodyView}
-use Rattle.coordinator.proofs.Each.{operated_keeps}
+use Rattle.coordinator.proofs.Each.{operated_keeps, operated_frames}
 use Rattle.coordinator.proofs.serving.bring_back.Goals as goal
 
 pub loop-preserved : goal.loop-preserved
@@ -15,4 +15,5 @@ loop-preserved g c =
       kept.1 ∙ (ap (λ (x : BodyView). x.seat.place) b ∙ l.invariant.3),
       kept.2 (subst (λ (x : BodyView). x.seat.stored ≢ 0) (sym b) l.invariant.4),
       subst (λ n. 0 < n) (sym name) l.invariant.5,
+      operated_frames _ _ _ c.serve_body.ensures.served ∙ (ap (λ (x : BodyView). x.image.frames) b ∙ l.invariant.6),
     )

@@ -1,7 +1,8 @@
 use Rattle.std.proofs.Common.{◌≡◌, ◌<◌, ◌≤◌, ◌∙◌, Some, ℕ, refl, sym, ap, subst, rules, arith, length}
 use Rattle.bodies.specs.Bodies.{IsPublished}
 use Rattle.bodies.specs.Census.{IsCensus}
-use Rattle.coordinator.specs.Holding.{Holding, AreEach, IsCleared}
+use Rattle.thread_list.specs.Moves.{IsCleared}
+use Rattle.coordinator.specs.Holding.{Holding, AreEach}
 use Rattle.coordinator.proofs.Each.{each_held, cleared_keeps, cleared_census, each_both}
 use Rattle.coordinator.proofs.coordinator.Coordinator.operate.Goals as goal
 
