@@ -8,8 +8,11 @@ wide       one thread pushes 256 codes, publishes, pops them, publishes: 512 cha
 narrow     a stack of 256 codes stays; each publication changes two of them
 mixed      64 threads, 1024 slots, 256 methods: random events, with refusals and bad lines among them
 handshake  64 threads and a full queue of handshakes of 64 targets each, worked one after another
+four       the same, four of them open at once, and closed in any order
 census     64 threads with stacks and a full queue of censuses
 reclaim    64 threads: code is installed, entered, published, invalidated, looked at everywhere, weighed, freed
+replace    64 threads: code in use that stands on stacks is replaced by an install, looked at everywhere, weighed while it stands and
+           once it is left, and freed
 """
 import random
 import sys
@@ -97,28 +100,41 @@ def told_all():
     return [f"tell {name}" for name in range(1, PLACES + 1)]
 
 
-def served(place, held):
-    """The thread stops and is served, by the coordinator while it is held, or by itself."""
+def served(place, held, times=1):
+    """The thread stops and is served so many times, by the coordinator while it is held, or by itself, with a poll each time."""
     if held:
-        steps = ("edge", "hold", "finish", "clear", "release", "take", "cross")
+        steps = ("edge", "hold", *("finish", "clear") * times, "release", "take", "cross")
     else:
-        steps = ("edge", "take", "finish", "clear", "cross")
+        steps = ("edge", *("take", "finish", "clear", "cross") * times)
     return [f"{step} {place}" for step in steps]
 
 
-def handshake(rng):
+def ask_all(rng):
     names = " ".join(str(name) for name in range(1, PLACES + 1))
+    asks = ("depth", "top", f"count {rng.randrange(1, METHODS + 1)}")
+    return f"ask {rng.choice(asks)} {names}"
 
-    def ask():
-        asks = ("depth", "top", f"count {rng.randrange(1, METHODS + 1)}")
-        return f"ask {rng.choice(asks)} {names}"
 
-    yield crowd(rng) + [ask() for _ in range(64)]
+def handshakes(rng, beside):
+    """A full queue of handshakes of all threads, of which so many are open beside each other."""
+    yield crowd(rng) + [ask_all(rng) for _ in range(64)]
+    first = 1
     while True:
-        lines = ["open", ask(), *told_all()]
+        lines = ["open"] * beside + [ask_all(rng) for _ in range(beside)] + told_all() * beside
         for place in shuffled_places(rng):
-            lines += served(place, rng.random() < 0.5)
-        yield lines + ["close"]
+            lines += served(place, rng.random() < 0.5, beside)
+        numbers = list(range(first, first + beside))
+        rng.shuffle(numbers)
+        yield lines + [f"close {number}" for number in numbers[1:]] + ["close"]
+        first += beside
+
+
+def handshake(rng):
+    return handshakes(rng, 1)
+
+
+def four(rng):
+    return handshakes(rng, 4)
 
 
 def census(rng):
@@ -155,6 +171,34 @@ def reclaim(rng):
                 lines += published(place, 0)
             lines.append(f"look {serial} {place}")
         yield lines + [f"weigh {serial}", f"free {serial}", f"state {serial}"]
+
+
+def replace(rng):
+    yield ["size 64 1024 256", *started(PLACES), *installed()]
+    in_use = [method + 1 for method in range(METHODS)]
+    newest = METHODS
+    while True:
+        methods = rng.sample(range(METHODS), 8)
+        old = [in_use[method] for method in methods]
+        stacks = [[] for _ in range(PLACES)]
+        lines = []
+        for method, before in zip(methods, old):
+            newest += 1
+            in_use[method] = newest
+            users = rng.sample(range(PLACES), 4)
+            lines += [f"enter {place} {method} {before}" for place in users]
+            lines += [f"install {method}", f"resolve {method}", f"state {before}"]
+            # those that call by the old code go on to the new one
+            lines += [f"enter {place} {method} {serial}" for place in users for serial in (before, newest)]
+            for place in users:
+                stacks[place] += [before, newest]
+        lines.append("round")
+        for place, stack in enumerate(stacks):
+            lines += published(place, len(stack)) + [f"look {serial} {place}" for serial in old]
+        lines += [f"weigh {serial}" for serial in old]
+        for place, stack in enumerate(stacks):
+            lines += [f"leave {place}"] * len(stack) + published(place, len(stack))
+        yield lines + [f"{event} {serial}" for serial in old for event in ("weigh", "free")]
 
 
 BAD = ("", " start", "enter", "enter 0 0 x", "leave 00", "look 1", "count 99999999999999", "ask", "unknown 1 2 3", "size 1 1 1")
@@ -251,7 +295,7 @@ def mixed(rng):
         yield threads.some()
 
 
-KINDS = {kind.__name__: kind for kind in (frames, wide, narrow, mixed, handshake, census, reclaim)}
+KINDS = {kind.__name__: kind for kind in (frames, wide, narrow, mixed, handshake, four, census, reclaim, replace)}
 
 
 def write(kind, lines, seed, out):

@@ -42,6 +42,7 @@ THREADS = {
         "tests::invalidated::no_call_enters_what_is_seen_invalidated",
         "tests::leaving::a_thread_that_exits_is_gone_or_has_answered",
     ],
+    "workers_tests": ["tests::meeting::four_ticks_meet", "tests::replaced::codes_are_replaced_while_threads_run"],
     "monitor": ["running_tests::four_threads_run_a_loop_of_calls", "running_tests::two_ticks_meet"],
 }
 

@@ -1,4 +1,3 @@
 pub mod Enough
 pub mod Texts
 pub mod Spellings
-pub mod Jobs

@@ -3,3 +3,4 @@ pub mod Endings
 pub mod Crosses
 pub mod Lines
 pub mod Replacements
+pub mod Jobs

@@ -4,7 +4,7 @@ use Rattle.std.specs.Io.KnownBytes.{Appends}
 use Rattle.replay.specs.Known.{AppendsPart}
 use Rattle.workers.specs.Jobs.{AreForEach}
 use Rattle.thread_list.proofs.Popped.{all_push}
-use Rattle.monitor.proofs.Jobs.{depths_next}
+use Rattle.workers.proofs.Jobs.{depths_next}
 use Rattle.monitor.proofs.running.run_with.OwnLists as own
 use Rattle.monitor.proofs.running.run_with.Goals as goal
 

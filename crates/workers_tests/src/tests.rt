@@ -1,0 +1,5 @@
+//! Runs of scripts on threads.
+mod meeting;
+mod replaced;
+mod runs;
+mod seen;
