@@ -62,7 +62,15 @@ MEMORY = {
 }
 NONE_REFUSED = "no growth was refused"
 # What runs of these must have met, each in some of them.
-TO_MEET = {"reclaim_tests": ["a request was refused", "the list of a census was refused", "a reclaim was refused"]}
+TO_MEET = {
+    "reclaim_tests": [
+        "a coordinator was refused",
+        "the submit of a census was refused",
+        "the list of a census was refused",
+        "the submit of a handshake was refused",
+        "a reclaim was refused",
+    ]
+}
 PASSED = "test result: ok"
 
 # These pass, or end with one of the errors.

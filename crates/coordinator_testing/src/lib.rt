@@ -53,6 +53,17 @@ pub fn ask_both<N: Name, J: Errand, R: Wait>(
     }
 }
 
+/// Whether the replies of an operation are these, in any order.
+pub fn are_replies<N: Name, J: Errand, R: Wait>(
+    rt: &R,
+    shared: &Shared<N, J>,
+    op: u64,
+    expected: &[(u64, u64)],
+) -> Result<bool, AllocError> {
+    let said = shared.replies(rt, op)?;
+    Ok(said.len() == expected.len() && expected.iter().all(|e| said.iter().any(|r| r == e)))
+}
+
 /// How often is looked whether others have come so far.
 pub const TURNS: u32 = 1_000_000;
 

@@ -2,3 +2,4 @@
 mod exits;
 mod refusals;
 mod row;
+mod states;

@@ -1,4 +1,5 @@
 //! Handshakes beside running threads.
 mod four;
+mod gone;
 mod many;
 mod meeting;

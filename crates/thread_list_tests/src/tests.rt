@@ -1,7 +1,9 @@
 //! Threads that start, call, wait and exit, over what they share.
 ghost use Rattle.std.specs.Prelude.{◌≡◌};
 
+mod codes;
 mod places;
+mod stacks;
 mod threads;
 
 use bodies::{Called, Name};
@@ -60,7 +62,7 @@ fn return_thrice<N: Name, J: Errand, R: Abort>(rt: &R, thread: &mut Mutator<'_, 
     assert!(rt; matches!(thread.ret(), Err(ReturnFault::EmptyStack)));
 }
 
-// A thread calls, publishes, returns and exits.
+// A thread calls, returns, publishes its empty stack and exits.
 fn call_and_exit<N: Name, J: Errand, R: Wait + Abort>(
     rt: &R,
     shared: &Shared<N, J>,
@@ -68,12 +70,27 @@ fn call_and_exit<N: Name, J: Errand, R: Wait + Abort>(
 ) {
     let mut thread = thread;
     call_thrice(rt, shared, &mut thread);
-    assert!(rt; thread.publish().is_ok() && shared.peek_counts() == 1);
     return_thrice(rt, &mut thread);
+    assert!(rt; thread.publish().is_ok());
     assert!(rt; thread.exit(rt).is_ok());
 }
 
-// Two threads start where there are two places, and the first exits.
+// A thread publishes what it has called before it returns. Only what is published is counted, and its exit publishes the empty stack.
+fn publish_and_exit<N: Name, J: Errand, R: Wait + Abort>(
+    rt: &R,
+    shared: &Shared<N, J>,
+    thread: Mutator<'_, N, J>,
+) {
+    let mut thread = thread;
+    call_thrice(rt, shared, &mut thread);
+    assert!(rt; shared.peek_counts() == 0 && thread.publish().is_ok());
+    assert!(rt; shared.peek_counts() == 1);
+    return_thrice(rt, &mut thread);
+    assert!(rt; shared.peek_counts() == 1 && thread.exit(rt).is_ok());
+    assert!(rt; shared.peek_counts() == 0);
+}
+
+// Two threads start where there are two places, and no third. The first exits, and then the second.
 fn start_two<N: Name, J: Errand, R: Wait + Abort>(
     rt: &R,
     alloc: Global,
@@ -85,7 +102,10 @@ fn start_two<N: Name, J: Errand, R: Wait + Abort>(
     call_and_exit(rt, shared, first);
     let live = shared.live(rt)?;
     assert!(rt; live.len() == 1 && live[0] == 2);
-    assert!(rt; second.place() == 1 && second.exit(rt).is_ok());
+    assert!(rt; second.place() == 1);
+    publish_and_exit(rt, shared, second);
+    let left = shared.live(rt)?;
+    assert!(rt; left.is_empty());
     Ok(())
 }
 

@@ -1,11 +1,11 @@
 //! Handshakes are open beside each other: four are worked on at once, over two running threads and step by step, and of two the first is
-//! closed while the second waits.
+//! closed while the second waits. The four ask for what differs, so that the replies tell them apart.
 ghost use Rattle.std.specs.Prelude.{◌≡◌};
 ghost use Rattle.operations.specs.Asks.{reply};
 
-use bodies::Name;
+use bodies::{Called, Name};
 use coordinator::{Coordinator, DriveFault, Driven, HoldFault, ServeFault, TellFault, Told};
-use coordinator_testing::{heed, names_to, run_until, started, wait_for};
+use coordinator_testing::{are_replies, heed, names_to, run_until, started, wait_for};
 use desk::{CloseFault, OpenFault};
 use frames::image::Image;
 use operations::job::{Call, Errand, Job};
@@ -17,14 +17,15 @@ use std::sync::Wait;
 use std::sync::atomic::{AtomicBool, AtomicU64, Ordering};
 use std::test::*;
 use std::thread::{Threads, join};
-use thread_list::{Mutator, Parts, Poll, Shared};
+use thread_list::{Mutator, Parts, Poll, ReturnFault, Shared};
 
-// A handshake of one name that asks for its depth waits, with the last of the jobs.
+// A handshake of one name waits, with its job, if there is one.
 fn ask_one<N: Name, J: Errand, R: Wait>(
     rt: &R,
     alloc: Global,
     shared: &Shared<N, J>,
     name: u64,
+    ask: Ask,
     job: Option<J>,
 ) -> Result<(), AllocError> {
     let mut names = Vec::new(alloc);
@@ -35,7 +36,7 @@ fn ask_one<N: Name, J: Errand, R: Wait>(
     }
     let request = Request::Handshake {
         targets: Targets::from_vec(names),
-        ask: Ask::Depth,
+        ask,
     };
     match shared.submit(rt, request, jobs) {
         Ok(_) => Ok(()),
@@ -61,7 +62,17 @@ fn ask_both<N: Name, J: Errand, R: Wait>(
     }
 }
 
-// Three handshakes wait: of both names, of the first, and of the second. The jobs are for 1, 2, 1, 2.
+// What the jobs ask, in their order: two of the first handshake, one of the second and one of the third, and then those of the fourth.
+fn ask_of(before: u64) -> Ask {
+    match before {
+        0 | 1 => Ask::Depth,
+        2 | 3 => Ask::CountOf(1),
+        _ => Ask::CountOf(2),
+    }
+}
+
+// Three handshakes wait: of both names for their depth, and of the first and of the second for their frames of code 1. The jobs are for
+// 1, 2, 1, 2.
 fn ask_three<N: Name, J: Errand, R: Wait>(
     rt: &R,
     alloc: Global,
@@ -72,11 +83,51 @@ fn ask_three<N: Name, J: Errand, R: Wait>(
     let third = pair.pop();
     let second = pair.pop();
     ask_both(rt, alloc, shared, Ask::Depth, pair)?;
-    ask_one(rt, alloc, shared, 1, second)?;
-    ask_one(rt, alloc, shared, 2, third)
+    ask_one(rt, alloc, shared, 1, Ask::CountOf(1), second)?;
+    ask_one(rt, alloc, shared, 2, Ask::CountOf(1), third)
 }
 
-// A thread calls method 0 as often as its name says, runs until all is done, and returns. Answers whether it could.
+// A thread enters a method by this code so many times. Answers whether it could.
+fn call_often<N: Name, J: Errand>(
+    shared: &Shared<N, J>,
+    thread: &mut Mutator<'_, N, J>,
+    method: u32,
+    serial: u64,
+    times: u64,
+) -> bool {
+    for _ in 0..times {
+        let called = thread.call(method, shared.hint(method));
+        if !matches!(called, Ok(Called::Compiled(s)) if s == serial) {
+            return false;
+        }
+    }
+    true
+}
+
+// A thread enters code 1 as often as its name says, code 2 two times more often, and then a method by the interpreter. So of the first
+// thread the depth and the frames of the two codes are 5, 1 and 3, and of the second 7, 2 and 4. Answers whether it could.
+fn call_all<N: Name, J: Errand>(shared: &Shared<N, J>, thread: &mut Mutator<'_, N, J>) -> bool {
+    let name = thread.name();
+    call_often(shared, thread, 0, 1, name)
+        && call_often(shared, thread, 1, 2, name.saturating_add(2))
+        && matches!(thread.call(0, None), Ok(Called::Interpreted))
+}
+
+// A thread returns from all its methods, and stops where it is told to. Answers whether it could.
+fn return_all<N: Name, J: Errand, R: Wait>(rt: &R, thread: &mut Mutator<'_, N, J>) -> bool {
+    for _ in 0..257 {
+        let said = match thread.ret() {
+            Ok(said) => said,
+            Err(fault) => return fault == ReturnFault::EmptyStack,
+        };
+        if !heed(rt, thread, said) {
+            return false;
+        }
+    }
+    false
+}
+
+// A thread calls, runs until all is done, and returns. Answers whether it could.
 fn call_and_run<N: Name, J: Errand, R: Wait>(
     rt: &R,
     shared: &Shared<N, J>,
@@ -84,23 +135,11 @@ fn call_and_run<N: Name, J: Errand, R: Wait>(
     there: &AtomicU64,
     done: &AtomicBool,
 ) -> bool {
-    let calls = thread.name();
-    for _ in 0..calls {
-        if thread.call(0, shared.hint(0)).is_err() {
-            return false;
-        }
+    if !call_all(shared, thread) {
+        return false;
     }
     there.fetch_add(1, Ordering::SeqCst);
-    let ran = run_until(rt, thread, done);
-    for _ in 0..calls {
-        let Ok(said) = thread.ret() else {
-            return false;
-        };
-        if !heed(rt, thread, said) {
-            return false;
-        }
-    }
-    ran
+    run_until(rt, thread, done) && return_all(rt, thread)
 }
 
 // The whole life of a thread.
@@ -143,15 +182,15 @@ fn drive<N: Name, J: Errand, R: Wait>(
     shared: &Shared<N, J>,
     coordinator: Coordinator<'_, N, J>,
     there: &AtomicU64,
-    depths: Vec<J>,
-    counts: Vec<J>,
+    three: Vec<J>,
+    fourth: Vec<J>,
 ) -> Result<bool, AllocError> {
     let mut coordinator = coordinator;
     if !wait_for(2, there) {
         return Ok(false);
     }
-    ask_three(rt, alloc, shared, depths)?;
-    ask_both(rt, alloc, shared, Ask::CountOf(1), counts)?;
+    ask_three(rt, alloc, shared, three)?;
+    ask_both(rt, alloc, shared, Ask::CountOf(2), fourth)?;
     let driven = coordinator.drive_four(rt);
     let again = coordinator.drive_four(rt);
     Ok(matches!(driven, Ok(4)) && matches!(again, Err(DriveFault::QueueEmpty)))
@@ -165,31 +204,26 @@ fn coordinate<N: Name, J: Errand, R: Wait>(
     coordinator: Coordinator<'_, N, J>,
     there: &AtomicU64,
     done: &AtomicBool,
-    depths: Vec<J>,
-    counts: Vec<J>,
+    three: Vec<J>,
+    fourth: Vec<J>,
 ) -> bool {
-    let driven = drive(rt, alloc, shared, coordinator, there, depths, counts);
+    let driven = drive(rt, alloc, shared, coordinator, there, three, fourth);
     done.store(true, Ordering::SeqCst);
     matches!(driven, Ok(true))
 }
 
-// Whether the replies of an operation are these, in any order.
-fn are_replies<N: Name, J: Errand, R: Wait>(
-    rt: &R,
-    shared: &Shared<N, J>,
-    op: u64,
-    expected: &[(u64, u64)],
-) -> Result<bool, AllocError> {
-    let said = shared.replies(rt, op)?;
-    Ok(said.len() == expected.len() && expected.iter().all(|e| said.iter().any(|r| r == e)))
+// The codes 1 and 2, of the methods 0 and 1.
+fn install_both<N: Name, J: Errand, R: Wait + Abort>(rt: &R, shared: &Shared<N, J>) {
+    assert!(rt; matches!(shared.install(rt, 0), Ok((1, _))));
+    assert!(rt; matches!(shared.install(rt, 1), Ok((2, _))));
 }
 
 fn drive_over_two<N: Name + Send + Sync, J: Errand + Send, R: Threads + Wait + Sync + Abort>(
     rt: &R,
     alloc: Global,
     parts: Parts,
-    depths: Vec<J>,
-    counts: Vec<J>,
+    three: Vec<J>,
+    fourth: Vec<J>,
 ) -> Result<(), AllocError>
     requires tables { (parts.board ≡ N.board) × (parts.row ≡ N.poll_row) }
 {
@@ -199,9 +233,7 @@ fn drive_over_two<N: Name + Send + Sync, J: Errand + Send, R: Threads + Wait + S
     let Ok(coordinator) = Coordinator::new(&shared, armer, alloc) else {
         return Err(AllocError);
     };
-    if shared.install(rt, 0).is_err() {
-        return Err(AllocError);
-    }
+    install_both(rt, &shared);
     let there = AtomicU64::new(0);
     let done = AtomicBool::new(false);
     let (lived, driven) = join(
@@ -214,53 +246,45 @@ fn drive_over_two<N: Name + Send + Sync, J: Errand + Send, R: Threads + Wait + S
             coordinator,
             &there,
             &done,
-            depths,
-            counts,
+            three,
+            fourth,
         ),
     );
     assert!(rt; lived && driven);
-    assert!(rt; are_replies(rt, &shared, 1, [(1, 1), (2, 2)].as_slice())?);
+    assert!(rt; are_replies(rt, &shared, 1, [(1, 5), (2, 7)].as_slice())?);
     assert!(rt; are_replies(rt, &shared, 2, [(1, 1)].as_slice())?);
     assert!(rt; are_replies(rt, &shared, 3, [(2, 2)].as_slice())?);
-    assert!(rt; are_replies(rt, &shared, 4, [(1, 1), (2, 2)].as_slice())?);
+    assert!(rt; are_replies(rt, &shared, 4, [(1, 3), (2, 4)].as_slice())?);
     Ok(())
 }
 
-// The jobs ask for the depth of 1, 2, 1 and 2, and for the frames of code 1 of both.
+// The jobs ask for the depth of 1 and 2, for the frames of code 1 of 1 and of 2, and for those of code 2 of both.
 #[test]
 fn four_are_closed_over_two_running_threads(rt: HostRuntime) -> Result<(), Fail> {
     let parts = Parts::new(rt.alloc(), 2, 4, 2).map_err(|_| AllocError)?;
-    let mut depths = Vec::new(rt.alloc());
-    let mut counts = Vec::new(rt.alloc());
-    for before in 0..4 {
-        let name = 1 + before % 2;
-        let depth: Call = Box::new(
+    let mut three = Vec::new(rt.alloc());
+    let mut fourth = Vec::new(rt.alloc());
+    for before in 0..6 {
+        let (name, ask) = (1 + before % 2, ask_of(before));
+        let call: Call = Box::new(
             rt.alloc(),
-            |image: &Image| -> u64
-                ensures { result ≡ reply Ask.Depth image.now.frames }
-            { image.depth() as u64 },
+            move |image: &Image| -> u64
+                ensures { result ≡ reply ask image.now.frames }
+            { ask.reply_on(image) },
         )?;
-        depths
-            .push(Job::new(name, Ask::Depth, depth))
-            .map_err(|_| AllocError)?;
+        let job = Job::new(name, ask, call);
+        if before < 4 {
+            three.push(job).map_err(|_| AllocError)?;
+        } else {
+            fourth.push(job).map_err(|_| AllocError)?;
+        }
     }
-    for name in 1..3 {
-        let count: Call = Box::new(
-            rt.alloc(),
-            |image: &Image| -> u64
-                ensures { result ≡ reply (Ask.CountOf 1) image.now.frames }
-            { Ask::CountOf(1).reply_on(image) },
-        )?;
-        counts
-            .push(Job::new(name, Ask::CountOf(1), count))
-            .map_err(|_| AllocError)?;
-    }
-    drive_over_two::<Brand, Job, HostRuntime>(&rt, rt.alloc(), parts, depths, counts)?;
+    drive_over_two::<Brand, Job, HostRuntime>(&rt, rt.alloc(), parts, three, fourth)?;
     Ok(())
 }
 
-// The first thread is told its three in order, held and served, while the second is told nothing.
-fn work_on_first<N: Name, J: Errand, R: Wait + Abort>(
+// The four are open. The first thread is told its three in order, while the second is told nothing.
+fn tell_first<N: Name, J: Errand, R: Wait + Abort>(
     rt: &R,
     coordinator: &mut Coordinator<'_, N, J>,
 ) {
@@ -274,33 +298,71 @@ fn work_on_first<N: Name, J: Errand, R: Wait + Abort>(
     assert!(rt; matches!(coordinator.tell(rt, 1), Err(TellFault::AlreadyTold)));
     assert!(rt; matches!(coordinator.tell(rt, 3), Err(TellFault::NotOf)));
     assert!(rt; matches!(coordinator.hold(rt, 1), Err(HoldFault::NotTold)));
+}
+
+// It is held and served, its oldest job first: each of its operations has its reply once that is served, and not before.
+fn serve_first<N: Name, J: Errand, R: Wait + Abort>(
+    rt: &R,
+    shared: &Shared<N, J>,
+    coordinator: &mut Coordinator<'_, N, J>,
+) -> Result<(), AllocError> {
     assert!(rt; coordinator.hold(rt, 0).is_ok());
-    assert!(rt; coordinator.serve(rt, 0).is_ok() && coordinator.serve(rt, 0).is_ok());
+    for (op, reply) in [(1, 5), (2, 1)] {
+        assert!(rt; are_replies(rt, shared, op, [].as_slice())?);
+        assert!(rt; coordinator.serve(rt, 0).is_ok());
+        assert!(rt; are_replies(rt, shared, op, [(1, reply)].as_slice())?);
+    }
     assert!(rt; matches!(coordinator.close_of(rt, 2), Err(CloseFault::Held)));
     assert!(rt; matches!(coordinator.close_of(rt, 3), Err(CloseFault::NotDone)));
     assert!(rt; matches!(coordinator.close_of(rt, 5), Err(CloseFault::NotOf)));
+    assert!(rt; are_replies(rt, shared, 4, [].as_slice())?);
     assert!(rt; coordinator.serve(rt, 0).is_ok());
+    assert!(rt; are_replies(rt, shared, 4, [(1, 3)].as_slice())?);
     assert!(rt; matches!(coordinator.serve(rt, 0), Err(ServeFault::AlreadyDone)));
     assert!(rt; coordinator.release(rt, 0).is_ok());
     assert!(rt; coordinator.close_of(rt, 4).is_ok() && coordinator.close_of(rt, 2).is_ok());
     assert!(rt; matches!(coordinator.close(rt), Err(CloseFault::NotDone)));
+    Ok(())
 }
 
 // Then the second is, and what is left is closed.
 fn work_on_second<N: Name, J: Errand, R: Wait + Abort>(
     rt: &R,
+    shared: &Shared<N, J>,
     coordinator: &mut Coordinator<'_, N, J>,
-) {
+) -> Result<(), AllocError> {
     for _ in 0..2 {
         assert!(rt; matches!(coordinator.tell(rt, 2), Ok(Told::Told(_))));
     }
     assert!(rt; coordinator.hold(rt, 1).is_ok());
-    assert!(rt; coordinator.serve(rt, 1).is_ok() && coordinator.serve(rt, 1).is_ok());
+    assert!(rt; coordinator.serve(rt, 1).is_ok());
+    assert!(rt; are_replies(rt, shared, 1, [(1, 5), (2, 7)].as_slice())?);
+    assert!(rt; are_replies(rt, shared, 3, [].as_slice())?);
+    assert!(rt; coordinator.serve(rt, 1).is_ok());
+    assert!(rt; are_replies(rt, shared, 3, [(2, 2)].as_slice())?);
     assert!(rt; matches!(coordinator.close(rt), Err(CloseFault::Held)));
     assert!(rt; coordinator.release(rt, 1).is_ok());
     assert!(rt; matches!(coordinator.close(rt), Ok((1, _))));
     assert!(rt; matches!(coordinator.close(rt), Ok((3, _))));
     assert!(rt; matches!(coordinator.close(rt), Err(CloseFault::NothingOpen)));
+    Ok(())
+}
+
+// A thread calls and goes into native code.
+fn go_away<N: Name, J: Errand, R: Wait + Abort>(
+    rt: &R,
+    shared: &Shared<N, J>,
+    thread: &mut Mutator<'_, N, J>,
+) {
+    assert!(rt; call_all(shared, thread) && thread.to_native(rt).is_ok());
+}
+
+// A thread comes back from native code, returns from all and exits.
+fn leave<N: Name, J: Errand, R: Wait + Abort>(rt: &R, thread: Mutator<'_, N, J>) {
+    let mut thread = thread;
+    assert!(rt; matches!(thread.from_native(rt), Ok(Poll::Go)));
+    assert!(rt; return_all(rt, &mut thread));
+    assert!(rt; thread.exit(rt).is_ok());
 }
 
 fn work_step_by_step<N: Name, J: Errand, R: Wait + Abort>(
@@ -317,18 +379,20 @@ fn work_step_by_step<N: Name, J: Errand, R: Wait + Abort>(
     let Ok(mut coordinator) = Coordinator::new(&shared, armer, alloc) else {
         return Err(AllocError);
     };
+    install_both(rt, &shared);
     let mut first = started(rt, alloc, &shared)?;
     let mut second = started(rt, alloc, &shared)?;
-    assert!(rt; first.to_native(rt).is_ok() && second.to_native(rt).is_ok());
+    go_away(rt, &shared, &mut first);
+    go_away(rt, &shared, &mut second);
     let mut four = jobs;
     let last = four.pop();
     ask_three(rt, alloc, &shared, four)?;
-    ask_one(rt, alloc, &shared, 1, last)?;
-    work_on_first(rt, &mut coordinator);
-    work_on_second(rt, &mut coordinator);
-    assert!(rt; first.from_native(rt).is_ok() && second.from_native(rt).is_ok());
-    assert!(rt; first.exit(rt).is_ok());
-    assert!(rt; second.exit(rt).is_ok());
+    ask_one(rt, alloc, &shared, 1, Ask::CountOf(2), last)?;
+    tell_first(rt, &mut coordinator);
+    serve_first(rt, &shared, &mut coordinator)?;
+    work_on_second(rt, &shared, &mut coordinator)?;
+    leave(rt, first);
+    leave(rt, second);
     Ok(())
 }
 
@@ -338,13 +402,14 @@ fn four_are_told_and_served_in_order(rt: HostRuntime) -> Result<(), Fail> {
     let parts = Parts::new(rt.alloc(), 2, 4, 2).map_err(|_| AllocError)?;
     let mut jobs = Vec::new(rt.alloc());
     for before in 0..5 {
+        let (name, ask) = (1 + before % 2, ask_of(before));
         let call: Call = Box::new(
             rt.alloc(),
-            |image: &Image| -> u64
-                ensures { result ≡ reply Ask.Depth image.now.frames }
-            { image.depth() as u64 },
+            move |image: &Image| -> u64
+                ensures { result ≡ reply ask image.now.frames }
+            { ask.reply_on(image) },
         )?;
-        jobs.push(Job::new(1 + before % 2, Ask::Depth, call))
+        jobs.push(Job::new(name, ask, call))
             .map_err(|_| AllocError)?;
     }
     work_step_by_step::<Brand, Job, HostRuntime>(&rt, rt.alloc(), parts, jobs)?;
@@ -392,8 +457,8 @@ fn drive_past_second<N: Name, J: Errand, R: Wait + Abort>(
     assert!(rt; first.to_native(rt).is_ok());
     let mut two = jobs;
     let last = two.pop();
-    ask_one(rt, alloc, &shared, 1, two.pop())?;
-    ask_one(rt, alloc, &shared, 2, last)?;
+    ask_one(rt, alloc, &shared, 1, Ask::Depth, two.pop())?;
+    ask_one(rt, alloc, &shared, 2, Ask::Depth, last)?;
     close_first(rt, &mut coordinator);
     assert!(rt; are_replies(rt, &shared, 1, [(1, 0)].as_slice())?);
     assert!(rt; are_replies(rt, &shared, 2, [].as_slice())?);

@@ -4,7 +4,7 @@ ghost use Rattle.operations.specs.Asks.{reply};
 
 use bodies::Name;
 use coordinator::{Coordinator, Driven};
-use coordinator_testing::{ask_both, run_until, started, wait_for};
+use coordinator_testing::{are_replies, ask_both, started, wait_for};
 use frames::image::Image;
 use operations::Ask;
 use operations::job::{Call, Errand, Job};
@@ -14,8 +14,9 @@ use std::process::Abort;
 use std::sync::atomic::{AtomicBool, AtomicU64, Ordering};
 use std::sync::{Arc, Wait};
 use std::test::*;
+use std::thread;
 use std::thread::{Threads, join};
-use thread_list::{Parts, Shared};
+use thread_list::{Mutator, Parts, Poll, Shared};
 
 // Waits until both jobs have begun; where they never have, notes that.
 fn wait_for_other(begun: &AtomicU64, missed: &AtomicBool) {
@@ -24,12 +25,61 @@ fn wait_for_other(begun: &AtomicU64, missed: &AtomicBool) {
     }
 }
 
-// The part of one job: tells the other that it has begun, and may wait for the other.
-fn run_beside(waits: bool, begun: &AtomicU64, missed: &AtomicBool) {
+// The part of one job: tells the other that it has begun, and may wait for the other. Where both wait, neither ends before both have
+// begun: one that begins when the other is over notes that.
+fn run_beside(
+    waits: bool,
+    both_wait: bool,
+    begun: &AtomicU64,
+    ended: &AtomicU64,
+    missed: &AtomicBool,
+) {
+    if both_wait && ended.load(Ordering::SeqCst) != 0 {
+        missed.store(true, Ordering::SeqCst);
+    }
     begun.fetch_add(1, Ordering::SeqCst);
     if waits {
         wait_for_other(begun, missed);
     }
+    ended.fetch_add(1, Ordering::SeqCst);
+}
+
+// Makes back edges, and stops where it is told to, until all is done; counts the jobs that it served itself, and not another on its
+// body. Answers whether it could.
+fn run_and_count<N: Name, J: Errand, R: Wait>(
+    rt: &R,
+    thread: &mut Mutator<'_, N, J>,
+    own: &AtomicU64,
+    done: &AtomicBool,
+) -> bool {
+    for _ in rt.forever() {
+        let Ok(said) = thread.back_edge() else {
+            return false;
+        };
+        if said != Poll::Go && !stop_and_count(rt, thread, own) {
+            return false;
+        }
+        if done.load(Ordering::SeqCst) {
+            return true;
+        }
+        thread::yield_now();
+    }
+    unreachable!()
+}
+
+// A thread at a poll stops. Where it then served a job itself, that is counted. Answers whether it could.
+fn stop_and_count<N: Name, J: Errand, R: Wait>(
+    rt: &R,
+    thread: &mut Mutator<'_, N, J>,
+    own: &AtomicU64,
+) -> bool {
+    let Ok(turn) = thread.stop(rt) else {
+        return false;
+    };
+    if turn.finish.is_some() {
+        own.fetch_add(1, Ordering::SeqCst);
+    }
+    true
 }
 
 // A thread starts, runs until all is done, and exits.
@@ -38,13 +88,14 @@ fn live<N: Name, J: Errand, R: Wait>(
     alloc: Global,
     shared: &Shared<N, J>,
     there: &AtomicU64,
+    own: &AtomicU64,
     done: &AtomicBool,
 ) -> bool {
     let Ok(mut thread) = started(rt, alloc, shared) else {
         return false;
     };
     there.fetch_add(1, Ordering::SeqCst);
-    if !run_until(rt, &mut thread, done) {
+    if !run_and_count(rt, &mut thread, own, done) {
         return false;
     }
     thread.exit(rt).is_ok()
@@ -56,12 +107,13 @@ fn live_both<N: Name + Send + Sync, J: Errand + Send, R: Threads + Wait + Sync>(
     alloc: Global,
     shared: &Shared<N, J>,
     there: &AtomicU64,
+    own: &AtomicU64,
     done: &AtomicBool,
 ) -> bool {
     let (one, other) = join(
         rt,
-        || live(rt, alloc, shared, there, done),
-        || live(rt, alloc, shared, there, done),
+        || live(rt, alloc, shared, there, own, done),
+        || live(rt, alloc, shared, there, own, done),
     );
     one && other
 }
@@ -84,12 +136,14 @@ fn coordinate<N: Name, J: Errand, R: Wait>(
     came && asked.is_ok() && matches!(driven, Ok((Driven::Handshake(1), _)))
 }
 
+// The handshake is closed with a reply of each thread. Answers how many jobs were served by their own threads; the others the coordinator
+// ran.
 fn meet<N: Name + Send + Sync, J: Errand + Send, R: Threads + Wait + Sync + Abort>(
     rt: &R,
     alloc: Global,
     parts: Parts,
     jobs: Vec<J>,
-) -> Result<(), AllocError>
+) -> Result<u64, AllocError>
     requires tables { (parts.board ≡ N.board) × (parts.row ≡ N.poll_row) }
 {
     let Ok((shared, armer)) = Shared::<N, J>::new(alloc, parts) else {
@@ -99,43 +153,50 @@ fn meet<N: Name + Send + Sync, J: Errand + Send, R: Threads + Wait + Sync + Abor
         return Err(AllocError);
     };
     let there = AtomicU64::new(0);
+    let own = AtomicU64::new(0);
     let done = AtomicBool::new(false);
     let (lived, driven) = join(
         rt,
-        || live_both(rt, alloc, &shared, &there, &done),
+        || live_both(rt, alloc, &shared, &there, &own, &done),
         || coordinate(rt, alloc, &shared, coordinator, &there, &done, jobs),
     );
     assert!(rt; lived && driven);
-    let replies = shared.replies(rt, 1)?;
-    assert!(rt; replies.len() == 2);
-    Ok(())
+    assert!(rt; are_replies(rt, &shared, 1, [(1, 0), (2, 0)].as_slice())?);
+    Ok(own.load(Ordering::SeqCst))
 }
 
-// The job of the name waits, or both where it is 0.
+// The job of the name waits, or both where it is 0. Then one thread alone can't have run both: it would wait in the first for good, or until
+// it gives up and notes that; so at least one was served by its own thread.
 #[test]
 fn one_job_waits_for_the_other(rt: HostRuntime) -> Result<(), Fail> {
     for waiting in 0..3 {
+        let both_wait = waiting == 0;
         let parts = Parts::new(rt.alloc(), 2, 4, 2).map_err(|_| AllocError)?;
         let begun = Arc::new(rt.alloc(), AtomicU64::new(0))?;
+        let ended = Arc::new(rt.alloc(), AtomicU64::new(0))?;
         let missed = Arc::new(rt.alloc(), AtomicBool::new(false))?;
         let mut jobs = Vec::new(rt.alloc());
         for name in 1..3 {
             let there = Arc::try_clone(&begun)?;
+            let over = Arc::try_clone(&ended)?;
             let late = Arc::try_clone(&missed)?;
             let call: Call = Box::new(
                 rt.alloc(),
                 move |image: &Image| -> u64
                     ensures { result ≡ reply Ask.Depth image.now.frames }
                 {
-                    run_beside(waiting == 0 || name == waiting, &there, &late);
+                    let waits = both_wait || name == waiting;
+                    run_beside(waits, both_wait, &there, &over, &late);
                     image.depth() as u64
                 },
             )?;
             jobs.push(Job::new(name, Ask::Depth, call))
                 .map_err(|_| AllocError)?;
         }
-        meet::<Brand, Job, HostRuntime>(&rt, rt.alloc(), parts, jobs)?;
-        assert!(rt; begun.load(Ordering::SeqCst) == 2 && !missed.load(Ordering::SeqCst));
+        let own = meet::<Brand, Job, HostRuntime>(&rt, rt.alloc(), parts, jobs)?;
+        assert!(rt; own <= 2 && (own >= 1 || !both_wait));
+        assert!(rt; begun.load(Ordering::SeqCst) == 2 && ended.load(Ordering::SeqCst) == 2);
+        assert!(rt; !missed.load(Ordering::SeqCst));
     }
     Ok(())
 }

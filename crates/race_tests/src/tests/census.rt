@@ -1,8 +1,9 @@
-//! A census over threads in Java, in native code, blocked, at a poll and in the VM: it counts what the count words count.
+//! A census over threads in Java, in native code, blocked, at a poll and in the VM: it counts what the count words count. Those at a poll and
+//! in the VM stay there until all are told.
 ghost use Rattle.std.specs.Prelude.{◌≡◌};
 
 use bodies::Name;
-use coordinator::Coordinator;
+use coordinator::{Coordinator, HoldFault};
 use coordinator_testing::{TURNS, heed, run_until, started, wait_for};
 use operations::Request;
 use operations::job::{Errand, Job};
@@ -55,19 +56,49 @@ fn wait_done<R: Wait>(rt: &R, done: &AtomicBool) {
     }
 }
 
-// Makes back edges until it is told to stop, and stays at that poll for a while.
-fn linger<N: Name, J: Errand, R: Wait>(rt: &R, thread: &mut Mutator<'_, N, J>) -> bool {
+// Waits until all threads are told, or all is done without that. Answers whether they are told.
+fn wait_told<R: Wait>(rt: &R, told: &AtomicBool, done: &AtomicBool) -> bool {
     for _ in rt.forever() {
-        match thread.back_edge() {
-            Ok(Poll::Go) => thread::yield_now(),
-            Ok(Poll::Stop(_)) => break,
-            Err(_) => return false,
+        if told.load(Ordering::SeqCst) {
+            return true;
         }
-    }
-    for _ in 0..300 {
+        if done.load(Ordering::SeqCst) {
+            return false;
+        }
         thread::yield_now();
     }
-    thread.stop(rt).is_ok()
+    unreachable!()
+}
+
+// Makes back edges until it is told to stop, or all is done without that. Answers whether it is at a poll.
+fn come_to_poll<N: Name, J: Errand, R: Wait>(
+    rt: &R,
+    thread: &mut Mutator<'_, N, J>,
+    done: &AtomicBool,
+) -> bool {
+    for _ in rt.forever() {
+        match thread.back_edge() {
+            Ok(Poll::Stop(number)) => return number == 1,
+            Ok(Poll::Go) if !done.load(Ordering::SeqCst) => thread::yield_now(),
+            Ok(Poll::Go) | Err(_) => return false,
+        }
+    }
+    unreachable!()
+}
+
+// Stays at the poll at which it is told to stop, and is counted there, until all are told.
+fn linger<N: Name, J: Errand, R: Wait>(
+    rt: &R,
+    thread: &mut Mutator<'_, N, J>,
+    there: &AtomicU64,
+    told: &AtomicBool,
+    done: &AtomicBool,
+) -> bool {
+    if !come_to_poll(rt, thread, done) {
+        return false;
+    }
+    there.fetch_add(1, Ordering::SeqCst);
+    wait_told(rt, told, done) && thread.stop(rt).is_ok()
 }
 
 // Polls on the way from the VM into Java, and stops where it is told to.
@@ -78,11 +109,25 @@ fn leave_vm<N: Name, J: Errand, R: Wait>(rt: &R, thread: &mut Mutator<'_, N, J>)
     }
 }
 
-// Comes back into Java: from native code or a wait once all is done, from a poll after a while, and from the VM at once.
+// Stays in the VM until all are told, and is told then: on its way into Java it stops.
+fn stop_from_vm<N: Name, J: Errand, R: Wait>(
+    rt: &R,
+    thread: &mut Mutator<'_, N, J>,
+    told: &AtomicBool,
+    done: &AtomicBool,
+) -> bool {
+    wait_told(rt, told, done)
+        && matches!(thread.from_vm(), Ok(Poll::Stop(1)))
+        && thread.stop(rt).is_ok()
+}
+
+// Comes back into Java: from native code or a wait once all is done, from a poll and from the VM once all are told.
 fn come_back<N: Name, J: Errand, R: Wait>(
     rt: &R,
     thread: &mut Mutator<'_, N, J>,
     index: usize,
+    there: &AtomicU64,
+    told: &AtomicBool,
     done: &AtomicBool,
 ) -> bool {
     match index {
@@ -97,8 +142,8 @@ fn come_back<N: Name, J: Errand, R: Wait>(
             }
             leave_vm(rt, thread)
         }
-        AT_POLL => linger(rt, thread),
-        IN_VM => leave_vm(rt, thread),
+        AT_POLL => linger(rt, thread, there, told, done),
+        IN_VM => stop_from_vm(rt, thread, told, done),
         _ => true,
     }
 }
@@ -138,6 +183,7 @@ fn live<N: Name, J: Errand, R: Wait>(
     shared: &Shared<N, J>,
     index: usize,
     there: &AtomicU64,
+    told: &AtomicBool,
     done: &AtomicBool,
 ) -> bool {
     let Ok(mut thread) = started(rt, alloc, shared) else {
@@ -150,7 +196,7 @@ fn live<N: Name, J: Errand, R: Wait>(
         return false;
     }
     there.fetch_add(1, Ordering::SeqCst);
-    if !come_back(rt, &mut thread, index, done) {
+    if !come_back(rt, &mut thread, index, there, told, done) {
         return false;
     }
     if !run_until(rt, &mut thread, done) {
@@ -159,17 +205,18 @@ fn live<N: Name, J: Errand, R: Wait>(
     end(rt, thread, index)
 }
 
-// Holds the thread of a place once its body is in its berth.
+// Holds the thread of a place once its body is in its berth, where it isn't held.
 fn hold<N: Name, J: Errand, R: Wait>(
     rt: &R,
     coordinator: &mut Coordinator<'_, N, J>,
     place: usize,
 ) -> bool {
     for _ in 0..TURNS {
-        if coordinator.hold(rt, place).is_ok() {
-            return true;
+        match coordinator.hold(rt, place) {
+            Ok(_) | Err(HoldFault::Held) => return true,
+            Err(HoldFault::NotSafe) => thread::yield_now(),
+            Err(_) => return false,
         }
-        thread::yield_now();
     }
     false
 }
@@ -180,26 +227,52 @@ fn live_all<N: Name + Send + Sync, J: Errand + Send, R: Threads + Wait + Sync>(
     alloc: Global,
     shared: &Shared<N, J>,
     there: &AtomicU64,
+    told: &AtomicBool,
     done: &AtomicBool,
 ) -> bool {
     match map_indices(
         rt,
         alloc,
         THREADS,
-        &|i| live(rt, alloc, shared, i, there, done),
+        &|i| live(rt, alloc, shared, i, there, told, done),
     ) {
         Ok(lived) => lived.iter().all(|it| *it),
         Err(_) => false,
     }
 }
 
-// Tells all threads and holds each.
-fn hold_all<N: Name, J: Errand, R: Wait>(rt: &R, coordinator: &mut Coordinator<'_, N, J>) -> bool {
+// How many threads aren't held since they aren't safe. The others are held then.
+fn not_safe<N: Name, J: Errand, R: Wait>(rt: &R, coordinator: &mut Coordinator<'_, N, J>) -> usize {
+    let mut count = 0;
+    for place in 0..THREADS {
+        if matches!(coordinator.hold(rt, place), Err(HoldFault::NotSafe)) {
+            count += 1;
+        }
+    }
+    count
+}
+
+// Tells all threads, and waits until one is at a poll. That and the one in the VM stay where they are, and aren't safe there, until they
+// learn that all are told.
+fn tell_all<N: Name, J: Errand, R: Wait>(
+    rt: &R,
+    coordinator: &mut Coordinator<'_, N, J>,
+    there: &AtomicU64,
+    told: &AtomicBool,
+) -> bool {
     for name in 1..6 {
         if coordinator.tell(rt, name).is_err() {
             return false;
         }
     }
+    let came = wait_for(THREADS as u64 + 1, there);
+    let stayed = not_safe(rt, coordinator) >= 2;
+    told.store(true, Ordering::SeqCst);
+    came && stayed
+}
+
+// Holds each thread, whether it was held before or not.
+fn hold_all<N: Name, J: Errand, R: Wait>(rt: &R, coordinator: &mut Coordinator<'_, N, J>) -> bool {
     for place in 0..THREADS {
         if !hold(rt, coordinator, place) {
             return false;
@@ -213,11 +286,13 @@ fn count<N: Name, J: Errand, R: Wait>(
     rt: &R,
     shared: &Shared<N, J>,
     coordinator: &mut Coordinator<'_, N, J>,
+    there: &AtomicU64,
+    told: &AtomicBool,
 ) -> bool {
     if coordinator.open(rt).is_err() {
         return false;
     }
-    if !hold_all(rt, coordinator) {
+    if !tell_all(rt, coordinator, there, told) || !hold_all(rt, coordinator) {
         return false;
     }
     let Ok((_, list, _)) = coordinator.operate(rt) else {
@@ -240,12 +315,13 @@ fn coordinate<N: Name, J: Errand, R: Wait>(
     shared: &Shared<N, J>,
     coordinator: Coordinator<'_, N, J>,
     there: &AtomicU64,
+    told: &AtomicBool,
     done: &AtomicBool,
 ) -> bool {
     let mut coordinator = coordinator;
     let came = wait_for(THREADS as u64, there);
     let asked = shared.submit(rt, Request::Census, Vec::new(alloc)).is_ok();
-    let counted = count(rt, shared, &mut coordinator);
+    let counted = count(rt, shared, &mut coordinator, there, told);
     done.store(true, Ordering::SeqCst);
     came && asked && counted
 }
@@ -267,11 +343,12 @@ fn count_all<N: Name + Send + Sync, J: Errand + Send, R: Threads + Wait + Sync +
         return Err(AllocError);
     }
     let there = AtomicU64::new(0);
+    let told = AtomicBool::new(false);
     let done = AtomicBool::new(false);
     let (lived, counted) = join(
         rt,
-        || live_all(rt, alloc, &shared, &there, &done),
-        || coordinate(rt, alloc, &shared, coordinator, &there, &done),
+        || live_all(rt, alloc, &shared, &there, &told, &done),
+        || coordinate(rt, alloc, &shared, coordinator, &there, &told, &done),
     );
     assert!(rt; lived && counted);
     assert!(rt; shared.peek_counts() == 0);

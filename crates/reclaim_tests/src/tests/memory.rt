@@ -26,8 +26,9 @@ use thread_list::{Mutator, Parts, Poll, Shared};
 enum Met {
     Nothing,
     Coordinator,
-    Submit,
+    SubmitCensus,
     Census,
+    SubmitHandshake,
     Reclaim,
 }
 
@@ -44,8 +45,9 @@ impl Met {
         match self {
             Met::Nothing => "no growth was refused",
             Met::Coordinator => "a coordinator was refused",
-            Met::Submit => "a request was refused",
+            Met::SubmitCensus => "the submit of a census was refused",
             Met::Census => "the list of a census was refused",
+            Met::SubmitHandshake => "the submit of a handshake was refused",
             Met::Reclaim => "a reclaim was refused",
         }
     }
@@ -111,7 +113,7 @@ fn ask_census<N: Name, J: Errand, R: Wait + Abort>(
     assert!(rt; matches!(fault, AskFault::NoMemory) && jobs.is_empty());
     assert!(rt; is_as_before(rt, shared, coordinator, 0)?);
     assert!(rt; matches!(shared.submit(rt, Request::Census, jobs), Ok((1, _))));
-    Ok(Met::Submit)
+    Ok(Met::SubmitCensus)
 }
 
 // Whether this is the census, of three frames of code 1.
@@ -176,7 +178,7 @@ fn ask<N: Name, J: Errand, R: Wait + Abort>(
     assert!(rt; matches!(fault, AskFault::NoMemory) && are_jobs(jobs.as_slice(), Ask::CountOf(1)));
     assert!(rt; is_as_before(rt, shared, coordinator, 0)?);
     assert!(rt; matches!(shared.submit(rt, again, jobs), Ok((2, _))));
-    Ok(Met::Submit)
+    Ok(Met::SubmitHandshake)
 }
 
 // The handshake is worked on: the first thread has two frames of code 1, the second one.
