@@ -4,7 +4,7 @@ use Rattle.std.specs.List.{remove}
 use Rattle.bodies.specs.Bodies.{BodyView}
 use Rattle.desk.specs.declared.entries.Entry.TheVariants.{Finish, Ask}
 use Rattle.desk.specs.Machine.{Stands}
-use Rattle.operations.specs.declared.Ask.{Ask}
+use Rattle.operations.specs.declared.Ask.{Ask as AskOf}
 use Rattle.operations.specs.Asks.{reply}
 use Rattle.operations.specs.declared.Request.{Request}
 use Rattle.thread_list.specs.Berths.{Acted, Moved, moved, Went}
@@ -24,7 +24,7 @@ IsBrought body back = Went body.seat.place body.name (Released false) back × (b
 
 -- What the oldest job that was told to a thread answered by the body's frames is entered, or nothing was told to it.
 abbrev pub IsAnswered : BodyView → Result Stands Acted → Type 0
-IsAnswered body (Ok r) = (number : ℕ) × (ask : Ask) × (r.entry ≡ Finish number body.name (reply ask body.image.frames))
+IsAnswered body (Ok r) = (number : ℕ) × (ask : AskOf) × (r.entry ≡ Finish number body.name (reply ask body.image.frames))
 IsAnswered body (Err r) = (r.name ≡ body.name) × (r.act ≡ NoJob)
 
 -- The body of the thread of the name came out of its berth, what was told to it was done on it, and it went back with its frames.

@@ -253,7 +253,7 @@ impl<'a, N: Name, J: Errand, R: Wait> Driver<'a, N, J, R> {
         for _ in rt.forever() {
             for place in 0..self.places {
                 match self.coordinator.hold(rt, place) {
-                    Ok(()) | Err(HoldFault::Held | HoldFault::Vacant | HoldFault::NotSafe) => {}
+                    Ok(_) | Err(HoldFault::Held | HoldFault::Vacant | HoldFault::NotSafe) => {}
                     Err(_) => return Err(Wrong::Answer(Step::Hold)),
                 }
             }
@@ -333,7 +333,7 @@ impl<'a, N: Name, J: Errand, R: Wait> Driver<'a, N, J, R> {
         let rt = self.rt;
         for place in 0..self.places {
             match self.coordinator.hold(rt, place) {
-                Ok(()) => {}
+                Ok(_) => {}
                 Err(
                     HoldFault::Vacant
                     | HoldFault::NotOf

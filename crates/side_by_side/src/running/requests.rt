@@ -151,7 +151,7 @@ impl<'a, N: Name, J: Errand> Running<'a, N, J> {
 
     fn hold<R: Wait>(&mut self, rt: &R, place: usize) -> Said {
         match self.coordinator.hold(rt, place) {
-            Ok(()) => Said::Done,
+            Ok(_) => Said::Done,
             Err(fault) => Said::Refused(of_hold(fault)),
         }
     }
