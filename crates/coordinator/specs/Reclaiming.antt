@@ -1,22 +1,17 @@
 -- What reclaiming answers.
-use Rattle.std.specs.Prelude.{◌≡◌, ◌≢◌, ◌⊎◌, ◌<◌, ◌+◌, ◌^◌, nat_le, true, false, ℕ, List, [], ◌∷◌, map, Option, Some, None}
+use Rattle.std.specs.Prelude.{◌≡◌, ◌≢◌, ◌<◌, ℕ, List, Some}
 use Rattle.method_table.specs.declared.Code.{Code}
 use Rattle.operations.specs.declared.Ask.{Ask}
-use Rattle.operations.specs.declared.Request.{Request}
-use Rattle.operations.specs.declared.Request.TheVariants.{Handshake}
 use Rattle.method_table.specs.Codes.{id_of, unfreed}
 use Rattle.board.specs.declared.weighed.Weighed.{Weighed}
 use Rattle.board.specs.declared.weighed.Weighed.TheVariants.{NotLooked, Used as InUse, Clear}
 use Rattle.desk.specs.declared.entries.Entry.TheVariants as entry
 use Rattle.desk.specs.CodeBoard.{KeeperWeighs}
 use Rattle.desk.specs.Fields.{DeskSeen, Enters, at}
-use Rattle.method_table.specs.TableView.{retire_fault}
 use Rattle.desk.specs.Machine.{State, Book, Stands}
-use Rattle.desk.specs.JobsFit.{jobs_fit}
-use Rattle.desk.specs.Refusals.{is_idle, reclaim_refused}
+use Rattle.desk.specs.JobsFit.{jobs_fit, request_of}
+use Rattle.desk.specs.Refusals.{reclaim_refused}
 use Rattle.desk.specs.declared.faults.ReclaimFault.{ReclaimFault}
-use Rattle.desk.specs.declared.faults.ReclaimFault.TheVariants as reclaim
-use Rattle.desk.specs.declared.faults.AskFault.TheVariants as ask
 use Rattle.coordinator.specs.declared.faults.Reclaimed.{Reclaimed}
 use Rattle.coordinator.specs.declared.faults.Reclaimed.TheVariants.{Freed, Used, Late}
 
@@ -39,20 +34,8 @@ Frees places serial old new (Freed r)
 Frees places serial old new (Used n) = WasWeighed places serial old new (InUse n) × (new.book ≡ old.book)
 Frees places serial old new (Late place) = WasWeighed places serial old new (NotLooked place) × (new.book ≡ old.book)
 
--- The handshake of the jobs' targets in order, with the ask of the first; none without jobs.
-abbrev pub request_of : {J : Type 0} → (J → ℕ) → (J → Ask) → List J → Option Request
-request_of whom asks [] = None
-request_of whom asks (j ∷ js) = Some (Handshake (map whom (j ∷ js)) (asks j))
-
--- The code, what is open and the moment let the code be reclaimed, but there is no memory for the handshake's targets.
-abbrev pub lacks_memory : State → ℕ → ℕ → ReclaimFault → Type 0
-lacks_memory s serial moment (reclaim.Code fault) = retire_fault (unfreed s.table.codes serial) ≡ Some fault
-lacks_memory s serial moment reclaim.AlreadyOpen = (retire_fault (unfreed s.table.codes serial) ≡ None) × (is_idle s ≡ false)
-lacks_memory s serial moment reclaim.Spent = (retire_fault (unfreed s.table.codes serial) ≡ None) × (is_idle s ≡ true) × (nat_le (2 ^ 40) (moment + 1) ≡ true)
-lacks_memory s serial moment (reclaim.Ask fault) = (retire_fault (unfreed s.table.codes serial) ≡ None) × (is_idle s ≡ true) × (nat_le (2 ^ 40) (moment + 1) ≡ false) × (fault ≡ ask.NoMemory)
-
--- Why a code isn't reclaimed with these jobs: the desk's first step refuses it, or there is no memory for that step.
+-- Why a code isn't reclaimed with these jobs: the first refusal of the desk's first step with the handshake of their targets, whether
+-- there is memory for that handshake or not.
 abbrev pub not_reclaimed : {J : Type 0} → (J → ℕ) → (J → Ask) → ℕ → List J → ReclaimFault → Type 0
 not_reclaimed whom asks serial jobs fault
-    = (s : State) × (book : Book) × (moment : ℕ)
-    × (reclaim_refused s serial (request_of whom asks jobs) (λ r. jobs_fit whom asks r jobs) book moment fault ⊎ lacks_memory s serial moment fault)
+    = (s : State) × (book : Book) × (moment : ℕ) × reclaim_refused s serial (request_of whom asks jobs) (λ r. jobs_fit whom asks r jobs) book moment fault

@@ -1,14 +1,16 @@
 //! Reclaiming a code that isn't entrant.
-ghost use Rattle.std.specs.Prelude.{◌≡◌, ◌<◌, ◌≤◌, [], true, false, length, IfOk, OnOk, IfErr, IfSome};
-ghost use Rattle.coordinator.specs.Reclaiming.{IsReclaimed, Frees, lacks_memory, not_reclaimed, request_of};
+ghost use Rattle.std.specs.Prelude.{◌≡◌, ◌<◌, ◌≤◌, [], true, false, length, IfOk, OnOk, IfErr, OnErr, IfSome};
+ghost use Rattle.coordinator.specs.Reclaiming.{IsReclaimed, Frees, not_reclaimed};
 ghost use Rattle.coordinator.specs.Receipts.{IsAskOf};
 ghost use Rattle.desk.specs.Fields.{at};
+ghost use Rattle.desk.specs.JobsFit.{jobs_fit, request_of};
+ghost use Rattle.desk.specs.Refusals.{reclaim_refused};
 
 use crate::coordinator::Coordinator;
 use crate::faults::Reclaimed;
 use board::{Board, Weighed};
 use bodies::Name;
-use desk::{AskFault, Desk, NotReclaimed, Receipt, ReclaimFault};
+use desk::{Desk, NotReclaimed, Receipt, ReclaimFault};
 use operations::job::Errand;
 use operations::{Request, Targets};
 use std::alloc::{AllocError, Global};
@@ -17,7 +19,8 @@ use std::thread;
 
 // A handshake of the targets of the jobs, with the ask of the first.
 fn request_of<J: Errand>(alloc: Global, jobs: &[J]) -> Result<Option<Request>, AllocError>
-    ensures { IfOk result (λ r. r ≡ request_of J.whom J.asks jobs.now) }
+    ensures ok { IfOk result (λ r. r ≡ request_of J.whom J.asks jobs.now) }
+    ensures err { OnErr result (0 < length jobs.now) }
 {
     let Some((first, _)) = jobs.split_first() else {
         return Ok(None);
@@ -35,9 +38,14 @@ fn request_of<J: Errand>(alloc: Global, jobs: &[J]) -> Result<Option<Request>, A
     }))
 }
 
-// Why a code isn't reclaimed where there is no memory for the handshake's targets.
-fn fault_without_memory<N: Name, J: Errand>(desk: &Desk<N, J>, serial: u64) -> ReclaimFault
-    ensures { lacks_memory (at desk.now) serial desk.now.keeper.moment result }
+// Why a code isn't reclaimed where there is no memory for the handshake's targets: what the desk's first step would answer with them.
+fn fault_without_memory<N: Name, J: Errand>(
+    desk: &Desk<N, J>,
+    serial: u64,
+    jobs: &[J],
+) -> ReclaimFault
+    requires jobs { 0 < length jobs.now }
+    ensures { reclaim_refused (at desk.now) serial (request_of J.whom J.asks jobs.now) (λ asked. jobs_fit J.whom J.asks asked jobs.now) desk.now.book desk.now.keeper.moment result }
 {
     if let Some(fault) = desk.weigh_fault(serial) {
         return ReclaimFault::Code(fault);
@@ -48,7 +56,7 @@ fn fault_without_memory<N: Name, J: Errand>(desk: &Desk<N, J>, serial: u64) -> R
     if desk.is_last_moment() {
         return ReclaimFault::Spent;
     }
-    ReclaimFault::Ask(AskFault::NoMemory)
+    ReclaimFault::Ask(desk.ask_fault(jobs))
 }
 
 // Looks at each place for the code.
@@ -88,7 +96,8 @@ impl<'a, N: Name, J: Errand> Coordinator<'a, N, J> {
     /// Reclaims a code that isn't entrant: makes a round and a handshake of the jobs' targets with the jobs, where there are any,
     /// looks at each place, and weighs the code. Where no activation stands it is freed.
     ///
-    /// It is refused in its first step alone, with the jobs handed back and nothing changed.
+    /// It is refused in its first step alone, with the jobs handed back and nothing changed: by the first test in order that refuses it,
+    /// also where memory is short, and for want of memory only where none does.
     pub fn reclaim<R: Wait>(
         &mut self,
         rt: &R,
@@ -117,6 +126,7 @@ impl<'a, N: Name, J: Errand> Coordinator<'a, N, J> {
         jobs: Vec<J>,
     ) -> Result<Option<(u64, Receipt<N>)>, NotReclaimed<J>>
         requires request { IfOk request (λ r. r ≡ request_of J.whom J.asks jobs.items) }
+        requires jobs { OnErr request (0 < length jobs.items) }
         ensures asked { IfOk result (IsAskOf (request_of J.whom J.asks jobs.items)) }
         ensures refused { IfErr result (λ e. not_reclaimed J.whom J.asks serial jobs.items e.fault) }
         ensures handed_back { IfErr result (λ e. e.jobs ≡ jobs) }
@@ -124,7 +134,7 @@ impl<'a, N: Name, J: Errand> Coordinator<'a, N, J> {
         let _ = &self.bodies;
         let mut desk = self.shared.desk().lock(rt);
         let Ok(request) = request else {
-            let fault = fault_without_memory(&desk, serial);
+            let fault = fault_without_memory(&desk, serial, jobs.as_slice());
             return Err(NotReclaimed { fault, jobs });
         };
         let asked = match desk.begin_reclaim(self.shared.board(), serial, request, jobs) {

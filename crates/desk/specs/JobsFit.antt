@@ -1,5 +1,5 @@
 -- Which jobs fit a request, and which are left of it.
-use Rattle.std.specs.Prelude.{ℕ, List, [], ◌∷◌, ◌++◌, Bool, true, false, ◌&&◌, ◌==◌, length, if◌then◌else◌}
+use Rattle.std.specs.Prelude.{ℕ, List, [], ◌∷◌, ◌++◌, Bool, true, false, ◌&&◌, ◌==◌, length, map, Option, Some, None, if◌then◌else◌}
 use Rattle.operations.specs.Names.{among}
 use Rattle.desk.specs.Machine.{Asked, Current, targets_of, open_of, passes}
 use Rattle.operations.specs.declared.Ask.{Ask}
@@ -37,6 +37,11 @@ are_for whom asks (t ∷ ts) ask (j ∷ js) = ((whom j == t) && same_ask (asks j
 abbrev pub jobs_fit : {J : Type 0} → (J → ℕ) → (J → Ask) → Request → List J → Bool
 jobs_fit whom asks Census jobs = length jobs == 0
 jobs_fit whom asks (Handshake targets ask) jobs = are_for whom asks targets ask jobs
+
+-- the handshake of the jobs' targets in order, with the ask of the first; none without jobs
+abbrev pub request_of : {J : Type 0} → (J → ℕ) → (J → Ask) → List J → Option Request
+request_of whom asks [] = None
+request_of whom asks (j ∷ js) = Some (Handshake (map whom (j ∷ js)) (asks j))
 
 -- the names without the first that is this one
 abbrev pub without_first : ℕ → List ℕ → List ℕ

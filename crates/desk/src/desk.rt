@@ -11,11 +11,11 @@ ghost use Rattle.method_table.specs.TableView.{install_fault, invalidate_fault, 
 ghost use Rattle.method_table.specs.Codes.{unfreed, id_of, in_use_for};
 ghost use Rattle.desk.specs.CodeBoard.{AreEntries, KeeperWeighs, stored};
 ghost use Rattle.desk.specs.Machine.{Current as CurrentOf, is_legal, is_taken, names_of, lawful, steps_of, is_open};
-ghost use Rattle.desk.specs.Refusals.{start_refused, ask_refused, open_refused, close_refused, install_refused, operate_refused, reclaim_refused, is_idle, AreSettled, are_all, MayAsk, MayInstall, MayOperate, MayStart, operate_said, chosen, holds_target};
+ghost use Rattle.desk.specs.Refusals.{start_refused, ask_refused, ask_refused_if, open_refused, close_refused, install_refused, operate_refused, reclaim_refused, is_idle, AreSettled, are_all, MayAsk, MayInstall, MayOperate, MayStart, operate_said, chosen, holds_target};
 ghost use Rattle.desk.specs.Fields.{DeskSeen, at, Enters, EntersInstall, kept_before};
 ghost use Rattle.desk.specs.Targets.{standing, untold, progress, next_due, next_awaited, name_at, open_kind};
 ghost use Rattle.desk.specs.Once.{replies_of};
-ghost use Rattle.desk.specs.JobsFit.{jobs_fit, left_of, has_job, job_taken, jobs_closed, jobs_opened, is_asked_by};
+ghost use Rattle.desk.specs.JobsFit.{jobs_fit, request_of, left_of, has_job, job_taken, jobs_closed, jobs_opened, is_asked_by};
 
 use crate::codes::Codes;
 use crate::entries::{Carried, Entry, Live, Opened, Progress, Standing};
@@ -24,9 +24,10 @@ use crate::faults::{
     Refused, StartFault, start_fault,
 };
 use crate::lists::{
-    OPEN, are_all, asks, finish_at, holds_target, index_of, is_census, is_census_open, is_idle,
-    is_least, job_of, jobs_fit, keep_live, least_free, leave, lives, make_room, may_close,
-    may_finish, may_open_more, names_of, operate_at, place_chosen, steps_of, targets_of,
+    OPEN, are_all, asks, finish_at, fit_their_request, holds_target, index_of, is_census,
+    is_census_open, is_idle, is_least, job_of, jobs_fit, keep_live, least_free, leave, lives,
+    make_room, may_close, may_finish, may_open_more, names_of, operate_at, place_chosen, steps_of,
+    targets_of,
 };
 use crate::log::{Log, Receipt, RoomFault};
 use crate::targets::{due_after, name_at, oldest, progress_in, standing_to, untold_in};
@@ -305,6 +306,27 @@ impl<N: Name, J: Errand> Desk<N, J> {
         }
         self.next_number += 1;
         Ok((number, self.log.enter_ask(number, copy, list)))
+    }
+
+    /// Why a handshake of the jobs' targets in order, with the ask of the first, is refused with these jobs: as `submit` refuses it, and
+    /// NoMemory where no test does. It makes no request, and takes no memory.
+    pub fn ask_fault(&self, jobs: &[J]) -> AskFault
+        requires jobs { 0 < length jobs.now }
+        ensures { ask_refused_if (at self.now) (request_of J.whom J.asks jobs.now) (λ asked. jobs_fit J.whom J.asks asked jobs.now) self.now.book result }
+    {
+        if self.next_number > LAST {
+            return AskFault::Spent;
+        }
+        if self.queue.is_full() {
+            return AskFault::QueueFull;
+        }
+        if !fit_their_request(jobs) {
+            return AskFault::BadTargets;
+        }
+        if !self.log.has_room(3 + jobs.len()) {
+            return AskFault::HistoryFull;
+        }
+        AskFault::NoMemory
     }
 
     /// Opens the oldest request that waits, where with it up to four handshakes are open, or one census alone.

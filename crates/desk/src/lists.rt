@@ -1,19 +1,20 @@
 // Steps on the desk's lists.
 ghost use Rattle.std.specs.Prelude.{◌≡◌, ◌&&◌, ◌==◌, ◌<◌, ◌≤◌, ◌+◌, ℕ, length, true, false, not, map, Some, None, IfOk, vec_capacity, vec_len, IfSome, IfNone, OnSome, slice_get, slice_set};
 ghost use Rattle.std.specs.List.{list_any, list_all};
-ghost use Rattle.operations.specs.Names.{among};
-ghost use Rattle.operations.specs.Requests.{is_census};
+ghost use Rattle.operations.specs.Names.{among, is_distinct};
+ghost use Rattle.operations.specs.Requests.{is_census, are_targets};
 ghost use Rattle.desk.specs.declared.entries.Opened.{Opened as OpenedOf};
 ghost use Rattle.desk.specs.declared.entries.Live.{Live as LiveOf};
 ghost use Rattle.desk.specs.Machine.{names_of, is_live, is_taken, without, others, live_of, none_live, has_census, awaits_census, may_open_more, may_close, finished, as_operated, is_due, is_least, targets_of, steps_of};
 ghost use Rattle.desk.specs.Refusals.{has_body, are_all, chosen, holds_target};
-ghost use Rattle.desk.specs.JobsFit.{same_ask, asks_it, is_asked_by, are_for, jobs_fit, without_first};
+ghost use Rattle.desk.specs.JobsFit.{same_ask, asks_it, is_asked_by, are_for, jobs_fit, request_of, without_first};
 ghost use Rattle.desk.specs.Fields.{asked_of, current_of, names_left, IsIndex};
 
 use crate::entries::{Carried, Live, Opened};
 use bodies::{Body, Name};
 use operations::job::Errand;
 use operations::queue::Queue;
+use operations::requests::TARGETS;
 use operations::{Ask, Request};
 use std::alloc::{AllocError, Global};
 
@@ -393,6 +394,62 @@ pub fn jobs_fit<J: Errand>(request: &Request, jobs: &[J]) -> bool
     match request {
         Request::Census => jobs.is_empty(),
         Request::Handshake { targets, ask } => are_for(targets.as_slice(), *ask, jobs),
+    }
+}
+
+// Whether a job is for the name.
+fn has_job_for<J: Errand>(jobs: &[J], name: u64) -> bool
+    ensures { result ≡ among name (map J.whom jobs.now) }
+{
+    let mut rest = jobs;
+    while let Some((job, others)) = rest.split_first() {
+        if job.target_of() == name {
+            return true;
+        }
+        rest = others;
+    }
+    false
+}
+
+// Whether no two jobs are for one name.
+fn are_distinct<J: Errand>(jobs: &[J]) -> bool
+    ensures { result ≡ is_distinct (map J.whom jobs.now) }
+{
+    let mut rest = jobs;
+    while let Some((job, others)) = rest.split_first() {
+        if has_job_for(others, job.target_of()) {
+            return false;
+        }
+        rest = others;
+    }
+    true
+}
+
+// Whether all jobs have the ask: then they are one for each of their own targets in order, with it.
+fn all_ask<J: Errand>(jobs: &[J], ask: Ask) -> bool
+    ensures { result ≡ are_for J.whom J.asks (map J.whom jobs.now) ask jobs.now }
+{
+    let mut rest = jobs;
+    while let Some((job, others)) = rest.split_first() {
+        if !same_ask(job.ask_of(), ask) {
+            return false;
+        }
+        rest = others;
+    }
+    true
+}
+
+/// Whether a handshake of the jobs' targets, with the ask of the first, has good targets, and the jobs fit it. The number of jobs is
+/// tested first, so that at most 64 are compared with one another.
+pub fn fit_their_request<J: Errand>(jobs: &[J]) -> bool
+    ensures fits { IfSome (request_of J.whom J.asks jobs.now) (λ asked. result ≡ (are_targets asked && jobs_fit J.whom J.asks asked jobs.now)) }
+    ensures bound { result ≡ true → length jobs.now ≤ 64 }
+{
+    match jobs.split_first() {
+        Some((first, _)) => {
+            jobs.len() <= TARGETS && are_distinct(jobs) && all_ask(jobs, first.ask_of())
+        }
+        None => false,
     }
 }
 

@@ -115,6 +115,14 @@ impl<N: Name> Log<N> {
         }
     }
 
+    /// Whether the history has room for more entries, where there is memory for them.
+    pub fn has_room(&self, more: usize) -> bool
+        ensures { result ≡ has_room (length self.now.book.history) self.now.book.reserved more }
+    {
+        let _ = &self.lists;
+        fits(self.entries.len(), self.reserved, more)
+    }
+
     /// Keeps room for more entries.
     pub fn keep(&mut self, more: usize) -> Result<(), RoomFault>
         ensures ok { OnOk result ((self.new.book.history ≡ self.old.book.history) × (self.new.book.reserved ≡ self.old.book.reserved + more) × (has_room (length self.old.book.history) self.old.book.reserved more ≡ true)) }

@@ -26,6 +26,7 @@ use std::marker::Brand;
 use std::process::Abort;
 use std::test::*;
 
+mod asked;
 mod four;
 mod over;
 
@@ -356,12 +357,14 @@ fn reclaim_code<N: Name, J: Errand, R: Abort>(
     Ok(())
 }
 
-// A history of as many entries as it may have.
+// A history of as many entries as it may have. The first jobs are good, the others for one thread twice.
 fn fill<N: Name, J: Errand, R: Abort>(
     rt: &R,
     alloc: Global,
     board: Board,
     keeper: Keeper,
+    good: Vec<J>,
+    bad: Vec<J>,
 ) -> Result<(), AllocError>
     requires board { board ≡ N.board }
     requires keeper { keeper ≡ first_keeper board }
@@ -383,6 +386,8 @@ fn fill<N: Name, J: Errand, R: Abort>(
             })
         )
     );
+    assert!(rt; asked::fault(&desk, good.as_slice()) == Some(AskFault::HistoryFull));
+    assert!(rt; asked::fault(&desk, bad.as_slice()) == Some(AskFault::BadTargets));
     Ok(())
 }
 
@@ -420,6 +425,8 @@ fn a_code_is_reclaimed(rt: HostRuntime) -> Result<(), Fail> {
 #[test]
 fn a_full_history_takes_no_entry(rt: HostRuntime) -> Result<(), Fail> {
     let (board, keeper, _seat) = small_board(rt.alloc(), 1)?;
-    fill::<Brand, Job, HostRuntime>(&rt, rt.alloc(), board, keeper)?;
+    let good = asked::jobs_for(rt.alloc(), [1].as_slice(), Ask::Depth)?;
+    let bad = asked::jobs_for(rt.alloc(), [1, 1].as_slice(), Ask::Depth)?;
+    fill::<Brand, Job, HostRuntime>(&rt, rt.alloc(), board, keeper, good, bad)?;
     Ok(())
 }
