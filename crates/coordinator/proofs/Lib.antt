@@ -1,6 +1,7 @@
 mod Held
 mod HoldsMore
 mod Each
+mod Attended
 mod Holdings
 mod Closed
 mod Staying

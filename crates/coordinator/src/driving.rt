@@ -252,11 +252,17 @@ impl<'a, N: Name, J: Errand> Coordinator<'a, N, J> {
             .shared
             .berth(due.place)
             .take_told(rt, due.name, due.place)?;
-        let done = match told {
-            Ok(job) => Ok(serve_body(rt, self.shared, &mut body, job)),
-            Err(none) => Err(none),
+        let job = match told {
+            Ok(job) => job,
+            Err(none) => {
+                let back = bring_back(rt, self.shared, body);
+                let done = Err(none);
+                return Ok(Attended { out, done, back });
+            }
         };
+        let receipt = serve_body(rt, self.shared, &mut body, job);
         let back = bring_back(rt, self.shared, body);
+        let done = Ok(receipt);
         Ok(Attended { out, done, back })
     }
 
