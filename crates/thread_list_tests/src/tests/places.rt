@@ -53,7 +53,7 @@ fn take_and_release<N: Name, J: Errand, R: Wait + Abort>(
 ) -> Result<(), AllocError> {
     let berth = shared.berth(thread.place());
     assert!(rt; berth.take(rt, 2, thread.place()).is_err());
-    let Ok(body) = berth.take(rt, thread.name(), thread.place()) else {
+    let Ok((body, _receipt)) = berth.take(rt, thread.name(), thread.place()) else {
         return Err(AllocError);
     };
     assert!(rt; berth.take(rt, thread.name(), thread.place()).is_err());
