@@ -26,7 +26,6 @@ use std::marker::Brand;
 use std::process::Abort;
 use std::test::*;
 
-mod asked;
 mod four;
 mod over;
 
@@ -357,14 +356,12 @@ fn reclaim_code<N: Name, J: Errand, R: Abort>(
     Ok(())
 }
 
-// A history of as many entries as it may have. The first jobs are good, the others for one thread twice.
+// A history of as many entries as it may have.
 fn fill<N: Name, J: Errand, R: Abort>(
     rt: &R,
     alloc: Global,
     board: Board,
     keeper: Keeper,
-    good: Vec<J>,
-    bad: Vec<J>,
 ) -> Result<(), AllocError>
     requires board { board ≡ N.board }
     requires keeper { keeper ≡ first_keeper board }
@@ -386,8 +383,6 @@ fn fill<N: Name, J: Errand, R: Abort>(
             })
         )
     );
-    assert!(rt; asked::fault(&desk, good.as_slice()) == Some(AskFault::HistoryFull));
-    assert!(rt; asked::fault(&desk, bad.as_slice()) == Some(AskFault::BadTargets));
     Ok(())
 }
 
@@ -425,8 +420,6 @@ fn a_code_is_reclaimed(rt: HostRuntime) -> Result<(), Fail> {
 #[test]
 fn a_full_history_takes_no_entry(rt: HostRuntime) -> Result<(), Fail> {
     let (board, keeper, _seat) = small_board(rt.alloc(), 1)?;
-    let good = asked::jobs_for(rt.alloc(), [1].as_slice(), Ask::Depth)?;
-    let bad = asked::jobs_for(rt.alloc(), [1, 1].as_slice(), Ask::Depth)?;
-    fill::<Brand, Job, HostRuntime>(&rt, rt.alloc(), board, keeper, good, bad)?;
+    fill::<Brand, Job, HostRuntime>(&rt, rt.alloc(), board, keeper)?;
     Ok(())
 }

