@@ -1,5 +1,4 @@
 //! Handshakes beside running threads.
 mod four;
-mod gone;
 mod many;
 mod meeting;
