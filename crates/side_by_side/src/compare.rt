@@ -173,7 +173,7 @@ fn stack<N: Name, J: Errand, R: Wait>(
     let name = running.threads[index].name();
     let place = running.threads[index].place();
     let berth = running.shared.berth(place);
-    let Ok(body) = berth.take(rt, name, place) else {
+    let Ok((body, _held)) = berth.take(rt, name, place) else {
         return Ok(None);
     };
     let frames = Vec::from_slice(alloc, body.frames());
