@@ -243,10 +243,10 @@ fn live_all<N: Name + Send + Sync, J: Errand + Send, R: Threads + Wait + Sync>(
 
 // How many threads aren't held since they aren't safe. The others are held then.
 fn not_safe<N: Name, J: Errand, R: Wait>(rt: &R, coordinator: &mut Coordinator<'_, N, J>) -> usize {
-    let mut count = 0;
+    let mut count: usize = 0;
     for place in 0..THREADS {
         if matches!(coordinator.hold(rt, place), Err(HoldFault::NotSafe)) {
-            count += 1;
+            count = count.saturating_add(1);
         }
     }
     count
