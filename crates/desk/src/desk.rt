@@ -38,6 +38,7 @@ use operations::job::{Done, Errand};
 use operations::queue::{Queue, Unqueued, Waiting};
 use operations::{Ask, Request};
 use std::alloc::{AllocError, Global};
+use std::collections::VecDeque;
 use std::marker::{Model, PhantomData};
 
 /// The last name and number.
@@ -357,7 +358,7 @@ impl<N: Name, J: Errand> Desk<N, J> {
             left,
             due,
             operated: false,
-            jobs,
+            jobs: VecDeque::from_vec(jobs),
         });
         Ok((number, self.log.enter(Entry::Open(number))))
     }
@@ -450,7 +451,11 @@ impl<N: Name, J: Errand> Desk<N, J> {
             jobs,
         } = self.opened.remove(place);
         self.log.give_back(left);
-        Ok((number, jobs, self.log.enter(Entry::Close(number))))
+        Ok((
+            number,
+            Vec::from(jobs),
+            self.log.enter(Entry::Close(number)),
+        ))
     }
 
     /// Enters that the open census is operated over these bodies, which are settled and those of all live names.

@@ -1,7 +1,7 @@
 use Rattle.std.proofs.Common.{◌≡◌, ◌<◌, ◌≤◌, Some, ℕ, rules, arith, length}
 use Rattle.std.proofs.lemmas.Option.{slice_get_within}
-use Rattle.coordinator.proofs.Held.{none_there}
-use Rattle.coordinator.proofs.holding.index_of.Goals as goal
+use Rattle.coordinator.proofs.Apart.{none_there}
+use Rattle.coordinator.proofs.held.index_of.Goals as goal
 
 pub returns-clause-none : goal.returns-clause-none
 returns-clause-none g c = let l = c.loop-index in let bs = c.args.bodies.now in

@@ -4,7 +4,7 @@ use Rattle.std.proofs.lemmas.Option.{slice_get_read}
 use Rattle.bodies.specs.Bodies.{IsPublished}
 use Rattle.thread_list.specs.Moves.{IsCleared}
 use Rattle.coordinator.proofs.Each.{at_first, at_next, at_last}
-use Rattle.coordinator.proofs.censuses.publish_all.Goals as goal
+use Rattle.coordinator.proofs.held.publish_all.Goals as goal
 
 pub loop-index-preserved : goal.loop-index-preserved
 loop-index-preserved g c =
