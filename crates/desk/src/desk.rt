@@ -3,7 +3,7 @@ ghost use Rattle.std.specs.Prelude.{◌≡◌, ◌==◌, ◌&&◌, ℕ, ◌+◌,
 ghost use Rattle.frames.specs.ImageView.{IsSettled};
 ghost use Rattle.frames.specs.BoardViews.{went_round, looked_at, slot_of, entry_stored, not_entrant, in_state};
 ghost use Rattle.frames.specs.declared.board_rule.EntryState.TheVariants.{Vacant};
-ghost use Rattle.frames.specs.BoardStep.{is_late};
+ghost use Rattle.frames.specs.BoardStep.{is_past};
 ghost use Rattle.method_table.specs.declared.Code.{Code as CodeOf};
 ghost use Rattle.board.specs.Boards.{first_keeper};
 ghost use Rattle.operations.specs.Asks.{reply};
@@ -606,7 +606,7 @@ impl<N: Name, J: Errand> Desk<N, J> {
     pub fn look(&mut self, board: &Board, serial: u64, place: usize) -> Result<bool, RetireFault>
         requires board { board.now ≡ N.board }
         requires place { place < N.board.places }
-        ensures step { IfOk result (λ late. (code : CodeOf) × (unfreed (at self.old).table.codes serial ≡ Some code) × (found : ℕ) × (self.new.keeper ≡ looked_at self.old.keeper (id_of code) place found) × (late ≡ is_late (slot_of self.old.keeper code.slot).left found)) }
+        ensures step { IfOk result (λ past. (code : CodeOf) × (unfreed (at self.old).table.codes serial ≡ Some code) × (found : ℕ) × (self.new.keeper ≡ looked_at self.old.keeper (id_of code) place found) × (past ≡ is_past (slot_of self.old.keeper code.slot).left found)) }
         ensures book { (self.new.book ≡ self.old.book) × (self.new.slots ≡ self.old.slots) × (self.new.methods ≡ self.old.methods) }
         ensures jobs { self.new.jobs ≡ self.old.jobs }
         ensures accepted { OnOk result (retire_fault (unfreed (at self.old).table.codes serial) ≡ None) }

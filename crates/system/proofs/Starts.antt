@@ -36,9 +36,9 @@ use Rattle.system.specs.Stands.{Matches, SamePlace, SameAt, Does, walk_of, kept_
 use Rattle.system.proofs.Cells.{cells_over}
 use Rattle.system.proofs.Outcomes.{seated}
 use Rattle.system.proofs.Logs.{IsElsewhere, names_next, operations_next, moment_next, moments_next}
-use Rattle.system.proofs.Acting.{places_set, length_set}
+use Rattle.system.proofs.AfterAct.{places_set, length_set}
 use Rattle.system.proofs.Pairs.{any_same, opens_over}
-use Rattle.system.proofs.Plain.{nowhere, vacant, seat, at_place, accepted_in}
+use Rattle.system.proofs.PlainActs.{nowhere, vacant, seat, at_place, accepted_in}
 
 -- the least vacant place, in range and vacant
 pub vacant_there : (ks : List (Option Kept)) (p : ℕ) → vacant_kept ks ≡ Some p → slice_get ks p ≡ Some None

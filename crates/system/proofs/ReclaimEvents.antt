@@ -37,7 +37,7 @@ use Rattle.system.proofs.Outcomes.{coded, IsCode}
 use Rattle.system.proofs.Seats.{get_set_same, get_set_other, there_of}
 use Rattle.system.proofs.Table.{code_serial, unfreed_code, unfreed_takes}
 use Rattle.system.proofs.Logs.{noted_matches}
-use Rattle.system.proofs.Codings.{Recodes, accepted_in, refused_does, coded_matches, record_next, restated_at, restated_records, restated_cells}
+use Rattle.system.proofs.CodeEvents.{Recodes, accepted_in, refused_does, coded_matches, record_next, restated_at, restated_records, restated_cells}
 use Rattle.system.proofs.Cells.{cells_stay, count_here}
 
 -- What is read at an index stands there.

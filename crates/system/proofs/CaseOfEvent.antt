@@ -34,7 +34,7 @@ use Rattle.system.specs.Places.{Effect, becomes, leaves, marks, does, is_lawful,
 use Rattle.system.specs.Step.{lands, at, new_thread, start_at, start, install_in, install, of_code, invalidate, clear_or_late, look, unlooked, weigh_all, weigh, free, open_oldest, awaits_safepoint, may_open, may_tell, tell_in, tell_oldest, all_threads, operate, is_over, close, count, code_or_none}
 use Rattle.system.specs.Runs.{replaced, world_of, answer_of, after, answer_to}
 use Rattle.system.proofs.Outcomes.{coded, with_request, with_operated, without_opened, Opens, Stands, Acts, is_move, move_of, IsCode, Calls}
-use Rattle.system.proofs.Cases.{Cases}
+use Rattle.system.proofs.EventCases.{Cases}
 use Rattle.system.proofs.Lists.{found_passes, find_place, any_at, filter_at}
 
 -- A chain of tests: where one fails the event is refused.

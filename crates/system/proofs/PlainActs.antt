@@ -25,11 +25,11 @@ use Rattle.system.specs.Steps.{DidAt, DidFound, ActedAt, answer_here}
 use Rattle.system.specs.Stands.{Matches, SamePlace, SameAt, DoesIn, Does, held_at}
 use Rattle.system.proofs.Outcomes.{asked}
 use Rattle.system.proofs.Found.{put_back}
-use Rattle.system.proofs.Hereof.{is_here}
-use Rattle.system.proofs.Acting.{SameRest, length_set}
-use Rattle.system.proofs.Acted.{became, refused_in}
-use Rattle.system.proofs.Serving.{finished, cleared}
-use Rattle.system.proofs.Marked.{unless_yes}
+use Rattle.system.proofs.KeptOfThread.{is_here}
+use Rattle.system.proofs.AfterAct.{SameRest, length_set}
+use Rattle.system.proofs.ByAct.{became, refused_in}
+use Rattle.system.proofs.FinishAndClear.{finished, cleared}
+use Rattle.system.proofs.AddedMarks.{unless_yes}
 
 -- what stands at a place of the world, by what the system keeps there
 pub data AtPlace (s : Core) (w : World) (p : ℕ) (o : Option (Option Kept)) : Type 0 where

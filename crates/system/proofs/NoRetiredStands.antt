@@ -17,15 +17,15 @@ use Rattle.system.specs.Runs.{after, world_after}
 use Rattle.system.specs.Facts.{may_stand, TableIsSound}
 use Rattle.system.specs.Laws.{is_retired, NoRetiredCodeStands, RetiredCodesStandNowhere}
 use Rattle.system.specs.Moments.{invalidated, left_at, ended, published_at, IsCoveredByMoments, CoveredIsByMoments}
-use Rattle.system.proofs.ByCases.{Simple, by_cases}
+use Rattle.system.proofs.CaseOfEvent.{Simple, by_cases}
 use Rattle.system.proofs.Twice.{in_steps}
 use Rattle.system.proofs.Lists.{find_place, find_none_at}
 use Rattle.system.proofs.Seats.{there_of}
 use Rattle.system.proofs.Table.{code_serial}
 use Rattle.system.proofs.Sound.{IsKept, kept, kept_start, kept_after}
 use Rattle.system.proofs.Moments.{ended_at, end_is}
-use Rattle.system.proofs.Reclaim.{IsReclaimed}
-use Rattle.system.proofs.ReclaimKept.{reclaim_kept, reclaim_start, left_in, NamesKnown, names_known}
+use Rattle.system.proofs.ReclaimInvariant.{IsReclaimed}
+use Rattle.system.proofs.ReclaimSteps.{reclaim_kept, reclaim_start, left_in, NamesKnown, names_known}
 
 record AllIn (w : World) : Type 0 where
   kept_is : IsKept w

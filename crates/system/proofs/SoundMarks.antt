@@ -19,7 +19,7 @@ use Rattle.system.specs.Step.{new_thread, operated_if}
 use Rattle.method_table.specs.Codes.{id_of}
 use Rattle.system.specs.Facts.{WasOpened, ThreadsAreSound, NumbersAreSound, IsToldOpen, MarksAreSound}
 use Rattle.system.proofs.Outcomes.{Stands, begun, changed_by, ended, entered, moved, held, released, with_done, with_cleared, with_told, with_request, newly_opened, with_opened, with_operated, without_opened, Tells, Opens, Operates, Closes}
-use Rattle.system.proofs.Cases.{Cases}
+use Rattle.system.proofs.EventCases.{Cases}
 use Rattle.system.proofs.Seats.{get_set_same, get_set_other, each_none, each_start}
 use Rattle.system.proofs.Lists.{map_at, push_at, push_low, push_length, any_at, any_here, all_at, filter_at, filter_has, same_at, at_low}
 use Rattle.system.proofs.Numbers.{operated_number, operated_live, operated_request, only_number, asked_more}

@@ -26,7 +26,7 @@ use Rattle.system.specs.Keeps.{SameThread, Reach, seats, finishes, clears, reach
 use Rattle.system.specs.Stands.{Matches, SameAt, SameMoments, DoesIn}
 use Rattle.system.proofs.Outcomes.{seated}
 use Rattle.system.proofs.Logs.{IsQuiet, IsElsewhere}
-use Rattle.system.proofs.Acting.{SameRest, seated_matches}
+use Rattle.system.proofs.AfterAct.{SameRest, seated_matches}
 
 -- an act is quiet in the log, and elsewhere at other places
 pub act_quiet : (p : ℕ) (act : Act) (a : Answer) → IsQuiet (record { event = event.At p act; answer = a })

@@ -21,7 +21,7 @@ use Rattle.system.specs.Step.{operated_if}
 use Rattle.std.proofs.lemmas.List.Folds.{list_any-append}
 use Rattle.system.proofs.Lists.{find_before, found_passes, at_low, same_at, filter_has, filter_pair, push_at}
 use Rattle.system.proofs.Numbers.{only_number}
-use Rattle.system.proofs.Marks.{marked_more, marked_old, marked_new}
+use Rattle.system.proofs.SoundMarks.{marked_more, marked_old, marked_new}
 
 false_where : (b : Bool) → (b ≡ true → ⊥) → b ≡ false
 false_where true f = absurd (f refl)

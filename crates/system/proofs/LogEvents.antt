@@ -19,7 +19,7 @@ use Rattle.system.specs.Stands.{Matches, Does, kept_at}
 use Rattle.system.proofs.Outcomes.{noted}
 use Rattle.system.proofs.Logs.{IsElsewhere, names_next, operations_next, moment_next, moments_next, place_over, opened_over, noted_matches}
 use Rattle.system.proofs.Cells.{cells_stay}
-use Rattle.system.proofs.Codings.{accepted_in, answered_as, none_some, record_next, same_some}
+use Rattle.system.proofs.CodeEvents.{accepted_in, answered_as, none_some, record_next, same_some}
 
 pub said_state : (s : Core) (serial : ℕ) (code : Code) → code_of s.table.codes serial ≡ Some code → Does (event.CodeState serial) s (answer.State code.state) s
 said_state s serial code is = record {

@@ -39,7 +39,7 @@ use Rattle.system.specs.Stands.{Matches, SamePlaces, SameRecord, SameRecords, Do
 use Rattle.system.proofs.Lists.{found_passes, find_place, find_push, find_push_none, at_low, same_at, any_none_at, below_low, map_length, push_length}
 use Rattle.system.proofs.Cells.{count_here}
 use Rattle.system.proofs.Seats.{get_set_same, get_set_other}
-use Rattle.system.proofs.Acting.{length_set}
+use Rattle.system.proofs.AfterAct.{length_set}
 use Rattle.system.proofs.Outcomes.{coded}
 use Rattle.system.proofs.Table.{code_serial, code_with_state, in_state_here, in_state_other, in_state_slot, unfreed_code, unfreed_takes}
 use Rattle.system.proofs.Logs.{IsElsewhere, names_next, operations_next, moment_next, left_next, looked_next, moments_next, place_over, opened_over, noted_matches}

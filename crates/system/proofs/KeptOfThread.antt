@@ -11,8 +11,8 @@ use Rattle.system.specs.Facts.{IsSound}
 use Rattle.system.specs.Keeps.{SameOpen, OpenBy, IsHere, PollIs}
 use Rattle.system.specs.Marking.{SameMarks}
 use Rattle.system.specs.Stands.{Matches, SameAt}
-use Rattle.system.proofs.Marks.{live_has}
-use Rattle.system.proofs.Marking.{poll_is, same_open}
+use Rattle.system.proofs.SoundMarks.{live_has}
+use Rattle.system.proofs.ThreeNumbers.{poll_is, same_open}
 use Rattle.system.proofs.Pairs.{Pairs, pairs_of}
 
 opened_by : (kept : Kept) (requests : Requests) (opens : List Open) (opened : List Opened) → Pairs (λ a o. SameOpen a kept requests o) opens opened → OpenBy opens kept requests opened

@@ -33,13 +33,13 @@ use Rattle.system.proofs.Cells.{cells_stay}
 use Rattle.system.proofs.Outcomes.{asked}
 use Rattle.system.proofs.Seats.{there_of}
 use Rattle.system.proofs.Logs.{IsQuiet, moments_next, records_next, opened_over, quiet_names, quiet_moment, quiet_operations, place_over}
-use Rattle.system.proofs.Acting.{SameRest, places_set}
-use Rattle.system.proofs.Acted.{act_quiet, act_elsewhere, timed}
-use Rattle.system.proofs.Marked.{done_other, cleared_other, unless_yes}
-use Rattle.system.proofs.Marking.{done_own, cleared_own}
+use Rattle.system.proofs.AfterAct.{SameRest, places_set}
+use Rattle.system.proofs.ByAct.{act_quiet, act_elsewhere, timed}
+use Rattle.system.proofs.AddedMarks.{done_other, cleared_other, unless_yes}
+use Rattle.system.proofs.ThreeNumbers.{done_own, cleared_own}
 use Rattle.system.proofs.Lists.{any_at, at_low, same_at, find_place}
-use Rattle.system.proofs.Served.{SameFound, find_by, undone_is, uncleared_is}
-use Rattle.system.proofs.Hereof.{is_here}
+use Rattle.system.proofs.AskedOfThread.{SameFound, find_by, undone_is, uncleared_is}
+use Rattle.system.proofs.KeptOfThread.{is_here}
 
 -- the system after marks were added for the thread at a place
 pub record Marks_added (s new : Core) (w : World) (p : ℕ) (kept after : Kept) (t : Thread) (requests : Requests) (e : Event) (a : Answer) : Type 0 where

@@ -27,14 +27,14 @@ use Rattle.method_table.specs.Codes.{in_use_for}
 use Rattle.system.specs.Facts.{may_stand, IsLive, TableIsSound}
 use Rattle.system.specs.Moments.{invalidated, is_fresh}
 use Rattle.system.proofs.Outcomes.{Stands, begun, changed_by, ended, entered, moved, difference, is_move, Enters, Looks, Retires}
-use Rattle.system.proofs.Cases.{Cases}
+use Rattle.system.proofs.EventCases.{Cases}
 use Rattle.system.proofs.Lists.{find_none_at, below_has, at_low}
 use Rattle.system.proofs.Frames.{same_is, act_push, act_take, part_quiet}
 use Rattle.system.proofs.Moments.{unstarted_begun, unstarted_ended, not_since}
 use Rattle.system.proofs.Seats.{each_start}
 use Rattle.system.proofs.Table.{unfreed_code}
 use Rattle.system.proofs.Threads.{started_more}
-use Rattle.system.proofs.Reclaim.{IsThread, is_unused, IsReclaimed, Silent, IsQuiet, silent_thread, lands, logged, installed, restated, or_later}
+use Rattle.system.proofs.ReclaimInvariant.{IsThread, is_unused, IsReclaimed, Silent, IsQuiet, silent_thread, lands, logged, installed, restated, or_later}
 
 same_number : (n : ℕ) → (n == n) ≡ true
 same_number n = eq-eqb n n refl
