@@ -3,35 +3,16 @@ use Rattle.std.proofs.Common.{◌≡◌, ◌∙◌, ap, refl, true, false, not, 
 use Rattle.thread_state.specs.declared.State.{State}
 use Rattle.system.specs.declared.thread.Thread.{Thread as Kept}
 use Rattle.system.specs.declared.events.Act.{Act}
-use Rattle.system.specs.declared.events.Act.TheVariants.{Begin, Change, End, Wake, Cross, Enter, Leave, Edge, ToVm, FromVm, ToNative, Block, Exit, Take, Finish, Clear, Hold, Release, Stack}
 use Rattle.system.specs.declared.answers.Refusal.{Refusal}
 use Rattle.system.specs.declared.answers.Refusal.TheVariants.{Illegal, Publishing}
 use Rattle.system.specs.Verdict.{Verdict, refused, unless◌refuse◌then◌}
 use Rattle.system.specs.Threads.{Thread}
 use Rattle.system.specs.World.{World}
-use Rattle.system.specs.Places.{Effect, here, does, is_lawful, may_while_publishing}
-use Rattle.system.specs.Keeps.{SameThread, lawful_in, common_refusal}
+use Rattle.system.specs.Places.{Effect, here, does, is_lawful, lawful_in, may_while_publishing}
+use Rattle.system.specs.Keeps.{SameThread, common_refusal}
 
 lawful_by : (act : Act) (t : Thread) → is_lawful act t ≡ lawful_in act t.held t.state
-lawful_by Begin t = refl
-lawful_by Change t = refl
-lawful_by End t = refl
-lawful_by Wake t = refl
-lawful_by Cross t = refl
-lawful_by (Enter method code) t = refl
-lawful_by Leave t = refl
-lawful_by Edge t = refl
-lawful_by ToVm t = refl
-lawful_by FromVm t = refl
-lawful_by ToNative t = refl
-lawful_by Block t = refl
-lawful_by Exit t = refl
-lawful_by Take t = refl
-lawful_by Finish t = refl
-lawful_by Clear t = refl
-lawful_by Hold t = refl
-lawful_by Release t = refl
-lawful_by Stack t = refl
+lawful_by act t = refl
 
 passes : (p m l : Bool) (s : State) (v : Verdict Effect) → ◌≡◌ {A = Option Refusal} (cond (p && not m) (Some Publishing) (cond (not l) (Some (Illegal s)) None)) None → (unless not p || m refuse Publishing then unless l refuse Illegal s then v) ≡ v
 passes true true true s v h = refl
