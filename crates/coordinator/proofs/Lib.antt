@@ -1,4 +1,4 @@
-mod Apart
+mod Held
 mod HoldsMore
 mod Each
 mod Attended

@@ -11,7 +11,6 @@ mod coordinator;
 mod driving;
 mod faults;
 mod four;
-mod held;
 mod holding;
 mod reclaiming;
 mod serving;

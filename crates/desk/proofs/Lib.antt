@@ -10,4 +10,3 @@ pub mod ReplyLists
 pub mod RoomKept
 pub mod RoomSteps
 pub mod JobsLeft
-pub mod Listed

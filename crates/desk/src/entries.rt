@@ -1,7 +1,6 @@
 //! Entries of the history, and what the desk keeps of them.
 use frames::CodeId;
 use operations::Request;
-use std::collections::VecDeque;
 
 /// A live name with its place.
 #[derive(Clone, Copy, PartialEq, Eq, Debug)]
@@ -81,6 +80,5 @@ pub struct Opened<J> {
     /// The targets that were live at the Open and have no Finish.
     pub due: Vec<u64>,
     pub operated: bool,
-    /// Those that weren't taken, in the order of the targets, in which they are taken mostly.
-    pub jobs: VecDeque<J>,
+    pub jobs: Vec<J>,
 }
