@@ -78,7 +78,7 @@ entries_elsewhere_refused n slots p i stamp k t u c f h s found seat_k seat low 
     let here : get_or s'.words j 0 ≡ m = get_or-set_same s.words j m 0 (omega arith) in omega arith
 
 pub looks_elsewhere_refused : LooksElsewhereRefused
-looks_elsewhere_refused n slots p i stamp k t u c f h s found seat_k seat late apart is allowed =
+looks_elsewhere_refused n slots p i stamp k t u c f h s found seat_k seat past apart is allowed =
     let j : ℕ = index_of n.0 (place_of p) in let x : ℕ = get_or s.words 8 0 in let m : ℕ = k.moment in
     let r = (at_keeper n s 0 k seat_k.0 found.board seat_k.1).1 in let now : x ≡ m = r.kept.keeper_words.1 in let bound = r.kept.bounds.0 in let some_now = r.kept.keeper_words.2 in
     let z = at_thread n s (suc p) t seat.0 k [] r seat.1 in let mine : suc p ≡ suc t.place = r.seated (suc p) (Thread t seat.0) seat.1 in
@@ -98,7 +98,7 @@ looks_elsewhere_refused n slots p i stamp k t u c f h s found seat_k seat late a
     let same = two_words s.words s2.words i j f h apart alike (of_last n _ 0 _ _ (is (get_or s.words i 0)) (keeper_answers_stand n slots i stamp p k t u f s found seat_k seat allowed))
     (of_last n _ 0 _ _ (is (get_or s2.words i 0)) (keeper_answers_stand n slots i stamp p k (stored_as t1 m) u f s2 after (seat_k.0, keeper2) (stamp_of two.0, set_found s1.views (suc p) (Thread t1 (stamp_of one.0)) two.0 at1 ∙ ap some two.4.0) allowed)) in
     let inside = index_low n.0 n.1 (place_of t.place) z.low in let wide = r.words_are in
-    let here : get_or s2.words j 0 ≡ m = get_or-set_same s1.words j m 0 (subst (λ ws. j < length ws) (sym stays) (omega arith)) in late (sym was ∙ (same ∙ here))
+    let here : get_or s2.words j 0 ≡ m = get_or-set_same s1.words j m 0 (subst (λ ws. j < length ws) (sym stays) (omega arith)) in past (sym was ∙ (same ∙ here))
 
 -- a number that fits a word isn't what a fetch-sub of 1 makes of it
 one_less : (x : ℕ) → x < 2 ^ 64 → (x + (2 ^ 64 - 1)) % 2 ^ 64 ≢ x

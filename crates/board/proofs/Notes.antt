@@ -8,7 +8,7 @@ use mathlib.Core.Logic.{dite}
 use native.Mathlib.Decide.{ℕ_discrete}
 use Rattle.frames.specs.declared.board_rule.SlotView.{SlotView}
 use Rattle.frames.specs.declared.board_rule.KeeperView.{KeeperView}
-use Rattle.frames.specs.BoardStep.{is_late}
+use Rattle.frames.specs.BoardStep.{is_past}
 use Rattle.frames.specs.BoardViews.{slot_of, has_place, empty_slot, slot_with_look, keeper_view}
 use Rattle.board.specs.declared.note.Note.{Note}
 use Rattle.board.specs.Notes.{note_at, blank, Agrees, AreNoted, IsNotedAfter}
@@ -41,9 +41,9 @@ pub agrees_new : (left : ℕ) (s : SlotView) → left ≡ s.left → s.looked �
 agrees_new left s is clean small = record { left = is; looked = λ p h. ap (λ b. eqb b 1) (bit_at-zero p) ∙ ap (λ l. has_place l p) (sym clean); small = small }
 
 -- a place's bit is set
-pub bit_noted : (note : Note) (p q found : ℕ) → p < 64 → is_late note.left found ≡ true
-    → eqb (bit_at (bit_or note.looked (1 * 2 ^ p % 2 ^ 64)) q) 1 ≡ ((eqb q p && is_late note.left found) || eqb (bit_at note.looked q) 1)
-bit_noted note p q found low late = rw late (dite (ℕ_discrete q p)
+pub bit_noted : (note : Note) (p q found : ℕ) → p < 64 → is_past note.left found ≡ true
+    → eqb (bit_at (bit_or note.looked (1 * 2 ^ p % 2 ^ 64)) q) 1 ≡ ((eqb q p && is_past note.left found) || eqb (bit_at note.looked q) 1)
+bit_noted note p q found low past = rw past (dite (ℕ_discrete q p)
     (λ e. ap (λ b. eqb b 1) (ap (bit_at (bit_or note.looked (1 * 2 ^ p % 2 ^ 64))) e ∙ bit_at_set_same w64 note.looked p low) ∙ sym (ap (λ b. (b && true) || eqb (bit_at note.looked q) 1) (eq-eqb q p e)))
     (λ ne. ap (λ b. eqb b 1) (bit_at_set_other w64 note.looked p low q ne) ∙ sym (ap (λ b. (b && true) || eqb (bit_at note.looked q) 1) (ne_eqb q p ne))))
 
@@ -51,7 +51,7 @@ bit_noted note p q found low late = rw late (dite (ℕ_discrete q p)
 pub agrees_look : (old new : Note) (s : SlotView) (p found : ℕ) → IsNotedAfter old new p found → Agrees old s → Agrees new (slot_with_look s p found)
 agrees_look old new s p found after a = record {
   left = after.0 ∙ a.left;
-  looked = λ q h. after.1 q h ∙ ((λ i. (eqb q p && is_late (a.left i) found) || a.looked q h i) ∙ sym (with_place_has (is_late s.left found) p q s.looked));
+  looked = λ q h. after.1 q h ∙ ((λ i. (eqb q p && is_past (a.left i) found) || a.looked q h i) ∙ sym (with_place_has (is_past s.left found) p q s.looked));
   small = a.small;
 }
 

@@ -5,7 +5,7 @@ use Rattle.frames.specs.Stack.{same_code}
 use Rattle.frames.specs.declared.board_rule.SlotView.{SlotView}
 use Rattle.frames.specs.declared.board_rule.SeatView.{SeatView}
 use Rattle.frames.specs.BoardWords.{says_in_use, says_gone}
-use Rattle.frames.specs.BoardStep.{seat_entered, slot_looked, is_late}
+use Rattle.frames.specs.BoardStep.{seat_entered, slot_looked, is_past}
 use Rattle.frames.specs.BoardViews.{seat_state, slot_state, entered, slot_with_look, has_code, with_code, has_place, with_place}
 
 with_code_has : (b : Bool) (c d : CodeId) (xs : List CodeId) → has_code (with_code b c xs) d ≡ ((same_code d c && b) || has_code xs d)
@@ -42,4 +42,4 @@ with_place_has false p q xs = by (eqb q p)
     by false = refl
 
 pub looked_is : (s : SlotView) (p found : ℕ) → slot_state (slot_with_look s p found) ≡ slot_looked (slot_state s) p found
-looked_is s p found = λ i. record { serial = s.serial; state = s.state; left = s.left; looked = λ q. with_place_has (is_late s.left found) p q s.looked i; clear = s.clear }
+looked_is s p found = λ i. record { serial = s.serial; state = s.state; left = s.left; looked = λ q. with_place_has (is_past s.left found) p q s.looked i; clear = s.clear }

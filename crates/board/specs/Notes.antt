@@ -5,7 +5,7 @@ use Rattle.frames.specs.declared.CodeId.{CodeId}
 use Rattle.frames.specs.declared.board_rule.SlotView.{SlotView}
 use Rattle.frames.specs.declared.board_rule.KeeperView.{KeeperView}
 use Rattle.frames.specs.BoardRule.{BoardState, IsBoardKept}
-use Rattle.frames.specs.BoardStep.{is_late}
+use Rattle.frames.specs.BoardStep.{is_past}
 use Rattle.frames.specs.BoardViews.{slot_of, has_place, weighed}
 use Rattle.board.specs.declared.note.Note.{Note}
 use Rattle.board.specs.declared.weighed.Weighed.{Weighed}
@@ -24,7 +24,7 @@ blank = note_at 0
 
 -- a load of the place's moment is written down: the place is looked at where what was found lets it pass, and nothing else changes
 abbrev pub IsNotedAfter : Note → Note → ℕ → ℕ → Type 0
-IsNotedAfter old new p found = (new.left ≡ old.left) × ((q : ℕ) → q < 64 → is_noted new q ≡ (((q == p) && is_late old.left found) || is_noted old q))
+IsNotedAfter old new p found = (new.left ≡ old.left) × ((q : ℕ) → q < 64 → is_noted new q ≡ (((q == p) && is_past old.left found) || is_noted old q))
 
 -- the note agrees with what is known of its slot
 pub record Agrees (note : Note) (s : SlotView) : Type 0 where

@@ -3,7 +3,7 @@ ghost use Rattle.std.specs.Prelude.{◌≡◌, ◌≢◌, ℕ, true, false, nat_
 ghost use Rattle.frames.specs.declared.board_rule.BoardView.TheVariants.{Keeper as IsKeepers};
 ghost use Rattle.frames.specs.declared.board_rule.EntryState.TheVariants.{InUse, NotEntrant, Zombie, Vacant};
 ghost use Rattle.frames.specs.BoardWords.{pack};
-ghost use Rattle.frames.specs.BoardStep.{is_late};
+ghost use Rattle.frames.specs.BoardStep.{is_past};
 ghost use Rattle.frames.specs.BoardViews.{slot_of, IsIn, keeper_view, went_round, entry_stored, in_use, not_entrant, in_state, looked_at, weighed, has_place};
 ghost use Rattle.board.specs.Boards.{KeeperSeen, board_id, of_keeper, IsKeeper, keeper_of, words_at, first_keeper, KeeperSteps};
 ghost use Rattle.board.specs.Plays.{asked, asked_of};
@@ -247,16 +247,16 @@ impl Keeper {
         requires slot { (code.slot < self.old.board.slots) × (place < self.old.board.places) }
         requires code { IsIn self.old.seen code NotEntrant }
         ensures board { self.new.board ≡ self.old.board }
-        ensures step { (found : ℕ) × (self.new.seen ≡ looked_at self.old.seen code place found) × (result ≡ is_late (slot_of self.old.seen code.slot).left found) }
+        ensures step { (found : ℕ) × (self.new.seen ≡ looked_at self.old.seen code place found) × (result ≡ is_past (slot_of self.old.seen code.slot).left found) }
         ensures made { KeeperSteps self.old.board self.old.seen self.new.seen }
         ensures stamp { self.old.stamp < self.new.stamp }
     {
         let word = place_at(self.slots, place);
         let found = board.table.shared.load::<Look<A>>(&mut self.seat, word);
         let mut note = self.notes[code.slot as usize];
-        let late = note.look(place, found);
+        let past = note.look(place, found);
         self.notes[code.slot as usize] = note;
-        late
+        past
     }
 
     /// Whether the place is done with the code, which is not entrant: its stack was published in a moment after the code's
@@ -266,7 +266,7 @@ impl Keeper {
         requires slot { (code.slot < self.old.board.slots) × (place < self.old.board.places) }
         requires code { IsIn self.old.seen code NotEntrant }
         ensures board { self.new.board ≡ self.old.board }
-        ensures step { (found : ℕ) × (self.new.seen ≡ looked_at self.old.seen code place found) × (result ≡ is_late (slot_of self.old.seen code.slot).left found) }
+        ensures step { (found : ℕ) × (self.new.seen ≡ looked_at self.old.seen code place found) × (result ≡ is_past (slot_of self.old.seen code.slot).left found) }
         ensures made { KeeperSteps self.old.board self.old.seen self.new.seen }
         ensures stamp { self.old.stamp < self.new.stamp }
         ensures looked { result ≡ true → IsLooked self.new.seen code place }

@@ -1,6 +1,6 @@
 //! What the keeper writes down of a slot.
 ghost use Rattle.std.specs.Prelude.{◌≡◌, ◌<◌};
-ghost use Rattle.frames.specs.BoardStep.{is_late};
+ghost use Rattle.frames.specs.BoardStep.{is_past};
 ghost use Rattle.board.specs.Notes.{note_at, is_noted, IsNotedAfter};
 
 /// The moment of the invalidation, and which places were looked at: a bit for each.
@@ -11,8 +11,8 @@ pub struct Note {
 }
 
 /// Whether what was found at a place lets it pass: nobody is there, or its stack was published in a moment after the invalidation.
-fn is_late(left: u64, found: u64) -> bool
-    ensures { result ≡ Rattle.frames.specs.BoardStep.is_late left found }
+fn is_past(left: u64, found: u64) -> bool
+    ensures { result ≡ Rattle.frames.specs.BoardStep.is_past left found }
 {
     found == 0 || left < found
 }
@@ -36,13 +36,13 @@ impl Note {
     /// Writes down what a load of the place's moment tells, and answers it.
     pub fn look(&mut self, place: usize, found: u64) -> bool
         requires { place < 64 }
-        ensures answer { result ≡ is_late self.old.left found }
+        ensures answer { result ≡ is_past self.old.left found }
         ensures note { IsNotedAfter self.old self.new place found }
     {
-        let late = is_late(self.left, found);
-        if late {
+        let past = is_past(self.left, found);
+        if past {
             self.looked |= 1 << place;
         }
-        late
+        past
     }
 }

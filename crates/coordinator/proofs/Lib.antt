@@ -1,4 +1,4 @@
-mod Held
+mod Apart
 mod HoldsMore
 mod Each
 mod Attended

@@ -1,67 +1,40 @@
 //! Operating a census: a list of the codes with their frames, over the published stacks of all live threads, which are held.
-ghost use Rattle.std.specs.Prelude.{◌≡◌, ◌≢◌, ◌≤◌, ◌<◌, true, length, IfOk, IfErr, OnOk, vec_capacity};
+ghost use Rattle.std.specs.Prelude.{◌≡◌, true, IfOk, IfErr, OnOk};
 ghost use Rattle.bodies.specs.Bodies.{IsPublished};
 ghost use Rattle.bodies.specs.Census.{IsCensus};
 ghost use Rattle.desk.specs.declared.entries.Entry.{Entry};
 ghost use Rattle.desk.specs.Machine.{State as DeskState};
 ghost use Rattle.desk.specs.Fields.{Enters, at};
-ghost use Rattle.desk.specs.Refusals.{AreSettled, are_all, MayOperate};
-ghost use Rattle.coordinator.specs.Holding.{AreHeld, AreEach};
-ghost use Rattle.thread_list.specs.Moves.{IsCleared, IsOperated};
+ghost use Rattle.desk.specs.Refusals.{are_all, MayOperate};
+ghost use Rattle.coordinator.specs.Holding.{AreEach};
+ghost use Rattle.thread_list.specs.Moves.{IsOperated};
 ghost use Rattle.coordinator.specs.Refused.{census_refused};
 
 use crate::coordinator::Coordinator;
 use crate::faults::OperateFault;
+use crate::held::Held;
 use board::Board;
-use bodies::{Body, Name, census_of};
+use bodies::{Name, census_of};
 use desk::{Desk, Receipt};
 use operations::job::Errand;
-use poll::PollRow;
 use std::alloc::Global;
 use std::sync::Wait;
-
-// Publishes each body.
-fn publish_all<N: Name>(bodies: &mut Vec<Body<N>>, board: &Board)
-    requires board { board.now ≡ N.board }
-    ensures published { AreEach IsPublished bodies.old.items bodies.new.items }
-    ensures room { vec_capacity bodies.new ≡ vec_capacity bodies.old }
-{
-    for index in 0..bodies.len() {
-        bodies[index].publish(board);
-    }
-}
-
-// Clears the operation for each body. Operations have numbers from 1 on.
-fn clear_all<N: Name>(bodies: &mut Vec<Body<N>>, row: &PollRow, number: u64)
-    requires row { row.now ≡ N.poll_row }
-    ensures cleared { AreEach (IsCleared number) bodies.old.items bodies.new.items }
-    ensures room { vec_capacity bodies.new ≡ vec_capacity bodies.old }
-{
-    if number == 0 {
-        return;
-    }
-    for index in 0..bodies.len() {
-        bodies[index].clear(row, number);
-    }
-}
 
 // Where the open census may be operated over the bodies and there is memory for its list: counts their frames, publishes each, and
 // enters that the census is operated over them.
 fn operate_over<N: Name, J: Errand>(
     desk: &mut Desk<N, J>,
-    bodies: &mut Vec<Body<N>>,
+    bodies: &mut Held<N>,
     board: &Board,
     alloc: Global,
 ) -> Result<(u64, Vec<(u64, u32)>, Receipt<N>), OperateFault>
     requires board { board.now ≡ N.board }
-    requires few { length bodies.old.items ≤ 64 }
     ensures entered { IfOk result (λ r. Enters desk.old desk.new (Entry.Operate r.0) r.2) }
-    ensures may { OnOk result (MayOperate (at desk.old) bodies.old.items) }
-    ensures all { OnOk result (are_all (at desk.old).live bodies.new.items ≡ true) }
-    ensures published { OnOk result (AreEach IsPublished bodies.old.items bodies.new.items) }
-    ensures counted { IfOk result (λ r. IsCensus bodies.new.items r.1.items) }
-    ensures refused { IfErr result (λ e. (desk.new ≡ desk.old) × (bodies.new.items ≡ bodies.old.items) × census_refused (at desk.old) bodies.old.items e) }
-    ensures room { vec_capacity bodies.new ≡ vec_capacity bodies.old }
+    ensures may { OnOk result (MayOperate (at desk.old) bodies.old) }
+    ensures all { OnOk result (are_all (at desk.old).live bodies.new ≡ true) }
+    ensures published { OnOk result (AreEach IsPublished bodies.old bodies.new) }
+    ensures counted { IfOk result (λ r. IsCensus bodies.new r.1.items) }
+    ensures refused { IfErr result (λ e. (desk.new ≡ desk.old) × (bodies.new ≡ bodies.old) × census_refused (at desk.old) bodies.old e) }
 {
     if let Some(fault) = desk.operate_fault(bodies.as_slice()) {
         return Err(OperateFault::Refused(fault));
@@ -69,7 +42,7 @@ fn operate_over<N: Name, J: Errand>(
     let Ok(list) = census_of(alloc, bodies.as_slice()) else {
         return Err(OperateFault::NoMemory);
     };
-    publish_all(bodies, board);
+    bodies.publish_all(board);
     match desk.operate(bodies.as_slice()) {
         Ok((number, receipt)) => Ok((number, list, receipt)),
         Err(_) => unreachable!(),
@@ -93,7 +66,7 @@ impl<'a, N: Name, J: Errand> Coordinator<'a, N, J> {
     {
         let (number, list, receipt) = self.enter_operated(rt)?;
         self.operated = true;
-        clear_all(&mut self.bodies, self.shared.row(), number);
+        self.bodies.clear_all(self.shared.row(), number);
         Ok((number, list, receipt))
     }
 

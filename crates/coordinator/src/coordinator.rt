@@ -7,9 +7,10 @@ ghost use Rattle.desk.specs.Refusals.{open_refused};
 ghost use Rattle.coordinator.specs.Holding.{held_nothing};
 ghost use Rattle.coordinator.specs.Refused.{MayClose, not_closed};
 
+use crate::held::Held;
 use crate::teller::Teller;
 use crate::telling::Untold;
-use bodies::{Body, Name};
+use bodies::Name;
 use desk::{CloseFault, Live, OpenFault, Receipt};
 use operations::job::Errand;
 use poll::Armer;
@@ -28,21 +29,21 @@ pub struct Coordinator<'a, N: Name, J: Errand> {
     pub(crate) alloc: Global,
     pub(crate) armer: Teller,
     pub(crate) places: usize,
-    pub(crate) bodies: Vec<Body<N>>,
+    pub(crate) bodies: Held<N>,
     pub(crate) operated: bool,
     pub(crate) untold: Vec<Untold<J>>,
     pub(crate) due: Vec<Live>,
 }
 
 impl<'a, N: Name, J: Errand> Model for Coordinator<'a, N, J> {
-    ghost use Rattle.std.specs.Prelude.{◌≡◌, ◌≤◌, length, vec_capacity};
-    ghost use Rattle.coordinator.specs.Holding.{Holding, AreHeld};
+    ghost use Rattle.std.specs.Prelude.{◌≡◌, ◌≤◌, length};
+    ghost use Rattle.coordinator.specs.Holding.{Holding};
 
     ghost Value = { Holding };
 
-    ghost view = { λ c. record { held = c.bodies.items; armer = c.armer.seen; operated = c.operated } };
+    ghost view = { λ c. record { held = c.bodies; armer = c.armer.seen; operated = c.operated } };
 
-    ghost invariant = { λ c. (c.armer.table ≡ N.poll_row) × (c.places ≡ length c.armer.seen.armed) × (c.places ≡ N.board.places) × (c.places ≤ 64) × (c.places ≤ vec_capacity c.bodies) × AreHeld c.places c.bodies.items };
+    ghost invariant = { λ c. (c.armer.table ≡ N.poll_row) × (c.places ≡ length c.armer.seen.armed) × (c.places ≡ N.board.places) × (c.places ≤ 64) };
 }
 
 impl<'a, N: Name, J: Errand> Coordinator<'a, N, J> {
@@ -58,7 +59,7 @@ impl<'a, N: Name, J: Errand> Coordinator<'a, N, J> {
         ensures handed_back { IfErr result (λ a. a ≡ armer) }
     {
         let places = armer.places(shared.row());
-        let Ok(bodies) = Vec::with_capacity(alloc, places) else {
+        let Ok(bodies) = Held::new(alloc, places) else {
             return Err(armer);
         };
         let Ok(untold) = Vec::with_capacity(alloc, places) else {

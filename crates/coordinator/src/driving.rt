@@ -1,20 +1,19 @@
 //! Working one request from its Open to its Close.
-ghost use Rattle.std.specs.Prelude.{◌≡◌, ◌<◌, [], ℕ, Some, None, IfOk, IfErr, OnOk, OnErr, IfSome, IfNone, false, vec_capacity};
+ghost use Rattle.std.specs.Prelude.{◌≡◌, ◌<◌, [], ℕ, Some, None, IfOk, IfErr, OnOk, OnErr, IfSome, IfNone, false};
 ghost use Rattle.bodies.specs.Census.{IsCensus};
 ghost use Rattle.desk.specs.declared.entries.Entry.{Entry};
 ghost use Rattle.desk.specs.Machine.{State as DeskState};
 ghost use Rattle.desk.specs.Fields.{at};
 ghost use Rattle.desk.specs.Targets.{open_kind};
-ghost use Rattle.coordinator.specs.Holding.{AreHeld};
 ghost use Rattle.coordinator.specs.Driving.{number_of, IsListed, HoldsOn, LacksList, drive_refused};
 ghost use Rattle.coordinator.specs.Receipts.{IsAttended};
 ghost use Rattle.thread_list.specs.Berths.{acted};
 
 use crate::coordinator::Coordinator;
 use crate::faults::{DriveFault, Driven, OperateFault};
-use crate::holding::is_held;
+use crate::held::Held;
 use crate::serving::{bring_back, serve_body};
-use bodies::{Body, Name, census_of};
+use bodies::{Name, census_of};
 use desk::{Desk, Live, Progress, Receipt};
 use operations::job::Errand;
 use std::sync::Wait;
@@ -327,7 +326,7 @@ impl<'a, N: Name, J: Errand> Coordinator<'a, N, J> {
     fn hold_at<R: Wait>(&mut self, rt: &R, due: Live)
         ensures { HoldsOn self.old self.new }
     {
-        if due.place >= self.places || is_held(self.bodies.as_slice(), due.place) {
+        if due.place >= self.places || self.bodies.has(due.place) {
             return;
         }
         let (body, taken) = self.shared.berth(due.place).hold(rt, due.name, due.place);
@@ -346,14 +345,12 @@ impl<'a, N: Name, J: Errand> Coordinator<'a, N, J> {
 fn put_back<N: Name, J: Errand, R: Wait>(
     rt: &R,
     shared: &Shared<N, J>,
-    bodies: &mut Vec<Body<N>>,
+    bodies: &mut Held<N>,
     operated: bool,
 )
-    requires held { AreHeld N.board.places bodies.old.items }
-    ensures none { bodies.new.items ≡ [] }
-    ensures room { vec_capacity bodies.new ≡ vec_capacity bodies.old }
+    ensures { bodies.new ≡ [] }
 {
-    while let Some(body) = bodies.pop() {
-        shared.berth_of(&body).release(rt, body, operated);
+    while let Some(body) = bodies.take_last() {
+        body.back(rt, shared, operated);
     }
 }

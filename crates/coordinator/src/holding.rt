@@ -1,10 +1,9 @@
 //! Holding a thread: the coordinator takes its body out of its berth, and brings it back.
-ghost use Rattle.std.specs.Prelude.{◌≡◌, ◌≢◌, ◌<◌, ◌++◌, ◌∷◌, [], ℕ, false, IfSome, IfNone, IfOk, OnOk, IfErr, OnErr, length};
-ghost use Rattle.bodies.specs.Bodies.{BodyView};
+ghost use Rattle.std.specs.Prelude.{◌≡◌, ◌≢◌, ◌<◌, ◌++◌, ◌∷◌, [], false, IfSome, IfNone, IfOk, IfErr};
 ghost use Rattle.thread_list.specs.Berths.{moved};
 ghost use Rattle.desk.specs.Targets.{standing, progress, name_at};
 ghost use Rattle.desk.specs.Fields.{at};
-ghost use Rattle.coordinator.specs.Holding.{is_held, StandsAt};
+ghost use Rattle.coordinator.specs.Holding.{is_held};
 ghost use Rattle.coordinator.specs.Receipts.{Releases};
 ghost use Rattle.coordinator.specs.Refused.{Holds, hold_fault, hold_refused, IsUnheld, HasNoHeld};
 
@@ -21,27 +20,6 @@ use thread_list::{BerthReceipt, BodyAct, BodyReceipt};
 pub enum Unheld<N: Name> {
     Fault(HoldFault),
     NotSafe(BerthReceipt<N>),
-}
-
-/// Where the body of the place stands.
-pub fn index_of<N: Name>(bodies: &[Body<N>], place: usize) -> Option<usize>
-    ensures some { IfSome result (λ i. (body : BodyView) × StandsAt bodies.now i place body) }
-    ensures bound { IfSome result (λ i. (i < length bodies.now) × (place < N.board.places)) }
-    ensures none { IfNone result (is_held place bodies.now ≡ false) }
-{
-    for index in 0..bodies.len() {
-        if bodies[index].place() == place {
-            return Some(index);
-        }
-    }
-    None
-}
-
-/// Whether a body is of the place.
-pub fn is_held<N: Name>(bodies: &[Body<N>], place: usize) -> bool
-    ensures { result ≡ is_held place bodies.now }
-{
-    bodies.iter().any(|b| b.place() == place)
 }
 
 // Why a thread that stands to the open requests like this, and is so far with what it was told, isn't held.
@@ -108,7 +86,7 @@ impl<'a, N: Name, J: Errand> Coordinator<'a, N, J> {
         if let Some(fault) = fault {
             return Err(Unheld::Fault(fault));
         }
-        if is_held(self.bodies.as_slice(), place) {
+        if self.bodies.has(place) {
             return Err(Unheld::Fault(HoldFault::Held));
         }
         match self.shared.berth(place).take(rt, name, place) {
@@ -125,8 +103,7 @@ impl<'a, N: Name, J: Errand> Coordinator<'a, N, J> {
         ensures held { self.new ≡ record self.old { held = self.old.held ++ body ∷ [] } }
         ensures taken { result ≡ taken }
     {
-        let _ = body.place();
-        self.bodies.push_reserved(body);
+        self.bodies.push(body);
         taken
     }
 
@@ -151,11 +128,10 @@ impl<'a, N: Name, J: Errand> Coordinator<'a, N, J> {
         ensures released { IfOk result (Releases self.old self.new place) }
         ensures refused { IfErr result (λ e. (is_held place self.old.held ≡ false) × HasNoHeld N.board.places place e × (self.new ≡ self.old)) }
     {
-        let Some(index) = index_of(self.bodies.as_slice(), place) else {
+        let Some(index) = self.bodies.index_of(place) else {
             return Err(self.unheld(rt, place));
         };
-        let body = self.bodies.remove(index);
-        let berth = self.shared.berth_of(&body);
-        Ok(berth.release(rt, body, self.operated))
+        let body = self.bodies.take(index);
+        Ok(body.back(rt, self.shared, self.operated))
     }
 }

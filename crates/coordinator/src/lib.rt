@@ -11,6 +11,7 @@ mod coordinator;
 mod driving;
 mod faults;
 mod four;
+mod held;
 mod holding;
 mod reclaiming;
 mod serving;

@@ -12,7 +12,6 @@ ghost use Rattle.coordinator.specs.Refused.{Serves, IsServeFault, serve_fault, s
 
 use crate::coordinator::Coordinator;
 use crate::faults::{ReleaseFault, ServeFault};
-use crate::holding::index_of;
 use bodies::{Body, Name};
 use desk::{Desk, Progress, Receipt, Standing};
 use operations::job::Errand;
@@ -20,8 +19,8 @@ use std::sync::Wait;
 use std::thread;
 use thread_list::{BodyReceipt, Due, Shared, serve};
 
-// The job that was told to the thread of a held body.
-fn told_job<N: Name, J: Errand, R: Wait>(rt: &R, shared: &Shared<N, J>, body: &Body<N>) -> Due<J>
+/// The job that was told to the thread of a held body.
+pub fn told_job<N: Name, J: Errand, R: Wait>(rt: &R, shared: &Shared<N, J>, body: &Body<N>) -> Due<J>
     ensures { (J.whom result ≡ body.now.name) × (0 < J.number result) }
 {
     for _ in rt.forever() {
@@ -116,13 +115,13 @@ impl<'a, N: Name, J: Errand> Coordinator<'a, N, J> {
         ensures served { IfOk result (λ r. (index : ℕ) × (body : BodyView) × StandsAt self.old.held index place body × IsServeFault self.old index place None × Serves self.old self.new index r.entry) }
         ensures refused { IfErr result (λ e. serve_refused self.old N.board.places place e × (self.new ≡ self.old)) }
     {
-        let Some(index) = index_of(self.bodies.as_slice(), place) else {
+        let Some(index) = self.bodies.index_of(place) else {
             return Err(unserved(self.unheld(rt, place)));
         };
         if let Some(fault) = self.serve_refusal(rt, index, place) {
             return Err(fault);
         }
-        Ok(self.serve_index(rt, index))
+        Ok(self.bodies.serve(rt, self.shared, index))
     }
 
     // Why the held thread at the index, of this place, isn't served.
@@ -131,20 +130,11 @@ impl<'a, N: Name, J: Errand> Coordinator<'a, N, J> {
         requires place { place < N.board.places }
         ensures { IsServeFault self.now index place result }
     {
-        let name = self.bodies[index].name();
+        let name = self.bodies.as_slice()[index].name();
         let last = self.armer.last(place);
         let desk = self.shared.desk().lock(rt);
         let fault = fault_of(&desk, name, last);
         drop(desk);
         fault
-    }
-
-    // Serves the held thread at the index.
-    fn serve_index<R: Wait>(&mut self, rt: &R, index: usize) -> Receipt<N>
-        requires index { index < length self.old.held }
-        ensures { Serves self.old self.new index result.entry }
-    {
-        let job = told_job(rt, self.shared, &self.bodies[index]);
-        serve_body(rt, self.shared, &mut self.bodies[index], job)
     }
 }

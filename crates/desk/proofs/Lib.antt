@@ -10,3 +10,4 @@ pub mod ReplyLists
 pub mod RoomKept
 pub mod RoomSteps
 pub mod JobsLeft
+pub mod Listed

@@ -1,7 +1,7 @@
 //! The method table and the keeper's view, which agree.
 ghost use Rattle.std.specs.Prelude.{◌≡◌, ◌≢◌, ℕ, ◌+◌, ◌<◌, ◌≤◌, ◌^◌, [], true, false, length, Some, None, IfOk, OnOk, OnErr, IfErr, IfSome, IfNone, option_map, nat_le};
 ghost use Rattle.frames.specs.BoardViews.{slot_of, IsIn, entry_stored, not_entrant, in_state, looked_at, went_round, keeper_view};
-ghost use Rattle.frames.specs.BoardStep.{is_late};
+ghost use Rattle.frames.specs.BoardStep.{is_past};
 ghost use Rattle.frames.specs.declared.board_rule.EntryState.TheVariants.{InUse, Vacant, Zombie};
 ghost use Rattle.board.specs.Boards.{first_keeper};
 ghost use Rattle.method_table.specs.declared.Code.{Code as CodeOf};
@@ -157,7 +157,7 @@ impl<N: Name> Codes<N> {
     pub fn look(&mut self, board: &Board, serial: u64, place: usize) -> Result<bool, RetireFault>
         requires board { board.now ≡ N.board }
         requires place { place < N.board.places }
-        ensures step { IfOk result (λ late. (code : CodeOf) × IsCodeOf self.old serial code × (found : ℕ) × (self.new.keeper ≡ looked_at self.old.keeper (id_of code) place found) × (late ≡ is_late (slot_of self.old.keeper code.slot).left found)) }
+        ensures step { IfOk result (λ past. (code : CodeOf) × IsCodeOf self.old serial code × (found : ℕ) × (self.new.keeper ≡ looked_at self.old.keeper (id_of code) place found) × (past ≡ is_past (slot_of self.old.keeper code.slot).left found)) }
         ensures table { self.new.table ≡ self.old.table }
         ensures accepted { OnOk result (retire_fault (unfreed self.old.table.codes serial) ≡ None) }
         ensures refused { IfErr result (λ fault. retire_fault (unfreed self.old.table.codes serial) ≡ Some fault) }

@@ -3,7 +3,7 @@ ghost use Rattle.std.specs.Prelude.{◌≡◌, ◌==◌, ◌&&◌, ℕ, ◌+◌,
 ghost use Rattle.frames.specs.ImageView.{IsSettled};
 ghost use Rattle.frames.specs.BoardViews.{went_round, looked_at, slot_of, entry_stored, not_entrant, in_state};
 ghost use Rattle.frames.specs.declared.board_rule.EntryState.TheVariants.{Vacant};
-ghost use Rattle.frames.specs.BoardStep.{is_late};
+ghost use Rattle.frames.specs.BoardStep.{is_past};
 ghost use Rattle.method_table.specs.declared.Code.{Code as CodeOf};
 ghost use Rattle.board.specs.Boards.{first_keeper};
 ghost use Rattle.operations.specs.Asks.{reply};
@@ -38,6 +38,7 @@ use operations::job::{Done, Errand};
 use operations::queue::{Queue, Unqueued, Waiting};
 use operations::{Ask, Request};
 use std::alloc::{AllocError, Global};
+use std::collections::VecDeque;
 use std::marker::{Model, PhantomData};
 
 /// The last name and number.
@@ -357,7 +358,7 @@ impl<N: Name, J: Errand> Desk<N, J> {
             left,
             due,
             operated: false,
-            jobs,
+            jobs: VecDeque::from_vec(jobs),
         });
         Ok((number, self.log.enter(Entry::Open(number))))
     }
@@ -450,7 +451,11 @@ impl<N: Name, J: Errand> Desk<N, J> {
             jobs,
         } = self.opened.remove(place);
         self.log.give_back(left);
-        Ok((number, jobs, self.log.enter(Entry::Close(number))))
+        Ok((
+            number,
+            Vec::from(jobs),
+            self.log.enter(Entry::Close(number)),
+        ))
     }
 
     /// Enters that the open census is operated over these bodies, which are settled and those of all live names.
@@ -601,7 +606,7 @@ impl<N: Name, J: Errand> Desk<N, J> {
     pub fn look(&mut self, board: &Board, serial: u64, place: usize) -> Result<bool, RetireFault>
         requires board { board.now ≡ N.board }
         requires place { place < N.board.places }
-        ensures step { IfOk result (λ late. (code : CodeOf) × (unfreed (at self.old).table.codes serial ≡ Some code) × (found : ℕ) × (self.new.keeper ≡ looked_at self.old.keeper (id_of code) place found) × (late ≡ is_late (slot_of self.old.keeper code.slot).left found)) }
+        ensures step { IfOk result (λ past. (code : CodeOf) × (unfreed (at self.old).table.codes serial ≡ Some code) × (found : ℕ) × (self.new.keeper ≡ looked_at self.old.keeper (id_of code) place found) × (past ≡ is_past (slot_of self.old.keeper code.slot).left found)) }
         ensures book { (self.new.book ≡ self.old.book) × (self.new.slots ≡ self.old.slots) × (self.new.methods ≡ self.old.methods) }
         ensures jobs { self.new.jobs ≡ self.old.jobs }
         ensures accepted { OnOk result (retire_fault (unfreed (at self.old).table.codes serial) ≡ None) }

@@ -1,6 +1,7 @@
 //! Entries of the history, and what the desk keeps of them.
 use frames::CodeId;
 use operations::Request;
+use std::collections::VecDeque;
 
 /// A live name with its place.
 #[derive(Clone, Copy, PartialEq, Eq, Debug)]
@@ -80,5 +81,6 @@ pub struct Opened<J> {
     /// The targets that were live at the Open and have no Finish.
     pub due: Vec<u64>,
     pub operated: bool,
-    pub jobs: Vec<J>,
+    /// Those that weren't taken, in the order of the targets, in which they are taken mostly.
+    pub jobs: VecDeque<J>,
 }

@@ -17,14 +17,23 @@ use operations::queue::Queue;
 use operations::requests::TARGETS;
 use operations::{Ask, Request};
 use std::alloc::{AllocError, Global};
+use std::collections::VecDeque;
 
 /// How many handshakes are open at most.
 pub const OPEN: usize = 4;
 
-/// Where a name is live, looked for by halves: none is missed, since live names rise.
+/// Where a name is live: first tried as far behind the first as it is greater, where it stands while no thread between has left, and
+/// then looked for by halves. None is missed, since live names rise.
 pub fn found_at(live: &[Live], name: u64) -> Option<usize>
     ensures { IfSome result (λ i. (l : LiveOf) × (slice_get live.now i ≡ Some l) × (l.name ≡ name)) }
 {
+    if live.is_empty() {
+        return None;
+    }
+    let behind = name.saturating_sub(live[0].name);
+    if behind < live.len() as u64 && live[behind as usize].name == name {
+        return Some(behind as usize);
+    }
     match live.binary_search_by_key(&name, |l| l.name) {
         Ok(index) if live[index].name == name => Some(index),
         _ => None,
@@ -48,10 +57,19 @@ pub fn taken(live: &[Live], place: usize) -> bool
     live.iter().any(|l| l.place == place)
 }
 
-/// Whether a name is among these: looked for by halves, since most lists of names rise, and then one by one.
+/// Whether a name is among these: first tried as far behind the first as it is greater, where it stands in a list of threads that
+/// started one after another, then looked for by halves, since most lists of names rise, and then one by one.
+#[tactic(auto, using(operations::proofs::Names::listed_at))]
 pub fn is_among(names: &[u64], name: u64) -> bool
     ensures { result ≡ among name names.now }
 {
+    if names.is_empty() {
+        return false;
+    }
+    let behind = name.saturating_sub(names[0]);
+    if behind < names.len() as u64 && names[behind as usize] == name {
+        return true;
+    }
     names.binary_search(&name).is_ok() || names.iter().any(|x| *x == name)
 }
 
@@ -266,17 +284,38 @@ pub fn operate_at<J>(opened: &mut Vec<Opened<J>>, place: usize)
     operate(&mut opened[place]);
 }
 
-/// Whether a body has the name.
-pub fn has_body<N: Name>(bodies: &[Body<N>], name: u64) -> bool
+// Whether a body has the name.
+fn has_body<N: Name>(bodies: &[Body<N>], name: u64) -> bool
     ensures { result ≡ has_body name bodies.now }
 {
     bodies.iter().any(|b| b.name() == name)
 }
 
+// The same, first tried at an index.
+#[tactic(auto, using(crate::proofs::Listed::body_at))]
+fn has_body_at<N: Name>(bodies: &[Body<N>], index: usize, name: u64) -> bool
+    ensures { result ≡ has_body name bodies.now }
+{
+    if index < bodies.len() && bodies[index].name() == name {
+        return true;
+    }
+    has_body(bodies, name)
+}
+
+// Whether each live name has a body. Bodies that were taken in the order of the names stand as the names do.
 fn all_have<N: Name>(live: &[Live], bodies: &[Body<N>]) -> bool
     ensures { result ≡ list_all (λ l. has_body l.name bodies.now) live.now }
 {
-    live.iter().all(|l| has_body(bodies, l.name))
+    let mut rest = live;
+    let mut index: usize = 0;
+    while let Some((one, others)) = rest.split_first() {
+        if !has_body_at(bodies, index, one.name) {
+            return false;
+        }
+        rest = others;
+        index = index.saturating_add(1);
+    }
+    true
 }
 
 /// Whether the bodies are those of all live names.
@@ -307,7 +346,7 @@ pub fn names_of(live: &[Live], alloc: Global) -> Result<Vec<u64>, AllocError>
 }
 
 // Takes a job out of the list.
-fn take_of<J: Errand>(jobs: &mut Vec<J>, name: u64) -> Option<J>
+fn take_of<J: Errand>(jobs: &mut VecDeque<J>, name: u64) -> Option<J>
     ensures job { IfSome result (λ j. J.whom j ≡ name) }
     ensures some { OnSome result (among name (map J.whom jobs.old.items) ≡ true) }
     ensures none { IfNone result (among name (map J.whom jobs.old.items) ≡ false) }
@@ -315,7 +354,10 @@ fn take_of<J: Errand>(jobs: &mut Vec<J>, name: u64) -> Option<J>
 {
     for place in 0..jobs.len() {
         if jobs[place].target_of() == name {
-            return Some(jobs.remove(place));
+            match jobs.remove(place) {
+                Some(job) => return Some(job),
+                None => unreachable!(),
+            }
         }
     }
     None

@@ -9,7 +9,7 @@ use Rattle.frames.specs.declared.board_rule.EntryState.TheVariants.{InUse, Zombi
 use Rattle.frames.specs.declared.board_rule.StepMade.{StepMade}
 use Rattle.frames.specs.BoardWords.{entry_of, count_of, place_of, the_moment, rank, pack}
 use Rattle.frames.specs.BoardRule.{SlotState, SeatState, BoardState, code, code_at, total, IsStanding, IsBoardKept, counted_in, first_board}
-use Rattle.frames.specs.BoardStep.{Actor, BoardStep, SeatBecomes, SlotBecomes, is_late, seat_entered, seat_read, seat_stored, seat_counted, slot_installed, slot_invalidated, slot_looked, slot_weighed, slot_in, load_entry, store_in_use, store_not_entrant, load_moment, add_moment, store_place, add_count, sub_count, load_place, load_count, store_zombie, store_vacant}
+use Rattle.frames.specs.BoardStep.{Actor, BoardStep, SeatBecomes, SlotBecomes, is_past, seat_entered, seat_read, seat_stored, seat_counted, slot_installed, slot_invalidated, slot_looked, slot_weighed, slot_in, load_entry, store_in_use, store_not_entrant, load_moment, add_moment, store_place, add_count, sub_count, load_place, load_count, store_zombie, store_vacant}
 use Rattle.frames.proofs.Bags.{same_code-equal, same_code-refl}
 use Rattle.frames.proofs.BoardParts.{IsSeatKept, IsPairKept, IsPartsKept, HasParts, to_parts, of_parts, in_use_of}
 use Rattle.frames.proofs.BoardSteps.{total_same, total_zero, total_has, total_at_most, seat_moves, rounds, enters, ends, installs, invalidates, same_is, counts, looks, weighs, leaves}
@@ -21,8 +21,8 @@ other_index k j n m ne = let x = ne_eqb k j ne in rw x refl
 this_index : (k n m : ℕ) → cond (eqb k k) n m ≡ n
 this_index k n m = let x = eq-eqb k k refl in rw x refl
 
-late_tells : (left found : ℕ) → is_late left found ≡ true → (found ≡ 0) ⊎ (left < found)
-late_tells left found h = ⊎_elim (λ e. inl (eqb-true found 0 e)) (λ e. inr (ltb-true left found e)) (or_cases (eqb found 0) (nat_lt left found) h)
+past_tells : (left found : ℕ) → is_past left found ≡ true → (found ≡ 0) ⊎ (left < found)
+past_tells left found h = ⊎_elim (λ e. inl (eqb-true found 0 e)) (λ e. inr (ltb-true left found e)) (or_cases (eqb found 0) (nat_lt left found) h)
 
 module _ (slots places : ℕ) (old new : BoardState) where
   -- after a step of a seat
@@ -121,7 +121,7 @@ step_keeps slots places old new actor made (load_place k p low low' state loads 
     of_slot_step slots places old new k (slot_looked (old.slot k) p found) s
     (looks slots places old.word old.now old.slot old.seat k p new.word new.slot (to_parts slots places old r) low low' (ap rank state) s.others
     (ap (λ (x : SlotState). x.serial) s.mine, ap (λ (x : SlotState). x.state) s.mine, ap (λ (x : SlotState). x.left) s.mine) (ap (λ (x : SlotState). x.clear) s.mine)
-    (λ q h. ⊎_elim (λ x. let y = and_parts _ _ x in inr (eqb-true q p y.0, late_tells left found y.1)) (λ x. inl x) (or_cases _ _ (sym (ap (λ (x : SlotState). x.looked q) s.mine) ∙ h)))
+    (λ q h. ⊎_elim (λ x. let y = and_parts _ _ x in inr (eqb-true q p y.0, past_tells left found y.1)) (λ x. inl x) (or_cases _ _ (sym (ap (λ (x : SlotState). x.looked q) s.mine) ∙ h)))
     (loads the_moment tt) (λ j h. (loads (entry_of j) h, loads (count_of j) h)) (λ q h. loads (place_of q) h))
 step_keeps slots places old new actor made (load_count k low unused all loads s) r =
     of_slot_step slots places old new k (slot_weighed (old.slot k) (old.word (count_of k))) s

@@ -44,12 +44,12 @@ abbrev pub slot_invalidated : SlotState → ℕ → SlotState
 slot_invalidated s now = record { serial = s.serial; state = NotEntrant; left = now; looked = λ p. false; clear = false }
 
 -- what was found at a place lets it pass: it is vacant, or its stack was published in a moment after the invalidation
-abbrev pub is_late : ℕ → ℕ → Bool
-is_late left found = (found == 0) || nat_lt left found
+abbrev pub is_past : ℕ → ℕ → Bool
+is_past left found = (found == 0) || nat_lt left found
 
 -- a load of a place's moment
 abbrev pub slot_looked : SlotState → ℕ → ℕ → SlotState
-slot_looked s p found = record { serial = s.serial; state = s.state; left = s.left; looked = λ q. ((q == p) && is_late s.left found) || s.looked q; clear = s.clear }
+slot_looked s p found = record { serial = s.serial; state = s.state; left = s.left; looked = λ q. ((q == p) && is_past s.left found) || s.looked q; clear = s.clear }
 
 -- a load of the slot's count
 abbrev pub slot_weighed : SlotState → ℕ → SlotState

@@ -11,7 +11,7 @@ use Rattle.frames.specs.declared.board_rule.KeeperView.{KeeperView}
 use Rattle.frames.specs.declared.board_rule.SeatView.{SeatView}
 use Rattle.frames.specs.BoardWords.{pack, says_in_use, says_gone}
 use Rattle.frames.specs.BoardRule.{SlotState, SeatState}
-use Rattle.frames.specs.BoardStep.{is_late}
+use Rattle.frames.specs.BoardStep.{is_past}
 
 -- how often a bag has a code: the newest entry of the code says it
 abbrev pub how_often : List (CodeId × ℕ) → CodeId → ℕ
@@ -127,7 +127,7 @@ with_place true p xs = p ∷ xs
 with_place false p xs = xs
 
 abbrev pub slot_with_look : SlotView → ℕ → ℕ → SlotView
-slot_with_look s p found = record { serial = s.serial; state = s.state; left = s.left; looked = with_place (is_late s.left found) p s.looked; clear = s.clear }
+slot_with_look s p found = record { serial = s.serial; state = s.state; left = s.left; looked = with_place (is_past s.left found) p s.looked; clear = s.clear }
 
 -- a load of a place's moment
 abbrev pub looked_at : KeeperView → CodeId → ℕ → ℕ → KeeperView

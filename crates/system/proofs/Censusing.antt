@@ -45,16 +45,16 @@ use Rattle.system.specs.Stands.{Matches, SamePlace, DoesIn, Does, kept_at, walk_
 use Rattle.system.proofs.Outcomes.{asked, with_operated}
 use Rattle.system.proofs.Lists.{all_at, find_place}
 use Rattle.system.proofs.Logs.{operations_next}
-use Rattle.system.proofs.Codings.{accepted_in, refused_does}
-use Rattle.system.proofs.Marks.{threads_has, live_has}
+use Rattle.system.proofs.CodeEvents.{accepted_in, refused_does}
+use Rattle.system.proofs.SoundMarks.{threads_has, live_has}
 use Rattle.system.proofs.Seats.{there_of}
 use Rattle.system.proofs.Table.{code_serial}
 use Rattle.system.proofs.Images.{is_settled_by, counted_none}
 use Rattle.system.proofs.Safely.{index_is}
 use Rattle.system.proofs.Requesting.{Rerequests, IsOfRequests, asked_live, sizes_stay, among_names, names_stay}
-use Rattle.system.proofs.Marking.{operated_own}
+use Rattle.system.proofs.ThreeNumbers.{operated_own}
 use Rattle.system.proofs.Pairs.{Oldest, oldest_of, none_open}
-use Rattle.system.proofs.Codings.{unstood}
+use Rattle.system.proofs.CodeEvents.{unstood}
 
 none_of : (o : Option CodeId) → is_none o ≡ true → o ≡ None
 none_of None h = refl

@@ -41,9 +41,9 @@ use Rattle.system.proofs.Table.{code_serial}
 use Rattle.system.proofs.Images.{left_is_new}
 use Rattle.system.proofs.Frames.{same_is, same_refl, next_left}
 use Rattle.system.proofs.Found.{put_back}
-use Rattle.system.proofs.Acting.{SameRest, SameOthers, counted_matches, length_set, walk_seat}
-use Rattle.system.proofs.Acted.{became, refused_in, act_quiet, act_elsewhere, timed}
-use Rattle.system.proofs.Plain.{nowhere, vacant, seat, at_place, accepted_in}
+use Rattle.system.proofs.AfterAct.{SameRest, SameOthers, counted_matches, length_set, walk_seat}
+use Rattle.system.proofs.ByAct.{became, refused_in, act_quiet, act_elsewhere, timed}
+use Rattle.system.proofs.PlainActs.{nowhere, vacant, seat, at_place, accepted_in}
 use Rattle.system.proofs.Slots.{takes, two_slots}
 use Rattle.system.proofs.Seats.{get_set_same, get_set_other}
 use Rattle.system.proofs.Lists.{same_at}

@@ -30,13 +30,13 @@ use Rattle.system.specs.Tells.{is_held_for, is_clear_at, is_over_at}
 use Rattle.system.specs.Opening.{place_of}
 use Rattle.system.proofs.Lists.{any_at, any_none_at, all_at, remove_one, find_place, position_found, position_none, filter_at, same_at}
 use Rattle.system.proofs.Outcomes.{asked, without_opened}
-use Rattle.system.proofs.ByCases.{empty_of}
+use Rattle.system.proofs.CaseOfEvent.{empty_of}
 use Rattle.system.proofs.Numbers.{only_number}
 use Rattle.system.proofs.Logs.{operations_next, opened_over}
-use Rattle.system.proofs.Codings.{accepted_in, refused_in, none_some}
-use Rattle.system.proofs.Marks.{threads_at, threads_has, live_has, among_live}
-use Rattle.system.proofs.Plain.{nowhere, vacant, seat, at_place}
-use Rattle.system.proofs.Marking.{fewer_own}
+use Rattle.system.proofs.CodeEvents.{accepted_in, refused_in, none_some}
+use Rattle.system.proofs.SoundMarks.{threads_at, threads_has, live_has, among_live}
+use Rattle.system.proofs.PlainActs.{nowhere, vacant, seat, at_place}
+use Rattle.system.proofs.ThreeNumbers.{fewer_own}
 use Rattle.system.proofs.Pairs.{BothFound, pairs_of, find_pairs, pair_at, empty_same, opens_remove}
 use Rattle.system.proofs.Requesting.{Rerequests, IsOfRequests, asked_matches, sizes_stay, among_names, names_stay}
 

@@ -36,11 +36,11 @@ use Rattle.system.proofs.Cells.{cells_over}
 use Rattle.system.proofs.Outcomes.{seated}
 use Rattle.system.proofs.Frames.{part_settled}
 use Rattle.system.proofs.Logs.{IsQuiet, moments_next, records_next, opened_over, quiet_names, quiet_moment, quiet_operations}
-use Rattle.system.proofs.Hereof.{poll_here}
-use Rattle.system.proofs.Acting.{SameRest, places_set, length_set, seated_matches}
-use Rattle.system.proofs.Acted.{act_quiet, act_elsewhere, refused_in, timed}
-use Rattle.system.proofs.Plain.{nowhere, vacant, seat, at_place, accepted_in, here_yes}
-use Rattle.system.proofs.Marked.{unless_yes}
+use Rattle.system.proofs.KeptOfThread.{poll_here}
+use Rattle.system.proofs.AfterAct.{SameRest, places_set, length_set, seated_matches}
+use Rattle.system.proofs.ByAct.{act_quiet, act_elsewhere, refused_in, timed}
+use Rattle.system.proofs.PlainActs.{nowhere, vacant, seat, at_place, accepted_in, here_yes}
+use Rattle.system.proofs.AddedMarks.{unless_yes}
 
 -- what counts nothing leaves the counts as they are
 walk_empty : (places : List (Option Thread)) (p : ℕ) (t : Thread) (code : CodeId) → slice_get places p ≡ Some (Some t) → part code t ≡ 0 → sum_by (part_at code) (slice_set places p None) ≡ sum_by (part_at code) places

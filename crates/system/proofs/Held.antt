@@ -10,7 +10,7 @@ use Rattle.system.specs.Log.{names_given}
 use Rattle.system.specs.Laws.{HeldIsSafe}
 use Rattle.system.proofs.Outcomes.{Stands, begun, changed_by, ended, entered, moved, held, released}
 use Rattle.method_table.specs.Codes.{id_of}
-use Rattle.system.proofs.Cases.{Cases}
+use Rattle.system.proofs.EventCases.{Cases}
 use Rattle.system.proofs.Seats.{Each, each_some, each_none}
 
 -- Each held thread is safe, by place.

@@ -15,7 +15,7 @@ use Rattle.system.specs.Log.{Entry, is_ask, is_round, names_given, operations_gi
 use Rattle.system.specs.Step.{operated_if}
 use Rattle.system.specs.Facts.{WasOpened, NumbersAreSound}
 use Rattle.system.proofs.Outcomes.{newly_opened, Opens}
-use Rattle.system.proofs.Cases.{Cases}
+use Rattle.system.proofs.EventCases.{Cases}
 use Rattle.system.proofs.Lists.{map_at, map_length, push_at, push_length, filter_at, filter_less, filter_pair, at_low, any_none_at, same_at}
 use Rattle.system.proofs.Frames.{count_cons}
 use Rattle.system.proofs.Threads.{started_more}

@@ -20,13 +20,13 @@ use Rattle.system.specs.Facts.{WasOpened, NumbersAreSound}
 use Rattle.system.specs.Safepoints.{is_accepted, IsNext}
 use Rattle.system.specs.Ran.{open_in, name_in, OperationsRunAtMostOnce}
 use Rattle.system.proofs.Outcomes.{Stands, begun, changed_by, ended, entered, moved, held, released, newly_opened, Opens, Operates, Closes}
-use Rattle.system.proofs.Cases.{Cases}
-use Rattle.system.proofs.ByCases.{by_cases}
+use Rattle.system.proofs.EventCases.{Cases}
+use Rattle.system.proofs.CaseOfEvent.{by_cases}
 use Rattle.system.proofs.Twice.{in_steps}
 use Rattle.system.proofs.Seats.{Each, each_some, each_none, each_other, each_start, there_of}
 use Rattle.system.proofs.Lists.{map_at, push_at, push_length, filter_at}
 use Rattle.system.proofs.Numbers.{operated_number, asked_more}
-use Rattle.system.proofs.Marks.{marked_old, marked_new, only_open, first_open}
+use Rattle.system.proofs.SoundMarks.{marked_old, marked_new, only_open, first_open}
 use Rattle.system.proofs.Safely.{handshakes_run}
 use Rattle.system.proofs.Sound.{IsKept, kept, kept_start, kept_after}
 

@@ -12,11 +12,11 @@ use Rattle.system.specs.Places.{popped}
 use Rattle.system.specs.Step.{new_thread, operated_if}
 use Rattle.system.specs.Facts.{NumbersAreSound, MarksAreSound, OperatedIsTold}
 use Rattle.system.proofs.Outcomes.{Stands, Starts, Operates, begun, changed_by, ended, entered, moved, held, released, newly_opened}
-use Rattle.system.proofs.Cases.{Cases}
+use Rattle.system.proofs.EventCases.{Cases}
 use Rattle.system.proofs.Seats.{each_some, each_none}
 use Rattle.system.proofs.Lists.{map_at, push_at, filter_at, any_none_at, all_at}
 use Rattle.system.proofs.Numbers.{operated_number, operated_request}
-use Rattle.system.proofs.Marks.{threads_has, only_open, first_open, marked_old}
+use Rattle.system.proofs.SoundMarks.{threads_has, only_open, first_open, marked_old}
 
 -- A thread that keeps its name at a place.
 seated_told : (w : World) (p : ℕ) (t u : Thread) → OperatedIsTold w.places w.requests → Stands w p t → u.name ≡ t.name → OperatedIsTold (slice_set w.places p (Some u)) w.requests

@@ -18,10 +18,10 @@ use Rattle.system.specs.Stands.{Matches, DoesIn, Does}
 use Rattle.system.proofs.Lists.{map_length}
 use Rattle.system.proofs.Table.{table_kept}
 use Rattle.system.proofs.Threads.{threads_kept}
-use Rattle.system.proofs.ByCases.{by_cases}
+use Rattle.system.proofs.CaseOfEvent.{by_cases}
 use Rattle.system.proofs.Twice.{found_in_use, free_between, place_of, between, between_is}
-use Rattle.system.proofs.Codings.{Recodes, IsOfCodes, accepted_in, coded_matches, installed_cells, installed_records, installs, world_slot, same_some}
-use Rattle.system.proofs.Reclaiming.{left}
+use Rattle.system.proofs.CodeEvents.{Recodes, IsOfCodes, accepted_in, coded_matches, installed_cells, installed_records, installs, world_slot, same_some}
+use Rattle.system.proofs.ReclaimEvents.{left}
 
 is_install : (method n : ℕ) → IsOfCodes (event.Install method) (answer.Code n)
 is_install method n = record { starts_none = refl; asks_none = refl; rounds_none = refl; elsewhere = λ place. record { starts_not = refl; begins_not = refl; ends_not = refl } }

@@ -36,12 +36,12 @@ use Rattle.system.specs.Stands.{Matches, SamePlaces, SameRecord, SameRecords, Sa
 use Rattle.system.proofs.Cells.{cells_stay}
 use Rattle.system.proofs.Lists.{map_length}
 use Rattle.system.proofs.Outcomes.{asked, with_request, newly_opened, with_opened, Opens}
-use Rattle.system.proofs.ByCases.{opens_of}
-use Rattle.system.proofs.Marking.{fewer_own, opened_own}
+use Rattle.system.proofs.CaseOfEvent.{opens_of}
+use Rattle.system.proofs.ThreeNumbers.{fewer_own, opened_own}
 use Rattle.system.proofs.Pairs.{empty_same, any_same, same_length, opens_push}
 use Rattle.system.proofs.Logs.{IsElsewhere, names_next, operations_next, moment_next, left_next, looked_next, moments_next, place_over, opened_over}
-use Rattle.system.proofs.Codings.{accepted_in, answered_as, none_some, refused_does, same_some}
-use Rattle.system.proofs.Marks.{among_live}
+use Rattle.system.proofs.CodeEvents.{accepted_in, answered_as, none_some, refused_does, same_some}
+use Rattle.system.proofs.SoundMarks.{among_live}
 
 -- A system that differs in its requests alone.
 pub record Rerequests (s t : Core) : Type 0 where

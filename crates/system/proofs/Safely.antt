@@ -26,11 +26,11 @@ use Rattle.system.specs.World.{World, start_world, found, threads, part_at, cens
 use Rattle.system.specs.Runs.{world_after}
 use Rattle.system.specs.Safepoints.{is_accepted, IsSettled, IsNext, FinishesSafely, OperatesSafely, HandshakesRunAtSafePoints, CensusesRunAtSafepoints}
 use Rattle.system.proofs.Outcomes.{asked, seated, moved, with_done, Finishes, Operates, is_move}
-use Rattle.system.proofs.Cases.{Cases}
-use Rattle.system.proofs.ByCases.{by_cases}
+use Rattle.system.proofs.EventCases.{Cases}
+use Rattle.system.proofs.CaseOfEvent.{by_cases}
 use Rattle.system.proofs.Lists.{all_at, any_at, find_before, same_at, at_low}
 use Rattle.system.proofs.Frames.{settled_quiet, settled_is, part_settled}
-use Rattle.system.proofs.Marks.{threads_has, first_open}
+use Rattle.system.proofs.SoundMarks.{threads_has, first_open}
 use Rattle.system.proofs.Seats.{there_of}
 use Rattle.system.proofs.Sound.{IsKept, kept_start, kept_after}
 

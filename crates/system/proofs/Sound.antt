@@ -15,15 +15,15 @@ use Rattle.method_table.specs.Codes.{id_of}
 use Rattle.system.specs.Places.{popped}
 use Rattle.system.specs.Step.{new_thread}
 use Rattle.system.proofs.Outcomes.{begun, changed_by, ended, entered, moved, held, released}
-use Rattle.system.proofs.Cases.{Cases}
-use Rattle.system.proofs.ByCases.{Simple, by_cases}
+use Rattle.system.proofs.EventCases.{Cases}
+use Rattle.system.proofs.CaseOfEvent.{Simple, by_cases}
 use Rattle.system.proofs.Twice.{in_steps}
 use Rattle.system.proofs.Frames.{act_length}
 use Rattle.system.proofs.Held.{AreSafe, safe_kept}
 use Rattle.system.proofs.Table.{table_kept, table_start}
 use Rattle.system.proofs.Threads.{threads_kept, threads_start}
 use Rattle.system.proofs.Numbers.{numbers_kept, numbers_start}
-use Rattle.system.proofs.Marks.{marks_kept, marks_start}
+use Rattle.system.proofs.SoundMarks.{marks_kept, marks_start}
 use Rattle.system.proofs.Operated.{operated_kept, operated_start}
 use Rattle.system.proofs.Seats.{each_start}
 

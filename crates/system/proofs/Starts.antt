@@ -31,26 +31,25 @@ use Rattle.system.specs.Memory.{Accepts}
 use Rattle.system.specs.Keeps.{IsNew}
 use Rattle.system.specs.Marking.{SameMarks, SameOpened, SameOpens}
 use Rattle.system.specs.Censuses.{has_census}
-use Rattle.system.specs.Steps.{vacant_kept}
 use Rattle.system.specs.Stands.{Matches, SamePlace, SameAt, Does, walk_of, kept_at, held_at}
 use Rattle.system.proofs.Cells.{cells_over}
 use Rattle.system.proofs.Outcomes.{seated}
 use Rattle.system.proofs.Logs.{IsElsewhere, names_next, operations_next, moment_next, moments_next}
-use Rattle.system.proofs.Acting.{places_set, length_set}
+use Rattle.system.proofs.AfterAct.{places_set, length_set}
 use Rattle.system.proofs.Pairs.{any_same, opens_over}
-use Rattle.system.proofs.Plain.{nowhere, vacant, seat, at_place, accepted_in}
+use Rattle.system.proofs.PlainActs.{nowhere, vacant, seat, at_place, accepted_in}
 
 -- the least vacant place, in range and vacant
-pub vacant_there : (ks : List (Option Kept)) (p : ℕ) → vacant_kept ks ≡ Some p → slice_get ks p ≡ Some None
+pub vacant_there : (ks : List (Option Kept)) (p : ℕ) → vacant_place ks ≡ Some p → slice_get ks p ≡ Some None
 vacant_there [] p e = cc
 vacant_there (None ∷ ks) p e = (let is : 0 ≡ p = cc in subst (λ n. slice_get (None ∷ ks) n ≡ Some None) is refl)
-vacant_there (Some k ∷ ks) p e = by (vacant_kept ks) refl e (vacant_there ks)
+vacant_there (Some k ∷ ks) p e = by (vacant_place ks) refl e (vacant_there ks)
   where
-    by : (o : Option ℕ) → vacant_kept ks ≡ o → option_map (λ n. 1 + n) o ≡ Some p → ((q : ℕ) → vacant_kept ks ≡ Some q → slice_get ks q ≡ Some None) → slice_get (Some k ∷ ks) p ≡ Some None
+    by : (o : Option ℕ) → vacant_place ks ≡ o → option_map (λ n. 1 + n) o ≡ Some p → ((q : ℕ) → vacant_place ks ≡ Some q → slice_get ks q ≡ Some None) → slice_get (Some k ∷ ks) p ≡ Some None
     by None f h rest = cc
     by (Some q) f h rest = (let is : suc q ≡ p = (let j : 1 + q ≡ p = cc in omega (arith, j)) in subst (λ n. slice_get (Some k ∷ ks) n ≡ Some None) is (rest q f))
 
-pub vacant_low : (ks : List (Option Kept)) (p : ℕ) → vacant_kept ks ≡ Some p → p < length ks
+pub vacant_low : (ks : List (Option Kept)) (p : ℕ) → vacant_place ks ≡ Some p → p < length ks
 vacant_low ks p e = within ks p (vacant_there ks p e)
   where
     within : (xs : List (Option Kept)) (i : ℕ) → slice_get xs i ≡ Some None → i < length xs
@@ -59,7 +58,7 @@ vacant_low ks p e = within ks p (vacant_there ks p e)
     within (x ∷ xs) (suc i) h = let l = within xs i h in omega arith
 
 -- and it is the world's
-same_vacant : (ks : List (Option Kept)) (ts : List (Option Thread)) → length ks ≡ length ts → ((p : ℕ) → is_some (held_at (slice_get ks p)) ≡ is_some (found (slice_get ts p))) → vacant_kept ks ≡ vacant_place ts
+same_vacant : (ks : List (Option Kept)) (ts : List (Option Thread)) → length ks ≡ length ts → ((p : ℕ) → is_some (held_at (slice_get ks p)) ≡ is_some (found (slice_get ts p))) → vacant_place ks ≡ vacant_place ts
 same_vacant [] [] len each = refl
 same_vacant [] (t ∷ ts) len each = absurd (omega arith)
 same_vacant (k ∷ ks) [] len each = absurd (omega arith)
@@ -74,7 +73,7 @@ both_some w p (Some k) (Some t) h = refl
 both_some w p None (Some t) h = absurd h
 both_some w p (Some k) None h = absurd h
 
-pub vacant_is : (s : Core) (w : World) → Matches s w → vacant_kept s.places.items ≡ vacant_place w.places
+pub vacant_is : (s : Core) (w : World) → Matches s w → vacant_place s.places.items ≡ vacant_place w.places
 vacant_is s w m = same_vacant s.places.items w.places m.places.lengths (λ p. both_some w p (kept_at s.places.items p) (thread_at w p) (m.places.each p))
 
 -- a safepoint is open
@@ -207,14 +206,14 @@ started_matches s new w p name kept m sound k is there =
     }
 
 -- the place of the system is vacant in the world
-world_vacant : (s : Core) (w : World) (p : ℕ) → Matches s w → vacant_kept s.places.items ≡ Some p → slice_get w.places p ≡ Some None
+world_vacant : (s : Core) (w : World) (p : ℕ) → Matches s w → vacant_place s.places.items ≡ Some p → slice_get w.places p ≡ Some None
 world_vacant s w p m e = elim (at_place s w p m) [
   | nowhere f x ↦ (let bad : None ≡ Some None = sym f ∙ vacant_there s.places.items p e in cc)
   | vacant f x ↦ x
   | seat kept t f x same ↦ (let bad : Some (Some kept) ≡ Some None = sym f ∙ vacant_there s.places.items p e in cc)
 ]
 
-pub refused_full : (s : Core) → has_census s.requests.opens ≡ false → vacant_kept s.places.items ≡ None → Does event.Start s (answer.Refused PlacesFull) s
+pub refused_full : (s : Core) → has_census s.requests.opens ≡ false → vacant_place s.places.items ≡ None → Does event.Start s (answer.Refused PlacesFull) s
 refused_full s safe none = record {
   each = λ w sound m. (
       let quiet : is_safepoint w.requests ≡ false = safepoint_is s.requests.opens w.requests.opened w m.opened ∙ safe in
@@ -237,7 +236,7 @@ spent_test n h = grind (arith, nat_tests)
 room_test : (n : ℕ) → n < last_number → nat_lt n last_number ≡ true
 room_test n h = grind (arith, nat_tests)
 
-pub refused_spent : (s : Core) (p : ℕ) → has_census s.requests.opens ≡ false → vacant_kept s.places.items ≡ Some p → last_number ≤ s.names → Does event.Start s (answer.Refused Spent) s
+pub refused_spent : (s : Core) (p : ℕ) → has_census s.requests.opens ≡ false → vacant_place s.places.items ≡ Some p → last_number ≤ s.names → Does event.Start s (answer.Refused Spent) s
 refused_spent s p safe some spent = record {
   each = λ w sound m. (
       let quiet : is_safepoint w.requests ≡ false = safepoint_is s.requests.opens w.requests.opened w m.opened ∙ safe in
@@ -247,7 +246,7 @@ refused_spent s p safe some spent = record {
   sizes = record { places = refl; slots = refl; methods = refl };
 }
 
-pub start_does : (s new : Core) (p name : ℕ) (kept : Kept) → has_census s.requests.opens ≡ false → vacant_kept s.places.items ≡ Some p → s.names < last_number → name ≡ s.names + 1 → Started s new p name kept → Does event.Start s (answer.Thread name p) new
+pub start_does : (s new : Core) (p name : ℕ) (kept : Kept) → has_census s.requests.opens ≡ false → vacant_place s.places.items ≡ Some p → s.names < last_number → name ≡ s.names + 1 → Started s new p name kept → Does event.Start s (answer.Thread name p) new
 start_does s new p name kept safe some room next k = record {
   each = λ w sound m. (
       let quiet : is_safepoint w.requests ≡ false = safepoint_is s.requests.opens w.requests.opened w m.opened ∙ safe in
@@ -263,7 +262,7 @@ start_does s new p name kept safe some room next k = record {
   };
 }
 
-pub may_start : (s : Core) (p : ℕ) → has_census s.requests.opens ≡ false → vacant_kept s.places.items ≡ Some p → s.names < last_number → Accepts s event.Start
+pub may_start : (s : Core) (p : ℕ) → has_census s.requests.opens ≡ false → vacant_place s.places.items ≡ Some p → s.names < last_number → Accepts s event.Start
 may_start s p safe some room = λ w sound m. (
     let quiet : is_safepoint w.requests ≡ false = safepoint_is s.requests.opens w.requests.opened w m.opened ∙ safe in
     let place : vacant_place w.places ≡ Some p = sym (vacant_is s w m) ∙ some in

@@ -12,7 +12,7 @@ use Rattle.system.specs.World.{World}
 use Rattle.system.specs.Facts.{IsGiven, TableIsSound}
 use Rattle.system.proofs.Lists.{map_at, push_at, push_length, map_length, same_at, found_passes, find_place, find_none_at, find_map, find_push, any_none_at, below_low}
 use Rattle.system.proofs.Outcomes.{IsCode, Installs}
-use Rattle.system.proofs.Cases.{Cases}
+use Rattle.system.proofs.EventCases.{Cases}
 
 -- A code in another state keeps all else.
 pub in_state_serial : (s : ℕ) (state : CodeState) (k : Code) → (in_state s state k).serial ≡ k.serial

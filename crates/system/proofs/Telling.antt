@@ -31,13 +31,13 @@ use Rattle.system.proofs.Outcomes.{Tells}
 use Rattle.system.proofs.Lists.{any_at, any_none_at, find_filter, find_place, found_passes}
 use Rattle.system.proofs.Found.{put_back}
 use Rattle.system.proofs.Logs.{IsQuiet, IsElsewhere, moments_next, noted_matches}
-use Rattle.system.proofs.Acting.{SameRest, length_set}
-use Rattle.system.proofs.Acted as acted
-use Rattle.system.proofs.Serving.{added_matches}
-use Rattle.system.proofs.Marked.{told_other}
-use Rattle.system.proofs.Marking.{same_open, told_own}
-use Rattle.system.proofs.Codings.{accepted_in}
-use Rattle.system.proofs.Marks.{among_live, live_has}
+use Rattle.system.proofs.AfterAct.{SameRest, length_set}
+use Rattle.system.proofs.ByAct as acted
+use Rattle.system.proofs.FinishAndClear.{added_matches}
+use Rattle.system.proofs.AddedMarks.{told_other}
+use Rattle.system.proofs.ThreeNumbers.{same_open, told_own}
+use Rattle.system.proofs.CodeEvents.{accepted_in}
+use Rattle.system.proofs.SoundMarks.{among_live, live_has}
 use Rattle.system.proofs.Pairs.{Pairs, BothFound, pairs_of, any_pairs, find_pairs, any_same, empty_same}
 use Rattle.system.proofs.Requesting.{among_names}
 use Rattle.system.proofs.Closing.{Both, both_kept, both_there, live_is, refused_does}

@@ -21,7 +21,7 @@ use Rattle.system.specs.Places.{popped}
 use Rattle.system.specs.Step.{new_thread}
 use Rattle.system.specs.Facts.{IsGiven, ThreadIsSound, ThreadsAreSound}
 use Rattle.system.proofs.Outcomes.{Stands, begun, changed_by, ended, entered, moved, held, released, Enters}
-use Rattle.system.proofs.Cases.{Cases}
+use Rattle.system.proofs.EventCases.{Cases}
 use Rattle.system.proofs.Seats.{get_set_same, get_set_other, each_some, each_none, each_start}
 use Rattle.system.proofs.Frames.{same_is, count_cons, act_push, act_take, take_less, next_left}
 use Rattle.system.proofs.Lists.{push_length}

@@ -17,7 +17,7 @@ use Rattle.system.specs.World.{World}
 use Rattle.system.specs.Runs.{after, answer_to}
 use Rattle.system.specs.Facts.{TableIsSound}
 use Rattle.system.proofs.Lists.{map_at, map_length, find_place, found_passes, at_low, same_at}
-use Rattle.system.proofs.ByCases.{Simple, each_kind}
+use Rattle.system.proofs.CaseOfEvent.{Simple, each_kind}
 use Rattle.system.proofs.Table.{in_state_here, one_place}
 
 -- The code that is found is the one of its serial.

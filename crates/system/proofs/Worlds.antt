@@ -7,8 +7,8 @@ use Rattle.system.specs.World.{World, start_world}
 use Rattle.system.specs.Runs.{world_after}
 use Rattle.system.specs.Facts.{FramesAreSound, LogIsSound, IsSound, WorldsAreSound}
 use Rattle.system.proofs.Sound.{IsKept, kept_after, kept_start, counts_sound, same_sizes}
-use Rattle.system.proofs.Reclaim.{IsReclaimed, is_unused}
-use Rattle.system.proofs.Reclaimed.{reclaimed, covered_is}
+use Rattle.system.proofs.ReclaimInvariant.{IsReclaimed, is_unused}
+use Rattle.system.proofs.NoRetiredStands.{reclaimed, covered_is}
 
 frames_sound : (w : World) → IsReclaimed w.places w.codes w.log → FramesAreSound w
 frames_sound w h = record {

@@ -1,10 +1,7 @@
 -- What the system keeps of a thread, against the thread of the definitions.
 use Rattle.std.specs.Prelude.{◌≡◌, ℕ, Bool, true, false, not, ◌&&◌, ◌||◌, ◌==◌, List, [], ◌∷◌, Option, Some, None, Result, Ok, Err, is_some, find, length, nat_lt, nat_le, if◌then◌else◌}
 use Rattle.std.specs.List.{list_any}
-use Rattle.thread_state.specs.declared.State.{State}
 use Rattle.thread_state.specs.declared.State.TheVariants.{New}
-use Rattle.thread_state.specs.declared.Move.TheVariants as move
-use Rattle.thread_state.specs.States.{step, may_publish, may_cross, is_in_java, is_in_vm, is_serving}
 use Rattle.frames.specs.declared.CodeId.{CodeId}
 use Rattle.frames.specs.Stack.{times}
 use Rattle.frames.specs.declared.Change.{Change as CodeChange}
@@ -15,7 +12,7 @@ use Rattle.system.specs.declared.thread.Moments.{Moments}
 use Rattle.system.specs.declared.thread.Thread.{Thread as Kept}
 use Rattle.system.specs.declared.requests.Open.{Open}
 use Rattle.system.specs.declared.events.Act.{Act}
-use Rattle.system.specs.declared.events.Act.TheVariants.{Begin, Change, End, Wake, Cross, Enter, Leave, Edge, ToVm, FromVm, ToNative, Block, Exit, Take, Finish, Clear, Stack}
+use Rattle.system.specs.declared.events.Act.TheVariants.{Begin, Change, End, Exit, Finish, Clear, Stack}
 use Rattle.system.specs.declared.answers.Answer.{Answer}
 use Rattle.system.specs.declared.answers.Answer.TheVariants.{Changed, NoChange, Exited, Told, Gone, Refused}
 use Rattle.system.specs.declared.answers.Refusal.{Refusal}
@@ -23,7 +20,7 @@ use Rattle.system.specs.declared.answers.Refusal.TheVariants.{Illegal, Publishin
 use Rattle.system.specs.Verdict.{Verdict, refused, accepted, unless◌refuse◌then◌}
 use Rattle.system.specs.Operations.{Requests, Opened, is_marked, with_mark, poll_of}
 use Rattle.system.specs.Threads.{Thread, part}
-use Rattle.system.specs.Places.{Effect, becomes, leaves, marks, may_while_publishing, pushed}
+use Rattle.system.specs.Places.{Effect, becomes, leaves, marks, may_while_publishing, lawful_in, pushed}
 
 -- The image has the thread's stack, and counts what the thread published.
 pub record SameImage (image : ImageView) (t : Thread) : Type 0 where
@@ -122,24 +119,6 @@ pub record IsHere (opens : List Open) (kept : Kept) (requests : Requests) (t : T
   pub thread : SameThread kept t
   pub poll : poll_of requests t.name ≡ poll_by kept.marks
   pub opened : OpenBy opens kept requests requests.opened
-
--- The states in which an act is lawful.
-abbrev pub lawful_in : Act → Bool → State → Bool
-lawful_in Begin held state = held || may_publish state
-lawful_in Wake held state = is_some (step state move.Wake)
-lawful_in Cross held state = may_cross state
-lawful_in (Enter method code) held state = is_in_java state
-lawful_in Leave held state = is_in_java state
-lawful_in Edge held state = is_in_java state
-lawful_in ToVm held state = is_some (step state move.ToVm)
-lawful_in FromVm held state = is_in_vm state
-lawful_in ToNative held state = is_some (step state move.ToNative)
-lawful_in Block held state = is_some (step state move.Block)
-lawful_in Exit held state = is_some (step state move.Exit)
-lawful_in Take held state = is_some (step state move.Take)
-lawful_in Finish held state = held || is_serving state
-lawful_in Clear held state = held || is_serving state
-lawful_in other held state = true
 
 -- The first of the tests that all acts of a thread have in common that fails.
 abbrev pub common_refusal : Kept → Act → Option Refusal

@@ -35,23 +35,26 @@ may_while_publishing End = true
 may_while_publishing Stack = true
 may_while_publishing other = false
 
--- The states in which an act is lawful. A callback runs while the thread is held or serves itself. (JEP 312)
+-- The states in which an act is lawful, of a thread that is held or isn't. A callback runs while the thread is held or serves itself. (JEP 312)
+abbrev pub lawful_in : Act → Bool → State → Bool
+lawful_in Begin held state = held || may_publish state
+lawful_in Wake held state = is_some (step state move.Wake)
+lawful_in Cross held state = may_cross state
+lawful_in (Enter method code) held state = is_in_java state
+lawful_in Leave held state = is_in_java state
+lawful_in Edge held state = is_in_java state
+lawful_in ToVm held state = is_some (step state move.ToVm)
+lawful_in FromVm held state = is_in_vm state
+lawful_in ToNative held state = is_some (step state move.ToNative)
+lawful_in Block held state = is_some (step state move.Block)
+lawful_in Exit held state = is_some (step state move.Exit)
+lawful_in Take held state = is_some (step state move.Take)
+lawful_in Finish held state = held || is_serving state
+lawful_in Clear held state = held || is_serving state
+lawful_in other held state = true
+
 abbrev pub is_lawful : Act → Thread → Bool
-is_lawful Begin t = t.held || may_publish t.state
-is_lawful Wake t = is_some (step t.state move.Wake)
-is_lawful Cross t = may_cross t.state
-is_lawful (Enter method code) t = is_in_java t.state
-is_lawful Leave t = is_in_java t.state
-is_lawful Edge t = is_in_java t.state
-is_lawful ToVm t = is_some (step t.state move.ToVm)
-is_lawful FromVm t = is_in_vm t.state
-is_lawful ToNative t = is_some (step t.state move.ToNative)
-is_lawful Block t = is_some (step t.state move.Block)
-is_lawful Exit t = is_some (step t.state move.Exit)
-is_lawful Take t = is_some (step t.state move.Take)
-is_lawful Finish t = t.held || is_serving t.state
-is_lawful Clear t = t.held || is_serving t.state
-is_lawful other t = true
+is_lawful act t = lawful_in act t.held t.state
 
 -- Where a move leads; is_lawful leaves no move without an end.
 abbrev pub to_state : Thread → Option State → Verdict Effect

@@ -87,9 +87,3 @@ frames_at (Some (Some kept)) = Frames kept.image.frames
 abbrev pub is_taken : Option (Option Kept) → Bool
 is_taken (Some (Some kept)) = true
 is_taken other = false
-
--- The least vacant place.
-abbrev pub vacant_kept : List (Option Kept) → Option ℕ
-vacant_kept [] = None
-vacant_kept (None ∷ kepts) = Some 0
-vacant_kept (Some kept ∷ kepts) = option_map (λ place. 1 + place) (vacant_kept kepts)

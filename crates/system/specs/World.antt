@@ -44,7 +44,7 @@ abbrev pub is_live_target : World → Opened → ℕ → Bool
 is_live_target w opened name = among name opened.live && is_live w name
 
 -- The least vacant place.
-abbrev pub vacant_place : List (Option Thread) → Option ℕ
+abbrev pub vacant_place : {A : Type 0} → List (Option A) → Option ℕ
 vacant_place [] = None
 vacant_place (None ∷ places) = Some 0
 vacant_place (Some t ∷ places) = option_map (λ place. 1 + place) (vacant_place places)

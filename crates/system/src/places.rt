@@ -2,7 +2,8 @@
 ghost use Rattle.std.specs.Prelude.{◌≡◌, ◌<◌, ◌≤◌, ℕ, List, length, Some, None, IfOk, OnErr, slice_get, slice_set, true, replicate};
 ghost use Rattle.system.specs.declared.answers.Answer.TheVariants;
 ghost use Rattle.system.specs.Keeps.{is_plain};
-ghost use Rattle.system.specs.Steps.{DidAt, DidExit, DidChange, answer_here, frames_at, is_taken, vacant_kept};
+ghost use Rattle.system.specs.Steps.{DidAt, DidExit, DidChange, answer_here, frames_at, is_taken};
+ghost use Rattle.system.specs.World.{vacant_place};
 
 use crate::answers::{Answer, FrameList, Refusal};
 use crate::events::Act;
@@ -99,7 +100,7 @@ pub fn stack_at(
 
 /// The least vacant place.
 pub fn vacant_place(places: &[Option<Thread>]) -> Option<usize>
-    ensures { result ≡ vacant_kept places.now }
+    ensures { result ≡ vacant_place places.now }
 {
     for (place, thread) in places.iter().enumerate() {
         if thread.is_none() {

@@ -9,7 +9,7 @@ ghost use Rattle.system.specs.Threads as threads;
 ghost use Rattle.system.specs.World.{World};
 ghost use Rattle.system.specs.Places as acts;
 ghost use Rattle.system.specs.declared.events.Act.TheVariants as TheActs;
-ghost use Rattle.system.specs.Keeps.{SameThread, IsHere, Did, DidWith, DidStay, DidNext, SaysExit, IsNew, enters_frame, frame_refusal, poll_by, common_refusal, lawful_in, is_plain, is_live_for, was_told, is_done, told_by, undone_by, uncleared_by, awaited_by, live_by, untold_by, is_asked, idle_refusal, answer_told, kept_told};
+ghost use Rattle.system.specs.Keeps.{SameThread, IsHere, Did, DidWith, DidStay, DidNext, SaysExit, IsNew, enters_frame, frame_refusal, poll_by, common_refusal, is_plain, is_live_for, was_told, is_done, told_by, undone_by, uncleared_by, awaited_by, live_by, untold_by, is_asked, idle_refusal, answer_told, kept_told};
 
 use crate::answers::{Answer, Refusal};
 use crate::events::Act;
@@ -533,7 +533,7 @@ fn may_while_publishing(act: Act) -> bool
 
 // The states in which an act is lawful.
 fn is_lawful(act: Act, held: bool, state: State) -> bool
-    ensures { result ≡ lawful_in act held state }
+    ensures { result ≡ acts.lawful_in act held state }
 {
     match act {
         Act::Begin => held || may_publish(state),

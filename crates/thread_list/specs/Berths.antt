@@ -28,6 +28,16 @@ pub record Moved : Type 0 where
 abbrev pub moved : BodyView → BodyAct → Moved
 moved body act = record { body = body; act = act }
 
+-- how a body went into its berth, and how it came out of it after that
+pub record Outed : Type 0 where
+  pub given : Moved
+  pub out : Moved
+
+-- of a stop's turns the first, which is the last where there was one alone
+abbrev pub first_of : Option Outed → Outed → Outed
+first_of None last = last
+first_of (Some first) last = first
+
 -- the body of this name and place went so
 abbrev pub Went : ℕ → ℕ → BodyAct → Moved → Type 0
 Went place name act m = (m.act ≡ act) × (m.body.name ≡ name) × (m.body.seat.place ≡ place)

@@ -12,7 +12,7 @@ use Rattle.operations.specs.declared.Ask.{Ask}
 use Rattle.operations.specs.Asks.{reply}
 use Rattle.desk.specs.declared.entries.Entry.{Entry}
 use Rattle.desk.specs.Machine.{Stands}
-use Rattle.thread_list.specs.Berths.{Moved, moved, Went}
+use Rattle.thread_list.specs.Berths.{Moved, moved, Outed, Went}
 use Rattle.thread_list.specs.declared.room.BodyAct.TheVariants.{Settled, Given, Resumed, Served, Vacated}
 use Rattle.thread_list.specs.declared.polls.Poll.{Poll}
 use Rattle.thread_list.specs.declared.polls.Poll.TheVariants.{Go, Stop}
@@ -117,9 +117,25 @@ IsTurn place name out None after = Went place name (Served 0) out × IsPublished
 IsTurn place name out (Some r) after
     = (number : ℕ) × (ask : Ask) × (0 < number) × Went place name (Served number) out × (r.entry ≡ Entry.Finish number name (reply ask out.body.image.frames)) × IsServed number out.body after
 
--- A turn after which a poll let the thread go on.
-abbrev pub IsLastTurn : ℕ → ℕ → Moved → Option Stands → BodyView → Type 0
-IsLastTurn place name out finish new = (after : BodyView) × IsTurn place name out finish after × (new ≡ as_polled after 0)
+-- A thread that has stopped, behind a turn: how its body went in its first turn and in its last, what it entered there, and the body.
+pub record Stopping : Type 0 where
+  pub first : Outed
+  pub last : Outed
+  pub finish : Option Stands
+  pub body : BodyView
+
+-- Behind a turn that began with this body.
+abbrev pub TakesTurn : BodyView → Stopping → Type 0
+TakesTurn before t = (t.last.given ≡ moved before Given) × IsTurn before.seat.place before.name t.last.out t.finish t.body
+
+-- A body of the same thread, which has ended a publication.
+abbrev pub SameBody : BodyView → BodyView → Type 0
+SameBody old new = (new.name ≡ old.name) × (new.seat.place ≡ old.seat.place) × (new.seat.stored ≢ 0)
+
+-- A turn, in which a body of the thread went into its berth, and after which a poll let the thread go on.
+abbrev pub IsLastTurn : ℕ → ℕ → Outed → Option Stands → BodyView → Type 0
+IsLastTurn place name last finish new
+    = (after : BodyView) × Went place name Given last.given × IsTurn place name last.out finish after × (new ≡ as_polled after 0)
 
 -- The body in hand went into its berth.
 abbrev pub Gives : Running → Running → Type 0
@@ -139,10 +155,15 @@ ComesBack body new from said
 abbrev pub IsResumed : Running → Type 0
 IsResumed new = Went new.place new.name Resumed new.crossed
 
+-- The thread goes on with the body that came out of its berth for its last turn.
+abbrev pub HasServed : ℕ → ℕ → Moved → BodyView → Type 0
+HasServed place name out body
+    = (given : Moved) × (finish : Option Stands) × IsLastTurn place name (record { given = given; out = out }) finish body
+
 -- The body came out of its berth for its thread to go on, and a poll let it; or it came out to serve, and a poll after that did.
 abbrev pub GoesOn : ℕ → ℕ → Moved → BodyView → Type 0
 GoesOn place name out body
-    = (Went place name Resumed out × (body ≡ as_polled out.body 0)) ⊎ ((finish : Option Stands) × IsLastTurn place name out finish body)
+    = (Went place name Resumed out × (body ≡ as_polled out.body 0)) ⊎ HasServed place name out body
 
 -- A thread that has started goes on with the body that came out of its berth.
 abbrev pub IsStarted : Running → BodyView → Type 0
@@ -155,4 +176,13 @@ IsVacated place name m = Went place name Vacated m × (m.body.image.frames ≡ [
 -- A thread that served and whose stack has frames then goes on with the body that came out of its berth.
 abbrev pub IsKept : ℕ → ℕ → Moved → Option BodyView → Type 0
 IsKept place name out None = true ≡ false
-IsKept place name out (Some body) = (finish : Option Stands) × IsLastTurn place name out finish body
+IsKept place name out (Some body) = HasServed place name out body
+
+-- A place was given up with a publication of this body.
+abbrev pub IsGivenUp : Option BodyView → Moved → Type 0
+IsGivenUp None m = true ≡ false
+IsGivenUp (Some body) m = IsPublished body m.body
+
+-- A place was given up with a publication of the body that the thread had after this turn, in which it served.
+abbrev pub IsGivenUpAfter : ℕ → ℕ → Outed → Option Stands → Moved → Type 0
+IsGivenUpAfter place name last finish m = (after : BodyView) × IsLastTurn place name last finish after × IsPublished after m.body

@@ -4,7 +4,7 @@ ghost use Rattle.frames.specs.ImageView.{IsCounted};
 ghost use Rattle.thread_list.specs.Berths.{acted, moved, number_of};
 
 use crate::due::Due;
-use crate::room::{BerthAct, BerthReceipt, BodyAct, BodyReceipt, Room};
+use crate::room::{BerthAct, BerthReceipt, BodyAct, BodyReceipt, Outing, Room};
 use board::Board;
 use bodies::{Body, Name, SpareSeat};
 use operations::job::Errand;
@@ -277,25 +277,29 @@ impl<N: Name, J: Errand> Berth<N, J> {
         unreachable!()
     }
 
-    /// Takes the body of the name out, once it is here and no census keeps it, with its oldest job.
+    /// Takes the body that its thread gave out again, once it is here and no census keeps it, with its oldest job.
     pub fn serve<R: Wait>(
         &self,
         rt: &R,
-        name: u64,
         place: usize,
-    ) -> (Body<N>, Option<Due<J>>, BodyReceipt<N>)
-        ensures body { (result.0.name ≡ name) × (0 < result.0.name) × (result.0.seat.place ≡ place) × (result.0.seat.stored ≢ 0) }
-        ensures job { IfSome result.1 (λ j. (J.whom j ≡ name) × (0 < J.number j)) }
-        ensures receipt { result.2 ≡ moved result.0 (BodyAct.Served (number_of J.number result.1)) }
+        given: BodyReceipt<N>,
+    ) -> (Body<N>, Option<Due<J>>, Outing<N>)
+        ensures body { (result.0.name ≡ given.body.name) × (0 < result.0.name) × (result.0.seat.place ≡ place) × (result.0.seat.stored ≢ 0) }
+        ensures job { IfSome result.1 (λ j. (J.whom j ≡ given.body.name) × (0 < J.number j)) }
+        ensures outing { (result.2.given ≡ given) × (result.2.out ≡ moved result.0 (BodyAct.Served (number_of J.number result.1))) }
     {
+        let mut given = given;
         for _ in rt.forever() {
             let mut room = self.room.lock(rt);
             if room.place() == place {
-                if let Some(served) = room.serve(name) {
-                    let wanted = room.has_sleepers();
-                    drop(room);
-                    self.ring(wanted);
-                    return served;
+                match room.serve(given) {
+                    Ok(served) => {
+                        let wanted = room.has_sleepers();
+                        drop(room);
+                        self.ring(wanted);
+                        return served;
+                    }
+                    Err(back) => given = back,
                 }
             }
             room.note_sleeper(true);

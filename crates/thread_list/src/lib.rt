@@ -20,6 +20,7 @@ mod room;
 mod serving;
 mod shared;
 mod starts;
+mod turns;
 mod waits;
 
 pub use berth::Berth;
@@ -27,7 +28,8 @@ pub use due::Due;
 pub use mutator::{CallFault, Mutator, ReturnFault};
 pub use parts::{MOST_METHODS, MOST_PLACES, MOST_SLOTS, Parts, PartsFault};
 pub use polls::{Poll, poll_of};
-pub use room::{BerthAct, BerthReceipt, BodyAct, BodyReceipt, Holder, Room};
-pub use serving::{Turn, serve, served};
+pub use room::{BerthAct, BerthReceipt, BodyAct, BodyReceipt, Holder, Outing, Room};
+pub use serving::{serve, served};
 pub use shared::{Exited, Shared};
+pub use turns::Turn;
 pub use waits::ExitFault;

@@ -62,6 +62,31 @@ impl<N: Name> BodyReceipt<N> {
     }
 }
 
+/// That the body which a thread gave to its berth came out of it to serve: the receipts of both, which belong together. Only a room
+/// makes one, where it takes the first of them for the body, and it can't be copied.
+#[derive(Drop)]
+pub struct Outing<N: Name> {
+    given: BodyReceipt<N>,
+    out: BodyReceipt<N>,
+}
+
+impl<N: Name> Model for Outing<N> {
+    ghost use Rattle.thread_list.specs.Berths.{Outed};
+
+    ghost Value = { Outed };
+
+    ghost view = { λ o. record { given = o.given; out = o.out } };
+}
+
+impl<N: Name> Outing<N> {
+    /// The receipt that the body came out.
+    pub fn out(self) -> BodyReceipt<N>
+        ensures { result ≡ self.out }
+    {
+        self.out
+    }
+}
+
 fn moved_by<N: Name>(body: &Body<N>, act: BodyAct) -> BodyReceipt<N>
     ensures { result ≡ moved body.now act }
 {
@@ -331,26 +356,32 @@ impl<N: Name, J: Errand> Room<N, J> {
         }
     }
 
-    /// The body of the name comes out to serve, with its oldest job. It stays where it was told a census that isn't operated.
-    pub fn serve(&mut self, name: u64) -> Option<(Body<N>, Option<Due<J>>, BodyReceipt<N>)>
-        ensures receipt { IfSome result (λ r. r.2 ≡ moved r.0 (BodyAct.Served (number_of J.number r.1))) }
-        ensures body { IfSome result (λ r. (self.old.holder ≡ IsAtHome r.0) × (r.0.name ≡ name) × (0 < r.0.name) × (r.0.seat.place ≡ self.old.place) × (r.0.seat.stored ≢ 0) × (self.old.mark ≡ 0)) }
-        ensures job { IfSome result (λ r. IfSome r.1 (λ j. (J.whom j ≡ name) × (0 < J.number j) × (self.old.jobs ≡ told_of J.number J.whom j ∷ self.new.jobs))) }
-        ensures no_job { IfSome result (λ r. IfNone r.1 ((self.old.jobs ≡ []) × (self.new.jobs ≡ []))) }
-        ensures left { IfSome result (λ r. self.new ≡ record self.old { holder = IsOut name; jobs = self.new.jobs }) }
-        ensures none { IfNone result ((self.new ≡ self.old) × (self.old.mark ≡ 0 → (b : _) → self.old.holder ≡ IsAtHome b → b.name ≢ name)) }
+    /// The body that its thread gave comes out to serve, with its oldest job. It stays, and the receipt comes back, where its thread was
+    /// told a census that isn't operated.
+    pub fn serve(
+        &mut self,
+        given: BodyReceipt<N>,
+    ) -> Result<(Body<N>, Option<Due<J>>, Outing<N>), BodyReceipt<N>>
+        ensures outing { IfOk result (λ r. (r.2.given ≡ given) × (r.2.out ≡ moved r.0 (BodyAct.Served (number_of J.number r.1)))) }
+        ensures body { IfOk result (λ r. (self.old.holder ≡ IsAtHome r.0) × (r.0.name ≡ given.body.name) × (0 < r.0.name) × (r.0.seat.place ≡ self.old.place) × (r.0.seat.stored ≢ 0) × (self.old.mark ≡ 0)) }
+        ensures job { IfOk result (λ r. IfSome r.1 (λ j. (J.whom j ≡ given.body.name) × (0 < J.number j) × (self.old.jobs ≡ told_of J.number J.whom j ∷ self.new.jobs))) }
+        ensures no_job { IfOk result (λ r. IfNone r.1 ((self.old.jobs ≡ []) × (self.new.jobs ≡ []))) }
+        ensures left { IfOk result (λ r. self.new ≡ record self.old { holder = IsOut given.body.name; jobs = self.new.jobs }) }
+        ensures err { IfErr result (λ g. (g ≡ given) × (self.new ≡ self.old) × (self.old.mark ≡ 0 → (b : _) → self.old.holder ≡ IsAtHome b → b.name ≢ given.body.name)) }
     {
         if self.mark != 0 {
-            return None;
+            return Err(given);
         }
-        let body = self.take_out(name)?;
+        let Some(body) = self.take_out(given.name()) else {
+            return Err(given);
+        };
         if self.jobs.is_empty() {
-            let receipt = moved_by(&body, BodyAct::Served(0));
-            return Some((body, None, receipt));
+            let out = moved_by(&body, BodyAct::Served(0));
+            return Ok((body, None, Outing { given, out }));
         }
         let job = self.jobs.remove(0);
-        let receipt = moved_by(&body, BodyAct::Served(job.op_of()));
-        Some((body, Some(Due::new(job)), receipt))
+        let out = moved_by(&body, BodyAct::Served(job.op_of()));
+        Ok((body, Some(Due::new(job)), Outing { given, out }))
     }
 
     /// The oldest job of the name, whose body is out.

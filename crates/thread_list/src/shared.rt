@@ -15,6 +15,7 @@ ghost use Rattle.desk.specs.Refusals.{ask_refused, install_refused};
 use crate::berth::Berth;
 use crate::hints::Hints;
 use crate::room::{BodyAct, BodyReceipt};
+use crate::turns::Turn;
 use board::Board;
 use bodies::{Body, Name};
 use desk::{CodeFault, Desk, NotLive, Receipt, Refused, live_names_rise};
@@ -53,9 +54,11 @@ impl<N: Name, J: Errand> Model for Shared<N, J> {
     ghost invariant = { λ s. (s.board ≡ N.board) × (s.row ≡ N.poll_row) × (length s.berths.items ≡ N.board.places) × AreInOrder s.berths.items × (s.hints.slots ≡ N.board.slots) };
 }
 
-/// The receipts of a thread that is gone: that its berth gave its place up, and of the entry of its exit.
+/// The receipts of a thread that is gone: of the last stop in which it served before, that its berth gave its place up, and of the
+/// entry of its exit.
 #[derive(Drop)]
 pub struct Exited<N: Name> {
+    pub served: Option<Turn<N>>,
     pub vacated: BodyReceipt<N>,
     pub exit: Receipt<N>,
 }
@@ -231,9 +234,14 @@ impl<N: Name, J: Errand> Shared<N, J> {
     }
 
     /// Enters that a thread exits whose berth gave its place up.
-    pub fn leave<R: Wait>(&self, rt: &R, vacated: BodyReceipt<N>) -> Exited<N>
+    pub fn leave<R: Wait>(
+        &self,
+        rt: &R,
+        vacated: BodyReceipt<N>,
+        served: Option<Turn<N>>,
+    ) -> Exited<N>
         requires { vacated.act ≡ BodyAct.Vacated }
-        ensures vacated { result.vacated ≡ vacated }
+        ensures vacated { (result.vacated ≡ vacated) × (result.served ≡ served) }
         ensures exit { result.exit.entry ≡ Entry.Exit vacated.body.name }
     {
         let name = vacated.name();
@@ -241,7 +249,11 @@ impl<N: Name, J: Errand> Shared<N, J> {
             let gone = self.desk.lock(rt).exit(name);
             if let Ok(exit) = gone {
                 self.finished.notify_all();
-                return Exited { vacated, exit };
+                return Exited {
+                    served,
+                    vacated,
+                    exit,
+                };
             }
             thread::yield_now();
         }

@@ -64,7 +64,7 @@ impl<N: Name, J: Errand> Shared<N, J> {
             return (body, resumed);
         }
         let (body, turn) = served(rt, self, body);
-        (body, turn.out)
+        (body, turn.last.out())
     }
 
     // Enters the start of the next name, where there is an image for it.

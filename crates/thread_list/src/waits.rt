@@ -1,22 +1,23 @@
 //! What a thread calls that may wait for others: it gives its body away and gets it back.
-ghost use Rattle.std.specs.Prelude.{◌≡◌, ◌≢◌, ◌<◌, ◌==◌, ◌⊎◌, [], ℕ, true, false, Some, None, IfOk, OnOk, IfErr, length};
-ghost use Rattle.thread_list.specs.Berths.{moved};
+ghost use Rattle.std.specs.Prelude.{◌≡◌, ◌≢◌, ◌<◌, ◌==◌, ◌⊎◌, [], ℕ, true, false, Some, None, IfOk, OnOk, IfErr, IfSome, IfNone, length};
+ghost use Rattle.thread_list.specs.Berths.{moved, first_of, Went};
 ghost use Rattle.frames.specs.ImageView.{IsSettled};
-ghost use Rattle.bodies.specs.Bodies.{BodyView};
+ghost use Rattle.bodies.specs.Bodies.{BodyView, IsPublished};
 ghost use Rattle.thread_state.specs.declared.Back.{Back as WayBack};
 ghost use Rattle.thread_state.specs.declared.State.TheVariants.{InJava as IsInJava, InVm as IsInVm, InNative as IsInNative, Blocked as IsBlocked, NativeTrans as IsNativeTrans, BlockedTrans as IsBlockedTrans, AtPoll as IsAtPoll, Serving as IsServing};
 ghost use Rattle.thread_state.specs.declared.Move.TheVariants as movement;
 ghost use Rattle.thread_state.specs.States as table;
 ghost use Rattle.desk.specs.declared.entries.Entry.{Entry};
 ghost use Rattle.thread_list.specs.declared.polls.Poll.TheVariants.{Go as GoesOn};
-ghost use Rattle.thread_list.specs.Moves.{SameThread, ComesBack, GoesBack, Gives, IsResumed, IsTurn, IsLastTurn, IsVacated, IsKept, as_polled, is_running, owns};
+ghost use Rattle.thread_list.specs.Moves.{SameThread, SameBody, ComesBack, GoesBack, Gives, IsResumed, IsTurn, IsVacated, IsKept, IsGivenUp, IsGivenUpAfter, as_polled, is_running, owns};
 ghost use Rattle.thread_list.specs.Refused.{exit_refused, HasNoFrame};
 
 use crate::mutator::{Mutator, is_running};
 use crate::polls::{Poll, poll_of};
 use crate::room::{BodyAct, BodyReceipt};
-use crate::serving::{Turn, served};
+use crate::serving::served;
 use crate::shared::{Exited, Shared};
+use crate::turns::Turn;
 use bodies::{Body, Name};
 use operations::job::Errand;
 use std::sync::Wait;
@@ -102,11 +103,10 @@ impl<'a, N: Name, J: Errand> Mutator<'a, N, J> {
     }
 
     /// After a poll that answered Stop: the thread stops, serves what it was told, and goes on where its last poll goes on. A thread
-    /// that isn't at a poll is refused with its state. Answers the receipts that its body went into its berth, and of the last turn in
-    /// which it served.
+    /// that isn't at a poll is refused with its state. Answers the receipts of its first turn and of its last.
     pub fn stop<R: Wait>(&mut self, rt: &R) -> Result<Turn<N>, State>
-        ensures given { IfOk result (λ turn. (before : BodyView) × (self.old.body ≡ Some before) × (turn.given ≡ moved before BodyAct.Given)) }
-        ensures ok { IfOk result (λ turn. (back : WayBack) × (after : BodyView) × (self.old.state ≡ IsAtPoll back) × IsTurn self.old.place self.old.name turn.out turn.finish after × ComesBack after self.new (IsServing back) GoesOn) }
+        ensures given { IfOk result (λ turn. (before : BodyView) × (self.old.body ≡ Some before) × ((first_of turn.first turn.last).given ≡ moved before BodyAct.Given)) }
+        ensures ok { IfOk result (λ turn. (back : WayBack) × (after : BodyView) × (self.old.state ≡ IsAtPoll back) × Went self.old.place self.old.name BodyAct.Given turn.last.given × IsTurn self.old.place self.old.name turn.last.out turn.finish after × ComesBack after self.new (IsServing back) GoesOn) }
         ensures same { SameThread self.old self.new }
         ensures err { IfErr result (λ s. (s ≡ self.old.state) × ((back : WayBack) → s ≢ IsAtPoll back) × (self.new ≡ self.old)) }
     {
@@ -164,6 +164,8 @@ impl<'a, N: Name, J: Errand> Mutator<'a, N, J> {
     pub fn exit<R: Wait>(self, rt: &R) -> Result<Exited<N>, (ExitFault, Mutator<'a, N, J>)>
         ensures exited { IfOk result (λ r. (r.exit.entry ≡ Entry.Exit self.entry.name) × (is_running self.entry.state ≡ true) × HasNoFrame self.entry.body) }
         ensures vacated { IfOk result (λ r. IsVacated self.entry.place self.entry.name r.vacated) }
+        ensures at_once { IfOk result (λ r. IfNone r.served (IsGivenUp self.entry.body r.vacated)) }
+        ensures after { IfOk result (λ r. IfSome r.served (λ turn. IsGivenUpAfter self.entry.place self.entry.name turn.last turn.finish r.vacated)) }
         ensures refused { IfErr result (λ e. ((e.1 ≡ self.entry) × exit_refused self.entry e.0) ⊎ ((is_running self.entry.state ≡ true) × HasNoFrame self.entry.body × (e.0 ≡ ExitFault.StackNotEmpty) × (e.1.state ≡ IsInJava) × SameThread self.entry e.1 × exit_refused e.1 e.0 × IsKept self.entry.place self.entry.name e.1.crossed e.1.body)) }
     {
         if !is_running(self.state) {
@@ -183,7 +185,7 @@ impl<'a, N: Name, J: Errand> Mutator<'a, N, J> {
         } = self;
         let Some(body) = body else { unreachable!() };
         match vacate(rt, shared, body) {
-            Ok(vacated) => Ok(shared.leave(rt, vacated)),
+            Ok((vacated, served)) => Ok(shared.leave(rt, vacated, served)),
             Err((body, crossed)) => {
                 let back = Mutator {
                     shared,
@@ -211,31 +213,35 @@ impl<'a, N: Name, J: Errand> Mutator<'a, N, J> {
     }
 }
 
-// Publishes an empty stack and gives the place up, after all that was told is served. The body comes back where it has frames then,
-// with the receipt that it came out to serve.
+// Publishes an empty stack and gives the place up, after all that was told is served. Answers the receipt of that, and those of the last
+// stop in which it served. The body comes back where it has frames then, with the receipt that it came out to serve.
 fn vacate<N: Name, J: Errand, R: Wait>(
     rt: &R,
     shared: &Shared<N, J>,
     body: Body<N>,
-) -> Result<BodyReceipt<N>, (Body<N>, BodyReceipt<N>)>
+) -> Result<(BodyReceipt<N>, Option<Turn<N>>), (Body<N>, BodyReceipt<N>)>
     requires body { (body.seat.stored ≢ 0) × (0 < body.name) }
     requires empty { body.image.frames ≡ [] }
-    ensures vacated { IfOk result (IsVacated body.seat.place body.name) }
-    ensures same { IfErr result (λ b. (b.0.name ≡ body.name) × (b.0.seat.place ≡ body.seat.place) × (b.0.seat.stored ≢ 0)) }
+    ensures vacated { IfOk result (λ r. IsVacated body.seat.place body.name r.0) }
+    ensures at_once { IfOk result (λ r. IfNone r.1 (IsPublished body r.0.body)) }
+    ensures after { IfOk result (λ r. IfSome r.1 (λ turn. IsGivenUpAfter body.seat.place body.name turn.last turn.finish r.0)) }
+    ensures same { IfErr result (λ b. SameBody body b.0) }
     ensures kept { IfErr result (λ b. IsKept body.seat.place body.name b.1 (Some b.0)) }
     ensures frames { IfErr result (λ b. 0 < length b.0.image.frames) }
 {
     let mut body = body;
+    let mut last = None;
     for _ in rt.forever() {
         body.publish(shared.board());
         match shared.berth_of(&body).exit(rt, body, shared.board()) {
-            Ok(vacated) => return Ok(vacated),
+            Ok(vacated) => return Ok((vacated, last)),
             Err(back) => {
                 let (back, turn) = served(rt, shared, back);
                 if back.depth() > 0 {
-                    return Err((back, turn.out));
+                    return Err((back, turn.last.out()));
                 }
                 body = back;
+                last = Some(turn);
             }
         }
     }

@@ -15,7 +15,7 @@ use Rattle.system.specs.declared.answers.Refusal.{Refusal}
 use Rattle.system.specs.declared.answers.Refusal.TheVariants.{Spent}
 use Rattle.frames.specs.BoardWords.{entry_of, count_of, place_of, pack, says_in_use}
 use Rattle.frames.specs.BoardRule.{SlotState}
-use Rattle.frames.specs.BoardStep.{is_late}
+use Rattle.frames.specs.BoardStep.{is_past}
 use Rattle.method_table.specs.Codes.{id_of, code_of}
 use Rattle.method_table.proofs.Searches.{below_found}
 use Rattle.system.specs.Threads.{Thread}
@@ -25,8 +25,8 @@ use Rattle.system.specs.Verdict.{accepted, unless◌refuse◌then◌}
 use Rattle.system.specs.World.{World, start_world, walk}
 use Rattle.system.specs.Runs.{answer_of, answer_to, world_after}
 use Rattle.system.proofs.Outcomes.{is_move, Enters, Misses, Looks, FindsUnlooked, FindsUsed, Retires}
-use Rattle.system.proofs.Cases.{Cases}
-use Rattle.system.proofs.ByCases.{by_cases, each_kind}
+use Rattle.system.proofs.EventCases.{Cases}
+use Rattle.system.proofs.CaseOfEvent.{by_cases, each_kind}
 use Rattle.tie.specs.BoardOf.{word_by, slot_at}
 use Rattle.tie.specs.Answers.{IsLeastUnlooked, IsReadOff, AnswersAreReadOff, RoundsReadTheMoment}
 use Rattle.tie.proofs.Tied.{IsReached, reached}
@@ -48,7 +48,7 @@ entry_gone : (w : World) (p : ℕ) (t : Thread) (method serial : ℕ) (j : Code)
 entry_gone w p t method serial j h i k is = subst (λ (x : Code). says_in_use (word_by w (entry_of x.slot)) (id_of x) ≡ false) (same_found w serial j k i.code_is is)
     (ne_eqb (word_by w (entry_of j.slot)) (pack j.serial entry.InUse) (λ e. (let more = word_more w p t method serial j h i in omega arith)))
 
-place_says : (w : World) (serial p : ℕ) (j : Code) (b : Bool) → IsReached w → Looks w serial p j b → (k : Code) → code_of w.codes serial ≡ Some k → is_late (slot_at w k.slot).left (word_by w (place_of p)) ≡ b
+place_says : (w : World) (serial p : ℕ) (j : Code) (b : Bool) → IsReached w → Looks w serial p j b → (k : Code) → code_of w.codes serial ≡ Some k → is_past (slot_at w k.slot).left (word_by w (place_of p)) ≡ b
 place_says w serial p j b h i k is = sym (by_words w h serial p k is (ap (λ (x : Code). x.state) (same_found w serial k j is (code_here w serial j NotEntrant h i.code_is)) ∙ i.code_is.state_is)) ∙ i.covered_is
 
 count_used : (w : World) (serial : ℕ) (j : Code) → IsReached w → FindsUsed w serial j → (k : Code) → code_of w.codes serial ≡ Some k → (word_by w (count_of k.slot) ≡ walk w (id_of j)) × (walk w (id_of j) ≢ 0)

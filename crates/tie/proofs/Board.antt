@@ -24,8 +24,8 @@ use Rattle.system.proofs.Seats.{there_of}
 use Rattle.system.proofs.Table.{code_serial}
 use Rattle.system.proofs.Sound.{counts_sound}
 use Rattle.system.proofs.Moments.{ended_at, left_by, begun_by, ended_by, end_is}
-use Rattle.system.proofs.Reclaim.{is_unused, IsThread}
-use Rattle.system.proofs.ReclaimKept.{left_in}
+use Rattle.system.proofs.ReclaimInvariant.{is_unused, IsThread}
+use Rattle.system.proofs.ReclaimSteps.{left_in}
 use Rattle.method_table.specs.Entries.{entry_state, newest_in}
 use Rattle.tie.specs.BoardOf.{slot_by, slot_at, stands_in, is_given, is_missed, seat_by, seat_at, board_of, BoardsKeepTheRule}
 use Rattle.tie.proofs.Slots.{newest_code, newest_of, newer_than}

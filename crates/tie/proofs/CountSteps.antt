@@ -20,7 +20,7 @@ use Rattle.system.specs.Facts.{IsLive}
 use Rattle.system.specs.Moments.{begun, published_at, publishing_at, is_fresh}
 use Rattle.system.proofs.Outcomes.{changed_by, seated, difference, Changes}
 use Rattle.system.proofs.Frames.{same_is, same_refl, act_length, next_left}
-use Rattle.system.proofs.Reclaim.{IsThread}
+use Rattle.system.proofs.ReclaimInvariant.{IsThread}
 use Rattle.method_table.specs.Entries.{newest_in}
 use Rattle.tie.specs.BoardOf.{stands_in, is_given, is_missed, seat_by, seat_at, word_by, slot_at, slot_by, board_of}
 use Rattle.tie.specs.Steps.{GoesBy, of_thread, for_code, count_by, change_steps}

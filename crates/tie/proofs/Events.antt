@@ -23,8 +23,8 @@ use Rattle.system.specs.Step.{new_thread, code_or_none}
 use Rattle.system.specs.Runs.{after, answer_to, world_after}
 use Rattle.system.specs.Moments.{begun, ended, is_fresh}
 use Rattle.system.proofs.Outcomes.{noted, asked, seated, entered, moved, held, released, is_move, with_done, with_cleared, with_told, with_request, with_opened, with_operated, without_opened, Stands, Starts}
-use Rattle.system.proofs.Cases.{Cases}
-use Rattle.system.proofs.ByCases.{Simple, by_cases, each_kind}
+use Rattle.system.proofs.EventCases.{Cases}
+use Rattle.system.proofs.CaseOfEvent.{Simple, by_cases, each_kind}
 use Rattle.system.proofs.Lists.{map_length}
 use Rattle.system.proofs.Table.{unfreed_code}
 use Rattle.system.proofs.Twice.{between, between_is, between_said, found_in_use, free_between, none_then, twice}

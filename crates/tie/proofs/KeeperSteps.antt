@@ -22,7 +22,7 @@ use Rattle.system.specs.Moments.{invalidated, left_at, is_fresh}
 use Rattle.system.proofs.Outcomes.{noted, coded, IsCode}
 use Rattle.system.proofs.Table.{in_state_slot, in_state_here, in_state_other, code_with_state, unfreed_code, unfreed_takes}
 use Rattle.system.proofs.Moments.{moment_step}
-use Rattle.system.proofs.Reclaim.{is_unused}
+use Rattle.system.proofs.ReclaimInvariant.{is_unused}
 use Rattle.method_table.specs.Entries.{entry_state, newest_in}
 use Rattle.tie.specs.BoardOf.{slot_by, slot_at, stands_in, is_given, is_missed, seat_by, seat_at, word_by, board_of}
 use Rattle.tie.specs.Steps.{Made, GoesBy, of_keeper, for_code}

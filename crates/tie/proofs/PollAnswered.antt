@@ -18,8 +18,8 @@ use Rattle.system.specs.Runs.{answer_to, world_after}
 use Rattle.system.specs.Safepoints.{is_accepted}
 use Rattle.method_table.specs.Codes.{in_use_for}
 use Rattle.system.proofs.Outcomes.{Stands, Moves, ByMove, ByPoll, Clears, move_of, is_move}
-use Rattle.system.proofs.Cases.{Cases}
-use Rattle.system.proofs.ByCases.{by_cases, each_kind}
+use Rattle.system.proofs.EventCases.{Cases}
+use Rattle.system.proofs.CaseOfEvent.{by_cases, each_kind}
 use Rattle.system.proofs.Worlds.{worlds_are_sound}
 use Rattle.tie.specs.PollRow.{row_of, armed_at, uncleared_at, cleared_at, clears_next, load, step_of, polls_of}
 use Rattle.tie.specs.PollAnswers.{said_by, IsAnswered, PollsAnswerTheirWords, is_poll, PollsLoadTheirWord}

@@ -13,7 +13,7 @@ use Rattle.system.specs.Log.{Entry, names_given, operations_given}
 use Rattle.system.specs.World.{found}
 use Rattle.system.specs.Ran.{name_in}
 use Rattle.system.proofs.Seats.{Each, each_some, each_none, get_set_same, get_set_other}
-use Rattle.system.proofs.Marking.{waits}
+use Rattle.system.proofs.ThreeNumbers.{waits}
 use Rattle.tie.specs.PollRow.{word_of, armed_at, uncleared_at, cleared_at}
 use Rattle.tie.proofs.PollLog.{IsElsewhere, IsSilent, elsewhere, armed_rests, uncleared_rests, cleared_rests, names_rest, name_rests}
 

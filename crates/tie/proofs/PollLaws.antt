@@ -13,7 +13,7 @@ use Rattle.system.specs.Operations.{greatest, no_requests}
 use Rattle.system.specs.World.{World, thread_at, found, start_world}
 use Rattle.system.specs.Runs.{after, world_after}
 use Rattle.system.proofs.Outcomes.{noted}
-use Rattle.system.proofs.ByCases.{Simple, by_cases, each_kind}
+use Rattle.system.proofs.CaseOfEvent.{Simple, by_cases, each_kind}
 use Rattle.system.proofs.Twice.{between, over, twice}
 use Rattle.system.proofs.Seats.{each_start}
 use Rattle.system.proofs.Worlds.{worlds_are_sound}

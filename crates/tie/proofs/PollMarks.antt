@@ -8,7 +8,7 @@ use Rattle.system.specs.Threads.{Thread}
 use Rattle.system.specs.Operations.{Mark, is_marked, with_mark, greatest}
 use Rattle.system.specs.World.{threads}
 use Rattle.tie.specs.PollRow.{place_of}
-use Rattle.system.proofs.Marking.{waits, AtMost, max_least, max_here}
+use Rattle.system.proofs.ThreeNumbers.{waits, AtMost, max_least, max_here}
 
 pub or_later : (x y : Bool) → y ≡ true → (x || y) ≡ true
 or_later true y h = refl

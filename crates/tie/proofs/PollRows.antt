@@ -23,11 +23,11 @@ use Rattle.system.specs.Step.{new_thread, operated_if, code_or_none}
 use Rattle.system.specs.Facts.{IsSound}
 use Rattle.system.specs.Ran.{name_in}
 use Rattle.system.proofs.Outcomes.{difference, Stands, begun, changed_by, ended, entered, moved, held, released, is_move, noted, seated, asked, with_done, with_cleared, with_told, with_request, newly_opened, with_opened, with_operated, without_opened, Starts, Tells, Clears, Opens, Exits}
-use Rattle.system.proofs.Cases.{Cases}
+use Rattle.system.proofs.EventCases.{Cases}
 use Rattle.system.proofs.Seats.{each_some}
 use Rattle.system.proofs.Lists.{map_at, push_at, push_length, filter_at}
 use Rattle.system.proofs.Numbers.{operated_number, operated_live, asked_more}
-use Rattle.system.proofs.Marks.{live_has, marked_old}
+use Rattle.system.proofs.SoundMarks.{live_has, marked_old}
 use Rattle.system.proofs.Threads.{started_more}
 use Rattle.tie.specs.PollRow.{armed_at, uncleared_at, cleared_at, cleared_before, clears, place_of}
 use Rattle.tie.proofs.PollMarks.{waits_none, greatest_none}

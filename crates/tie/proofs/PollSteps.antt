@@ -23,7 +23,7 @@ use Rattle.system.specs.Step.{new_thread, code_or_none}
 use Rattle.system.specs.Facts.{IsSound}
 use Rattle.system.specs.Safepoints.{is_accepted}
 use Rattle.system.proofs.Outcomes.{Leaves, Moves, ByMove, ByPoll, seated, noted, asked, difference, begun, changed_by, ended, entered, moved, held, released, is_move, with_done, with_cleared, with_told, with_request, with_opened, with_operated, without_opened, Tells, Clears}
-use Rattle.system.proofs.Cases.{Cases}
+use Rattle.system.proofs.EventCases.{Cases}
 use Rattle.tie.specs.PollRow.{armed_at, uncleared_at, cleared_at, tells, clears, told_before, cleared_before, clears_next, word_of, row_of, number_of, place_of, load, exchange, store, step_of, polls_of, IsPolled}
 use Rattle.tie.proofs.PollLog.{IsElsewhere, armed_rests, uncleared_rests, cleared_rests}
 use Rattle.tie.proofs.PollMarks.{greatest_first}

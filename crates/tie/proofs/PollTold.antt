@@ -18,7 +18,7 @@ use Rattle.system.specs.Ran.{name_in}
 use Rattle.system.specs.Places.{is_uncleared}
 use Rattle.system.proofs.Outcomes.{Tells, Clears, with_told, with_cleared}
 use Rattle.system.proofs.Lists.{find_before, filter_has, filter_pair, same_at}
-use Rattle.system.proofs.Marks.{marked_old, marked_new}
+use Rattle.system.proofs.SoundMarks.{marked_old, marked_new}
 use Rattle.tie.specs.PollRow.{tells, clears, armed_at, uncleared_at, cleared_at, place_of}
 use Rattle.tie.proofs.PollMarks.{or_later, among_left, waits_has, waits_only, waits_told, waits_told_other, waits_cleared, waits_cleared_other, StandsThere, stands_there}
 use Rattle.tie.proofs.PollLog.{IsElsewhere}

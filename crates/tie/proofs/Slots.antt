@@ -15,7 +15,7 @@ use Rattle.system.specs.Facts.{TableIsSound}
 use Rattle.system.proofs.Outcomes.{IsCode, Installs}
 use Rattle.system.proofs.Lists.{map_at, push_at, at_low, same_at, found_passes, find_place, any_none_at, below_low}
 use Rattle.system.proofs.Table.{in_state_slot, in_state_other, unfreed_code, unfreed_takes}
-use Rattle.system.proofs.Reclaimed.{code_at}
+use Rattle.system.proofs.NoRetiredStands.{code_at}
 
 -- It is the code of its serial, in its slot.
 pub newest_code : (slots methods : ℕ) (codes : List Code) → TableIsSound slots methods codes → (slot : ℕ) (k : Code) → newest_in codes slot ≡ Some k → (code_of codes k.serial ≡ Some k) × (k.slot ≡ slot) × (slot < slots) × (k.serial < length codes + 1)

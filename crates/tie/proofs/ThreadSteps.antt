@@ -16,9 +16,9 @@ use Rattle.system.specs.Log.{moment}
 use Rattle.system.specs.World.{World, found, part_at, thread_at}
 use Rattle.system.specs.Moments.{begun, ended, published_at, publishing_at, is_fresh}
 use Rattle.system.proofs.Outcomes.{Stands, begun as with_begun, ended as with_ended, seated, Acts, Ends, Exits}
-use Rattle.system.proofs.ByCases.{empty_of}
+use Rattle.system.proofs.CaseOfEvent.{empty_of}
 use Rattle.system.proofs.Frames.{none_left, part_quiet, part_settled}
-use Rattle.system.proofs.Reclaim.{IsThread}
+use Rattle.system.proofs.ReclaimInvariant.{IsThread}
 use Rattle.tie.specs.BoardOf.{is_given, is_missed, seat_by, seat_at, board_of}
 use Rattle.tie.specs.Steps.{Made, GoesBy, of_thread}
 use Rattle.tie.proofs.Tied.{IsReached}

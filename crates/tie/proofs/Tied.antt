@@ -28,14 +28,14 @@ use Rattle.system.specs.Runs.{after, world_after}
 use Rattle.system.specs.Facts.{may_stand, TableIsSound}
 use Rattle.system.specs.Moments.{is_fresh}
 use Rattle.system.proofs.Outcomes.{IsCode, Installs, difference}
-use Rattle.system.proofs.Cases.{Cases}
-use Rattle.system.proofs.ByCases.{Simple, by_cases}
+use Rattle.system.proofs.EventCases.{Cases}
+use Rattle.system.proofs.CaseOfEvent.{Simple, by_cases}
 use Rattle.system.proofs.Twice.{in_steps}
 use Rattle.system.proofs.Lists.{find_push, find_none_at, below_has}
 use Rattle.system.proofs.Table.{code_serial, code_with_state, in_state_here, in_state_other, unfreed_code}
 use Rattle.system.proofs.Sound.{IsKept, kept, kept_start, same_sizes}
-use Rattle.system.proofs.Reclaim.{IsReclaimed}
-use Rattle.system.proofs.ReclaimKept.{NamesKnown, names_known, reclaim_kept, reclaim_start}
+use Rattle.system.proofs.ReclaimInvariant.{IsReclaimed}
+use Rattle.system.proofs.ReclaimSteps.{NamesKnown, names_known, reclaim_kept, reclaim_start}
 use Rattle.tie.specs.BoardOf.{is_missed}
 use Rattle.tie.proofs.Slots.{OldAreFreed, freed_installed, freed_restated}
 use Rattle.tie.proofs.Quiet.{unseen_fresh, unseen_missed, move_unseen}

@@ -16,7 +16,7 @@ use Rattle.system.specs.declared.answers.Answer.{Answer}
 use Rattle.system.specs.declared.answers.Answer.TheVariants as answer
 use Rattle.frames.specs.BoardWords.{entry_of, count_of, pack}
 use Rattle.frames.specs.BoardRule.{SlotState, BoardState, code, code_at, IsBoardKept}
-use Rattle.frames.specs.BoardStep.{BoardStep, keeper, is_late, slot_installed, slot_looked, slot_weighed, slot_in, store_in_use, load_place, load_count, store_zombie}
+use Rattle.frames.specs.BoardStep.{BoardStep, keeper, is_past, slot_installed, slot_looked, slot_weighed, slot_in, store_in_use, load_place, load_count, store_zombie}
 use Rattle.frames.proofs.BoardLaws.{step_keeps}
 use Rattle.method_table.specs.Codes.{id_of, is_in_use, takes_slot, code_of, free_slot, next_serial, with_code, with_state}
 use Rattle.system.specs.Threads.{Thread, part}
@@ -28,8 +28,8 @@ use Rattle.system.specs.Moments.{invalidated, left_at, published_at, is_fresh}
 use Rattle.system.proofs.Outcomes.{coded, Installs, IsCode, Looks, FindsUsed, Retires}
 use Rattle.system.proofs.Lists.{at_low, find_push, find_place}
 use Rattle.system.proofs.Table.{code_serial}
-use Rattle.system.proofs.Reclaim.{is_unused}
-use Rattle.system.proofs.Reclaimed.{covered_is}
+use Rattle.system.proofs.ReclaimInvariant.{is_unused}
+use Rattle.system.proofs.NoRetiredStands.{covered_is}
 use Rattle.method_table.specs.Entries.{entry_state, newest_in}
 use Rattle.tie.specs.BoardOf.{slot_by, slot_at, stands_in, is_given, is_missed, seat_by, seat_at, word_by, board_of}
 use Rattle.tie.specs.Steps.{GoesBy, of_keeper, for_code, for_slot, weigh_steps}
@@ -63,12 +63,12 @@ module _ (w : World) (s p : ℕ) (k : Code) (a : Answer) (b : Bool) (h : IsReach
     seats = λ q. refl;
   }
 
-  late_is : is_late (left_at k.serial w.log) place_word ≡ b
-  late_is = ap (λ n. is_late (left_at n w.log) place_word) i.code_is.serial_is
+  past_is : is_past (left_at k.serial w.log) place_word ≡ b
+  past_is = ap (λ n. is_past (left_at n w.log) place_word) i.code_is.serial_is
       ∙ (sym (covered_is w h.reclaimed s p k (code_here w s k NotEntrant h i.code_is) (ap is_in_use i.code_is.state_is)) ∙ i.covered_is)
 
-  looked_is : (q : ℕ) → is_looked (entry_looked ∷ w.log) k.serial q ≡ (((q == p) && is_late (left_at k.serial w.log) place_word) || is_looked w.log k.serial q)
-  looked_is q = let x = eq-eqb s k.serial (sym i.code_is.serial_is) in let y = eqb_sym p q in let z = late_is in let u = says in rw (x, y, z, u) refl
+  looked_is : (q : ℕ) → is_looked (entry_looked ∷ w.log) k.serial q ≡ (((q == p) && is_past (left_at k.serial w.log) place_word) || is_looked w.log k.serial q)
+  looked_is q = let x = eq-eqb s k.serial (sym i.code_is.serial_is) in let y = eqb_sym p q in let z = past_is in let u = says in rw (x, y, z, u) refl
 
   slot_found : slot_at after_look k.slot ≡ slot_looked (slot_at w k.slot) p place_word
   slot_found = ap (slot_by (entry_looked ∷ w.log)) (newest_here w s k NotEntrant h i.code_is)

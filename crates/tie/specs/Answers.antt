@@ -10,7 +10,7 @@ use Rattle.system.specs.declared.answers.Answer.TheVariants as answer
 use Rattle.system.specs.declared.answers.Refusal.TheVariants.{Spent}
 use Rattle.method_table.specs.Numbers.{last_number}
 use Rattle.frames.specs.BoardWords.{entry_of, count_of, place_of, says_in_use}
-use Rattle.frames.specs.BoardStep.{is_late}
+use Rattle.frames.specs.BoardStep.{is_past}
 use Rattle.method_table.specs.Codes.{id_of, code_of}
 use Rattle.system.specs.World.{World, start_world}
 use Rattle.system.specs.Runs.{answer_to, world_after}
@@ -26,7 +26,7 @@ EntrySays w serial says = OfCode w serial (λ c. says_in_use (word_by w (entry_o
 
 -- The place's word lets it pass for the code, or not.
 abbrev pub PlaceSays : World → ℕ → ℕ → Bool → Type 0
-PlaceSays w serial place says = OfCode w serial (λ c. is_late (slot_at w c.slot).left (word_by w (place_of place)) ≡ says)
+PlaceSays w serial place says = OfCode w serial (λ c. is_past (slot_at w c.slot).left (word_by w (place_of place)) ≡ says)
 
 -- The place is the least that the keeper hasn't found clear for the code.
 pub record IsLeastUnlooked (looked : ℕ → Bool) (place : ℕ) : Type 0 where

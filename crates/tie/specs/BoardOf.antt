@@ -11,7 +11,7 @@ use Rattle.system.specs.declared.answers.Answer.{Answer}
 use Rattle.system.specs.declared.answers.Answer.TheVariants as answer
 use Rattle.frames.specs.BoardWords.{Word, entry_of, count_of, place_of, the_moment, pack}
 use Rattle.frames.specs.BoardRule.{SlotState, SeatState, BoardState, code, first_slot, IsBoardKept}
-use Rattle.frames.specs.BoardStep.{is_late}
+use Rattle.frames.specs.BoardStep.{is_past}
 use Rattle.method_table.specs.Codes.{code_of}
 use Rattle.method_table.specs.Entries.{entry_state, newest_in}
 use Rattle.system.specs.Threads.{Thread}
@@ -88,7 +88,7 @@ BoardsKeepTheRule = (places slots methods : ℕ) (events : List Event) → IsBoa
 -- keeper invalidated the code of that slot.
 abbrev pub IsCoveredByWords : World → Type 0
 IsCoveredByWords w = (serial place : ℕ) (code : Code) → code_of w.codes serial ≡ Some code → code.state ≡ state.NotEntrant
-    → covered w place serial ≡ is_late ((board_of w).slot code.slot).left ((board_of w).word (place_of place))
+    → covered w place serial ≡ is_past ((board_of w).slot code.slot).left ((board_of w).word (place_of place))
 
 -- So it is after any events.
 abbrev pub CoveredComparesWords : Type 0

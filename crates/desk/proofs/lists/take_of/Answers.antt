@@ -6,19 +6,19 @@ use Rattle.desk.specs.JobsFit.{without_first}
 use Rattle.desk.proofs.JobsLeft.{first_taken, next_not, none_taken}
 use Rattle.desk.proofs.lists.take_of.Goals as goal
 
-pub returns-then-target_of-name-clause-some : goal.returns-then-target_of-name-clause-some
-returns-then-target_of-name-clause-some g c =
+pub returns-in-Some-clause-some : goal.returns-in-Some-clause-some
+returns-in-Some-clause-some g c =
     let items = c.loop-place.jobs.items in let whom = g.J.Errand.whom in
     let here : slice_get items c.loop-place.place ≡ Some c.index.result.now = slice_get_read items _ c.loop-place.place c.index.result.now refl (search rules) c.index.ensures in
     let found = first_taken whom c.args.name c.loop-place.place items c.index.result.now c.loop-place.invariant.1 here (sym c.target_of.ensures ∙ c.if-target_of-name.true) in
     ap (λ jobs. among c.args.name (map whom jobs.items)) (sym c.loop-place.invariant.0) ∙ found.1
 
-pub returns-then-target_of-name-clause-left : goal.returns-then-target_of-name-clause-left
-returns-then-target_of-name-clause-left g c =
+pub returns-in-Some-clause-left : goal.returns-in-Some-clause-left
+returns-in-Some-clause-left g c =
     let items = c.loop-place.jobs.items in let whom = g.J.Errand.whom in
     let here : slice_get items c.loop-place.place ≡ Some c.index.result.now = slice_get_read items _ c.loop-place.place c.index.result.now refl (search rules) c.index.ensures in
     let found = first_taken whom c.args.name c.loop-place.place items c.index.result.now c.loop-place.invariant.1 here (sym c.target_of.ensures ∙ c.if-target_of-name.true) in
-    ap (map whom) c.remove.ensures.items ∙ found.0 ∙ ap (λ jobs. without_first c.args.name (map whom jobs.items)) c.loop-place.invariant.0
+    ap (map whom) c.in-Some.ensures.items ∙ found.0 ∙ ap (λ jobs. without_first c.args.name (map whom jobs.items)) c.loop-place.invariant.0
 
 pub loop-place-preserved : goal.loop-place-preserved
 loop-place-preserved g c =

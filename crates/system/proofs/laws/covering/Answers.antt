@@ -1,5 +1,5 @@
 -- By induction over the events.
-use Rattle.system.proofs.Reclaimed as law
+use Rattle.system.proofs.NoRetiredStands as law
 use Rattle.system.proofs.laws.covering.Goals as goal
 
 pub returns : goal.returns

@@ -1,5 +1,5 @@
 -- By induction over the events.
-use Rattle.system.proofs.Reclaimed as law
+use Rattle.system.proofs.NoRetiredStands as law
 use Rattle.system.proofs.laws.reclaiming.Goals as goal
 
 pub returns : goal.returns

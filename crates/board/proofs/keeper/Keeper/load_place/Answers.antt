@@ -52,6 +52,6 @@ invariant_of-self g c =
       mine.5,
       noted_set c.self.inside.slots c.self.inside.notes.items k (keeper_of c.load-found.new.seat.me.0) c.args.code.slot _ (slot_with_look (slot_of k c.args.code.slot) c.args.place c.load-found.result)
           (ap (λ (v : KeeperView). v.slots) after') notes (omega arith)
-          (agrees_look c.index.result.now _ (slot_of k c.args.code.slot) c.args.place c.load-found.result c.look-late.ensures.note
+          (agrees_look c.index.result.now _ (slot_of k c.args.code.slot) c.args.place c.load-found.result c.look-past.ensures.note
           (let e = c.index.ensures in subst (λ t. Agrees t (slot_of k c.args.code.slot)) (sym (e ∙ any_default c.self.inside.notes.items c.args.code.slot c.index.result.now blank (omega arith))) (notes.each c.args.code.slot (omega arith)))),
     )

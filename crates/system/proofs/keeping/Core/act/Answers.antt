@@ -1,5 +1,5 @@
 use Rattle.std.proofs.Common.{refl}
-use Rattle.system.proofs.Plain.{act_does}
+use Rattle.system.proofs.PlainActs.{act_does}
 use Rattle.system.proofs.keeping.Core.act.Goals as goal
 
 pub returns : goal.returns

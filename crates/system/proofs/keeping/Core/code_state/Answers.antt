@@ -1,5 +1,5 @@
 use Rattle.std.proofs.Common.{◌∙◌, sym}
-use Rattle.system.proofs.Noting.{state_of}
+use Rattle.system.proofs.LogEvents.{state_of}
 use Rattle.system.proofs.keeping.Core.code_state.Goals as goal
 
 pub returns-in-Some : goal.returns-in-Some

@@ -1,5 +1,5 @@
 use Rattle.std.proofs.Common.{◌∙◌, sym}
-use Rattle.system.proofs.Codings.{counted}
+use Rattle.system.proofs.CodeEvents.{counted}
 use Rattle.system.proofs.keeping.Core.count.Goals as goal
 
 pub returns-in-Some : goal.returns-in-Some

@@ -1,5 +1,5 @@
 use Rattle.std.proofs.Common.{refl}
-use Rattle.system.proofs.Codings.{freed}
+use Rattle.system.proofs.CodeEvents.{freed}
 use Rattle.system.proofs.keeping.Core.free.Goals as goal
 
 pub returns-in-Ok : goal.returns-in-Ok

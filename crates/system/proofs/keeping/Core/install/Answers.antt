@@ -1,7 +1,7 @@
 use Rattle.std.proofs.Common.{refl}
 use Rattle.method_table.specs.declared.table.InstallFault.TheVariants as fault
 use Rattle.system.specs.declared.answers.Refusal.TheVariants as refusal
-use Rattle.system.proofs.Codings.{no_install, free_for, free_within}
+use Rattle.system.proofs.CodeEvents.{no_install, free_for, free_within}
 use Rattle.system.proofs.Replacing.{installed, replaced_low}
 use Rattle.system.proofs.keeping.Core.install.Goals as goal
 

@@ -2,7 +2,7 @@ use Rattle.std.proofs.Common.{◌≡◌, ◌∙◌, sym, ap, refl, arith, Some}
 use Rattle.std.specs.Prelude.{slice_set}
 use Rattle.method_table.specs.Codes.{unfreed}
 use Rattle.system.specs.declared.records.Record.{Record}
-use Rattle.system.proofs.Reclaiming.{left}
+use Rattle.system.proofs.ReclaimEvents.{left}
 use Rattle.system.proofs.keeping.Core.invalidate.Goals as goal
 
 pub returns-in-Ok : goal.returns-in-Ok

@@ -1,6 +1,6 @@
 use Rattle.std.proofs.Common.{◌≡◌, ◌∙◌, sym, true, None, Some, rules}
 use Rattle.std.specs.Prelude.{nat_lt}
-use Rattle.system.proofs.Noting.{resolved_as}
+use Rattle.system.proofs.LogEvents.{resolved_as}
 use Rattle.system.proofs.keeping.Core.resolve.Goals as goal
 
 pub returns-in-Some : goal.returns-in-Some

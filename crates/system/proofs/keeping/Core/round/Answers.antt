@@ -1,5 +1,5 @@
 use Rattle.std.proofs.Common.{refl, arith}
-use Rattle.system.proofs.Noting.{went_round}
+use Rattle.system.proofs.LogEvents.{went_round}
 use Rattle.system.proofs.keeping.Core.round.Goals as goal
 
 pub returns : goal.returns

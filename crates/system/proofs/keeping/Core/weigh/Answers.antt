@@ -1,5 +1,5 @@
 use Rattle.std.proofs.Common.{◌∙◌, sym, refl, arith}
-use Rattle.system.proofs.Reclaiming.{at_index, no_weigh, not_looked, used, retired}
+use Rattle.system.proofs.ReclaimEvents.{at_index, no_weigh, not_looked, used, retired}
 use Rattle.system.proofs.keeping.Core.weigh.Goals as goal
 
 pub returns-in-Err : goal.returns-in-Err

@@ -3,7 +3,7 @@ use Rattle.system.proofs.Runs.{sizes_through, ran_on, stops_at}
 use Rattle.system.proofs.Once.{run_at_most_once}
 use Rattle.system.proofs.Safely.{handshakes_run, censuses_run}
 use Rattle.system.proofs.Worlds.{held_are_safe}
-use Rattle.system.proofs.Reclaimed.{retired_stand_nowhere}
+use Rattle.system.proofs.NoRetiredStands.{retired_stand_nowhere}
 use Rattle.system.proofs.machine.System.run.Goals as goal
 
 pub loop-at-preserved : goal.loop-at-preserved

@@ -1,7 +1,7 @@
 use Rattle.std.proofs.Common.{◌≡◌, refl, rules, Some, None}
 use Rattle.system.specs.declared.events.Act.TheVariants.{Begin, End, Wake, Finish, Clear, Release}
 use Rattle.system.specs.Keeps.{common_refusal}
-use Rattle.system.proofs.Here.{here_passed, here_failed}
+use Rattle.system.proofs.SharedTests.{here_passed, here_failed}
 use Rattle.system.proofs.thread.Thread.act.Goals as goal
 
 pub returns-in-Some : goal.returns-in-Some

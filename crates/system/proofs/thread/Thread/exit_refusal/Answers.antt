@@ -4,8 +4,8 @@ use Rattle.frames.specs.declared.Frame.{Frame}
 use Rattle.operations.specs.Names.{is_empty}
 use Rattle.system.specs.declared.events.Act.TheVariants.{Exit}
 use Rattle.system.specs.Keeps.{common_refusal, poll_by}
-use Rattle.system.proofs.Here.{here_passed}
-use Rattle.system.proofs.Served.{settled_by}
+use Rattle.system.proofs.SharedTests.{here_passed}
+use Rattle.system.proofs.AskedOfThread.{settled_by}
 use Rattle.system.proofs.thread.Thread.exit_refusal.Goals as goal
 
 no_frame : (s : List Frame) (n : ℕ) → length s ≡ n → n ≡ 0 → is_empty s ≡ true

@@ -1,5 +1,5 @@
 use Rattle.std.proofs.Common.{◌∙◌, sym, refl}
-use Rattle.system.proofs.Served.{awaits_is, take_goes, take_waits}
+use Rattle.system.proofs.AskedOfThread.{awaits_is, take_goes, take_waits}
 use Rattle.system.proofs.thread.Thread.take.Goals as goal
 
 pub returns-then-awaits_census : goal.returns-then-awaits_census

@@ -9,7 +9,7 @@ returns-in-Ok-clause-vacated g c =
     let i = c.self.inside in let body = c.in-Some.body in
     let mine : IsOf i.name i.place (Some body) = subst (IsOf i.name i.place) c.in-Some.is c.self.invariant.own in
     vacated_of c.args.self.place c.args.self.name body.seat.place body.name c.leave.result.vacated c.in-Ok.vacated
-    (mine.1 ∙ ap (λ (v : Running). v.place) c.self.view_is) (mine.0 ∙ ap (λ (v : Running). v.name) c.self.view_is) c.leave.ensures.vacated c.in-Ok.ensures.vacated
+    (mine.1 ∙ ap (λ (v : Running). v.place) c.self.view_is) (mine.0 ∙ ap (λ (v : Running). v.name) c.self.view_is) c.leave.ensures.vacated.0 c.in-Ok.ensures.vacated
 
 pub returns-clause-refused : goal.returns-clause-refused
 returns-clause-refused g c =
