@@ -20,7 +20,11 @@ use std::thread;
 use thread_list::{BodyReceipt, Due, Shared, serve};
 
 /// The job that was told to the thread of a held body.
-pub fn told_job<N: Name, J: Errand, R: Wait>(rt: &R, shared: &Shared<N, J>, body: &Body<N>) -> Due<J>
+pub fn told_job<N: Name, J: Errand, R: Wait>(
+    rt: &R,
+    shared: &Shared<N, J>,
+    body: &Body<N>,
+) -> Due<J>
     ensures { (J.whom result ≡ body.now.name) × (0 < J.number result) }
 {
     for _ in rt.forever() {

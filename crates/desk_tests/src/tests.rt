@@ -6,7 +6,6 @@
 ghost use Rattle.std.specs.Prelude.{◌≡◌, ◌≤◌, [], IfOk};
 ghost use Rattle.board.specs.Boards.{first_keeper, first_seat};
 ghost use Rattle.poll.specs.Rows.{first_poller};
-ghost use Rattle.operations.specs.Asks.{reply};
 ghost use Rattle.frames.specs.ImageView.{IsSettled};
 
 use board::{Board, Keeper, ThreadSeat, Weighed};
@@ -17,14 +16,17 @@ use desk::{
 };
 use frames::CodeId;
 use frames::image::Image;
+use jobs_testing::{Scenario, each, pop_list, with_jobs};
 use method_table::table::{InstallFault, Installed, MethodTable};
-use operations::job::{Call, Errand, Job};
+use operations::job::{Errand, Job};
 use operations::{Ask, Request, Targets};
 use poll::{PollRow, Poller};
 use std::alloc::{AllocError, Global};
 use std::marker::Brand;
 use std::process::Abort;
+use std::sync::Wait;
 use std::test::*;
+use std::thread::Threads;
 
 mod four;
 mod over;
@@ -393,20 +395,30 @@ fn sixty_four_requests_wait(rt: HostRuntime) -> Result<(), Fail> {
     Ok(())
 }
 
+#[derive(Drop)]
+struct AnsweredOnce;
+
+impl Scenario for AnsweredOnce {
+    type Out = ();
+
+    fn play<J: Errand + Send, R: Threads + Wait + Sync + Abort>(
+        self,
+        rt: &R,
+        alloc: Global,
+        lists: Vec<Vec<J>>,
+    ) -> Result<(), AllocError> {
+        let mut lists = lists;
+        let (board, keeper, seat) = small_board(alloc, 1)?;
+        let (row, poller) = small_row(alloc)?;
+        let jobs = pop_list(alloc, &mut lists);
+        ask_depth::<Brand, J, R>(rt, alloc, board, keeper, seat, row, poller, jobs)
+    }
+}
+
 #[test]
 fn a_handshake_is_answered_once(rt: HostRuntime) -> Result<(), Fail> {
-    let (board, keeper, seat) = small_board(rt.alloc(), 1)?;
-    let (row, poller) = small_row(rt.alloc())?;
-    let call: Call = Box::new(
-        rt.alloc(),
-        |image: &Image| -> u64
-            ensures { result ≡ reply Ask.Depth image.now.frames }
-        { image.depth() as u64 },
-    )?;
-    let mut jobs = Vec::new(rt.alloc());
-    jobs.push(Job::new(1, Ask::Depth, call))
-        .map_err(|_| AllocError)?;
-    ask_depth::<Brand, Job, HostRuntime>(&rt, rt.alloc(), board, keeper, seat, row, poller, jobs)?;
+    let asked = [each(rt.alloc(), 1, Ask::Depth)?];
+    with_jobs(&rt, rt.alloc(), asked.as_slice(), AnsweredOnce)?;
     Ok(())
 }
 

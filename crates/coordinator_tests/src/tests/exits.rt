@@ -1,18 +1,18 @@
 //! Targets that exit before they are told and after, and a place that is used again.
 ghost use Rattle.std.specs.Prelude.{◌≡◌};
-ghost use Rattle.operations.specs.Asks.{reply};
 
 use bodies::Name;
 use coordinator::{Coordinator, TellFault, Told};
 use coordinator_testing::{ask_both, started};
-use frames::image::Image;
-use operations::job::{Call, Errand, Job};
+use jobs_testing::{Scenario, each, pop_list, with_jobs};
+use operations::job::Errand;
 use operations::{Ask, Request, Targets};
 use std::alloc::{AllocError, Global};
 use std::marker::Brand;
 use std::process::Abort;
 use std::sync::Wait;
 use std::test::*;
+use std::thread::Threads;
 use thread_list::{Mutator, Parts, Shared};
 
 // Of the names 1 and 2 the first is gone, the second is told, and the name 3, in the place of the first, isn't asked.
@@ -147,20 +147,27 @@ fn exit_and_tell<N: Name, J: Errand, R: Wait + Abort>(
     Ok(())
 }
 
+#[derive(Drop)]
+struct Exits;
+
+impl Scenario for Exits {
+    type Out = ();
+
+    fn play<J: Errand + Send, R: Threads + Wait + Sync + Abort>(
+        self,
+        rt: &R,
+        alloc: Global,
+        lists: Vec<Vec<J>>,
+    ) -> Result<(), AllocError> {
+        let mut lists = lists;
+        let parts = Parts::new(alloc, 2, 4, 2).map_err(|_| AllocError)?;
+        exit_and_tell::<Brand, J, R>(rt, alloc, parts, pop_list(alloc, &mut lists))
+    }
+}
+
 #[test]
 fn a_target_exits_before_and_after_it_is_told(rt: HostRuntime) -> Result<(), Fail> {
-    let parts = Parts::new(rt.alloc(), 2, 4, 2).map_err(|_| AllocError)?;
-    let mut jobs = Vec::new(rt.alloc());
-    for name in 1..4 {
-        let call: Call = Box::new(
-            rt.alloc(),
-            |image: &Image| -> u64
-                ensures { result ≡ reply Ask.Depth image.now.frames }
-            { image.depth() as u64 },
-        )?;
-        jobs.push(Job::new(name, Ask::Depth, call))
-            .map_err(|_| AllocError)?;
-    }
-    exit_and_tell::<Brand, Job, HostRuntime>(&rt, rt.alloc(), parts, jobs)?;
+    let asked = [each(rt.alloc(), 3, Ask::Depth)?];
+    with_jobs(&rt, rt.alloc(), asked.as_slice(), Exits)?;
     Ok(())
 }

@@ -1,6 +1,5 @@
 //! What each call answers and refuses, in the order of its tests.
 ghost use Rattle.std.specs.Prelude.{◌≡◌};
-ghost use Rattle.operations.specs.Asks.{reply};
 
 use bodies::Name;
 use coordinator::{
@@ -8,14 +7,15 @@ use coordinator::{
 };
 use coordinator_testing::{ask_both, started};
 use desk::{CloseFault, OpenFault};
-use frames::image::Image;
-use operations::job::{Call, Errand, Job};
+use jobs_testing::{Scenario, each, pop_list, with_jobs};
+use operations::job::Errand;
 use operations::{Ask, Request};
 use std::alloc::{AllocError, Global};
 use std::marker::Brand;
 use std::process::Abort;
 use std::sync::Wait;
 use std::test::*;
+use std::thread::Threads;
 use thread_list::{Mutator, Parts, Poll, Shared};
 
 // Where nothing is open.
@@ -175,20 +175,27 @@ fn work_step_by_step<N: Name, J: Errand, R: Wait + Abort>(
     Ok(())
 }
 
+#[derive(Drop)]
+struct Refusals;
+
+impl Scenario for Refusals {
+    type Out = ();
+
+    fn play<J: Errand + Send, R: Threads + Wait + Sync + Abort>(
+        self,
+        rt: &R,
+        alloc: Global,
+        lists: Vec<Vec<J>>,
+    ) -> Result<(), AllocError> {
+        let mut lists = lists;
+        let parts = Parts::new(alloc, 2, 4, 2).map_err(|_| AllocError)?;
+        work_step_by_step::<Brand, J, R>(rt, alloc, parts, pop_list(alloc, &mut lists))
+    }
+}
+
 #[test]
 fn each_call_is_refused_in_its_order(rt: HostRuntime) -> Result<(), Fail> {
-    let parts = Parts::new(rt.alloc(), 2, 4, 2).map_err(|_| AllocError)?;
-    let mut jobs = Vec::new(rt.alloc());
-    for name in 1..3 {
-        let call: Call = Box::new(
-            rt.alloc(),
-            |image: &Image| -> u64
-                ensures { result ≡ reply Ask.Depth image.now.frames }
-            { image.depth() as u64 },
-        )?;
-        jobs.push(Job::new(name, Ask::Depth, call))
-            .map_err(|_| AllocError)?;
-    }
-    work_step_by_step::<Brand, Job, HostRuntime>(&rt, rt.alloc(), parts, jobs)?;
+    let asked = [each(rt.alloc(), 2, Ask::Depth)?];
+    with_jobs(&rt, rt.alloc(), asked.as_slice(), Refusals)?;
     Ok(())
 }

@@ -1,19 +1,19 @@
 //! One thread counts, hands shakes and reclaims.
 ghost use Rattle.std.specs.Prelude.{◌≡◌};
-ghost use Rattle.operations.specs.Asks.{reply};
 
 use bodies::{Called, Name};
 use coordinator::{Coordinator, Driven, NotReclaimed, ReclaimFault, Reclaimed};
 use coordinator_testing::{both, started};
-use frames::image::Image;
+use jobs_testing::{Scenario, each, pop_list, with_jobs};
 use method_table::table::RetireFault;
-use operations::job::{Call, Errand, Job};
+use operations::job::Errand;
 use operations::{Ask, Request};
 use std::alloc::{AllocError, Global};
 use std::marker::Brand;
 use std::process::Abort;
 use std::sync::Wait;
 use std::test::*;
+use std::thread::Threads;
 use thread_list::{Mutator, Parts, Poll, Shared};
 
 // Two threads call method 0, one twice and one once, and go into native code.
@@ -126,31 +126,32 @@ fn count_and_reclaim<N: Name, J: Errand, R: Wait + Abort>(
     Ok(())
 }
 
+#[derive(Drop)]
+struct Row;
+
+impl Scenario for Row {
+    type Out = ();
+
+    fn play<J: Errand + Send, R: Threads + Wait + Sync + Abort>(
+        self,
+        rt: &R,
+        alloc: Global,
+        lists: Vec<Vec<J>>,
+    ) -> Result<(), AllocError> {
+        let mut lists = lists;
+        let parts = Parts::new(alloc, 2, 4, 2).map_err(|_| AllocError)?;
+        let depths = pop_list(alloc, &mut lists);
+        let counts = pop_list(alloc, &mut lists);
+        count_and_reclaim::<Brand, J, R>(rt, alloc, parts, counts, depths)
+    }
+}
+
 #[test]
 fn a_code_is_counted_and_reclaimed(rt: HostRuntime) -> Result<(), Fail> {
-    let parts = Parts::new(rt.alloc(), 2, 4, 2).map_err(|_| AllocError)?;
-    let mut counts = Vec::new(rt.alloc());
-    let mut depths = Vec::new(rt.alloc());
-    for name in 1..3 {
-        let count: Call = Box::new(
-            rt.alloc(),
-            |image: &Image| -> u64
-                ensures { result ≡ reply (Ask.CountOf 1) image.now.frames }
-            { Ask::CountOf(1).reply_on(image) },
-        )?;
-        counts
-            .push(Job::new(name, Ask::CountOf(1), count))
-            .map_err(|_| AllocError)?;
-        let depth: Call = Box::new(
-            rt.alloc(),
-            |image: &Image| -> u64
-                ensures { result ≡ reply Ask.Depth image.now.frames }
-            { image.depth() as u64 },
-        )?;
-        depths
-            .push(Job::new(name, Ask::Depth, depth))
-            .map_err(|_| AllocError)?;
-    }
-    count_and_reclaim::<Brand, Job, HostRuntime>(&rt, rt.alloc(), parts, counts, depths)?;
+    let asked = [
+        each(rt.alloc(), 2, Ask::CountOf(1))?,
+        each(rt.alloc(), 2, Ask::Depth)?,
+    ];
+    with_jobs(&rt, rt.alloc(), asked.as_slice(), Row)?;
     Ok(())
 }

@@ -1,19 +1,19 @@
 //! What a thread calls in each of its states: each call that isn't lawful there is refused with the state and changes nothing, and one
 //! that was told while it was away comes back to serve.
 ghost use Rattle.std.specs.Prelude.{◌≡◌};
-ghost use Rattle.operations.specs.Asks.{reply};
 
 use bodies::{Called, Name};
 use coordinator::{Coordinator, Told};
 use coordinator_testing::{are_replies, names_to, started};
-use frames::image::Image;
-use operations::job::{Call, Errand, Job};
+use jobs_testing::{Scenario, each, pop_list, with_jobs};
+use operations::job::Errand;
 use operations::{Ask, Request};
 use std::alloc::{AllocError, Global};
 use std::marker::Brand;
 use std::process::Abort;
 use std::sync::Wait;
 use std::test::*;
+use std::thread::Threads;
 use thread_list::{CallFault, ExitFault, Mutator, Parts, Poll, ReturnFault, Shared};
 use thread_state::{Back, State};
 
@@ -261,20 +261,29 @@ fn go_round<N: Name, J: Errand, R: Wait + Abort>(
     Ok(())
 }
 
+#[derive(Drop)]
+struct States;
+
+impl Scenario for States {
+    type Out = ();
+
+    fn play<J: Errand + Send, R: Threads + Wait + Sync + Abort>(
+        self,
+        rt: &R,
+        alloc: Global,
+        lists: Vec<Vec<J>>,
+    ) -> Result<(), AllocError> {
+        let mut lists = lists;
+        let parts = Parts::new(alloc, 1, 4, 2).map_err(|_| AllocError)?;
+        go_round::<Brand, J, R>(rt, alloc, parts, pop_list(alloc, &mut lists))
+    }
+}
+
 // The thread has one frame of code 1, which is published only where it stops.
 #[test]
 fn each_call_is_refused_where_it_is_not_lawful(rt: HostRuntime) -> Result<(), Fail> {
-    let parts = Parts::new(rt.alloc(), 1, 4, 2).map_err(|_| AllocError)?;
-    let mut jobs = Vec::new(rt.alloc());
-    let call: Call = Box::new(
-        rt.alloc(),
-        |image: &Image| -> u64
-            ensures { result ≡ reply Ask.Depth image.now.frames }
-        { image.depth() as u64 },
-    )?;
-    let job = Job::new(1, Ask::Depth, call);
-    jobs.push(job).map_err(|_| AllocError)?;
-    go_round::<Brand, Job, HostRuntime>(&rt, rt.alloc(), parts, jobs)?;
+    let asked = [each(rt.alloc(), 1, Ask::Depth)?];
+    with_jobs(&rt, rt.alloc(), asked.as_slice(), States)?;
     Ok(())
 }
 
@@ -328,22 +337,29 @@ fn tell_away<N: Name, J: Errand, R: Wait + Abort>(
     Ok(())
 }
 
+#[derive(Drop)]
+struct Away;
+
+impl Scenario for Away {
+    type Out = ();
+
+    fn play<J: Errand + Send, R: Threads + Wait + Sync + Abort>(
+        self,
+        rt: &R,
+        alloc: Global,
+        lists: Vec<Vec<J>>,
+    ) -> Result<(), AllocError> {
+        let mut lists = lists;
+        let parts = Parts::new(alloc, 3, 4, 2).map_err(|_| AllocError)?;
+        tell_away::<Brand, J, R>(rt, alloc, parts, pop_list(alloc, &mut lists))
+    }
+}
+
 // The first is in native code, left from Java; the second in a wait; the third in native code, left from the VM. Each replies with its depth,
 // which is its name.
 #[test]
 fn who_is_told_while_away_comes_back_to_serve(rt: HostRuntime) -> Result<(), Fail> {
-    let parts = Parts::new(rt.alloc(), 3, 4, 2).map_err(|_| AllocError)?;
-    let mut jobs = Vec::new(rt.alloc());
-    for name in 1..4 {
-        let call: Call = Box::new(
-            rt.alloc(),
-            |image: &Image| -> u64
-                ensures { result ≡ reply Ask.Depth image.now.frames }
-            { image.depth() as u64 },
-        )?;
-        jobs.push(Job::new(name, Ask::Depth, call))
-            .map_err(|_| AllocError)?;
-    }
-    tell_away::<Brand, Job, HostRuntime>(&rt, rt.alloc(), parts, jobs)?;
+    let asked = [each(rt.alloc(), 3, Ask::Depth)?];
+    with_jobs(&rt, rt.alloc(), asked.as_slice(), Away)?;
     Ok(())
 }

@@ -2,21 +2,22 @@
 ghost use Rattle.std.specs.Prelude.{◌≡◌, [], IfOk};
 ghost use Rattle.board.specs.Boards.{first_keeper, first_seat};
 ghost use Rattle.poll.specs.Rows.{first_poller};
-ghost use Rattle.operations.specs.Asks.{reply};
 ghost use Rattle.frames.specs.ImageView.{IsSettled};
 
 use super::{answer, ask, ask_one, first_body, small_board, small_desk, small_row, start};
 use board::{Board, Keeper, ThreadSeat};
 use bodies::{Body, Name};
 use desk::{CloseFault, Desk, OpenFault, Progress, Standing, StartFault};
-use frames::image::Image;
+use jobs_testing::{Scenario, each, with_jobs};
 use operations::Ask;
-use operations::job::{Call, Errand, Job};
+use operations::job::Errand;
 use poll::{PollRow, Poller};
 use std::alloc::{AllocError, Global};
 use std::marker::Brand;
 use std::process::Abort;
+use std::sync::Wait;
 use std::test::*;
+use std::thread::Threads;
 
 // Thread 1 is asked five times and a census after that, and four of the handshakes are open.
 fn four_open<N: Name, J: Errand, R: Abort>(
@@ -120,24 +121,32 @@ fn ask_five<N: Name, J: Errand, R: Abort>(
     Ok(())
 }
 
+#[derive(Drop)]
+struct FourOpen;
+
+impl Scenario for FourOpen {
+    type Out = ();
+
+    fn play<J: Errand + Send, R: Threads + Wait + Sync + Abort>(
+        self,
+        rt: &R,
+        alloc: Global,
+        lists: Vec<Vec<J>>,
+    ) -> Result<(), AllocError> {
+        let (board, keeper, seat) = small_board(alloc, 1)?;
+        let (row, poller) = small_row(alloc)?;
+        ask_five::<Brand, J, R>(rt, alloc, board, keeper, seat, row, poller, lists)
+    }
+}
+
 #[test]
 fn four_handshakes_are_answered_in_order_and_closed_in_any(rt: HostRuntime) -> Result<(), Fail> {
-    let (board, keeper, seat) = small_board(rt.alloc(), 1)?;
-    let (row, poller) = small_row(rt.alloc())?;
-    let mut lists = Vec::new(rt.alloc());
-    for before in 0..5 {
-        let mut jobs = Vec::new(rt.alloc());
-        let call: Call = Box::new(
-            rt.alloc(),
-            |image: &Image| -> u64
-                ensures { result ≡ reply Ask.Depth image.now.frames }
-            { image.depth() as u64 },
-        )?;
-        jobs.push(Job::new(1, Ask::Depth, call))
+    let mut asked = Vec::new(rt.alloc());
+    for _ in 0..5 {
+        asked
+            .push(each(rt.alloc(), 1, Ask::Depth)?)
             .map_err(|_| AllocError)?;
-        lists.push(jobs).map_err(|_| AllocError)?;
-        let _ = before;
     }
-    ask_five::<Brand, Job, HostRuntime>(&rt, rt.alloc(), board, keeper, seat, row, poller, lists)?;
+    with_jobs(&rt, rt.alloc(), asked.as_slice(), FourOpen)?;
     Ok(())
 }

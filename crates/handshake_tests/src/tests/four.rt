@@ -1,14 +1,13 @@
 //! Handshakes are open beside each other: four are worked on at once, over two running threads and step by step, and of two the first is
 //! closed while the second waits. The four ask for what differs, so that the replies tell them apart.
 ghost use Rattle.std.specs.Prelude.{◌≡◌};
-ghost use Rattle.operations.specs.Asks.{reply};
 
 use bodies::{Called, Name};
 use coordinator::{Coordinator, DriveFault, Driven, HoldFault, ServeFault, TellFault, Told};
 use coordinator_testing::{are_replies, heed, names_to, run_until, started, wait_for};
 use desk::{CloseFault, OpenFault};
-use frames::image::Image;
-use operations::job::{Call, Errand, Job};
+use jobs_testing::{Asked, Scenario, each, pop_list, with_jobs};
+use operations::job::Errand;
 use operations::{Ask, Request, Targets};
 use std::alloc::{AllocError, Global};
 use std::marker::Brand;
@@ -62,13 +61,12 @@ fn ask_both<N: Name, J: Errand, R: Wait>(
     }
 }
 
-// What the jobs ask, in their order: two of the first handshake, one of the second and one of the third, and then those of the fourth.
-fn ask_of(before: u64) -> Ask {
-    match before {
-        0 | 1 => Ask::Depth,
-        2 | 3 => Ask::CountOf(1),
-        _ => Ask::CountOf(2),
-    }
+// What the jobs of the first three handshakes ask: two of the first, one of the second and one of the third.
+fn first_three(alloc: Global) -> Result<Vec<Asked>, AllocError> {
+    let mut asked = each(alloc, 2, Ask::Depth)?;
+    asked.push((1, Ask::CountOf(1))).map_err(|_| AllocError)?;
+    asked.push((2, Ask::CountOf(1))).map_err(|_| AllocError)?;
+    Ok(asked)
 }
 
 // Three handshakes wait: of both names for their depth, and of the first and of the second for their frames of code 1. The jobs are for
@@ -258,28 +256,32 @@ fn drive_over_two<N: Name + Send + Sync, J: Errand + Send, R: Threads + Wait + S
     Ok(())
 }
 
+#[derive(Drop)]
+struct FourAtOnce;
+
+impl Scenario for FourAtOnce {
+    type Out = ();
+
+    fn play<J: Errand + Send, R: Threads + Wait + Sync + Abort>(
+        self,
+        rt: &R,
+        alloc: Global,
+        lists: Vec<Vec<J>>,
+    ) -> Result<(), AllocError> {
+        let mut lists = lists;
+        let parts = Parts::new(alloc, 2, 4, 2).map_err(|_| AllocError)?;
+        let three = pop_list(alloc, &mut lists);
+        let fourth = pop_list(alloc, &mut lists);
+        drive_over_two::<Brand, J, R>(rt, alloc, parts, three, fourth)
+    }
+}
+
 // The jobs ask for the depth of 1 and 2, for the frames of code 1 of 1 and of 2, and for those of code 2 of both.
 #[test]
 fn four_are_closed_over_two_running_threads(rt: HostRuntime) -> Result<(), Fail> {
-    let parts = Parts::new(rt.alloc(), 2, 4, 2).map_err(|_| AllocError)?;
-    let mut three = Vec::new(rt.alloc());
-    let mut fourth = Vec::new(rt.alloc());
-    for before in 0..6 {
-        let (name, ask) = (1 + before % 2, ask_of(before));
-        let call: Call = Box::new(
-            rt.alloc(),
-            move |image: &Image| -> u64
-                ensures { result ≡ reply ask image.now.frames }
-            { ask.reply_on(image) },
-        )?;
-        let job = Job::new(name, ask, call);
-        if before < 4 {
-            three.push(job).map_err(|_| AllocError)?;
-        } else {
-            fourth.push(job).map_err(|_| AllocError)?;
-        }
-    }
-    drive_over_two::<Brand, Job, HostRuntime>(&rt, rt.alloc(), parts, three, fourth)?;
+    let three = first_three(rt.alloc())?;
+    let asked = [each(rt.alloc(), 2, Ask::CountOf(2))?, three];
+    with_jobs(&rt, rt.alloc(), asked.as_slice(), FourAtOnce)?;
     Ok(())
 }
 
@@ -396,23 +398,31 @@ fn work_step_by_step<N: Name, J: Errand, R: Wait + Abort>(
     Ok(())
 }
 
+#[derive(Drop)]
+struct StepByStep;
+
+impl Scenario for StepByStep {
+    type Out = ();
+
+    fn play<J: Errand + Send, R: Threads + Wait + Sync + Abort>(
+        self,
+        rt: &R,
+        alloc: Global,
+        lists: Vec<Vec<J>>,
+    ) -> Result<(), AllocError> {
+        let mut lists = lists;
+        let parts = Parts::new(alloc, 2, 4, 2).map_err(|_| AllocError)?;
+        work_step_by_step::<Brand, J, R>(rt, alloc, parts, pop_list(alloc, &mut lists))
+    }
+}
+
 // The jobs are for 1, 2, 1, 2 and 1.
 #[test]
 fn four_are_told_and_served_in_order(rt: HostRuntime) -> Result<(), Fail> {
-    let parts = Parts::new(rt.alloc(), 2, 4, 2).map_err(|_| AllocError)?;
-    let mut jobs = Vec::new(rt.alloc());
-    for before in 0..5 {
-        let (name, ask) = (1 + before % 2, ask_of(before));
-        let call: Call = Box::new(
-            rt.alloc(),
-            move |image: &Image| -> u64
-                ensures { result ≡ reply ask image.now.frames }
-            { ask.reply_on(image) },
-        )?;
-        jobs.push(Job::new(name, ask, call))
-            .map_err(|_| AllocError)?;
-    }
-    work_step_by_step::<Brand, Job, HostRuntime>(&rt, rt.alloc(), parts, jobs)?;
+    let mut jobs = first_three(rt.alloc())?;
+    jobs.push((1, Ask::CountOf(2))).map_err(|_| AllocError)?;
+    let asked = [jobs];
+    with_jobs(&rt, rt.alloc(), asked.as_slice(), StepByStep)?;
     Ok(())
 }
 
@@ -470,21 +480,28 @@ fn drive_past_second<N: Name, J: Errand, R: Wait + Abort>(
     Ok(())
 }
 
+#[derive(Drop)]
+struct OldestFirst;
+
+impl Scenario for OldestFirst {
+    type Out = ();
+
+    fn play<J: Errand + Send, R: Threads + Wait + Sync + Abort>(
+        self,
+        rt: &R,
+        alloc: Global,
+        lists: Vec<Vec<J>>,
+    ) -> Result<(), AllocError> {
+        let mut lists = lists;
+        let parts = Parts::new(alloc, 2, 4, 2).map_err(|_| AllocError)?;
+        drive_past_second::<Brand, J, R>(rt, alloc, parts, pop_list(alloc, &mut lists))
+    }
+}
+
 // The jobs are for 1 and 2. A drive that slept for the target of the second handshake would never return.
 #[test]
 fn the_oldest_is_closed_past_a_later_one(rt: HostRuntime) -> Result<(), Fail> {
-    let parts = Parts::new(rt.alloc(), 2, 4, 2).map_err(|_| AllocError)?;
-    let mut jobs = Vec::new(rt.alloc());
-    for before in 0..2 {
-        let call: Call = Box::new(
-            rt.alloc(),
-            |image: &Image| -> u64
-                ensures { result ≡ reply Ask.Depth image.now.frames }
-            { image.depth() as u64 },
-        )?;
-        jobs.push(Job::new(1 + before, Ask::Depth, call))
-            .map_err(|_| AllocError)?;
-    }
-    drive_past_second::<Brand, Job, HostRuntime>(&rt, rt.alloc(), parts, jobs)?;
+    let asked = [each(rt.alloc(), 2, Ask::Depth)?];
+    with_jobs(&rt, rt.alloc(), asked.as_slice(), OldestFirst)?;
     Ok(())
 }

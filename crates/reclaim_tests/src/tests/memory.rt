@@ -1,7 +1,6 @@
 //! A run with memory refused at any growth: what is refused changes nothing and hands back what it was given, and goes at the next try.
 ghost use Rattle.std.specs.Prelude.{◌≡◌};
 ghost use Rattle.poll.specs.Rows.{full_armer};
-ghost use Rattle.operations.specs.Asks.{reply};
 
 use bodies::{Called, Name};
 use coordinator::{
@@ -9,9 +8,9 @@ use coordinator::{
 };
 use coordinator_testing::{both, started};
 use desk::{AskFault, OpenFault, Refused, StartFault};
-use frames::image::Image;
+use jobs_testing::{Scenario, each, pop_list, with_jobs};
 use method_table::table::RetireFault;
-use operations::job::{Call, Errand, Job};
+use operations::job::Errand;
 use operations::{Ask, Request};
 use poll::Armer;
 use std::alloc::{AllocError, Global};
@@ -19,6 +18,7 @@ use std::marker::Brand;
 use std::process::Abort;
 use std::sync::Wait;
 use std::test::*;
+use std::thread::Threads;
 use thread_list::{Mutator, Parts, Poll, Shared};
 
 // Where a growth was refused.
@@ -304,32 +304,33 @@ fn work<N: Name, J: Errand, R: Wait + Abort>(
     Ok(made.or(asked))
 }
 
-// The run with what it takes: jobs that count frames of code 1, and jobs that ask for the depth, for each thread.
-fn run<R: Wait + Abort>(rt: &R, alloc: Global) -> Result<Met, AllocError> {
-    let parts = Parts::new(alloc, 2, 4, 2).map_err(|_| AllocError)?;
-    let mut counts = Vec::new(alloc);
-    let mut depths = Vec::new(alloc);
-    for turn in 0..4 {
-        let ask = if turn < 2 {
-            Ask::CountOf(1)
-        } else {
-            Ask::Depth
-        };
-        let call: Call = Box::new(
-            alloc,
-            move |image: &Image| -> u64
-                ensures { result ≡ reply ask image.now.frames }
-            { ask.reply_on(image) },
-        )
-        .map_err(|_| AllocError)?;
-        let job = Job::new(1 + turn % 2, ask, call);
-        if turn < 2 {
-            counts.push(job).map_err(|_| AllocError)?;
-        } else {
-            depths.push(job).map_err(|_| AllocError)?;
-        }
+#[derive(Drop)]
+struct LackOfMemory;
+
+impl Scenario for LackOfMemory {
+    type Out = Met;
+
+    fn play<J: Errand + Send, R: Threads + Wait + Sync + Abort>(
+        self,
+        rt: &R,
+        alloc: Global,
+        lists: Vec<Vec<J>>,
+    ) -> Result<Met, AllocError> {
+        let mut lists = lists;
+        let parts = Parts::new(alloc, 2, 4, 2).map_err(|_| AllocError)?;
+        let depths = pop_list(alloc, &mut lists);
+        let counts = pop_list(alloc, &mut lists);
+        work::<Brand, J, R>(rt, alloc, parts, counts, depths)
     }
-    work::<Brand, Job, R>(rt, alloc, parts, counts, depths)
+}
+
+// The run with what it takes: jobs that count frames of code 1, and jobs that ask for the depth, for each thread.
+fn run<R: Threads + Wait + Sync + Abort>(rt: &R, alloc: Global) -> Result<Met, AllocError> {
+    let asked = [
+        each(alloc, 2, Ask::CountOf(1))?,
+        each(alloc, 2, Ask::Depth)?,
+    ];
+    with_jobs(rt, alloc, asked.as_slice(), LackOfMemory)
 }
 
 // It passes whichever allocation is refused.
