@@ -24,9 +24,7 @@ use poll::{PollRow, Poller};
 use std::alloc::{AllocError, Global};
 use std::marker::Brand;
 use std::process::Abort;
-use std::sync::Wait;
 use std::test::*;
-use std::thread::Threads;
 
 mod four;
 mod over;
@@ -269,6 +267,32 @@ fn look_up<N: Name, J: Errand, R: Abort>(rt: &R, desk: &Desk<N, J>) -> Result<()
     Ok(())
 }
 
+// Thread 1 is told next and awaited, and its handshake isn't closed.
+fn look_before_answer<N: Name, J: Errand, R: Abort>(rt: &R, alloc: Global, desk: &mut Desk<N, J>) {
+    let first = Some(Live { name: 1, place: 0 });
+    assert!(rt; desk.standing(2) == Standing::NotOf);
+    assert!(rt; desk.next_due(0) == first && desk.next_due(1).is_none());
+    assert!(rt; desk.next_awaited(0) == first);
+    let none: Vec<Body<N>> = Vec::new(alloc);
+    assert!(rt; matches!(desk.close(None, none.as_slice()), Err(CloseFault::NotDone)));
+}
+
+// Once thread 1 has answered, the handshake is closed when its body is held no more.
+fn close_and_exit<N: Name, J: Errand, R: Abort>(
+    rt: &R,
+    alloc: Global,
+    desk: &mut Desk<N, J>,
+    body: Body<N>,
+) -> Result<(), AllocError> {
+    let mut held: Vec<Body<N>> = Vec::new(alloc);
+    held.push(body).map_err(|_| AllocError)?;
+    assert!(rt; matches!(desk.close(None, held.as_slice()), Err(CloseFault::Held)));
+    held.clear();
+    assert!(rt; matches!(desk.close(None, held.as_slice()), Ok((1, _, _))));
+    assert!(rt; desk.exit(1).is_ok() && desk.exit(1).is_err());
+    Ok(())
+}
+
 // A thread starts, is asked, answers with a job, and exits.
 fn ask_depth<N: Name, J: Errand, R: Abort>(
     rt: &R,
@@ -287,20 +311,11 @@ fn ask_depth<N: Name, J: Errand, R: Abort>(
 {
     let _row = row;
     let mut desk = asked_desk::<N, J, R>(rt, alloc, &board, keeper, jobs)?;
-    assert!(rt; desk.standing(2) == Standing::NotOf);
-    assert!(rt; desk.next_due(0) == Some(Live { name: 1, place: 0 }) && desk.next_due(1).is_none());
-    assert!(rt; desk.next_awaited(0) == desk.next_due(0));
-    let mut held: Vec<Body<N>> = Vec::new(alloc);
-    assert!(rt; matches!(desk.close(None, held.as_slice()), Err(CloseFault::NotDone)));
+    look_before_answer(rt, alloc, &mut desk);
     let body = first_body::<N>(alloc, &board, seat, poller)?;
     answer(rt, &mut desk, &body);
     look_up(rt, &desk)?;
-    held.push(body).map_err(|_| AllocError)?;
-    assert!(rt; matches!(desk.close(None, held.as_slice()), Err(CloseFault::Held)));
-    held.clear();
-    assert!(rt; matches!(desk.close(None, held.as_slice()), Ok((1, _, _))));
-    assert!(rt; desk.exit(1).is_ok() && desk.exit(1).is_err());
-    Ok(())
+    close_and_exit(rt, alloc, &mut desk, body)
 }
 
 // A code is installed, invalidated, looked for, weighed and freed.
@@ -398,20 +413,15 @@ fn sixty_four_requests_wait(rt: HostRuntime) -> Result<(), Fail> {
 #[derive(Drop)]
 struct AnsweredOnce;
 
-impl Scenario for AnsweredOnce {
+impl<R: Abort> Scenario<R> for AnsweredOnce {
     type Out = ();
 
-    fn play<J: Errand + Send, R: Threads + Wait + Sync + Abort>(
-        self,
-        rt: &R,
-        alloc: Global,
-        lists: Vec<Vec<J>>,
-    ) -> Result<(), AllocError> {
+    fn play(self, rt: &R, alloc: Global, lists: Vec<Vec<Job>>) -> Result<(), AllocError> {
         let mut lists = lists;
         let (board, keeper, seat) = small_board(alloc, 1)?;
         let (row, poller) = small_row(alloc)?;
         let jobs = pop_list(alloc, &mut lists);
-        ask_depth::<Brand, J, R>(rt, alloc, board, keeper, seat, row, poller, jobs)
+        ask_depth::<Brand, Job, R>(rt, alloc, board, keeper, seat, row, poller, jobs)
     }
 }
 

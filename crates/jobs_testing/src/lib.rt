@@ -10,27 +10,19 @@ use frames::image::Image;
 use operations::Ask;
 use operations::job::{Call, Errand, Job};
 use std::alloc::{AllocError, Global};
-use std::process::Abort;
-use std::sync::Wait;
-use std::thread::Threads;
 
 /// Whom a job is for, and what it asks.
 pub type Asked = (u64, Ask);
 
-/// What a test does with its lists of jobs.
-pub trait Scenario: Drop {
+/// What a test does with its lists of jobs, in this runtime.
+pub trait Scenario<R>: Drop {
     type Out: Drop;
 
-    fn play<J: Errand + Send, R: Threads + Wait + Sync + Abort>(
-        self,
-        rt: &R,
-        alloc: Global,
-        lists: Vec<Vec<J>>,
-    ) -> Result<Self::Out, AllocError>;
+    fn play(self, rt: &R, alloc: Global, lists: Vec<Vec<Job>>) -> Result<Self::Out, AllocError>;
 }
 
 /// Plays with jobs that answer what is asked here, in this order.
-pub fn with_jobs<S: Scenario, R: Threads + Wait + Sync + Abort>(
+pub fn with_jobs<R, S: Scenario<R>>(
     rt: &R,
     alloc: Global,
     asked: &[Vec<Asked>],

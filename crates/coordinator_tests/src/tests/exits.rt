@@ -5,14 +5,13 @@ use bodies::Name;
 use coordinator::{Coordinator, TellFault, Told};
 use coordinator_testing::{ask_both, started};
 use jobs_testing::{Scenario, each, pop_list, with_jobs};
-use operations::job::Errand;
+use operations::job::{Errand, Job};
 use operations::{Ask, Request, Targets};
 use std::alloc::{AllocError, Global};
 use std::marker::Brand;
 use std::process::Abort;
 use std::sync::Wait;
 use std::test::*;
-use std::thread::Threads;
 use thread_list::{Mutator, Parts, Shared};
 
 // Of the names 1 and 2 the first is gone, the second is told, and the name 3, in the place of the first, isn't asked.
@@ -64,6 +63,16 @@ fn is_answered<N: Name, J: Errand, R: Wait>(
     Ok(replies.len() == 1 && replies[0].0 == name && replies[0].1 == 0)
 }
 
+// The second thread answered the first handshake, and the third the second.
+fn look_at_replies<N: Name, J: Errand, R: Wait + Abort>(
+    rt: &R,
+    shared: &Shared<N, J>,
+) -> Result<(), AllocError> {
+    assert!(rt; is_answered(rt, shared, 1, 2)?);
+    assert!(rt; is_answered(rt, shared, 2, 3)?);
+    Ok(())
+}
+
 // The second thread, in native code, is held, served and released.
 fn serve_second<N: Name, J: Errand, R: Wait + Abort>(
     rt: &R,
@@ -103,12 +112,11 @@ fn replace<'a, N: Name, J: Errand, R: Wait + Abort>(
     Ok(third)
 }
 
-// Of three threads the first exits before it is told, and the third after. The jobs are for the names 1 to 3.
-fn run<N: Name, J: Errand, R: Wait + Abort>(
+// A handshake of the first two names waits, and one of the third. The jobs are for the names 1 to 3.
+fn ask_all<N: Name, J: Errand, R: Wait>(
     rt: &R,
     alloc: Global,
     shared: &Shared<N, J>,
-    coordinator: &mut Coordinator<'_, N, J>,
     jobs: Vec<J>,
 ) -> Result<(), AllocError> {
     let mut pair = jobs;
@@ -116,10 +124,21 @@ fn run<N: Name, J: Errand, R: Wait + Abort>(
     if let Some(job) = pair.pop() {
         third.push(job).map_err(|_| AllocError)?;
     }
+    ask_both(rt, alloc, shared, pair)?;
+    ask_third(rt, alloc, shared, third)
+}
+
+// Of three threads the first exits before it is told, and the third after.
+fn run<N: Name, J: Errand, R: Wait + Abort>(
+    rt: &R,
+    alloc: Global,
+    shared: &Shared<N, J>,
+    coordinator: &mut Coordinator<'_, N, J>,
+    jobs: Vec<J>,
+) -> Result<(), AllocError> {
     let first = started(rt, alloc, shared)?;
     let mut second = started(rt, alloc, shared)?;
-    ask_both(rt, alloc, shared, pair)?;
-    ask_third(rt, alloc, shared, third)?;
+    ask_all(rt, alloc, shared, jobs)?;
     let third = replace(rt, alloc, shared, first)?;
     work(rt, coordinator, &mut second, third);
     assert!(rt; second.exit(rt).is_ok());
@@ -141,27 +160,19 @@ fn exit_and_tell<N: Name, J: Errand, R: Wait + Abort>(
         return Err(AllocError);
     };
     run(rt, alloc, &shared, &mut coordinator, jobs)?;
-    let one = is_answered(rt, &shared, 1, 2)?;
-    let two = is_answered(rt, &shared, 2, 3)?;
-    assert!(rt; one && two);
-    Ok(())
+    look_at_replies(rt, &shared)
 }
 
 #[derive(Drop)]
 struct Exits;
 
-impl Scenario for Exits {
+impl<R: Wait + Abort> Scenario<R> for Exits {
     type Out = ();
 
-    fn play<J: Errand + Send, R: Threads + Wait + Sync + Abort>(
-        self,
-        rt: &R,
-        alloc: Global,
-        lists: Vec<Vec<J>>,
-    ) -> Result<(), AllocError> {
+    fn play(self, rt: &R, alloc: Global, lists: Vec<Vec<Job>>) -> Result<(), AllocError> {
         let mut lists = lists;
         let parts = Parts::new(alloc, 2, 4, 2).map_err(|_| AllocError)?;
-        exit_and_tell::<Brand, J, R>(rt, alloc, parts, pop_list(alloc, &mut lists))
+        exit_and_tell::<Brand, Job, R>(rt, alloc, parts, pop_list(alloc, &mut lists))
     }
 }
 

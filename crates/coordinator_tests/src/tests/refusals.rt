@@ -8,14 +8,13 @@ use coordinator::{
 use coordinator_testing::{ask_both, started};
 use desk::{CloseFault, OpenFault};
 use jobs_testing::{Scenario, each, pop_list, with_jobs};
-use operations::job::Errand;
+use operations::job::{Errand, Job};
 use operations::{Ask, Request};
 use std::alloc::{AllocError, Global};
 use std::marker::Brand;
 use std::process::Abort;
 use std::sync::Wait;
 use std::test::*;
-use std::thread::Threads;
 use thread_list::{Mutator, Parts, Poll, Shared};
 
 // Where nothing is open.
@@ -25,23 +24,40 @@ fn refuse_all<N: Name, J: Errand, R: Wait + Abort>(
 ) {
     assert!(rt; matches!(coordinator.open(rt), Err(OpenFault::QueueEmpty)));
     assert!(rt; matches!(coordinator.tell(rt, 1), Err(TellFault::NothingOpen)));
-    assert!(rt; matches!(coordinator.hold(rt, 2), Err(HoldFault::NoSuchPlace)));
-    assert!(rt; matches!(coordinator.hold(rt, 0), Err(HoldFault::NothingOpen)));
-    assert!(rt; matches!(coordinator.serve(rt, 2), Err(ServeFault::NoSuchPlace)));
-    assert!(rt; matches!(coordinator.serve(rt, 0), Err(ServeFault::NotHeld)));
-    assert!(rt; matches!(coordinator.release(rt, 2), Err(ReleaseFault::NoSuchPlace)));
-    assert!(rt; matches!(coordinator.release(rt, 0), Err(ReleaseFault::NotHeld)));
+    assert!(rt; matches!(coordinator.close(rt), Err(CloseFault::NothingOpen)));
     assert!(rt;
         matches!(
             operate_fault(rt, coordinator),
             Some(desk::OperateFault::NothingOpen)
         )
     );
-    assert!(rt; matches!(coordinator.close(rt), Err(CloseFault::NothingOpen)));
 }
 
-// The first thread, in native code, is told, held, served and released.
-fn work_on_first<N: Name, J: Errand, R: Wait + Abort>(
+// Where nothing is held, and there is no place 2.
+fn refuse_places<N: Name, J: Errand, R: Wait + Abort>(
+    rt: &R,
+    coordinator: &mut Coordinator<'_, N, J>,
+) {
+    assert!(rt; matches!(coordinator.hold(rt, 2), Err(HoldFault::NoSuchPlace)));
+    assert!(rt; matches!(coordinator.hold(rt, 0), Err(HoldFault::NothingOpen)));
+    assert!(rt; matches!(coordinator.serve(rt, 2), Err(ServeFault::NoSuchPlace)));
+    assert!(rt; matches!(coordinator.serve(rt, 0), Err(ServeFault::NotHeld)));
+    assert!(rt; matches!(coordinator.release(rt, 2), Err(ReleaseFault::NoSuchPlace)));
+    assert!(rt; matches!(coordinator.release(rt, 0), Err(ReleaseFault::NotHeld)));
+}
+
+// Where no thread has started.
+fn refuse_vacant<N: Name, J: Errand, R: Wait + Abort>(
+    rt: &R,
+    coordinator: &mut Coordinator<'_, N, J>,
+) {
+    assert!(rt; matches!(coordinator.hold(rt, 0), Err(HoldFault::Vacant)));
+    assert!(rt; matches!(coordinator.serve(rt, 0), Err(ServeFault::Vacant)));
+    assert!(rt; matches!(coordinator.release(rt, 0), Err(ReleaseFault::Vacant)));
+}
+
+// The handshake is opened, and the first thread, in native code, is told.
+fn tell_first<N: Name, J: Errand, R: Wait + Abort>(
     rt: &R,
     coordinator: &mut Coordinator<'_, N, J>,
 ) {
@@ -51,6 +67,13 @@ fn work_on_first<N: Name, J: Errand, R: Wait + Abort>(
     assert!(rt; matches!(coordinator.tell(rt, 3), Err(TellFault::NotOf)));
     assert!(rt; matches!(coordinator.tell(rt, 1), Ok(Told::Told(_))));
     assert!(rt; matches!(coordinator.tell(rt, 1), Err(TellFault::AlreadyTold)));
+}
+
+// It is held and served.
+fn serve_first<N: Name, J: Errand, R: Wait + Abort>(
+    rt: &R,
+    coordinator: &mut Coordinator<'_, N, J>,
+) {
     assert!(rt; coordinator.hold(rt, 0).is_ok());
     assert!(rt; matches!(coordinator.hold(rt, 0), Err(HoldFault::Held)));
     assert!(rt;
@@ -61,6 +84,13 @@ fn work_on_first<N: Name, J: Errand, R: Wait + Abort>(
     );
     assert!(rt; coordinator.serve(rt, 0).is_ok());
     assert!(rt; matches!(coordinator.serve(rt, 0), Err(ServeFault::AlreadyDone)));
+}
+
+// It is released, and the handshake isn't closed before the second thread has answered.
+fn release_first<N: Name, J: Errand, R: Wait + Abort>(
+    rt: &R,
+    coordinator: &mut Coordinator<'_, N, J>,
+) {
     assert!(rt; matches!(coordinator.close(rt), Err(CloseFault::Held)));
     assert!(rt; coordinator.release(rt, 0).is_ok());
     assert!(rt; matches!(coordinator.hold(rt, 0), Err(HoldFault::AlreadyDone)));
@@ -83,8 +113,8 @@ fn serve_itself<N: Name, J: Errand, R: Wait + Abort>(rt: &R, thread: &mut Mutato
     assert!(rt; thread.stop(rt).is_ok());
 }
 
-// The handshake is closed; a census is opened, told to both, and the first thread is held.
-fn begin_count<N: Name, J: Errand, R: Wait + Abort>(
+// The handshake is closed; a census is opened, and told to both.
+fn tell_count<N: Name, J: Errand, R: Wait + Abort>(
     rt: &R,
     coordinator: &mut Coordinator<'_, N, J>,
 ) {
@@ -93,6 +123,13 @@ fn begin_count<N: Name, J: Errand, R: Wait + Abort>(
     assert!(rt; matches!(coordinator.tell(rt, 3), Err(TellFault::NotOf)));
     assert!(rt; matches!(coordinator.tell(rt, 1), Ok(Told::Told(_))));
     assert!(rt; matches!(coordinator.tell(rt, 2), Ok(Told::Told(_))));
+}
+
+// The first thread is held.
+fn hold_first<N: Name, J: Errand, R: Wait + Abort>(
+    rt: &R,
+    coordinator: &mut Coordinator<'_, N, J>,
+) {
     assert!(rt; coordinator.hold(rt, 0).is_ok());
     assert!(rt; matches!(coordinator.serve(rt, 0), Err(ServeFault::NotOf)));
     assert!(rt;
@@ -115,8 +152,8 @@ fn operate_fault<N: Name, J: Errand, R: Wait>(
     }
 }
 
-// The second thread is held too, and the census is operated and closed.
-fn end_count<N: Name, J: Errand, R: Wait + Abort>(rt: &R, coordinator: &mut Coordinator<'_, N, J>) {
+// The second thread is held too, and the census is operated.
+fn operate<N: Name, J: Errand, R: Wait + Abort>(rt: &R, coordinator: &mut Coordinator<'_, N, J>) {
     assert!(rt; coordinator.hold(rt, 1).is_ok());
     assert!(rt; matches!(coordinator.close(rt), Err(CloseFault::Held)));
     let Ok((number, list, _receipt)) = coordinator.operate(rt) else {
@@ -129,12 +166,69 @@ fn end_count<N: Name, J: Errand, R: Wait + Abort>(rt: &R, coordinator: &mut Coor
             Some(desk::OperateFault::AlreadyDone)
         )
     );
+}
+
+// Both go, and it is closed.
+fn end_count<N: Name, J: Errand, R: Wait + Abort>(rt: &R, coordinator: &mut Coordinator<'_, N, J>) {
     assert!(rt; coordinator.release(rt, 0).is_ok());
     assert!(rt; coordinator.release(rt, 1).is_ok());
     assert!(rt; matches!(coordinator.close(rt), Ok((2, _))));
 }
 
+// A handshake is worked on, and a census told. The second thread goes into native code before it is held for that.
+fn work_on_both<N: Name, J: Errand, R: Wait + Abort>(
+    rt: &R,
+    alloc: Global,
+    shared: &Shared<N, J>,
+    coordinator: &mut Coordinator<'_, N, J>,
+    second: &mut Mutator<'_, N, J>,
+) {
+    tell_first(rt, coordinator);
+    serve_first(rt, coordinator);
+    release_first(rt, coordinator);
+    tell_second(rt, coordinator);
+    serve_itself(rt, second);
+    assert!(rt; shared.submit(rt, Request::Census, Vec::new(alloc)).is_ok());
+    tell_count(rt, coordinator);
+    hold_first(rt, coordinator);
+    assert!(rt;
+        matches!(
+            shared.start(rt, alloc),
+            Err(desk::StartFault::SafepointOpen)
+        )
+    );
+    assert!(rt; second.to_native(rt).is_ok());
+}
+
+// A thread comes back from native code and exits.
+fn leave<N: Name, J: Errand, R: Wait + Abort>(rt: &R, thread: Mutator<'_, N, J>) {
+    let mut thread = thread;
+    assert!(rt; thread.from_native(rt).is_ok());
+    assert!(rt; thread.exit(rt).is_ok());
+}
+
 fn work_step_by_step<N: Name, J: Errand, R: Wait + Abort>(
+    rt: &R,
+    alloc: Global,
+    shared: &Shared<N, J>,
+    coordinator: &mut Coordinator<'_, N, J>,
+    jobs: Vec<J>,
+) -> Result<(), AllocError> {
+    let mut first = started(rt, alloc, shared)?;
+    let mut second = started(rt, alloc, shared)?;
+    refuse_all(rt, coordinator);
+    refuse_places(rt, coordinator);
+    assert!(rt; first.to_native(rt).is_ok());
+    ask_both(rt, alloc, shared, jobs)?;
+    work_on_both(rt, alloc, shared, coordinator, &mut second);
+    operate(rt, coordinator);
+    end_count(rt, coordinator);
+    leave(rt, first);
+    leave(rt, second);
+    Ok(())
+}
+
+fn refuse_and_work<N: Name, J: Errand, R: Wait + Abort>(
     rt: &R,
     alloc: Global,
     parts: Parts,
@@ -148,48 +242,20 @@ fn work_step_by_step<N: Name, J: Errand, R: Wait + Abort>(
     let Ok(mut coordinator) = Coordinator::new(&shared, armer, alloc) else {
         return Err(AllocError);
     };
-    assert!(rt; matches!(coordinator.hold(rt, 0), Err(HoldFault::Vacant)));
-    assert!(rt; matches!(coordinator.serve(rt, 0), Err(ServeFault::Vacant)));
-    assert!(rt; matches!(coordinator.release(rt, 0), Err(ReleaseFault::Vacant)));
-    let mut first = started(rt, alloc, &shared)?;
-    let mut second = started(rt, alloc, &shared)?;
-    refuse_all(rt, &mut coordinator);
-    assert!(rt; first.to_native(rt).is_ok());
-    ask_both(rt, alloc, &shared, jobs)?;
-    work_on_first(rt, &mut coordinator);
-    tell_second(rt, &mut coordinator);
-    serve_itself(rt, &mut second);
-    assert!(rt; shared.submit(rt, Request::Census, Vec::new(alloc)).is_ok());
-    begin_count(rt, &mut coordinator);
-    assert!(rt;
-        matches!(
-            shared.start(rt, alloc),
-            Err(desk::StartFault::SafepointOpen)
-        )
-    );
-    assert!(rt; second.to_native(rt).is_ok());
-    end_count(rt, &mut coordinator);
-    assert!(rt; first.from_native(rt).is_ok() && second.from_native(rt).is_ok());
-    assert!(rt; first.exit(rt).is_ok());
-    assert!(rt; second.exit(rt).is_ok());
-    Ok(())
+    refuse_vacant(rt, &mut coordinator);
+    work_step_by_step(rt, alloc, &shared, &mut coordinator, jobs)
 }
 
 #[derive(Drop)]
 struct Refusals;
 
-impl Scenario for Refusals {
+impl<R: Wait + Abort> Scenario<R> for Refusals {
     type Out = ();
 
-    fn play<J: Errand + Send, R: Threads + Wait + Sync + Abort>(
-        self,
-        rt: &R,
-        alloc: Global,
-        lists: Vec<Vec<J>>,
-    ) -> Result<(), AllocError> {
+    fn play(self, rt: &R, alloc: Global, lists: Vec<Vec<Job>>) -> Result<(), AllocError> {
         let mut lists = lists;
         let parts = Parts::new(alloc, 2, 4, 2).map_err(|_| AllocError)?;
-        work_step_by_step::<Brand, J, R>(rt, alloc, parts, pop_list(alloc, &mut lists))
+        refuse_and_work::<Brand, Job, R>(rt, alloc, parts, pop_list(alloc, &mut lists))
     }
 }
 

@@ -6,27 +6,28 @@ use coordinator::{Coordinator, Driven, NotReclaimed, ReclaimFault, Reclaimed};
 use coordinator_testing::{both, started};
 use jobs_testing::{Scenario, each, pop_list, with_jobs};
 use method_table::table::RetireFault;
-use operations::job::Errand;
+use operations::job::{Errand, Job};
 use operations::{Ask, Request};
 use std::alloc::{AllocError, Global};
 use std::marker::Brand;
 use std::process::Abort;
 use std::sync::Wait;
 use std::test::*;
-use std::thread::Threads;
 use thread_list::{Mutator, Parts, Poll, Shared};
 
-// Two threads call method 0, one twice and one once, and go into native code.
-fn call_both<N: Name, J: Errand, R: Wait + Abort>(
+// A thread starts, calls method 0 so many times and goes into native code.
+fn gone_away<'a, N: Name, J: Errand, R: Wait + Abort>(
     rt: &R,
-    shared: &Shared<N, J>,
-    first: &mut Mutator<'_, N, J>,
-    second: &mut Mutator<'_, N, J>,
-) {
-    assert!(rt; matches!(first.call(0, shared.hint(0)), Ok(Called::Compiled(1))));
-    assert!(rt; matches!(first.call(0, shared.hint(0)), Ok(Called::Compiled(1))));
-    assert!(rt; matches!(second.call(0, shared.hint(0)), Ok(Called::Compiled(1))));
-    assert!(rt; first.to_native(rt).is_ok() && second.to_native(rt).is_ok());
+    alloc: Global,
+    shared: &'a Shared<N, J>,
+    calls: u64,
+) -> Result<Mutator<'a, N, J>, AllocError> {
+    let mut thread = started(rt, alloc, shared)?;
+    for _ in 0..calls {
+        assert!(rt; matches!(thread.call(0, shared.hint(0)), Ok(Called::Compiled(1))));
+    }
+    assert!(rt; thread.to_native(rt).is_ok());
+    Ok(thread)
 }
 
 // A census counts three frames of code 1.
@@ -84,7 +85,61 @@ fn finish<N: Name, J: Errand, R: Wait + Abort>(rt: &R, thread: Mutator<'_, N, J>
     assert!(rt; thread.exit(rt).is_ok());
 }
 
-// Two threads are counted by a census and by a handshake; their code is reclaimed once they have left it.
+// No thread is on the code: it is freed, and isn't known any more.
+fn free<N: Name, J: Errand, R: Wait + Abort>(
+    rt: &R,
+    alloc: Global,
+    coordinator: &mut Coordinator<'_, N, J>,
+) {
+    let freed = coordinator.reclaim(rt, 1, Vec::new(alloc));
+    assert!(rt; matches!(freed, Ok(Reclaimed::Freed(_))));
+    let unknown = coordinator.reclaim(rt, 1, Vec::new(alloc));
+    assert!(rt;
+        matches!(
+            unknown,
+            Err(NotReclaimed {
+                fault: ReclaimFault::Code(RetireFault::Unknown),
+                ..
+            })
+        )
+    );
+}
+
+// Two threads in native code are counted by a census and by a handshake, and their code isn't reclaimed.
+fn count<N: Name, J: Errand, R: Wait + Abort>(
+    rt: &R,
+    alloc: Global,
+    shared: &Shared<N, J>,
+    coordinator: &mut Coordinator<'_, N, J>,
+    counts: Vec<J>,
+    depths: Vec<J>,
+) -> Result<(), AllocError> {
+    drive_census(rt, alloc, shared, coordinator);
+    drive_counts(rt, alloc, shared, coordinator, counts)?;
+    assert!(rt; shared.invalidate(rt, 1).is_ok());
+    let used = coordinator.reclaim(rt, 1, depths);
+    assert!(rt; matches!(used, Ok(Reclaimed::Used(3))));
+    Ok(())
+}
+
+// Two threads are counted; their code is reclaimed once they have left it.
+fn call_and_leave<N: Name, J: Errand, R: Wait + Abort>(
+    rt: &R,
+    alloc: Global,
+    shared: &Shared<N, J>,
+    coordinator: &mut Coordinator<'_, N, J>,
+    counts: Vec<J>,
+    depths: Vec<J>,
+) -> Result<(), AllocError> {
+    assert!(rt; matches!(shared.install(rt, 0), Ok((1, _))));
+    let first = gone_away(rt, alloc, shared, 2)?;
+    let second = gone_away(rt, alloc, shared, 1)?;
+    count(rt, alloc, shared, coordinator, counts, depths)?;
+    finish(rt, first, 2);
+    finish(rt, second, 1);
+    Ok(())
+}
+
 fn count_and_reclaim<N: Name, J: Errand, R: Wait + Abort>(
     rt: &R,
     alloc: Global,
@@ -100,49 +155,23 @@ fn count_and_reclaim<N: Name, J: Errand, R: Wait + Abort>(
     let Ok(mut coordinator) = Coordinator::new(&shared, armer, alloc) else {
         return Err(AllocError);
     };
-    assert!(rt; matches!(shared.install(rt, 0), Ok((1, _))));
-    let mut first = started(rt, alloc, &shared)?;
-    let mut second = started(rt, alloc, &shared)?;
-    call_both(rt, &shared, &mut first, &mut second);
-    drive_census(rt, alloc, &shared, &mut coordinator);
-    drive_counts(rt, alloc, &shared, &mut coordinator, counts)?;
-    assert!(rt; shared.invalidate(rt, 1).is_ok());
-    let used = coordinator.reclaim(rt, 1, depths);
-    assert!(rt; matches!(used, Ok(Reclaimed::Used(3))));
-    finish(rt, first, 2);
-    finish(rt, second, 1);
-    let freed = coordinator.reclaim(rt, 1, Vec::new(alloc));
-    assert!(rt; matches!(freed, Ok(Reclaimed::Freed(_))));
-    let unknown = coordinator.reclaim(rt, 1, Vec::new(alloc));
-    assert!(rt;
-        matches!(
-            unknown,
-            Err(NotReclaimed {
-                fault: ReclaimFault::Code(RetireFault::Unknown),
-                ..
-            })
-        )
-    );
+    call_and_leave(rt, alloc, &shared, &mut coordinator, counts, depths)?;
+    free(rt, alloc, &mut coordinator);
     Ok(())
 }
 
 #[derive(Drop)]
 struct Row;
 
-impl Scenario for Row {
+impl<R: Wait + Abort> Scenario<R> for Row {
     type Out = ();
 
-    fn play<J: Errand + Send, R: Threads + Wait + Sync + Abort>(
-        self,
-        rt: &R,
-        alloc: Global,
-        lists: Vec<Vec<J>>,
-    ) -> Result<(), AllocError> {
+    fn play(self, rt: &R, alloc: Global, lists: Vec<Vec<Job>>) -> Result<(), AllocError> {
         let mut lists = lists;
         let parts = Parts::new(alloc, 2, 4, 2).map_err(|_| AllocError)?;
         let depths = pop_list(alloc, &mut lists);
         let counts = pop_list(alloc, &mut lists);
-        count_and_reclaim::<Brand, J, R>(rt, alloc, parts, counts, depths)
+        count_and_reclaim::<Brand, Job, R>(rt, alloc, parts, counts, depths)
     }
 }
 

@@ -6,14 +6,13 @@ use bodies::{Called, Name};
 use coordinator::{Coordinator, Told};
 use coordinator_testing::{are_replies, names_to, started};
 use jobs_testing::{Scenario, each, pop_list, with_jobs};
-use operations::job::Errand;
+use operations::job::{Errand, Job};
 use operations::{Ask, Request};
 use std::alloc::{AllocError, Global};
 use std::marker::Brand;
 use std::process::Abort;
 use std::sync::Wait;
 use std::test::*;
-use std::thread::Threads;
 use thread_list::{CallFault, ExitFault, Mutator, Parts, Poll, ReturnFault, Shared};
 use thread_state::{Back, State};
 
@@ -236,6 +235,25 @@ fn stop_at_back_edge<'a, N: Name, J: Errand, R: Wait + Abort>(
     Ok(it)
 }
 
+// A thread crosses every way, is told and stops.
+fn cross_and_stop<N: Name, J: Errand, R: Wait + Abort>(
+    rt: &R,
+    alloc: Global,
+    shared: &Shared<N, J>,
+    coordinator: &mut Coordinator<'_, N, J>,
+    jobs: Vec<J>,
+) -> Result<(), AllocError> {
+    assert!(rt; matches!(shared.install(rt, 0), Ok((1, _))));
+    let thread = call_by_name(rt, alloc, shared)?;
+    let thread = cross_from_java(rt, shared, thread)?;
+    assert!(rt; shared.peek_counts() == 0);
+    tell_all(rt, alloc, shared, coordinator, 1, jobs)?;
+    let thread = stop_at_back_edge(rt, shared, coordinator, thread)?;
+    assert!(rt; shared.peek_counts() == 1);
+    return_and_exit(rt, thread);
+    Ok(())
+}
+
 fn go_round<N: Name, J: Errand, R: Wait + Abort>(
     rt: &R,
     alloc: Global,
@@ -250,32 +268,19 @@ fn go_round<N: Name, J: Errand, R: Wait + Abort>(
     let Ok(mut coordinator) = Coordinator::new(&shared, armer, alloc) else {
         return Err(AllocError);
     };
-    assert!(rt; matches!(shared.install(rt, 0), Ok((1, _))));
-    let thread = call_by_name(rt, alloc, &shared)?;
-    let thread = cross_from_java(rt, &shared, thread)?;
-    assert!(rt; shared.peek_counts() == 0);
-    tell_all(rt, alloc, &shared, &mut coordinator, 1, jobs)?;
-    let thread = stop_at_back_edge(rt, &shared, &mut coordinator, thread)?;
-    assert!(rt; shared.peek_counts() == 1);
-    return_and_exit(rt, thread);
-    Ok(())
+    cross_and_stop(rt, alloc, &shared, &mut coordinator, jobs)
 }
 
 #[derive(Drop)]
 struct States;
 
-impl Scenario for States {
+impl<R: Wait + Abort> Scenario<R> for States {
     type Out = ();
 
-    fn play<J: Errand + Send, R: Threads + Wait + Sync + Abort>(
-        self,
-        rt: &R,
-        alloc: Global,
-        lists: Vec<Vec<J>>,
-    ) -> Result<(), AllocError> {
+    fn play(self, rt: &R, alloc: Global, lists: Vec<Vec<Job>>) -> Result<(), AllocError> {
         let mut lists = lists;
         let parts = Parts::new(alloc, 1, 4, 2).map_err(|_| AllocError)?;
-        go_round::<Brand, J, R>(rt, alloc, parts, pop_list(alloc, &mut lists))
+        go_round::<Brand, Job, R>(rt, alloc, parts, pop_list(alloc, &mut lists))
     }
 }
 
@@ -287,7 +292,45 @@ fn each_call_is_refused_where_it_is_not_lawful(rt: HostRuntime) -> Result<(), Fa
     Ok(())
 }
 
-// Three threads are away when they are told. Each comes back to a poll that stops it, and serves itself.
+// A thread in native code, left from Java, or in a wait, comes back to a poll that stops it.
+fn come_from_native<N: Name, J: Errand, R: Wait + Abort>(
+    rt: &R,
+    shared: &Shared<N, J>,
+    thread: Mutator<'_, N, J>,
+    back: Back,
+    replies: &[(u64, u64)],
+) -> Result<(), AllocError> {
+    let mut it = thread;
+    assert!(rt; matches!(it.from_native(rt), Ok(Poll::Stop(1))));
+    let it = serve_itself(rt, shared, it, back, replies)?;
+    leave(rt, it, back);
+    Ok(())
+}
+
+// The same, from a wait.
+fn come_from_wait<N: Name, J: Errand, R: Wait + Abort>(
+    rt: &R,
+    shared: &Shared<N, J>,
+    thread: Mutator<'_, N, J>,
+    replies: &[(u64, u64)],
+) -> Result<(), AllocError> {
+    let mut it = thread;
+    assert!(rt; matches!(it.unblock(rt), Ok(Poll::Stop(1))));
+    let it = serve_itself(rt, shared, it, Back::Vm, replies)?;
+    leave(rt, it, Back::Vm);
+    Ok(())
+}
+
+// A thread that has come back, and may have to leave the VM, returns from all and exits.
+fn leave<N: Name, J: Errand, R: Wait + Abort>(rt: &R, thread: Mutator<'_, N, J>, back: Back) {
+    let mut it = thread;
+    if back == Back::Vm {
+        assert!(rt; matches!(it.from_vm(), Ok(Poll::Go)));
+    }
+    return_and_exit(rt, it);
+}
+
+// Three threads are away when they are told. Each comes back to a poll that stops it, serves itself, and exits.
 fn come_back<N: Name, J: Errand, R: Wait + Abort>(
     rt: &R,
     shared: &Shared<N, J>,
@@ -295,19 +338,39 @@ fn come_back<N: Name, J: Errand, R: Wait + Abort>(
     second: Mutator<'_, N, J>,
     third: Mutator<'_, N, J>,
 ) -> Result<(), AllocError> {
-    let (mut one, mut two, mut three) = (first, second, third);
-    assert!(rt; matches!(one.from_native(rt), Ok(Poll::Stop(1))));
-    let one = serve_itself(rt, shared, one, Back::Java, [(1, 1)].as_slice())?;
-    assert!(rt; matches!(two.unblock(rt), Ok(Poll::Stop(1))));
-    let mut two = serve_itself(rt, shared, two, Back::Vm, [(1, 1), (2, 2)].as_slice())?;
-    assert!(rt; matches!(three.from_native(rt), Ok(Poll::Stop(1))));
     let all = [(1, 1), (2, 2), (3, 3)];
-    let mut three = serve_itself(rt, shared, three, Back::Vm, all.as_slice())?;
-    assert!(rt; matches!(two.from_vm(), Ok(Poll::Go)) && matches!(three.from_vm(), Ok(Poll::Go)));
-    return_and_exit(rt, one);
-    return_and_exit(rt, two);
-    return_and_exit(rt, three);
-    Ok(())
+    come_from_native(rt, shared, first, Back::Java, [(1, 1)].as_slice())?;
+    come_from_wait(rt, shared, second, [(1, 1), (2, 2)].as_slice())?;
+    come_from_native(rt, shared, third, Back::Vm, all.as_slice())
+}
+
+// The first is in native code, left from Java; the second in a wait; the third in native code, left from the VM.
+fn go_away<N: Name, J: Errand, R: Wait + Abort>(
+    rt: &R,
+    first: &mut Mutator<'_, N, J>,
+    second: &mut Mutator<'_, N, J>,
+    third: &mut Mutator<'_, N, J>,
+) {
+    assert!(rt; first.to_native(rt).is_ok());
+    assert!(rt; second.to_vm().is_ok() && second.block(rt).is_ok());
+    assert!(rt; third.to_vm().is_ok() && third.to_native(rt).is_ok());
+}
+
+// They are told while they are away, and come back.
+fn call_and_go<N: Name, J: Errand, R: Wait + Abort>(
+    rt: &R,
+    alloc: Global,
+    shared: &Shared<N, J>,
+    coordinator: &mut Coordinator<'_, N, J>,
+    jobs: Vec<J>,
+) -> Result<(), AllocError> {
+    assert!(rt; matches!(shared.install(rt, 0), Ok((1, _))));
+    let mut first = call_by_name(rt, alloc, shared)?;
+    let mut second = call_by_name(rt, alloc, shared)?;
+    let mut third = call_by_name(rt, alloc, shared)?;
+    go_away(rt, &mut first, &mut second, &mut third);
+    tell_all(rt, alloc, shared, coordinator, 3, jobs)?;
+    come_back(rt, shared, first, second, third)
 }
 
 fn tell_away<N: Name, J: Errand, R: Wait + Abort>(
@@ -324,15 +387,7 @@ fn tell_away<N: Name, J: Errand, R: Wait + Abort>(
     let Ok(mut coordinator) = Coordinator::new(&shared, armer, alloc) else {
         return Err(AllocError);
     };
-    assert!(rt; matches!(shared.install(rt, 0), Ok((1, _))));
-    let mut first = call_by_name(rt, alloc, &shared)?;
-    let mut second = call_by_name(rt, alloc, &shared)?;
-    let mut third = call_by_name(rt, alloc, &shared)?;
-    assert!(rt; first.to_native(rt).is_ok());
-    assert!(rt; second.to_vm().is_ok() && second.block(rt).is_ok());
-    assert!(rt; third.to_vm().is_ok() && third.to_native(rt).is_ok());
-    tell_all(rt, alloc, &shared, &mut coordinator, 3, jobs)?;
-    come_back(rt, &shared, first, second, third)?;
+    call_and_go(rt, alloc, &shared, &mut coordinator, jobs)?;
     assert!(rt; matches!(coordinator.close(rt), Ok((1, _))));
     Ok(())
 }
@@ -340,18 +395,13 @@ fn tell_away<N: Name, J: Errand, R: Wait + Abort>(
 #[derive(Drop)]
 struct Away;
 
-impl Scenario for Away {
+impl<R: Wait + Abort> Scenario<R> for Away {
     type Out = ();
 
-    fn play<J: Errand + Send, R: Threads + Wait + Sync + Abort>(
-        self,
-        rt: &R,
-        alloc: Global,
-        lists: Vec<Vec<J>>,
-    ) -> Result<(), AllocError> {
+    fn play(self, rt: &R, alloc: Global, lists: Vec<Vec<Job>>) -> Result<(), AllocError> {
         let mut lists = lists;
         let parts = Parts::new(alloc, 3, 4, 2).map_err(|_| AllocError)?;
-        tell_away::<Brand, J, R>(rt, alloc, parts, pop_list(alloc, &mut lists))
+        tell_away::<Brand, Job, R>(rt, alloc, parts, pop_list(alloc, &mut lists))
     }
 }
 

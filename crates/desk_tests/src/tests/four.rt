@@ -10,14 +10,12 @@ use bodies::{Body, Name};
 use desk::{CloseFault, Desk, OpenFault, Progress, Standing, StartFault};
 use jobs_testing::{Scenario, each, with_jobs};
 use operations::Ask;
-use operations::job::Errand;
+use operations::job::{Errand, Job};
 use poll::{PollRow, Poller};
 use std::alloc::{AllocError, Global};
 use std::marker::Brand;
 use std::process::Abort;
-use std::sync::Wait;
 use std::test::*;
-use std::thread::Threads;
 
 // Thread 1 is asked five times and a census after that, and four of the handshakes are open.
 fn four_open<N: Name, J: Errand, R: Abort>(
@@ -124,18 +122,13 @@ fn ask_five<N: Name, J: Errand, R: Abort>(
 #[derive(Drop)]
 struct FourOpen;
 
-impl Scenario for FourOpen {
+impl<R: Abort> Scenario<R> for FourOpen {
     type Out = ();
 
-    fn play<J: Errand + Send, R: Threads + Wait + Sync + Abort>(
-        self,
-        rt: &R,
-        alloc: Global,
-        lists: Vec<Vec<J>>,
-    ) -> Result<(), AllocError> {
+    fn play(self, rt: &R, alloc: Global, lists: Vec<Vec<Job>>) -> Result<(), AllocError> {
         let (board, keeper, seat) = small_board(alloc, 1)?;
         let (row, poller) = small_row(alloc)?;
-        ask_five::<Brand, J, R>(rt, alloc, board, keeper, seat, row, poller, lists)
+        ask_five::<Brand, Job, R>(rt, alloc, board, keeper, seat, row, poller, lists)
     }
 }
 

@@ -1,13 +1,15 @@
 //! Handshakes are open beside each other: four are worked on at once, over two running threads and step by step, and of two the first is
 //! closed while the second waits. The four ask for what differs, so that the replies tell them apart.
 ghost use Rattle.std.specs.Prelude.{◌≡◌};
+ghost use Rattle.operations.specs.Asks.{reply};
 
 use bodies::{Called, Name};
 use coordinator::{Coordinator, DriveFault, Driven, HoldFault, ServeFault, TellFault, Told};
 use coordinator_testing::{are_replies, heed, names_to, run_until, started, wait_for};
 use desk::{CloseFault, OpenFault};
+use frames::image::Image;
 use jobs_testing::{Asked, Scenario, each, pop_list, with_jobs};
-use operations::job::Errand;
+use operations::job::{Call, Errand, Job};
 use operations::{Ask, Request, Targets};
 use std::alloc::{AllocError, Global};
 use std::marker::Brand;
@@ -216,6 +218,37 @@ fn install_both<N: Name, J: Errand, R: Wait + Abort>(rt: &R, shared: &Shared<N, 
     assert!(rt; matches!(shared.install(rt, 1), Ok((2, _))));
 }
 
+// Both threads live while four handshakes are worked on.
+fn run_both<N: Name + Send + Sync, J: Errand + Send, R: Threads + Wait + Sync + Abort>(
+    rt: &R,
+    alloc: Global,
+    shared: &Shared<N, J>,
+    coordinator: Coordinator<'_, N, J>,
+    three: Vec<J>,
+    fourth: Vec<J>,
+) {
+    let there = AtomicU64::new(0);
+    let done = AtomicBool::new(false);
+    let (lived, driven) = join(
+        rt,
+        || live_both(rt, alloc, shared, &there, &done),
+        || coordinate(rt, alloc, shared, coordinator, &there, &done, three, fourth),
+    );
+    assert!(rt; lived && driven);
+}
+
+// What the four handshakes are answered.
+fn look_at_replies<N: Name, J: Errand, R: Wait + Abort>(
+    rt: &R,
+    shared: &Shared<N, J>,
+) -> Result<(), AllocError> {
+    assert!(rt; are_replies(rt, shared, 1, [(1, 5), (2, 7)].as_slice())?);
+    assert!(rt; are_replies(rt, shared, 2, [(1, 1)].as_slice())?);
+    assert!(rt; are_replies(rt, shared, 3, [(2, 2)].as_slice())?);
+    assert!(rt; are_replies(rt, shared, 4, [(1, 3), (2, 4)].as_slice())?);
+    Ok(())
+}
+
 fn drive_over_two<N: Name + Send + Sync, J: Errand + Send, R: Threads + Wait + Sync + Abort>(
     rt: &R,
     alloc: Global,
@@ -232,68 +265,57 @@ fn drive_over_two<N: Name + Send + Sync, J: Errand + Send, R: Threads + Wait + S
         return Err(AllocError);
     };
     install_both(rt, &shared);
-    let there = AtomicU64::new(0);
-    let done = AtomicBool::new(false);
-    let (lived, driven) = join(
-        rt,
-        || live_both(rt, alloc, &shared, &there, &done),
-        || coordinate(
-            rt,
-            alloc,
-            &shared,
-            coordinator,
-            &there,
-            &done,
-            three,
-            fourth,
-        ),
-    );
-    assert!(rt; lived && driven);
-    assert!(rt; are_replies(rt, &shared, 1, [(1, 5), (2, 7)].as_slice())?);
-    assert!(rt; are_replies(rt, &shared, 2, [(1, 1)].as_slice())?);
-    assert!(rt; are_replies(rt, &shared, 3, [(2, 2)].as_slice())?);
-    assert!(rt; are_replies(rt, &shared, 4, [(1, 3), (2, 4)].as_slice())?);
-    Ok(())
+    run_both(rt, alloc, &shared, coordinator, three, fourth);
+    look_at_replies(rt, &shared)
 }
 
-#[derive(Drop)]
-struct FourAtOnce;
-
-impl Scenario for FourAtOnce {
-    type Out = ();
-
-    fn play<J: Errand + Send, R: Threads + Wait + Sync + Abort>(
-        self,
-        rt: &R,
-        alloc: Global,
-        lists: Vec<Vec<J>>,
-    ) -> Result<(), AllocError> {
-        let mut lists = lists;
-        let parts = Parts::new(alloc, 2, 4, 2).map_err(|_| AllocError)?;
-        let three = pop_list(alloc, &mut lists);
-        let fourth = pop_list(alloc, &mut lists);
-        drive_over_two::<Brand, J, R>(rt, alloc, parts, three, fourth)
+// What the jobs ask, in their order: two of the first handshake, one of the second and one of the third, and then those of the fourth.
+fn ask_of(before: u64) -> Ask {
+    match before {
+        0 | 1 => Ask::Depth,
+        2 | 3 => Ask::CountOf(1),
+        _ => Ask::CountOf(2),
     }
 }
 
 // The jobs ask for the depth of 1 and 2, for the frames of code 1 of 1 and of 2, and for those of code 2 of both.
 #[test]
 fn four_are_closed_over_two_running_threads(rt: HostRuntime) -> Result<(), Fail> {
-    let three = first_three(rt.alloc())?;
-    let asked = [each(rt.alloc(), 2, Ask::CountOf(2))?, three];
-    with_jobs(&rt, rt.alloc(), asked.as_slice(), FourAtOnce)?;
+    let parts = Parts::new(rt.alloc(), 2, 4, 2).map_err(|_| AllocError)?;
+    let mut three = Vec::new(rt.alloc());
+    let mut fourth = Vec::new(rt.alloc());
+    for before in 0..6 {
+        let (name, ask) = (1 + before % 2, ask_of(before));
+        let call: Call = Box::new(
+            rt.alloc(),
+            move |image: &Image| -> u64
+                ensures { result ≡ reply ask image.now.frames }
+            { ask.reply_on(image) },
+        )?;
+        let job = Job::new(name, ask, call);
+        if before < 4 {
+            three.push(job).map_err(|_| AllocError)?;
+        } else {
+            fourth.push(job).map_err(|_| AllocError)?;
+        }
+    }
+    drive_over_two::<Brand, Job, HostRuntime>(&rt, rt.alloc(), parts, three, fourth)?;
     Ok(())
 }
 
-// The four are open. The first thread is told its three in order, while the second is told nothing.
-fn tell_first<N: Name, J: Errand, R: Wait + Abort>(
-    rt: &R,
-    coordinator: &mut Coordinator<'_, N, J>,
-) {
+// The four are open.
+fn open_four<N: Name, J: Errand, R: Wait + Abort>(rt: &R, coordinator: &mut Coordinator<'_, N, J>) {
     for number in 1..5 {
         assert!(rt; matches!(coordinator.open(rt), Ok((n, _)) if n == number));
     }
     assert!(rt; matches!(coordinator.open(rt), Err(OpenFault::AlreadyOpen)));
+}
+
+// The first thread is told its three in order, while the second is told nothing.
+fn tell_first<N: Name, J: Errand, R: Wait + Abort>(
+    rt: &R,
+    coordinator: &mut Coordinator<'_, N, J>,
+) {
     for _ in 0..3 {
         assert!(rt; matches!(coordinator.tell(rt, 1), Ok(Told::Told(_))));
     }
@@ -303,7 +325,7 @@ fn tell_first<N: Name, J: Errand, R: Wait + Abort>(
 }
 
 // It is held and served, its oldest job first: each of its operations has its reply once that is served, and not before.
-fn serve_first<N: Name, J: Errand, R: Wait + Abort>(
+fn serve_two<N: Name, J: Errand, R: Wait + Abort>(
     rt: &R,
     shared: &Shared<N, J>,
     coordinator: &mut Coordinator<'_, N, J>,
@@ -314,21 +336,44 @@ fn serve_first<N: Name, J: Errand, R: Wait + Abort>(
         assert!(rt; coordinator.serve(rt, 0).is_ok());
         assert!(rt; are_replies(rt, shared, op, [(1, reply)].as_slice())?);
     }
+    Ok(())
+}
+
+// While it is held, nothing is closed.
+fn refuse_to_close<N: Name, J: Errand, R: Wait + Abort>(
+    rt: &R,
+    coordinator: &mut Coordinator<'_, N, J>,
+) {
     assert!(rt; matches!(coordinator.close_of(rt, 2), Err(CloseFault::Held)));
     assert!(rt; matches!(coordinator.close_of(rt, 3), Err(CloseFault::NotDone)));
     assert!(rt; matches!(coordinator.close_of(rt, 5), Err(CloseFault::NotOf)));
+}
+
+// Its last job is served, and it goes.
+fn serve_last<N: Name, J: Errand, R: Wait + Abort>(
+    rt: &R,
+    shared: &Shared<N, J>,
+    coordinator: &mut Coordinator<'_, N, J>,
+) -> Result<(), AllocError> {
     assert!(rt; are_replies(rt, shared, 4, [].as_slice())?);
     assert!(rt; coordinator.serve(rt, 0).is_ok());
     assert!(rt; are_replies(rt, shared, 4, [(1, 3)].as_slice())?);
     assert!(rt; matches!(coordinator.serve(rt, 0), Err(ServeFault::AlreadyDone)));
     assert!(rt; coordinator.release(rt, 0).is_ok());
-    assert!(rt; coordinator.close_of(rt, 4).is_ok() && coordinator.close_of(rt, 2).is_ok());
-    assert!(rt; matches!(coordinator.close(rt), Err(CloseFault::NotDone)));
     Ok(())
 }
 
-// Then the second is, and what is left is closed.
-fn work_on_second<N: Name, J: Errand, R: Wait + Abort>(
+// The first thread's own handshakes are closed, and not the one of both.
+fn close_of_first<N: Name, J: Errand, R: Wait + Abort>(
+    rt: &R,
+    coordinator: &mut Coordinator<'_, N, J>,
+) {
+    assert!(rt; coordinator.close_of(rt, 4).is_ok() && coordinator.close_of(rt, 2).is_ok());
+    assert!(rt; matches!(coordinator.close(rt), Err(CloseFault::NotDone)));
+}
+
+// Then the second is told and served.
+fn serve_second<N: Name, J: Errand, R: Wait + Abort>(
     rt: &R,
     shared: &Shared<N, J>,
     coordinator: &mut Coordinator<'_, N, J>,
@@ -342,21 +387,30 @@ fn work_on_second<N: Name, J: Errand, R: Wait + Abort>(
     assert!(rt; are_replies(rt, shared, 3, [].as_slice())?);
     assert!(rt; coordinator.serve(rt, 1).is_ok());
     assert!(rt; are_replies(rt, shared, 3, [(2, 2)].as_slice())?);
+    Ok(())
+}
+
+// What is left is closed.
+fn close_both<N: Name, J: Errand, R: Wait + Abort>(
+    rt: &R,
+    coordinator: &mut Coordinator<'_, N, J>,
+) {
     assert!(rt; matches!(coordinator.close(rt), Err(CloseFault::Held)));
     assert!(rt; coordinator.release(rt, 1).is_ok());
     assert!(rt; matches!(coordinator.close(rt), Ok((1, _))));
     assert!(rt; matches!(coordinator.close(rt), Ok((3, _))));
     assert!(rt; matches!(coordinator.close(rt), Err(CloseFault::NothingOpen)));
-    Ok(())
 }
 
-// A thread calls and goes into native code.
-fn go_away<N: Name, J: Errand, R: Wait + Abort>(
+// A thread starts, calls and goes into native code.
+fn gone_away<'a, N: Name, J: Errand, R: Wait + Abort>(
     rt: &R,
-    shared: &Shared<N, J>,
-    thread: &mut Mutator<'_, N, J>,
-) {
-    assert!(rt; call_all(shared, thread) && thread.to_native(rt).is_ok());
+    alloc: Global,
+    shared: &'a Shared<N, J>,
+) -> Result<Mutator<'a, N, J>, AllocError> {
+    let mut thread = started(rt, alloc, shared)?;
+    assert!(rt; call_all(shared, &mut thread) && thread.to_native(rt).is_ok());
+    Ok(thread)
 }
 
 // A thread comes back from native code, returns from all and exits.
@@ -367,7 +421,54 @@ fn leave<N: Name, J: Errand, R: Wait + Abort>(rt: &R, thread: Mutator<'_, N, J>)
     assert!(rt; thread.exit(rt).is_ok());
 }
 
+// Four handshakes wait, the fourth of the first name.
+fn ask_four<N: Name, J: Errand, R: Wait>(
+    rt: &R,
+    alloc: Global,
+    shared: &Shared<N, J>,
+    jobs: Vec<J>,
+) -> Result<(), AllocError> {
+    let mut three = jobs;
+    let fourth = three.pop();
+    ask_three(rt, alloc, shared, three)?;
+    ask_one(rt, alloc, shared, 1, Ask::CountOf(2), fourth)
+}
+
+// Both threads are worked on while they are away.
+fn work_on_both<N: Name, J: Errand, R: Wait + Abort>(
+    rt: &R,
+    shared: &Shared<N, J>,
+    coordinator: &mut Coordinator<'_, N, J>,
+) -> Result<(), AllocError> {
+    open_four(rt, coordinator);
+    tell_first(rt, coordinator);
+    serve_two(rt, shared, coordinator)?;
+    refuse_to_close(rt, coordinator);
+    serve_last(rt, shared, coordinator)?;
+    close_of_first(rt, coordinator);
+    serve_second(rt, shared, coordinator)?;
+    close_both(rt, coordinator);
+    Ok(())
+}
+
 fn work_step_by_step<N: Name, J: Errand, R: Wait + Abort>(
+    rt: &R,
+    alloc: Global,
+    shared: &Shared<N, J>,
+    coordinator: &mut Coordinator<'_, N, J>,
+    jobs: Vec<J>,
+) -> Result<(), AllocError> {
+    install_both(rt, shared);
+    let first = gone_away(rt, alloc, shared)?;
+    let second = gone_away(rt, alloc, shared)?;
+    ask_four(rt, alloc, shared, jobs)?;
+    work_on_both(rt, shared, coordinator)?;
+    leave(rt, first);
+    leave(rt, second);
+    Ok(())
+}
+
+fn tell_and_serve<N: Name, J: Errand, R: Wait + Abort>(
     rt: &R,
     alloc: Global,
     parts: Parts,
@@ -381,38 +482,19 @@ fn work_step_by_step<N: Name, J: Errand, R: Wait + Abort>(
     let Ok(mut coordinator) = Coordinator::new(&shared, armer, alloc) else {
         return Err(AllocError);
     };
-    install_both(rt, &shared);
-    let mut first = started(rt, alloc, &shared)?;
-    let mut second = started(rt, alloc, &shared)?;
-    go_away(rt, &shared, &mut first);
-    go_away(rt, &shared, &mut second);
-    let mut four = jobs;
-    let last = four.pop();
-    ask_three(rt, alloc, &shared, four)?;
-    ask_one(rt, alloc, &shared, 1, Ask::CountOf(2), last)?;
-    tell_first(rt, &mut coordinator);
-    serve_first(rt, &shared, &mut coordinator)?;
-    work_on_second(rt, &shared, &mut coordinator)?;
-    leave(rt, first);
-    leave(rt, second);
-    Ok(())
+    work_step_by_step(rt, alloc, &shared, &mut coordinator, jobs)
 }
 
 #[derive(Drop)]
 struct StepByStep;
 
-impl Scenario for StepByStep {
+impl<R: Wait + Abort> Scenario<R> for StepByStep {
     type Out = ();
 
-    fn play<J: Errand + Send, R: Threads + Wait + Sync + Abort>(
-        self,
-        rt: &R,
-        alloc: Global,
-        lists: Vec<Vec<J>>,
-    ) -> Result<(), AllocError> {
+    fn play(self, rt: &R, alloc: Global, lists: Vec<Vec<Job>>) -> Result<(), AllocError> {
         let mut lists = lists;
         let parts = Parts::new(alloc, 2, 4, 2).map_err(|_| AllocError)?;
-        work_step_by_step::<Brand, J, R>(rt, alloc, parts, pop_list(alloc, &mut lists))
+        tell_and_serve::<Brand, Job, R>(rt, alloc, parts, pop_list(alloc, &mut lists))
     }
 }
 
@@ -448,6 +530,59 @@ fn close_second<N: Name, J: Errand, R: Wait + Abort>(
     assert!(rt; matches!(coordinator.drive(rt), Ok((Driven::Handshake(2), _))));
 }
 
+// A handshake of each of the first two names waits.
+fn ask_each<N: Name, J: Errand, R: Wait>(
+    rt: &R,
+    alloc: Global,
+    shared: &Shared<N, J>,
+    jobs: Vec<J>,
+) -> Result<(), AllocError> {
+    let mut jobs = jobs;
+    let last = jobs.pop();
+    ask_one(rt, alloc, shared, 1, Ask::Depth, jobs.pop())?;
+    ask_one(rt, alloc, shared, 2, Ask::Depth, last)
+}
+
+// The first handshake is closed while the second isn't answered, and then the second.
+fn close_each<N: Name, J: Errand, R: Wait + Abort>(
+    rt: &R,
+    shared: &Shared<N, J>,
+    coordinator: &mut Coordinator<'_, N, J>,
+    second: &mut Mutator<'_, N, J>,
+) -> Result<(), AllocError> {
+    close_first(rt, coordinator);
+    assert!(rt; are_replies(rt, shared, 1, [(1, 0)].as_slice())?);
+    assert!(rt; are_replies(rt, shared, 2, [].as_slice())?);
+    close_second(rt, coordinator, second);
+    assert!(rt; are_replies(rt, shared, 2, [(2, 0)].as_slice())?);
+    Ok(())
+}
+
+// A thread that calls nothing comes back from native code and exits.
+fn go<N: Name, J: Errand, R: Wait + Abort>(rt: &R, thread: Mutator<'_, N, J>) {
+    let mut thread = thread;
+    assert!(rt; thread.from_native(rt).is_ok());
+    assert!(rt; thread.exit(rt).is_ok());
+}
+
+// The first thread is in native code, and neither calls anything.
+fn work_past_second<N: Name, J: Errand, R: Wait + Abort>(
+    rt: &R,
+    alloc: Global,
+    shared: &Shared<N, J>,
+    coordinator: &mut Coordinator<'_, N, J>,
+    jobs: Vec<J>,
+) -> Result<(), AllocError> {
+    let mut first = started(rt, alloc, shared)?;
+    let mut second = started(rt, alloc, shared)?;
+    assert!(rt; first.to_native(rt).is_ok());
+    ask_each(rt, alloc, shared, jobs)?;
+    close_each(rt, shared, coordinator, &mut second)?;
+    go(rt, first);
+    assert!(rt; second.exit(rt).is_ok());
+    Ok(())
+}
+
 fn drive_past_second<N: Name, J: Errand, R: Wait + Abort>(
     rt: &R,
     alloc: Global,
@@ -462,39 +597,19 @@ fn drive_past_second<N: Name, J: Errand, R: Wait + Abort>(
     let Ok(mut coordinator) = Coordinator::new(&shared, armer, alloc) else {
         return Err(AllocError);
     };
-    let mut first = started(rt, alloc, &shared)?;
-    let mut second = started(rt, alloc, &shared)?;
-    assert!(rt; first.to_native(rt).is_ok());
-    let mut two = jobs;
-    let last = two.pop();
-    ask_one(rt, alloc, &shared, 1, Ask::Depth, two.pop())?;
-    ask_one(rt, alloc, &shared, 2, Ask::Depth, last)?;
-    close_first(rt, &mut coordinator);
-    assert!(rt; are_replies(rt, &shared, 1, [(1, 0)].as_slice())?);
-    assert!(rt; are_replies(rt, &shared, 2, [].as_slice())?);
-    close_second(rt, &mut coordinator, &mut second);
-    assert!(rt; are_replies(rt, &shared, 2, [(2, 0)].as_slice())?);
-    assert!(rt; first.from_native(rt).is_ok());
-    assert!(rt; first.exit(rt).is_ok());
-    assert!(rt; second.exit(rt).is_ok());
-    Ok(())
+    work_past_second(rt, alloc, &shared, &mut coordinator, jobs)
 }
 
 #[derive(Drop)]
 struct OldestFirst;
 
-impl Scenario for OldestFirst {
+impl<R: Wait + Abort> Scenario<R> for OldestFirst {
     type Out = ();
 
-    fn play<J: Errand + Send, R: Threads + Wait + Sync + Abort>(
-        self,
-        rt: &R,
-        alloc: Global,
-        lists: Vec<Vec<J>>,
-    ) -> Result<(), AllocError> {
+    fn play(self, rt: &R, alloc: Global, lists: Vec<Vec<Job>>) -> Result<(), AllocError> {
         let mut lists = lists;
         let parts = Parts::new(alloc, 2, 4, 2).map_err(|_| AllocError)?;
-        drive_past_second::<Brand, J, R>(rt, alloc, parts, pop_list(alloc, &mut lists))
+        drive_past_second::<Brand, Job, R>(rt, alloc, parts, pop_list(alloc, &mut lists))
     }
 }
 

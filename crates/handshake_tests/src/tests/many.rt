@@ -1,11 +1,12 @@
 //! As many threads as there can be call and return while a thousand handshakes are worked on.
 ghost use Rattle.std.specs.Prelude.{◌≡◌};
+ghost use Rattle.operations.specs.Asks.{reply};
 
 use bodies::Name;
 use coordinator::{Coordinator, Driven};
 use coordinator_testing::{heed, names_to, started, wait_for};
-use jobs_testing::{Scenario, each, with_jobs};
-use operations::job::Errand;
+use frames::image::Image;
+use operations::job::{Call, Errand, Job};
 use operations::{Ask, Request};
 use std::alloc::{AllocError, Global};
 use std::marker::Brand;
@@ -187,30 +188,24 @@ fn shake_all<N: Name + Send + Sync, J: Errand + Send, R: Threads + Wait + Sync +
     Ok(())
 }
 
-#[derive(Drop)]
-struct Many;
-
-impl Scenario for Many {
-    type Out = ();
-
-    fn play<J: Errand + Send, R: Threads + Wait + Sync + Abort>(
-        self,
-        rt: &R,
-        alloc: Global,
-        lists: Vec<Vec<J>>,
-    ) -> Result<(), AllocError> {
-        let parts = Parts::new(alloc, THREADS, 4, 2).map_err(|_| AllocError)?;
-        shake_all::<Brand, J, R>(rt, alloc, parts, lists)
-    }
-}
-
 #[test]
 fn sixty_four_threads_shake_hands_a_thousand_times(rt: HostRuntime) -> Result<(), Fail> {
-    let mut asked = Vec::new(rt.alloc());
+    let parts = Parts::new(rt.alloc(), THREADS, 4, 2).map_err(|_| AllocError)?;
+    let mut all = Vec::new(rt.alloc());
     for _ in 0..HANDSHAKES {
-        let list = each(rt.alloc(), THREADS as u64, Ask::Depth)?;
-        asked.push(list).map_err(|_| AllocError)?;
+        let mut jobs = Vec::new(rt.alloc());
+        for name in 1..65 {
+            let call: Call = Box::new(
+                rt.alloc(),
+                |image: &Image| -> u64
+                    ensures { result ≡ reply Ask.Depth image.now.frames }
+                { image.depth() as u64 },
+            )?;
+            jobs.push(Job::new(name, Ask::Depth, call))
+                .map_err(|_| AllocError)?;
+        }
+        all.push(jobs).map_err(|_| AllocError)?;
     }
-    with_jobs(&rt, rt.alloc(), asked.as_slice(), Many)?;
+    shake_all::<Brand, Job, HostRuntime>(&rt, rt.alloc(), parts, all)?;
     Ok(())
 }

@@ -1,18 +1,18 @@
 //! Two threads serve one handshake at once: the job of one waits for that of the other, and each for the other.
 ghost use Rattle.std.specs.Prelude.{◌≡◌};
+ghost use Rattle.operations.specs.Asks.{reply};
 
 use bodies::Name;
 use coordinator::{Coordinator, Driven};
 use coordinator_testing::{are_replies, ask_both, started, wait_for};
 use frames::image::Image;
-use jobs_testing::{Scenario, each, pop_list, with_jobs};
 use operations::Ask;
-use operations::job::{Done, Errand};
+use operations::job::{Call, Errand, Job};
 use std::alloc::{AllocError, Global};
 use std::marker::Brand;
 use std::process::Abort;
-use std::sync::Wait;
 use std::sync::atomic::{AtomicBool, AtomicU64, Ordering};
+use std::sync::{Arc, Wait};
 use std::test::*;
 use std::thread;
 use std::thread::{Threads, join};
@@ -165,116 +165,38 @@ fn meet<N: Name + Send + Sync, J: Errand + Send, R: Threads + Wait + Sync + Abor
     Ok(own.load(Ordering::SeqCst))
 }
 
-// What the jobs of one run do beside their answers.
-#[derive(Drop)]
-struct Meeting {
-    // The name whose job waits for the other; 0 where both do.
-    waiting: u64,
-    begun: AtomicU64,
-    ended: AtomicU64,
-    missed: AtomicBool,
-}
-
-// A job that is run beside another.
-#[derive(Drop)]
-struct Beside<'a, J> {
-    job: J,
-    meeting: &'a Meeting,
-}
-
-impl<'a, J: Errand> Errand for Beside<'a, J> {
-    ghost number = { λ b. J.number b.job };
-
-    ghost whom = { λ b. J.whom b.job };
-
-    ghost asks = { λ b. J.asks b.job };
-
-    ghost may_answer = { λ b image reply. J.may_answer b.job image reply };
-
-    fn op_of(&self) -> u64 {
-        self.job.op_of()
-    }
-
-    fn target_of(&self) -> u64 {
-        self.job.target_of()
-    }
-
-    fn ask_of(&self) -> Ask {
-        self.job.ask_of()
-    }
-
-    fn numbered(self, op: u64) -> Beside<'a, J> {
-        let Beside { job, meeting } = self;
-        Beside {
-            job: job.numbered(op),
-            meeting,
-        }
-    }
-
-    fn run_on(self, image: &Image) -> Done {
-        let Beside { job, meeting } = self;
-        let both_wait = meeting.waiting == 0;
-        let waits = both_wait || job.target_of() == meeting.waiting;
-        run_beside(
-            waits,
-            both_wait,
-            &meeting.begun,
-            &meeting.ended,
-            &meeting.missed,
-        );
-        job.run_on(image)
-    }
-}
-
-// One run: the job of the name waits, or both where it is 0.
-#[derive(Drop)]
-struct Meet<'a> {
-    meeting: &'a Meeting,
-}
-
-impl<'a> Scenario for Meet<'a> {
-    // How many jobs were served by their own threads.
-    type Out = u64;
-
-    fn play<J: Errand + Send, R: Threads + Wait + Sync + Abort>(
-        self,
-        rt: &R,
-        alloc: Global,
-        lists: Vec<Vec<J>>,
-    ) -> Result<u64, AllocError> {
-        let mut lists = lists;
-        let meeting = self.meeting;
-        let mut jobs = Vec::new(alloc);
-        for job in pop_list(alloc, &mut lists) {
-            jobs.push(Beside { job, meeting }).map_err(|_| AllocError)?;
-        }
-        let parts = Parts::new(alloc, 2, 4, 2).map_err(|_| AllocError)?;
-        meet::<Brand, Beside<'a, J>, R>(rt, alloc, parts, jobs)
-    }
-}
-
 // The job of the name waits, or both where it is 0. Then one thread alone can't have run both: it would wait in the first for good, or until
 // it gives up and notes that; so at least one was served by its own thread.
 #[test]
 fn one_job_waits_for_the_other(rt: HostRuntime) -> Result<(), Fail> {
     for waiting in 0..3 {
         let both_wait = waiting == 0;
-        let meeting = Meeting {
-            waiting,
-            begun: AtomicU64::new(0),
-            ended: AtomicU64::new(0),
-            missed: AtomicBool::new(false),
-        };
-        let asked = [each(rt.alloc(), 2, Ask::Depth)?];
-        let meet = Meet { meeting: &meeting };
-        let own = with_jobs(&rt, rt.alloc(), asked.as_slice(), meet)?;
+        let parts = Parts::new(rt.alloc(), 2, 4, 2).map_err(|_| AllocError)?;
+        let begun = Arc::new(rt.alloc(), AtomicU64::new(0))?;
+        let ended = Arc::new(rt.alloc(), AtomicU64::new(0))?;
+        let missed = Arc::new(rt.alloc(), AtomicBool::new(false))?;
+        let mut jobs = Vec::new(rt.alloc());
+        for name in 1..3 {
+            let there = Arc::try_clone(&begun)?;
+            let over = Arc::try_clone(&ended)?;
+            let late = Arc::try_clone(&missed)?;
+            let call: Call = Box::new(
+                rt.alloc(),
+                move |image: &Image| -> u64
+                    ensures { result ≡ reply Ask.Depth image.now.frames }
+                {
+                    let waits = both_wait || name == waiting;
+                    run_beside(waits, both_wait, &there, &over, &late);
+                    image.depth() as u64
+                },
+            )?;
+            jobs.push(Job::new(name, Ask::Depth, call))
+                .map_err(|_| AllocError)?;
+        }
+        let own = meet::<Brand, Job, HostRuntime>(&rt, rt.alloc(), parts, jobs)?;
         assert!(rt; own <= 2 && (own >= 1 || !both_wait));
-        let (begun, ended) = (
-            meeting.begun.load(Ordering::SeqCst),
-            meeting.ended.load(Ordering::SeqCst),
-        );
-        assert!(rt; begun == 2 && ended == 2);
-        assert!(rt; !meeting.missed.load(Ordering::SeqCst));
+        assert!(rt; begun.load(Ordering::SeqCst) == 2 && ended.load(Ordering::SeqCst) == 2);
+        assert!(rt; !missed.load(Ordering::SeqCst));
     }
     Ok(())
 }

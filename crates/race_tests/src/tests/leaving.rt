@@ -1,11 +1,12 @@
 //! Threads exit while the coordinator tells them: each is gone, or it has answered.
 ghost use Rattle.std.specs.Prelude.{◌≡◌};
+ghost use Rattle.operations.specs.Asks.{reply};
 
 use bodies::Name;
 use coordinator::{Coordinator, Told};
 use coordinator_testing::{TURNS, started, wait_for};
-use jobs_testing::{Scenario, with_jobs};
-use operations::job::Errand;
+use frames::image::Image;
+use operations::job::{Call, Errand, Job};
 use operations::{Ask, Request, Targets};
 use std::alloc::{AllocError, Global};
 use std::marker::Brand;
@@ -200,32 +201,22 @@ fn race<N: Name + Send + Sync, J: Errand + Send, R: Threads + Wait + Sync + Abor
     Ok(())
 }
 
-#[derive(Drop)]
-struct Leaving;
-
-impl Scenario for Leaving {
-    type Out = ();
-
-    fn play<J: Errand + Send, R: Threads + Wait + Sync + Abort>(
-        self,
-        rt: &R,
-        alloc: Global,
-        lists: Vec<Vec<J>>,
-    ) -> Result<(), AllocError> {
-        let parts = Parts::new(alloc, 2, 4, 2).map_err(|_| AllocError)?;
-        race::<Brand, J, R>(rt, alloc, parts, lists)
-    }
-}
-
 #[test]
 fn a_thread_that_exits_is_gone_or_has_answered(rt: HostRuntime) -> Result<(), Fail> {
-    let mut asked = Vec::new(rt.alloc());
+    let parts = Parts::new(rt.alloc(), 2, 4, 2).map_err(|_| AllocError)?;
+    let mut all = Vec::new(rt.alloc());
     for before in 0..EXITS {
-        let mut list = Vec::new(rt.alloc());
-        list.push((EXITS - before, Ask::Depth))
+        let mut jobs = Vec::new(rt.alloc());
+        let call: Call = Box::new(
+            rt.alloc(),
+            |image: &Image| -> u64
+                ensures { result ≡ reply Ask.Depth image.now.frames }
+            { image.depth() as u64 },
+        )?;
+        jobs.push(Job::new(EXITS - before, Ask::Depth, call))
             .map_err(|_| AllocError)?;
-        asked.push(list).map_err(|_| AllocError)?;
+        all.push(jobs).map_err(|_| AllocError)?;
     }
-    with_jobs(&rt, rt.alloc(), asked.as_slice(), Leaving)?;
+    race::<Brand, Job, HostRuntime>(&rt, rt.alloc(), parts, all)?;
     Ok(())
 }

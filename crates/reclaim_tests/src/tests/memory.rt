@@ -10,7 +10,7 @@ use coordinator_testing::{both, started};
 use desk::{AskFault, OpenFault, Refused, StartFault};
 use jobs_testing::{Scenario, each, pop_list, with_jobs};
 use method_table::table::RetireFault;
-use operations::job::Errand;
+use operations::job::{Errand, Job};
 use operations::{Ask, Request};
 use poll::Armer;
 use std::alloc::{AllocError, Global};
@@ -18,7 +18,6 @@ use std::marker::Brand;
 use std::process::Abort;
 use std::sync::Wait;
 use std::test::*;
-use std::thread::Threads;
 use thread_list::{Mutator, Parts, Poll, Shared};
 
 // Where a growth was refused.
@@ -215,17 +214,19 @@ fn try_reclaim<N: Name, J: Errand, R: Wait + Abort>(
     Ok(Met::Reclaim)
 }
 
-// A thread that has called method 0 so many times goes into native code.
-fn go_away<N: Name, J: Errand, R: Wait + Abort>(
+// A thread starts, calls method 0 so many times and goes into native code.
+fn gone_away<'a, N: Name, J: Errand, R: Wait + Abort>(
     rt: &R,
-    shared: &Shared<N, J>,
-    thread: &mut Mutator<'_, N, J>,
+    alloc: Global,
+    shared: &'a Shared<N, J>,
     calls: u64,
-) {
+) -> Result<Mutator<'a, N, J>, AllocError> {
+    let mut thread = started(rt, alloc, shared)?;
     for _ in 0..calls {
         assert!(rt; matches!(thread.call(0, shared.hint(0)), Ok(Called::Compiled(1))));
     }
     assert!(rt; thread.to_native(rt).is_ok());
+    Ok(thread)
 }
 
 // A thread comes back from native code, returns so many times and exits.
@@ -276,7 +277,27 @@ fn free<N: Name, J: Errand, R: Wait + Abort>(
     );
 }
 
-// Two threads are counted by a census and by a handshake; their code is reclaimed once they have left it.
+// Two threads are counted by a census and by a handshake, and then leave their code.
+fn call_and_leave<N: Name, J: Errand, R: Wait + Abort>(
+    rt: &R,
+    alloc: Global,
+    shared: &Shared<N, J>,
+    coordinator: &mut Coordinator<'_, N, J>,
+    counts: Vec<J>,
+    depths: Vec<J>,
+) -> Result<Met, AllocError> {
+    if shared.install(rt, 0).is_err() {
+        return Err(AllocError);
+    }
+    let first = gone_away(rt, alloc, shared, 2)?;
+    let second = gone_away(rt, alloc, shared, 1)?;
+    let asked = ask_all(rt, alloc, shared, coordinator, counts, depths)?;
+    finish(rt, first, 2);
+    finish(rt, second, 1);
+    Ok(asked)
+}
+
+// Their code is reclaimed once they have left it.
 fn work<N: Name, J: Errand, R: Wait + Abort>(
     rt: &R,
     alloc: Global,
@@ -290,16 +311,7 @@ fn work<N: Name, J: Errand, R: Wait + Abort>(
         return Err(AllocError);
     };
     let (mut coordinator, made) = made(&shared, armer, alloc)?;
-    if shared.install(rt, 0).is_err() {
-        return Err(AllocError);
-    }
-    let mut first = started(rt, alloc, &shared)?;
-    let mut second = started(rt, alloc, &shared)?;
-    go_away(rt, &shared, &mut first, 2);
-    go_away(rt, &shared, &mut second, 1);
-    let asked = ask_all(rt, alloc, &shared, &mut coordinator, counts, depths)?;
-    finish(rt, first, 2);
-    finish(rt, second, 1);
+    let asked = call_and_leave(rt, alloc, &shared, &mut coordinator, counts, depths)?;
     free(rt, alloc, &mut coordinator);
     Ok(made.or(asked))
 }
@@ -307,25 +319,20 @@ fn work<N: Name, J: Errand, R: Wait + Abort>(
 #[derive(Drop)]
 struct LackOfMemory;
 
-impl Scenario for LackOfMemory {
+impl<R: Wait + Abort> Scenario<R> for LackOfMemory {
     type Out = Met;
 
-    fn play<J: Errand + Send, R: Threads + Wait + Sync + Abort>(
-        self,
-        rt: &R,
-        alloc: Global,
-        lists: Vec<Vec<J>>,
-    ) -> Result<Met, AllocError> {
+    fn play(self, rt: &R, alloc: Global, lists: Vec<Vec<Job>>) -> Result<Met, AllocError> {
         let mut lists = lists;
         let parts = Parts::new(alloc, 2, 4, 2).map_err(|_| AllocError)?;
         let depths = pop_list(alloc, &mut lists);
         let counts = pop_list(alloc, &mut lists);
-        work::<Brand, J, R>(rt, alloc, parts, counts, depths)
+        work::<Brand, Job, R>(rt, alloc, parts, counts, depths)
     }
 }
 
 // The run with what it takes: jobs that count frames of code 1, and jobs that ask for the depth, for each thread.
-fn run<R: Threads + Wait + Sync + Abort>(rt: &R, alloc: Global) -> Result<Met, AllocError> {
+fn run<R: Wait + Abort>(rt: &R, alloc: Global) -> Result<Met, AllocError> {
     let asked = [
         each(alloc, 2, Ask::CountOf(1))?,
         each(alloc, 2, Ask::Depth)?,

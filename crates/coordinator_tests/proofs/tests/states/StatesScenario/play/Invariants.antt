@@ -1,4 +1,4 @@
-use Rattle.coordinator_tests.proofs.tests.states.each_call_is_refused_where_it_is_not_lawful.Given as goal
+use Rattle.coordinator_tests.proofs.tests.states.StatesScenario.play.Given as goal
 
 abbrev pub ghosts-go_round : goal.ghosts-go_round
 ghosts-go_round g a = record { board = a.parts.board; poll_row = a.parts.row }

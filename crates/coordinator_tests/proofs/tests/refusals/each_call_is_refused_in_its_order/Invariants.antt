@@ -1,4 +1,0 @@
-use Rattle.coordinator_tests.proofs.tests.refusals.each_call_is_refused_in_its_order.Given as goal
-
-abbrev pub ghosts-work_step_by_step : goal.ghosts-work_step_by_step
-ghosts-work_step_by_step g a = record { board = a.parts.board; poll_row = a.parts.row }
