@@ -136,6 +136,45 @@ fn handshake(alloc: Global, name: u64) -> Result<Request, AllocError> {
     })
 }
 
+// As many requests wait as can.
+fn fill_queue<N: Name, J: Errand, R: Abort>(rt: &R, alloc: Global, desk: &mut Desk<N, J>) {
+    for number in 1..65 {
+        assert!(rt; matches!(ask(desk, alloc), Ok((n, _)) if n == number));
+    }
+    let refused = ask(desk, alloc);
+    assert!(rt;
+        matches!(
+            refused,
+            Err(Refused {
+                fault: AskFault::QueueFull,
+                ..
+            })
+        )
+    );
+}
+
+// The first is opened.
+fn open_first<N: Name, J: Errand, R: Abort>(rt: &R, desk: &mut Desk<N, J>) {
+    assert!(rt; matches!(desk.open(), Ok((1, _))));
+    assert!(rt; matches!(desk.open(), Err(OpenFault::AlreadyOpen)));
+    assert!(rt; matches!(desk.start(true), Err(StartFault::SafepointOpen)));
+}
+
+// It is operated over no body, and closed.
+fn operate_first<N: Name, J: Errand, R: Abort>(rt: &R, alloc: Global, desk: &mut Desk<N, J>) {
+    let none: Vec<Body<N>> = Vec::new(alloc);
+    assert!(rt; matches!(desk.close(None, none.as_slice()), Err(CloseFault::NotDone)));
+    assert!(rt; matches!(desk.close(Some(2), none.as_slice()), Err(CloseFault::NotOf)));
+    assert!(rt; matches!(desk.operate(none.as_slice()), Ok((1, _))));
+    assert!(rt;
+        matches!(
+            desk.operate(none.as_slice()),
+            Err(OperateFault::AlreadyDone)
+        )
+    );
+    assert!(rt; matches!(desk.close(Some(1), none.as_slice()), Ok((1, _, _))));
+}
+
 // As many requests wait as can, and one is opened, operated and closed.
 fn ask_census<N: Name, J: Errand, R: Abort>(
     rt: &R,
@@ -148,33 +187,9 @@ fn ask_census<N: Name, J: Errand, R: Abort>(
     requires sizes { (N.board.slots ≡ 1) × (N.board.places ≡ 1) }
 {
     let mut desk = small_desk::<N, J>(alloc, &board, keeper, 1)?;
-    for number in 1..65 {
-        assert!(rt; matches!(ask(&mut desk, alloc), Ok((n, _)) if n == number));
-    }
-    let refused = ask(&mut desk, alloc);
-    assert!(rt;
-        matches!(
-            refused,
-            Err(Refused {
-                fault: AskFault::QueueFull,
-                ..
-            })
-        )
-    );
-    assert!(rt; matches!(desk.open(), Ok((1, _))));
-    assert!(rt; matches!(desk.open(), Err(OpenFault::AlreadyOpen)));
-    assert!(rt; matches!(desk.start(true), Err(StartFault::SafepointOpen)));
-    let none: Vec<Body<N>> = Vec::new(alloc);
-    assert!(rt; matches!(desk.close(None, none.as_slice()), Err(CloseFault::NotDone)));
-    assert!(rt; matches!(desk.close(Some(2), none.as_slice()), Err(CloseFault::NotOf)));
-    assert!(rt; matches!(desk.operate(none.as_slice()), Ok((1, _))));
-    assert!(rt;
-        matches!(
-            desk.operate(none.as_slice()),
-            Err(OperateFault::AlreadyDone)
-        )
-    );
-    assert!(rt; matches!(desk.close(Some(1), none.as_slice()), Ok((1, _, _))));
+    fill_queue(rt, alloc, &mut desk);
+    open_first(rt, &mut desk);
+    operate_first(rt, alloc, &mut desk);
     assert!(rt; matches!(ask(&mut desk, alloc), Ok((65, _))));
     Ok(())
 }
@@ -318,7 +333,68 @@ fn ask_depth<N: Name, J: Errand, R: Abort>(
     close_and_exit(rt, alloc, &mut desk, body)
 }
 
-// A code is installed, invalidated, looked for, weighed and freed.
+// A code is installed and invalidated.
+fn install_and_invalidate<N: Name, J: Errand, R: Abort>(
+    rt: &R,
+    board: &Board,
+    desk: &mut Desk<N, J>,
+)
+    requires { board.now ≡ N.board }
+{
+    assert!(rt;
+        matches!(install(desk, board, 0), Ok((new, _)) if new.code.slot == 0 && new.code.serial == 1)
+    );
+    assert!(rt;
+        matches!(
+            desk.install(board, 0),
+            Err(CodeFault::Install(InstallFault::TableFull))
+        )
+    );
+    assert!(rt; desk.invalidate(board, 1).is_ok());
+    assert!(rt; matches!(desk.weigh(board, 1), Ok((Weighed::NotLooked(0), None))));
+}
+
+// Its reclaiming begins with a census that waits.
+fn begin<N: Name, J: Errand, R: Abort>(rt: &R, alloc: Global, board: &Board, desk: &mut Desk<N, J>)
+    requires { board.now ≡ N.board }
+{
+    let begun = match desk.begin_reclaim(board, 1, Some(Request::Census), Vec::new(alloc)) {
+        Err(
+            NotReclaimed {
+                fault: ReclaimFault::Ask(AskFault::NoMemory),
+                jobs,
+            },
+        ) => desk.begin_reclaim(board, 1, Some(Request::Census), jobs),
+        answer => answer,
+    };
+    assert!(rt; matches!(begun, Ok(Some((1, _)))));
+    assert!(rt;
+        matches!(
+            desk.begin_reclaim(board, 1, None, Vec::new(alloc)),
+            Err(NotReclaimed {
+                fault: ReclaimFault::AlreadyOpen,
+                ..
+            })
+        )
+    );
+}
+
+// It is looked for, weighed and freed, and its slot is used again.
+fn weigh_and_free<N: Name, J: Errand, R: Abort>(rt: &R, board: &Board, desk: &mut Desk<N, J>)
+    requires { board.now ≡ N.board }
+{
+    assert!(rt; matches!(desk.look(board, 1, 0), Ok(true)));
+    assert!(rt; matches!(desk.weigh(board, 1), Ok((Weighed::Clear, Some(_)))));
+    assert!(rt; desk.free(board, 1).is_ok());
+    assert!(rt; desk.free(board, 1).is_err());
+    assert!(rt;
+        matches!(
+            install(desk, board, 0),
+            Ok((Installed { code, replaced: None }, _)) if code.slot == 0 && code.serial == 2
+        )
+    );
+}
+
 fn reclaim_code<N: Name, J: Errand, R: Abort>(
     rt: &R,
     alloc: Global,
@@ -330,46 +406,9 @@ fn reclaim_code<N: Name, J: Errand, R: Abort>(
     requires sizes { (N.board.slots ≡ 1) × (N.board.places ≡ 1) }
 {
     let mut desk = small_desk::<N, J>(alloc, &board, keeper, 1)?;
-    assert!(rt;
-        matches!(install(&mut desk, &board, 0), Ok((new, _)) if new.code.slot == 0 && new.code.serial == 1)
-    );
-    assert!(rt;
-        matches!(
-            desk.install(&board, 0),
-            Err(CodeFault::Install(InstallFault::TableFull))
-        )
-    );
-    assert!(rt; desk.invalidate(&board, 1).is_ok());
-    assert!(rt; matches!(desk.weigh(&board, 1), Ok((Weighed::NotLooked(0), None))));
-    let begun = match desk.begin_reclaim(&board, 1, Some(Request::Census), Vec::new(alloc)) {
-        Err(
-            NotReclaimed {
-                fault: ReclaimFault::Ask(AskFault::NoMemory),
-                jobs,
-            },
-        ) => desk.begin_reclaim(&board, 1, Some(Request::Census), jobs),
-        answer => answer,
-    };
-    assert!(rt; matches!(begun, Ok(Some((1, _)))));
-    assert!(rt;
-        matches!(
-            desk.begin_reclaim(&board, 1, None, Vec::new(alloc)),
-            Err(NotReclaimed {
-                fault: ReclaimFault::AlreadyOpen,
-                ..
-            })
-        )
-    );
-    assert!(rt; matches!(desk.look(&board, 1, 0), Ok(true)));
-    assert!(rt; matches!(desk.weigh(&board, 1), Ok((Weighed::Clear, Some(_)))));
-    assert!(rt; desk.free(&board, 1).is_ok());
-    assert!(rt; desk.free(&board, 1).is_err());
-    assert!(rt;
-        matches!(
-            install(&mut desk, &board, 0),
-            Ok((Installed { code, replaced: None }, _)) if code.slot == 0 && code.serial == 2
-        )
-    );
+    install_and_invalidate(rt, &board, &mut desk);
+    begin(rt, alloc, &board, &mut desk);
+    weigh_and_free(rt, &board, &mut desk);
     Ok(())
 }
 

@@ -72,8 +72,8 @@ fn answer_in_order<N: Name, J: Errand, R: Abort>(rt: &R, desk: &mut Desk<N, J>, 
     );
 }
 
-// They are closed in any order, where they are done or their thread is gone, and the census is opened when it is the only one.
-fn close_in_any_order<N: Name, J: Errand, R: Abort>(rt: &R, alloc: Global, desk: &mut Desk<N, J>) {
+// The first two are closed in any order, where they are done.
+fn close_what_is_done<N: Name, J: Errand, R: Abort>(rt: &R, alloc: Global, desk: &mut Desk<N, J>) {
     let none: Vec<Body<N>> = Vec::new(alloc);
     assert!(rt; matches!(desk.close(Some(5), none.as_slice()), Err(CloseFault::NotOf)));
     assert!(rt; matches!(desk.close(Some(2), none.as_slice()), Ok((2, _, _))));
@@ -84,13 +84,22 @@ fn close_in_any_order<N: Name, J: Errand, R: Abort>(rt: &R, alloc: Global, desk:
         )
     );
     assert!(rt; matches!(desk.close(None, none.as_slice()), Ok((1, _, _))));
+}
+
+// The others are closed once their thread is gone, and the census is opened when it is the only one.
+fn close_what_is_gone<N: Name, J: Errand, R: Abort>(rt: &R, alloc: Global, desk: &mut Desk<N, J>) {
     assert!(rt; matches!(desk.open(), Ok((5, _))));
     assert!(rt; matches!(desk.open(), Err(OpenFault::AlreadyOpen)));
     assert!(rt; desk.exit(1).is_ok() && desk.standing(1) == Standing::Gone);
+    let none: Vec<Body<N>> = Vec::new(alloc);
     assert!(rt; matches!(desk.close(Some(5), none.as_slice()), Ok((5, _, _))));
     assert!(rt; matches!(desk.open(), Err(OpenFault::AlreadyOpen)));
     assert!(rt; matches!(desk.close(Some(4), none.as_slice()), Ok((4, _, _))));
     assert!(rt; matches!(desk.close(None, none.as_slice()), Ok((3, _, _))));
+}
+
+// The census is the only one.
+fn open_census<N: Name, J: Errand, R: Abort>(rt: &R, desk: &mut Desk<N, J>) {
     assert!(rt; matches!(desk.open(), Ok((6, _))));
     assert!(rt; matches!(desk.start(true), Err(StartFault::SafepointOpen)));
 }
@@ -115,7 +124,9 @@ fn ask_five<N: Name, J: Errand, R: Abort>(
     look_among_four(rt, &desk);
     let body = first_body::<N>(alloc, &board, seat, poller)?;
     answer_in_order(rt, &mut desk, &body);
-    close_in_any_order(rt, alloc, &mut desk);
+    close_what_is_done(rt, alloc, &mut desk);
+    close_what_is_gone(rt, alloc, &mut desk);
+    open_census(rt, &mut desk);
     Ok(())
 }
 

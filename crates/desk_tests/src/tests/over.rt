@@ -5,7 +5,7 @@ ghost use Rattle.board.specs.Boards.{first_keeper};
 use super::{install, small_board, small_desk};
 use board::{Board, Keeper};
 use bodies::Name;
-use desk::CodeFault;
+use desk::{CodeFault, Desk};
 use frames::CodeId;
 use method_table::table::{InstallFault, Installed, InvalidateFault};
 use operations::job::{Errand, Job};
@@ -18,20 +18,11 @@ const FIRST: CodeId = CodeId { slot: 0, serial: 1 };
 
 const SECOND: CodeId = CodeId { slot: 1, serial: 2 };
 
-// The replaced code was entered as invalidated, so it can't be once more; it can be looked for, weighed and freed, and only then is
-// there room for the method's next code.
-fn install_over<N: Name, J: Errand, R: Abort>(
-    rt: &R,
-    alloc: Global,
-    board: Board,
-    keeper: Keeper,
-) -> Result<(), AllocError>
-    requires board { board ≡ N.board }
-    requires keeper { keeper ≡ first_keeper board }
-    requires sizes { (N.board.slots ≡ 2) × (N.board.places ≡ 1) }
+// A code is installed, and one over it.
+fn install_two<N: Name, J: Errand, R: Abort>(rt: &R, board: &Board, desk: &mut Desk<N, J>)
+    requires { board.now ≡ N.board }
 {
-    let mut desk = small_desk::<N, J>(alloc, &board, keeper, 2)?;
-    let first = install(&mut desk, &board, 0);
+    let first = install(desk, board, 0);
     assert!(rt;
         matches!(
             first,
@@ -44,7 +35,7 @@ fn install_over<N: Name, J: Errand, R: Abort>(
             ))
         )
     );
-    let second = install(&mut desk, &board, 0);
+    let second = install(desk, board, 0);
     assert!(rt;
         matches!(
             second,
@@ -57,15 +48,37 @@ fn install_over<N: Name, J: Errand, R: Abort>(
             ))
         )
     );
-    assert!(rt; matches!(desk.invalidate(&board, 1), Err(InvalidateFault::NotInUse)));
-    let full = desk.install(&board, 0);
+}
+
+// The replaced code was entered as invalidated, so it can't be once more; it can be looked for, weighed and freed.
+fn free_first<N: Name, J: Errand, R: Abort>(rt: &R, board: &Board, desk: &mut Desk<N, J>)
+    requires { board.now ≡ N.board }
+{
+    assert!(rt; matches!(desk.invalidate(board, 1), Err(InvalidateFault::NotInUse)));
+    let full = desk.install(board, 0);
     assert!(rt; matches!(full, Err(CodeFault::Install(InstallFault::TableFull))));
-    assert!(rt; matches!(desk.look(&board, 1, 0), Ok(true)));
+    assert!(rt; matches!(desk.look(board, 1, 0), Ok(true)));
     assert!(rt;
-        desk.weigh(&board, 1)
+        desk.weigh(board, 1)
             .is_ok_and(|(_, receipt)| receipt.is_some())
     );
-    assert!(rt; desk.weigh_fault(2).is_some() && desk.free(&board, 1).is_ok());
+    assert!(rt; desk.weigh_fault(2).is_some() && desk.free(board, 1).is_ok());
+}
+
+// Only when it is freed is there room for the method's next code.
+fn install_over<N: Name, J: Errand, R: Abort>(
+    rt: &R,
+    alloc: Global,
+    board: Board,
+    keeper: Keeper,
+) -> Result<(), AllocError>
+    requires board { board ≡ N.board }
+    requires keeper { keeper ≡ first_keeper board }
+    requires sizes { (N.board.slots ≡ 2) × (N.board.places ≡ 1) }
+{
+    let mut desk = small_desk::<N, J>(alloc, &board, keeper, 2)?;
+    install_two(rt, &board, &mut desk);
+    free_first(rt, &board, &mut desk);
     let third = install(&mut desk, &board, 0);
     assert!(rt;
         matches!(third, Ok((new, _)) if new.code.slot == 0 && new.code.serial == 3 && new.replaced == Some(SECOND))

@@ -558,6 +558,17 @@ fn close_each<N: Name, J: Errand, R: Wait + Abort>(
     Ok(())
 }
 
+// A thread starts and goes into native code.
+fn in_native<'a, N: Name, J: Errand, R: Wait + Abort>(
+    rt: &R,
+    alloc: Global,
+    shared: &'a Shared<N, J>,
+) -> Result<Mutator<'a, N, J>, AllocError> {
+    let mut thread = started(rt, alloc, shared)?;
+    assert!(rt; thread.to_native(rt).is_ok());
+    Ok(thread)
+}
+
 // A thread that calls nothing comes back from native code and exits.
 fn go<N: Name, J: Errand, R: Wait + Abort>(rt: &R, thread: Mutator<'_, N, J>) {
     let mut thread = thread;
@@ -573,9 +584,8 @@ fn work_past_second<N: Name, J: Errand, R: Wait + Abort>(
     coordinator: &mut Coordinator<'_, N, J>,
     jobs: Vec<J>,
 ) -> Result<(), AllocError> {
-    let mut first = started(rt, alloc, shared)?;
+    let first = in_native(rt, alloc, shared)?;
     let mut second = started(rt, alloc, shared)?;
-    assert!(rt; first.to_native(rt).is_ok());
     ask_each(rt, alloc, shared, jobs)?;
     close_each(rt, shared, coordinator, &mut second)?;
     go(rt, first);
