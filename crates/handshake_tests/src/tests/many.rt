@@ -157,6 +157,25 @@ fn coordinate<N: Name, J: Errand, R: Wait>(
     matches!(driven, Ok(true))
 }
 
+// All threads live while the handshakes are worked on, and leave nothing counted.
+fn shake_beside<N: Name + Send + Sync, J: Errand + Send, R: Threads + Wait + Sync + Abort>(
+    rt: &R,
+    alloc: Global,
+    shared: &Shared<N, J>,
+    coordinator: Coordinator<'_, N, J>,
+    jobs: Vec<Vec<J>>,
+) {
+    let there = AtomicU64::new(0);
+    let done = AtomicBool::new(false);
+    let (lived, driven) = join(
+        rt,
+        || live_all(rt, alloc, shared, &there, &done),
+        || coordinate(rt, alloc, shared, coordinator, &there, &done, jobs),
+    );
+    assert!(rt; lived && driven);
+    assert!(rt; shared.peek_counts() == 0);
+}
+
 fn shake_all<N: Name + Send + Sync, J: Errand + Send, R: Threads + Wait + Sync + Abort>(
     rt: &R,
     alloc: Global,
@@ -174,15 +193,7 @@ fn shake_all<N: Name + Send + Sync, J: Errand + Send, R: Threads + Wait + Sync +
     if shared.install(rt, 0).is_err() {
         return Err(AllocError);
     }
-    let there = AtomicU64::new(0);
-    let done = AtomicBool::new(false);
-    let (lived, driven) = join(
-        rt,
-        || live_all(rt, alloc, &shared, &there, &done),
-        || coordinate(rt, alloc, &shared, coordinator, &there, &done, jobs),
-    );
-    assert!(rt; lived && driven);
-    assert!(rt; shared.peek_counts() == 0);
+    shake_beside(rt, alloc, &shared, coordinator, jobs);
     let left = shared.live(rt)?;
     assert!(rt; left.is_empty());
     Ok(())

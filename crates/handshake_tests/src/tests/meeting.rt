@@ -136,8 +136,28 @@ fn coordinate<N: Name, J: Errand, R: Wait>(
     came && asked.is_ok() && matches!(driven, Ok((Driven::Handshake(1), _)))
 }
 
-// The handshake is closed with a reply of each thread. Answers how many jobs were served by their own threads; the others the coordinator
+// Both threads live while the handshake is worked on. Answers how many jobs were served by their own threads; the others the coordinator
 // ran.
+fn meet_beside<N: Name + Send + Sync, J: Errand + Send, R: Threads + Wait + Sync + Abort>(
+    rt: &R,
+    alloc: Global,
+    shared: &Shared<N, J>,
+    coordinator: Coordinator<'_, N, J>,
+    jobs: Vec<J>,
+) -> u64 {
+    let there = AtomicU64::new(0);
+    let own = AtomicU64::new(0);
+    let done = AtomicBool::new(false);
+    let (lived, driven) = join(
+        rt,
+        || live_both(rt, alloc, shared, &there, &own, &done),
+        || coordinate(rt, alloc, shared, coordinator, &there, &done, jobs),
+    );
+    assert!(rt; lived && driven);
+    own.load(Ordering::SeqCst)
+}
+
+// The handshake is closed with a reply of each thread.
 fn meet<N: Name + Send + Sync, J: Errand + Send, R: Threads + Wait + Sync + Abort>(
     rt: &R,
     alloc: Global,
@@ -152,17 +172,9 @@ fn meet<N: Name + Send + Sync, J: Errand + Send, R: Threads + Wait + Sync + Abor
     let Ok(coordinator) = Coordinator::new(&shared, armer, alloc) else {
         return Err(AllocError);
     };
-    let there = AtomicU64::new(0);
-    let own = AtomicU64::new(0);
-    let done = AtomicBool::new(false);
-    let (lived, driven) = join(
-        rt,
-        || live_both(rt, alloc, &shared, &there, &own, &done),
-        || coordinate(rt, alloc, &shared, coordinator, &there, &done, jobs),
-    );
-    assert!(rt; lived && driven);
+    let own = meet_beside(rt, alloc, &shared, coordinator, jobs);
     assert!(rt; are_replies(rt, &shared, 1, [(1, 0), (2, 0)].as_slice())?);
-    Ok(own.load(Ordering::SeqCst))
+    Ok(own)
 }
 
 // The job of the name waits, or both where it is 0. Then one thread alone can't have run both: it would wait in the first for good, or until

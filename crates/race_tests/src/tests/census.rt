@@ -326,6 +326,25 @@ fn coordinate<N: Name, J: Errand, R: Wait>(
     came && asked && counted
 }
 
+// Threads live beside the coordinator, and leave nothing counted.
+fn count_beside<N: Name + Send + Sync, J: Errand + Send, R: Threads + Wait + Sync + Abort>(
+    rt: &R,
+    alloc: Global,
+    shared: &Shared<N, J>,
+    coordinator: Coordinator<'_, N, J>,
+) {
+    let there = AtomicU64::new(0);
+    let told = AtomicBool::new(false);
+    let done = AtomicBool::new(false);
+    let (lived, counted) = join(
+        rt,
+        || live_all(rt, alloc, shared, &there, &told, &done),
+        || coordinate(rt, alloc, shared, coordinator, &there, &told, &done),
+    );
+    assert!(rt; lived && counted);
+    assert!(rt; shared.peek_counts() == 0);
+}
+
 fn count_all<N: Name + Send + Sync, J: Errand + Send, R: Threads + Wait + Sync + Abort>(
     rt: &R,
     alloc: Global,
@@ -342,16 +361,7 @@ fn count_all<N: Name + Send + Sync, J: Errand + Send, R: Threads + Wait + Sync +
     if shared.install(rt, 0).is_err() {
         return Err(AllocError);
     }
-    let there = AtomicU64::new(0);
-    let told = AtomicBool::new(false);
-    let done = AtomicBool::new(false);
-    let (lived, counted) = join(
-        rt,
-        || live_all(rt, alloc, &shared, &there, &told, &done),
-        || coordinate(rt, alloc, &shared, coordinator, &there, &told, &done),
-    );
-    assert!(rt; lived && counted);
-    assert!(rt; shared.peek_counts() == 0);
+    count_beside(rt, alloc, &shared, coordinator);
     Ok(())
 }
 

@@ -131,6 +131,27 @@ fn replace_all<N: Name, J: Errand, R: Wait>(rt: &R, shared: &Shared<N, J>, told:
     true
 }
 
+// Threads call while their codes are invalidated and replaced, and leave nothing counted.
+fn call_beside<N: Name + Send + Sync, J: Errand + Send, R: Threads + Wait + Sync + Abort>(
+    rt: &R,
+    alloc: Global,
+    shared: &Shared<N, J>,
+) {
+    let told = Told {
+        calls: AtomicU64::new(0),
+        compiled: AtomicU64::new(0),
+        invalidated: AtomicU64::new(0),
+    };
+    let (called, replaced) = join(
+        rt,
+        || live_all(rt, alloc, shared, &told),
+        || replace_all(rt, shared, &told),
+    );
+    assert!(rt; called && replaced);
+    assert!(rt; told.compiled.load(Ordering::SeqCst) > 0);
+    assert!(rt; shared.peek_counts() == 0);
+}
+
 fn call_across<N: Name + Send + Sync, J: Errand + Send, R: Threads + Wait + Sync + Abort>(
     rt: &R,
     alloc: Global,
@@ -143,19 +164,7 @@ fn call_across<N: Name + Send + Sync, J: Errand + Send, R: Threads + Wait + Sync
     };
     let installed = shared.install(rt, 0);
     assert!(rt; matches!(installed, Ok((1, _))));
-    let told = Told {
-        calls: AtomicU64::new(0),
-        compiled: AtomicU64::new(0),
-        invalidated: AtomicU64::new(0),
-    };
-    let (called, replaced) = join(
-        rt,
-        || live_all(rt, alloc, &shared, &told),
-        || replace_all(rt, &shared, &told),
-    );
-    assert!(rt; called && replaced);
-    assert!(rt; told.compiled.load(Ordering::SeqCst) > 0);
-    assert!(rt; shared.peek_counts() == 0);
+    call_beside(rt, alloc, &shared);
     Ok(())
 }
 

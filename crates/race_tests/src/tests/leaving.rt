@@ -172,6 +172,29 @@ fn are_as_before<N: Name, J: Errand, R: Wait>(
     Ok(told.len() as u64 == EXITS)
 }
 
+// Threads exit beside the coordinator, which tells them.
+fn exit_beside<N: Name + Send + Sync, J: Errand + Send, R: Threads + Wait + Sync + Abort>(
+    rt: &R,
+    alloc: Global,
+    shared: &Shared<N, J>,
+    coordinator: Coordinator<'_, N, J>,
+    jobs: Vec<Vec<J>>,
+) -> Result<(), AllocError> {
+    let live = AtomicU64::new(0);
+    let asked = AtomicU64::new(0);
+    let (exited, told) = join(
+        rt,
+        || exit_all(rt, alloc, shared, &live, &asked),
+        || tell_all(rt, alloc, shared, coordinator, &live, &asked, jobs),
+    );
+    assert!(rt; exited);
+    let Some(told) = told? else {
+        panic!(rt; "a call went wrong");
+    };
+    assert!(rt; are_as_before(rt, shared, told.as_slice())?);
+    Ok(())
+}
+
 fn race<N: Name + Send + Sync, J: Errand + Send, R: Threads + Wait + Sync + Abort>(
     rt: &R,
     alloc: Global,
@@ -186,19 +209,7 @@ fn race<N: Name + Send + Sync, J: Errand + Send, R: Threads + Wait + Sync + Abor
     let Ok(coordinator) = Coordinator::new(&shared, armer, alloc) else {
         return Err(AllocError);
     };
-    let live = AtomicU64::new(0);
-    let asked = AtomicU64::new(0);
-    let (exited, told) = join(
-        rt,
-        || exit_all(rt, alloc, &shared, &live, &asked),
-        || tell_all(rt, alloc, &shared, coordinator, &live, &asked, jobs),
-    );
-    assert!(rt; exited);
-    let Some(told) = told? else {
-        panic!(rt; "a call went wrong");
-    };
-    assert!(rt; are_as_before(rt, &shared, told.as_slice())?);
-    Ok(())
+    exit_beside(rt, alloc, &shared, coordinator, jobs)
 }
 
 #[test]

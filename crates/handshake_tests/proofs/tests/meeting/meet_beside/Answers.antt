@@ -1,7 +1,7 @@
 use denote.Param.Send.{sendable}
 use Rattle.std.proofs.Crossing.{crosses}
 use Rattle.thread_list.proofs.Crosses.{shared_crosses}
-use Rattle.handshake_tests.proofs.tests.meeting.meet.Goals as goal
+use Rattle.handshake_tests.proofs.tests.meeting.meet_beside.Goals as goal
 
 pub join-lived-requires-send-F : goal.join-lived-requires-send-F
 join-lived-requires-send-F g c κs within =

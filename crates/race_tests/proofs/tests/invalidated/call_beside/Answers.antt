@@ -1,7 +1,7 @@
 use denote.Param.Send.{sendable}
 use Rattle.std.proofs.Crossing.{crosses}
 use Rattle.thread_list.proofs.Crosses.{shared_crosses}
-use Rattle.race_tests.proofs.tests.invalidated.call_across.Goals as goal
+use Rattle.race_tests.proofs.tests.invalidated.call_beside.Goals as goal
 
 pub join-called-requires-send-F : goal.join-called-requires-send-F
 join-called-requires-send-F g c κs within =
