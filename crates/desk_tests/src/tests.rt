@@ -381,7 +381,8 @@ fn begin<N: Name, J: Errand, R: Abort>(rt: &R, alloc: Global, board: &Board, des
 
 // It is looked for, weighed and freed, and its slot is used again.
 fn weigh_and_free<N: Name, J: Errand, R: Abort>(rt: &R, board: &Board, desk: &mut Desk<N, J>)
-    requires { board.now ≡ N.board }
+    requires board { board.now ≡ N.board }
+    requires places { N.board.places ≡ 1 }
 {
     assert!(rt; matches!(desk.look(board, 1, 0), Ok(true)));
     assert!(rt; matches!(desk.weigh(board, 1), Ok((Weighed::Clear, Some(_)))));

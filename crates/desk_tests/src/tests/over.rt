@@ -52,7 +52,8 @@ fn install_two<N: Name, J: Errand, R: Abort>(rt: &R, board: &Board, desk: &mut D
 
 // The replaced code was entered as invalidated, so it can't be once more; it can be looked for, weighed and freed.
 fn free_first<N: Name, J: Errand, R: Abort>(rt: &R, board: &Board, desk: &mut Desk<N, J>)
-    requires { board.now ≡ N.board }
+    requires board { board.now ≡ N.board }
+    requires places { N.board.places ≡ 1 }
 {
     assert!(rt; matches!(desk.invalidate(board, 1), Err(InvalidateFault::NotInUse)));
     let full = desk.install(board, 0);
