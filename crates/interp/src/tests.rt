@@ -34,7 +34,7 @@ fn marks_of_a_loop_of_calls(rt: HostRuntime) -> Result<(), Fail> {
     let mut runner = Runner::new(alloc, &code)?;
     let mut tape = Tape::new(alloc);
     assert!(rt; matches!(runner.run(&mut tape, 1_000_000), Outcome::Finished));
-    assert_eq!(rt; runner.made(), 17);
+    assert!(rt; runner.made() == 17);
     let turn = [
         Mark::In(1),
         Mark::Tick,
@@ -47,9 +47,9 @@ fn marks_of_a_loop_of_calls(rt: HostRuntime) -> Result<(), Fail> {
         wanted.extend_from_slice(&turn)?;
     }
     wanted.push(Mark::Out(0))?;
-    assert_eq!(rt; tape.marks.as_slice(), wanted.as_slice());
+    assert!(rt; tape.marks.as_slice() == wanted.as_slice());
     assert!(rt; !runner.step(&mut tape)?);
-    assert_eq!(rt; runner.made(), 17);
+    assert!(rt; runner.made() == 17);
     Ok(())
 }
 
@@ -79,7 +79,7 @@ fn each_action_and_an_inner_loop(rt: HostRuntime) -> Result<(), Fail> {
         Mark::Tick,
         Mark::Out(0),
     ];
-    assert_eq!(rt; tape.marks.as_slice(), wanted.as_slice());
+    assert!(rt; tape.marks.as_slice() == wanted.as_slice());
     Ok(())
 }
 
@@ -96,8 +96,8 @@ fn a_call_of_itself_overflows(rt: HostRuntime) -> Result<(), Fail> {
     assert!(rt; matches!(runner.run(&mut tape, 1), Outcome::Overflow));
     assert!(rt; matches!(runner.run(&mut tape, 0), Outcome::Overflow));
     assert!(rt; !runner.step(&mut tape)?);
-    assert_eq!(rt; runner.made(), 256);
-    assert_eq!(rt; tape.marks.len(), 256);
+    assert!(rt; runner.made() == 256);
+    assert!(rt; tape.marks.len() == 256);
     assert!(rt; tape.marks.iter().all(|mark| *mark == Mark::In(0)));
     Ok(())
 }
@@ -113,9 +113,9 @@ fn fuel_of_a_million_turns(rt: HostRuntime) -> Result<(), Fail> {
         let mut runner = Runner::new(alloc, &code)?;
         let mut steps = Patience { left: u64::MAX };
         let outcome = runner.run(&mut steps, fuel);
-        assert_eq!(rt; matches!(outcome, Outcome::Finished), fuel >= 1_000_002);
-        assert_eq!(rt; matches!(outcome, Outcome::OutOfFuel), fuel < 1_000_002);
-        assert_eq!(rt; runner.made(), fuel.min(1_000_002));
+        assert!(rt; matches!(outcome, Outcome::Finished) == (fuel >= 1_000_002));
+        assert!(rt; matches!(outcome, Outcome::OutOfFuel) == (fuel < 1_000_002));
+        assert!(rt; runner.made() == fuel.min(1_000_002));
     }
     Ok(())
 }
@@ -131,10 +131,10 @@ fn a_refused_mark_is_made_later(rt: HostRuntime) -> Result<(), Fail> {
     let mut steps = Patience { left: 2 };
     assert!(rt; matches!(runner.run(&mut steps, 9), Outcome::Refused(7)));
     assert!(rt; matches!(runner.step(&mut steps), Err(7)));
-    assert_eq!(rt; runner.made(), 2);
+    assert!(rt; runner.made() == 2);
     let mut tape = Tape::new(alloc);
     assert!(rt; matches!(runner.run(&mut tape, 2), Outcome::Finished));
-    assert_eq!(rt; tape.marks.as_slice(), [Mark::Vm, Mark::Out(0)].as_slice());
+    assert!(rt; tape.marks.as_slice() == [Mark::Vm, Mark::Out(0)].as_slice());
     Ok(())
 }
 
@@ -169,12 +169,12 @@ fn the_longest_script_runs_whole(rt: HostRuntime) -> Result<(), Fail> {
     let mut runner = Runner::new(alloc, &code)?;
     let mut tape = Tape::new(alloc);
     assert!(rt; matches!(runner.run(&mut tape, 65_538), Outcome::Finished));
-    assert_eq!(rt; runner.made(), 65_538);
-    assert_eq!(rt; tape.marks.len(), 65_538);
-    assert_eq!(rt; tape.marks.first(), Some(&Mark::In(0)));
-    assert_eq!(rt; tape.marks.get(1), Some(&Mark::Vm));
-    assert_eq!(rt; tape.marks.get(65_536), Some(&Mark::Tick));
-    assert_eq!(rt; tape.marks.last(), Some(&Mark::Out(0)));
+    assert!(rt; runner.made() == 65_538);
+    assert!(rt; tape.marks.len() == 65_538);
+    assert!(rt; tape.marks.first() == Some(&Mark::In(0)));
+    assert!(rt; tape.marks.get(1) == Some(&Mark::Vm));
+    assert!(rt; tape.marks.get(65_536) == Some(&Mark::Tick));
+    assert!(rt; tape.marks.last() == Some(&Mark::Out(0)));
     Ok(())
 }
 
@@ -189,14 +189,14 @@ fn a_chain_of_256_methods_finishes(rt: HostRuntime) -> Result<(), Fail> {
     }
     text.extend_from_slice(b"[]]}")?;
     let code = check(alloc, &read_script(alloc, text.as_slice())?)?;
-    assert_eq!(rt; code.methods(), 256);
+    assert!(rt; code.methods() == 256);
     let mut runner = Runner::new(alloc, &code)?;
     let mut tape = Tape::new(alloc);
     assert!(rt; matches!(runner.run(&mut tape, 512), Outcome::Finished));
-    assert_eq!(rt; tape.marks.len(), 512);
-    assert_eq!(rt; tape.marks.get(255), Some(&Mark::In(255)));
-    assert_eq!(rt; tape.marks.get(256), Some(&Mark::Out(255)));
-    assert_eq!(rt; tape.marks.last(), Some(&Mark::Out(0)));
+    assert!(rt; tape.marks.len() == 512);
+    assert!(rt; tape.marks.get(255) == Some(&Mark::In(255)));
+    assert!(rt; tape.marks.get(256) == Some(&Mark::Out(255)));
+    assert!(rt; tape.marks.last() == Some(&Mark::Out(0)));
     Ok(())
 }
 

@@ -33,8 +33,8 @@ fn says(rt: &impl Abort, model: &mut LineModel, alloc: Global, line: &[u8], want
     let mut room = [b'.'; 256];
     let n = played(model, alloc, line, &mut room).expect(rt, "an answer");
     assert!(rt; n < 256);
-    assert_eq!(rt; &room[..n], wanted);
-    assert_eq!(rt; room[n], b'.');
+    assert!(rt; &room[..n] == wanted);
+    assert!(rt; room[n] == b'.');
 }
 
 // What comes before the census: a thread in native code, with a frame of code 1.
@@ -103,9 +103,9 @@ fn a_long_list_is_answered(rt: HostRuntime) -> Result<(), Fail> {
         says(&rt, &mut model, alloc, b"enter 0 0", b"entered");
     }
     let mut room = [b'.'; 256];
-    assert_eq!(rt; played(&mut model, alloc, b"stack 0", &mut room), Ok(165));
-    assert_eq!(rt; &room[..9], b"stack 0:i".as_slice());
-    assert_eq!(rt; &room[161..166], b" 0:i.".as_slice());
+    assert!(rt; played(&mut model, alloc, b"stack 0", &mut room) == Ok(165));
+    assert!(rt; &room[..9] == b"stack 0:i".as_slice());
+    assert!(rt; &room[161..166] == b" 0:i.".as_slice());
     Ok(())
 }
 
@@ -124,27 +124,15 @@ fn an_answer_waits_for_room(rt: HostRuntime) -> Result<(), Fail> {
     let mut model = made(alloc, 1, 1, 1).expect(&rt, "a model");
     let mut small = [b'.'; 15];
     let mut room = [b'.'; 16];
-    assert_eq!(rt;
-        played(&mut model, alloc, b"start", &mut small),
-        Err(LineFault::TooLong(16))
-    );
-    assert_eq!(rt;
-        played(&mut model, alloc, b"start", &mut room),
-        Err(LineFault::AnswerWaits)
-    );
-    assert_eq!(rt; model.needs(), Ok(16));
-    assert_eq!(rt;
-        model.take_answer(&mut small),
-        Err(AnswerFault::TooLong(16))
-    );
-    assert_eq!(rt; &small, b"...............");
-    assert_eq!(rt; model.take_answer(&mut room), Ok(16));
-    assert_eq!(rt; &room, b"thread 1 place 0");
-    assert_eq!(rt;
-        model.take_answer(&mut room),
-        Err(AnswerFault::NothingWaits)
-    );
-    assert_eq!(rt; model.needs(), Err(AnswerFault::NothingWaits));
+    assert!(rt; played(&mut model, alloc, b"start", &mut small) == Err(LineFault::TooLong(16)));
+    assert!(rt; played(&mut model, alloc, b"start", &mut room) == Err(LineFault::AnswerWaits));
+    assert!(rt; model.needs() == Ok(16));
+    assert!(rt; model.take_answer(&mut small) == Err(AnswerFault::TooLong(16)));
+    assert!(rt; &small == b"...............");
+    assert!(rt; model.take_answer(&mut room) == Ok(16));
+    assert!(rt; &room == b"thread 1 place 0");
+    assert!(rt; model.take_answer(&mut room) == Err(AnswerFault::NothingWaits));
+    assert!(rt; model.needs() == Err(AnswerFault::NothingWaits));
     says(&rt, &mut model, alloc, b"start", b"refused PlacesFull");
     Ok(())
 }
@@ -168,16 +156,16 @@ fn calls_of_c_want_a_model(rt: HostRuntime) -> Result<(), Fail> {
     let alloc = rt.alloc();
     let mut place = Place::none(alloc);
     let mut room = [b'.'; 16];
-    assert_eq!(rt; played_in(alloc, &mut place, b"start", &mut room), -7);
-    assert_eq!(rt; model_answer(alloc, &mut place, &mut room), -7);
-    assert_eq!(rt; model_needs(alloc, &mut place), -7);
+    assert!(rt; played_in(alloc, &mut place, b"start", &mut room) == -7);
+    assert!(rt; model_answer(alloc, &mut place, &mut room) == -7);
+    assert!(rt; model_needs(alloc, &mut place) == -7);
     model_free(alloc, &mut place);
-    assert_eq!(rt; model_new(alloc, &mut place, 1, 1025, 1), -6);
-    assert_eq!(rt; made_in(alloc, &mut place), 0);
-    assert_eq!(rt; model_new(alloc, &mut place, 1, 1, 1), -8);
+    assert!(rt; model_new(alloc, &mut place, 1, 1025, 1) == -6);
+    assert!(rt; made_in(alloc, &mut place) == 0);
+    assert!(rt; model_new(alloc, &mut place, 1, 1, 1) == -8);
     model_free(alloc, &mut place);
-    assert_eq!(rt; model_needs(alloc, &mut place), -7);
-    assert_eq!(rt; made_in(alloc, &mut place), 0);
+    assert!(rt; model_needs(alloc, &mut place) == -7);
+    assert!(rt; made_in(alloc, &mut place) == 0);
     model_free(alloc, &mut place);
     Ok(())
 }
@@ -188,15 +176,15 @@ fn calls_of_c_answer_the_same(rt: HostRuntime) -> Result<(), Fail> {
     let mut place = Place::none(alloc);
     let mut short = [b'.'; 15];
     let mut room = [b'.'; 16];
-    assert_eq!(rt; made_in(alloc, &mut place), 0);
-    assert_eq!(rt; played_in(alloc, &mut place, b"start", &mut short), -3);
-    assert_eq!(rt; played_in(alloc, &mut place, b"start", &mut room), -2);
-    assert_eq!(rt; model_needs(alloc, &mut place), 16);
-    assert_eq!(rt; model_answer(alloc, &mut place, &mut short), -3);
-    assert_eq!(rt; model_answer(alloc, &mut place, &mut room), 16);
-    assert_eq!(rt; &room, b"thread 1 place 0");
-    assert_eq!(rt; model_answer(alloc, &mut place, &mut room), -5);
-    assert_eq!(rt; played_in(alloc, &mut place, b"begin 0", &mut room), 2);
+    assert!(rt; made_in(alloc, &mut place) == 0);
+    assert!(rt; played_in(alloc, &mut place, b"start", &mut short) == -3);
+    assert!(rt; played_in(alloc, &mut place, b"start", &mut room) == -2);
+    assert!(rt; model_needs(alloc, &mut place) == 16);
+    assert!(rt; model_answer(alloc, &mut place, &mut short) == -3);
+    assert!(rt; model_answer(alloc, &mut place, &mut room) == 16);
+    assert!(rt; &room == b"thread 1 place 0");
+    assert!(rt; model_answer(alloc, &mut place, &mut room) == -5);
+    assert!(rt; played_in(alloc, &mut place, b"begin 0", &mut room) == 2);
     model_free(alloc, &mut place);
     Ok(())
 }

@@ -63,9 +63,9 @@ fn reply_of(rt: &impl Abort, alloc: Global, ask: Ask, image: &Image) -> Result<u
     )?;
     let job = Job::new(7, ask, call);
     let done = job.numbered(3).run(image);
-    assert_eq!(rt; done.op(), 3);
-    assert_eq!(rt; done.target(), 7);
-    assert_eq!(rt; done.ask(), ask);
+    assert!(rt; done.op() == 3);
+    assert!(rt; done.target() == 7);
+    assert!(rt; done.ask() == ask);
     Ok(done.reply())
 }
 
@@ -78,9 +78,8 @@ fn asks_are_answered(rt: HostRuntime) -> Result<(), Fail> {
         (Ask::CountOf(2), 0),
         (Ask::Top, 1),
     ] {
-        assert_eq!(rt;
-            reply_of(&rt, rt.alloc(), ask, &image)?,
-            expected,
+        assert!(rt;
+            reply_of(&rt, rt.alloc(), ask, &image)? == expected,
             "{ask:?}"
         );
     }
@@ -92,9 +91,8 @@ fn asks_are_answered(rt: HostRuntime) -> Result<(), Fail> {
         (Ask::CountOf(2), 0),
         (Ask::Top, 0),
     ] {
-        assert_eq!(rt;
-            reply_of(&rt, rt.alloc(), ask, &image)?,
-            expected,
+        assert!(rt;
+            reply_of(&rt, rt.alloc(), ask, &image)? == expected,
             "{ask:?}"
         );
     }
@@ -106,9 +104,9 @@ fn run_errand<J: Errand>(rt: &impl Abort, errand: J, image: &Image) -> Done
     requires { IsSettled image.now }
     ensures { J.may_answer errand image.now result.reply }
 {
-    assert_eq!(rt; errand.op_of(), 0);
-    assert_eq!(rt; errand.target_of(), 9);
-    assert_eq!(rt; errand.ask_of(), Ask::Depth);
+    assert!(rt; errand.op_of() == 0);
+    assert!(rt; errand.target_of() == 9);
+    assert!(rt; errand.ask_of() == Ask::Depth);
     errand.numbered(5).run_on(image)
 }
 
@@ -127,14 +125,14 @@ fn a_callback_keeps_what_it_captured(rt: HostRuntime) -> Result<(), Fail> {
         },
     )?;
     let job = Job::new(9, Ask::Depth, call);
-    assert_eq!(rt; job.op(), 0);
-    assert_eq!(rt; job.target(), 9);
-    assert_eq!(rt; job.ask(), Ask::Depth);
-    assert_eq!(rt; calls.load(Ordering::SeqCst), 0);
+    assert!(rt; job.op() == 0);
+    assert!(rt; job.target() == 9);
+    assert!(rt; job.ask() == Ask::Depth);
+    assert!(rt; calls.load(Ordering::SeqCst) == 0);
     let done = run_errand(&rt, job, &image);
-    assert_eq!(rt; done.op(), 5);
-    assert_eq!(rt; done.reply(), 3);
-    assert_eq!(rt; calls.load(Ordering::SeqCst), 1);
+    assert!(rt; done.op() == 5);
+    assert!(rt; done.reply() == 3);
+    assert!(rt; calls.load(Ordering::SeqCst) == 1);
     Ok(())
 }
 
@@ -158,14 +156,14 @@ fn comes_back(
     match pushed {
         Ok(()) => assert!(rt; false, "was queued"),
         Err(back) => {
-            assert_eq!(rt; back.fault, fault);
-            assert_eq!(rt; back.load, load);
+            assert!(rt; back.fault == fault);
+            assert!(rt; back.load == load);
             match back.request {
                 Request::Census => assert!(rt; names.is_empty()),
                 Request::Handshake { targets, ask } => {
-                    assert_eq!(rt; ask, Ask::Top);
-                    assert_eq!(rt; targets.as_slice(), names);
-                    assert_eq!(rt; targets.into_vec().as_slice(), names);
+                    assert!(rt; ask == Ask::Top);
+                    assert!(rt; targets.as_slice() == names);
+                    assert!(rt; targets.into_vec().as_slice() == names);
                 }
             }
         }
@@ -182,7 +180,7 @@ fn sixty_four_wait_and_leave_in_order(rt: HostRuntime) -> Result<(), Fail> {
         assert!(rt; pushed.is_ok());
     }
     assert!(rt; queue.is_full());
-    assert_eq!(rt; queue.len(), 64);
+    assert!(rt; queue.len() == 64);
 
     // A full queue comes before each other cause.
     comes_back(
@@ -200,16 +198,13 @@ fn sixty_four_wait_and_leave_in_order(rt: HostRuntime) -> Result<(), Fail> {
         9,
     );
 
-    assert_eq!(rt; queue.front().map(|oldest| oldest.number), Some(1));
-    assert_eq!(rt;
-        queue.front().map(|oldest| oldest.request.kind()),
-        Some(Kind::Handshake)
-    );
+    assert!(rt; queue.front().map(|oldest| oldest.number) == Some(1));
+    assert!(rt; queue.front().map(|oldest| oldest.request.kind()) == Some(Kind::Handshake));
     for number in 1..65u64 {
         match queue.pop() {
             Some(oldest) => {
-                assert_eq!(rt; oldest.number, number);
-                assert_eq!(rt; oldest.load, number + 100);
+                assert!(rt; oldest.number == number);
+                assert!(rt; oldest.load == number + 100);
                 assert!(rt; oldest.request.is_target(number));
                 assert!(rt; !oldest.request.is_target(number + 1));
             }
@@ -218,10 +213,7 @@ fn sixty_four_wait_and_leave_in_order(rt: HostRuntime) -> Result<(), Fail> {
     }
     assert!(rt; queue.pop().is_none());
     assert!(rt; queue.push(65, Request::Census, 10).is_ok());
-    assert_eq!(rt;
-        queue.front().map(|oldest| oldest.request.kind()),
-        Some(Kind::Census)
-    );
+    assert!(rt; queue.front().map(|oldest| oldest.request.kind()) == Some(Kind::Census));
     Ok(())
 }
 
@@ -241,7 +233,7 @@ fn bad_targets_come_back(rt: HostRuntime) -> Result<(), Fail> {
     ];
     for (names, fault) in cases {
         let request = handshake(rt.alloc(), names)?;
-        assert_eq!(rt; queue.refusal(&request), Some(fault));
+        assert!(rt; queue.refusal(&request) == Some(fault));
         comes_back(&rt, queue.push(1, request, 4), fault, names, 4);
         assert!(rt; queue.is_empty());
     }
@@ -249,9 +241,9 @@ fn bad_targets_come_back(rt: HostRuntime) -> Result<(), Fail> {
     let most = handshake(rt.alloc(), names.as_slice())?;
     assert!(rt; most.has_targets());
     assert!(rt; most.are_targets());
-    assert_eq!(rt; queue.refusal(&most), None);
+    assert!(rt; queue.refusal(&most) == None);
     assert!(rt; queue.push(1, most, 4).is_ok());
-    assert_eq!(rt; queue.len(), 1);
+    assert!(rt; queue.len() == 1);
     Ok(())
 }
 
@@ -259,8 +251,8 @@ fn bad_targets_come_back(rt: HostRuntime) -> Result<(), Fail> {
 fn is_handshake(rt: &impl Abort, request: Request, names: &[u64]) {
     match request {
         Request::Handshake { targets, ask } => {
-            assert_eq!(rt; targets.as_slice(), names);
-            assert_eq!(rt; ask, Ask::Top);
+            assert!(rt; targets.as_slice() == names);
+            assert!(rt; ask == Ask::Top);
         }
         Request::Census => assert!(rt; false, "became a census"),
     }
@@ -276,7 +268,7 @@ fn requests_are_copied_whole(rt: HostRuntime) -> Result<(), Fail> {
         is_handshake(&rt, request.copied(rt.alloc())?, names.as_slice());
         is_handshake(&rt, request, names.as_slice());
     }
-    assert_eq!(rt; Request::Census.copied(rt.alloc())?.kind(), Kind::Census);
+    assert!(rt; Request::Census.copied(rt.alloc())?.kind() == Kind::Census);
     Ok(())
 }
 
@@ -291,10 +283,10 @@ fn want_of_memory_hands_back(rt: HostRuntime) {
         let before = queue.len();
         let pushed = queue.push(number, request, number);
         if pushed.is_ok() {
-            assert_eq!(rt; queue.len(), before + 1);
+            assert!(rt; queue.len() == before + 1);
         } else {
             comes_back(&rt, pushed, QueueFault::NoMemory, &[number, 40], number);
-            assert_eq!(rt; queue.len(), before);
+            assert!(rt; queue.len() == before);
         }
     }
     assert!(rt; queue.len() >= 18);

@@ -21,17 +21,17 @@ fn one_place(alloc: Global) -> Result<(PollRow, Armer, Poller), AllocError>
 #[test]
 fn a_greater_number_stays_armed(rt: HostRuntime) -> Result<(), Fail> {
     let (row, mut armer, mut poller) = one_place(rt.alloc())?;
-    assert_eq!(rt; armer.last(0), 0);
-    assert_eq!(rt; poller.poll(&row), 0);
+    assert!(rt; armer.last(0) == 0);
+    assert!(rt; poller.poll(&row) == 0);
     armer.arm(&row, 0, 1);
-    assert_eq!(rt; armer.last(0), 1);
-    assert_eq!(rt; poller.poll(&row), 1);
+    assert!(rt; armer.last(0) == 1);
+    assert!(rt; poller.poll(&row) == 1);
     armer.arm(&row, 0, 2);
     assert!(rt; !poller.clear(&row, 1));
-    assert_eq!(rt; poller.poll(&row), 2);
+    assert!(rt; poller.poll(&row) == 2);
     assert!(rt; poller.clear(&row, 2));
-    assert_eq!(rt; poller.poll(&row), 0);
-    assert_eq!(rt; armer.last(0), 2);
+    assert!(rt; poller.poll(&row) == 0);
+    assert!(rt; armer.last(0) == 2);
     Ok(())
 }
 
@@ -42,15 +42,15 @@ fn places_are_apart(rt: HostRuntime) -> Result<(), Fail> {
     let mut second = pollers.swap_remove(1);
     let mut first = pollers.swap_remove(0);
     armer.arm(&row, 1, 7);
-    assert_eq!(rt; first.poll(&row), 0);
-    assert_eq!(rt; second.poll(&row), 7);
-    assert_eq!(rt; third.poll(&row), 0);
+    assert!(rt; first.poll(&row) == 0);
+    assert!(rt; second.poll(&row) == 7);
+    assert!(rt; third.poll(&row) == 0);
     armer.arm(&row, 2, 1_099_511_627_775);
     assert!(rt; second.clear(&row, 7));
-    assert_eq!(rt; third.poll(&row), 1_099_511_627_775);
-    assert_eq!(rt; armer.last(0), 0);
-    assert_eq!(rt; armer.last(1), 7);
-    assert_eq!(rt; armer.last(2), 1_099_511_627_775);
+    assert!(rt; third.poll(&row) == 1_099_511_627_775);
+    assert!(rt; armer.last(0) == 0);
+    assert!(rt; armer.last(1) == 7);
+    assert!(rt; armer.last(2) == 1_099_511_627_775);
     Ok(())
 }
 
@@ -60,20 +60,20 @@ fn words_are_left_as_they_were_armed(rt: HostRuntime) -> Result<(), Fail> {
     armer.arm(&row, 1, 7);
     armer.arm(&row, 2, 9);
     let words = row.close(armer, pollers);
-    assert_eq!(rt; words.as_slice(), [0, 7, 9].as_slice());
+    assert!(rt; words.as_slice() == [0, 7, 9].as_slice());
     Ok(())
 }
 
 #[test]
 fn a_row_of_sixty_four_places(rt: HostRuntime) -> Result<(), Fail> {
     let (row, mut armer, mut pollers) = PollRow::new(rt.alloc(), 64)?;
-    assert_eq!(rt; pollers.len(), 64);
+    assert!(rt; pollers.len() == 64);
     let mut last = pollers.swap_remove(63);
     armer.arm(&row, 63, 1_099_511_627_775);
-    assert_eq!(rt; last.poll(&row), 1_099_511_627_775);
-    assert_eq!(rt; armer.last(0), 0);
+    assert!(rt; last.poll(&row) == 1_099_511_627_775);
+    assert!(rt; armer.last(0) == 0);
     assert!(rt; last.clear(&row, 1_099_511_627_775));
-    assert_eq!(rt; last.poll(&row), 0);
+    assert!(rt; last.poll(&row) == 0);
     Ok(())
 }
 
@@ -86,8 +86,8 @@ fn made_and_closed(alloc: Global) -> Result<usize, AllocError> {
 
 #[test]
 fn a_row_is_made_after_another(rt: HostRuntime) -> Result<(), Fail> {
-    assert_eq!(rt; made_and_closed(rt.alloc())?, 64);
-    assert_eq!(rt; made_and_closed(rt.alloc())?, 64);
+    assert!(rt; made_and_closed(rt.alloc())? == 64);
+    assert!(rt; made_and_closed(rt.alloc())? == 64);
     Ok(())
 }
 
@@ -99,7 +99,7 @@ fn a_row_is_made_whole_or_not_at_all(rt: HostRuntime) -> Result<(), Fail> {
         return Ok(());
     };
     let words = row.close(armer, pollers);
-    assert_eq!(rt; words.as_slice(), [0, 0, 0].as_slice());
+    assert!(rt; words.as_slice() == [0, 0, 0].as_slice());
     println!(rt; "no growth was refused")?;
     Ok(())
 }
@@ -127,15 +127,15 @@ fn armed_elsewhere<R: Threads + Sync>(rt: &R, row: &PollRow, armer: Armer, n: u6
 #[test]
 fn the_armer_is_in_another_thread(rt: HostRuntime) -> Result<(), Fail> {
     let (row, armer, mut poller) = one_place(rt.alloc())?;
-    assert_eq!(rt; poller.poll(&row), 0);
+    assert!(rt; poller.poll(&row) == 0);
     let armer = armed_elsewhere(&rt, &row, armer, 1);
-    assert_eq!(rt; poller.poll(&row), 1);
+    assert!(rt; poller.poll(&row) == 1);
     let armer = armed_elsewhere(&rt, &row, armer, 2);
     assert!(rt; !poller.clear(&row, 1));
-    assert_eq!(rt; poller.poll(&row), 2);
+    assert!(rt; poller.poll(&row) == 2);
     assert!(rt; poller.clear(&row, 2));
-    assert_eq!(rt; poller.poll(&row), 0);
-    assert_eq!(rt; armer.last(0), 2);
+    assert!(rt; poller.poll(&row) == 0);
+    assert!(rt; armer.last(0) == 2);
     Ok(())
 }
 
@@ -229,17 +229,17 @@ fn no_arming_is_lost_to_a_clear(rt: HostRuntime) -> Result<(), Fail> {
     let (row, armer, poller) = one_place(rt.alloc())?;
     let (armer, mut poller, mut cleared) = arm_against_clear(&rt, &row, armer, poller);
     clear_once(&row, &mut poller, &mut cleared);
-    assert_eq!(rt;
-        cleared,
-        Cleared {
-            last: 10_000,
-            rising: true
-        }
+    assert!(rt;
+        cleared
+            == Cleared {
+                last: 10_000,
+                rising: true
+            }
     );
-    assert_eq!(rt; poller.poll(&row), 0);
-    assert_eq!(rt; armer.last(0), 10_000);
+    assert!(rt; poller.poll(&row) == 0);
+    assert!(rt; armer.last(0) == 10_000);
     let pollers = vec![in rt.alloc(); poller]?;
     let words = row.close(armer, pollers);
-    assert_eq!(rt; words.as_slice(), [0].as_slice());
+    assert!(rt; words.as_slice() == [0].as_slice());
     Ok(())
 }

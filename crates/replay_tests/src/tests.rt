@@ -152,28 +152,25 @@ fn first_unanswered(alloc: Global, runs: &[Transcript]) -> Result<Option<&'stati
 
 #[test]
 fn publications_are_answered(rt: HostRuntime) -> Result<(), Fail> {
-    assert_eq!(rt;
-        first_unanswered(rt.alloc(), &publication_runs::RUNS)?,
-        None
-    );
+    assert!(rt; first_unanswered(rt.alloc(), &publication_runs::RUNS)? == None);
     Ok(())
 }
 
 #[test]
 fn operations_are_answered(rt: HostRuntime) -> Result<(), Fail> {
-    assert_eq!(rt; first_unanswered(rt.alloc(), &operation_runs::RUNS)?, None);
+    assert!(rt; first_unanswered(rt.alloc(), &operation_runs::RUNS)? == None);
     Ok(())
 }
 
 #[test]
 fn traps_are_answered(rt: HostRuntime) -> Result<(), Fail> {
-    assert_eq!(rt; first_unanswered(rt.alloc(), &trap_runs::RUNS)?, None);
+    assert!(rt; first_unanswered(rt.alloc(), &trap_runs::RUNS)? == None);
     Ok(())
 }
 
 #[test]
 fn bad_lines_are_answered(rt: HostRuntime) -> Result<(), Fail> {
-    assert_eq!(rt; first_unanswered(rt.alloc(), &bad_lines::RUNS)?, None);
+    assert!(rt; first_unanswered(rt.alloc(), &bad_lines::RUNS)? == None);
     Ok(())
 }
 
@@ -232,7 +229,7 @@ fn lines_of_1024_bytes_are_taken(rt: HostRuntime) -> Result<(), Fail> {
         (2, b"ok\nbad line\n".as_slice()),
     ] {
         let input = long_ask(rt.alloc(), more)?;
-        assert_eq!(rt; input.len(), b"size 1 1 1\n".len() + 1024 + more);
+        assert!(rt; input.len() == b"size 1 1 1\n".len() + 1024 + more);
         assert!(rt; is_answered(rt.alloc(), &input, answer));
     }
     Ok(())
@@ -242,8 +239,8 @@ fn lines_of_1024_bytes_are_taken(rt: HostRuntime) -> Result<(), Fail> {
 fn an_empty_input_is_answered_with_nothing(rt: HostRuntime) -> Result<(), Fail> {
     let mut source = from_bytes(b"", 1, 0);
     let mut sink = new_basin(rt.alloc(), 1, 0, false);
-    assert_eq!(rt; run(rt.alloc(), &mut source, &mut sink), Ok(()));
-    assert_eq!(rt; sink.calls, 0);
+    assert!(rt; run(rt.alloc(), &mut source, &mut sink) == Ok(()));
+    assert!(rt; sink.calls == 0);
     Ok(())
 }
 

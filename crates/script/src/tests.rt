@@ -23,7 +23,7 @@ fn line_of(alloc: Global, text: &[u8]) -> Result<String, AllocError> {
 
 fn expect_line(rt: &impl Abort, alloc: Global, text: &[u8], line: &str) -> Result<(), AllocError> {
     let found = line_of(alloc, text)?;
-    assert_eq!(rt; found.as_str(), line);
+    assert!(rt; found.as_str() == line);
     Ok(())
 }
 
@@ -231,18 +231,18 @@ fn code_is_flat(rt: HostRuntime) -> Result<(), Fail> {
     let alloc = rt.alloc();
     let script = read_script(alloc, LOOP_OF_CALLS)?;
     let code = check(alloc, &script)?;
-    assert_eq!(rt; code.methods(), 2);
-    assert_eq!(rt; code.op(0, 0), Some(Op::Action(Action::Call(1))));
-    assert_eq!(rt; code.op(0, 1), Some(Op::Action(Action::Native)));
+    assert!(rt; code.methods() == 2);
+    assert!(rt; code.op(0, 0) == Some(Op::Action(Action::Call(1))));
+    assert!(rt; code.op(0, 1) == Some(Op::Action(Action::Native)));
     let edge = Op::Edge {
         turns: 3,
         start: 0,
         level: 0,
     };
-    assert_eq!(rt; code.op(0, 2), Some(edge));
-    assert_eq!(rt; code.op(0, 3), None);
-    assert_eq!(rt; code.op(1, 0), Some(Op::Action(Action::Tick)));
-    assert_eq!(rt; code.op(2, 0), None);
+    assert!(rt; code.op(0, 2) == Some(edge));
+    assert!(rt; code.op(0, 3) == None);
+    assert!(rt; code.op(1, 0) == Some(Op::Action(Action::Tick)));
+    assert!(rt; code.op(2, 0) == None);
     Ok(())
 }
 
@@ -290,12 +290,12 @@ fn places_are_lists_of_numbers(rt: HostRuntime) -> Result<(), Fail> {
     let alloc = rt.alloc();
     let mut place = Place::new(vec![in alloc; 2, 0]?);
     place.enter(3)?;
-    assert_eq!(rt; place.numbers(), [2, 0, 3].as_slice());
+    assert!(rt; place.numbers() == [2, 0, 3].as_slice());
     let spelled = place.to_string(alloc)?;
-    assert_eq!(rt; spelled.as_str(), "2.0.3");
+    assert!(rt; spelled.as_str() == "2.0.3");
     place.leave();
-    assert_eq!(rt; place.into_numbers().as_slice(), [2, 0].as_slice());
+    assert!(rt; place.into_numbers().as_slice() == [2, 0].as_slice());
     let document = Place::document(alloc).to_string(alloc)?;
-    assert_eq!(rt; document.as_str(), "-");
+    assert!(rt; document.as_str() == "-");
     Ok(())
 }

@@ -85,9 +85,8 @@ fn polled(state: State, go: bool) -> Result<State, Illegal> {
 fn moves_are_those_of_the_table(rt: HostRuntime) {
     for (state, name) in STATES {
         for movement in MOVES {
-            assert_eq!(rt;
-                step(state, movement),
-                lawful(state, movement),
+            assert!(rt;
+                step(state, movement) == lawful(state, movement),
                 "{name} by {movement:?}"
             );
         }
@@ -98,7 +97,7 @@ fn moves_are_those_of_the_table(rt: HostRuntime) {
 fn polls_lead_as_the_table_says(rt: HostRuntime) {
     for (state, name) in STATES {
         for go in [true, false] {
-            assert_eq!(rt; cross(state, go), polled(state, go), "{name} go {go}");
+            assert!(rt; cross(state, go) == polled(state, go), "{name} go {go}");
         }
     }
 }
@@ -123,14 +122,13 @@ fn states_allow_what_they_should(rt: HostRuntime) {
             Serving(Java),
             Serving(Vm),
         ];
-        assert_eq!(rt; is_safe(state), safe.contains(&state), "{name}");
-        assert_eq!(rt; may_publish(state), publishing.contains(&state), "{name}");
-        assert_eq!(rt; may_cross(state), crossing.contains(&state), "{name}");
-        assert_eq!(rt; is_in_java(state), state == InJava, "{name}");
-        assert_eq!(rt; is_in_vm(state), state == InVm, "{name}");
-        assert_eq!(rt;
-            is_serving(state),
-            [Serving(Java), Serving(Vm)].contains(&state),
+        assert!(rt; is_safe(state) == safe.contains(&state), "{name}");
+        assert!(rt; may_publish(state) == publishing.contains(&state), "{name}");
+        assert!(rt; may_cross(state) == crossing.contains(&state), "{name}");
+        assert!(rt; is_in_java(state) == (state == InJava), "{name}");
+        assert!(rt; is_in_vm(state) == (state == InVm), "{name}");
+        assert!(rt;
+            is_serving(state) == [Serving(Java), Serving(Vm)].contains(&state),
             "{name}"
         );
     }
@@ -140,13 +138,13 @@ fn states_allow_what_they_should(rt: HostRuntime) {
 fn states_are_written_with_their_way_back(rt: HostRuntime) -> Result<(), Fail> {
     let alloc = rt.alloc();
     for (state, name) in STATES {
-        assert_eq!(rt; state.to_string(alloc)?.as_str(), name);
+        assert!(rt; state.to_string(alloc)?.as_str() == name);
     }
-    assert_eq!(rt; Java.to_string(alloc)?.as_str(), "Java");
-    assert_eq!(rt; Vm.to_string(alloc)?.as_str(), "Vm");
+    assert!(rt; Java.to_string(alloc)?.as_str() == "Java");
+    assert!(rt; Vm.to_string(alloc)?.as_str() == "Vm");
     let illegal = Illegal {
         state: AtPoll(Java),
     };
-    assert_eq!(rt; illegal.to_string(alloc)?.as_str(), "Illegal AtPoll(Java)");
+    assert!(rt; illegal.to_string(alloc)?.as_str() == "Illegal AtPoll(Java)");
     Ok(())
 }

@@ -28,10 +28,10 @@ fn met_in_a_run(rt: &impl Abort, alloc: Global, step: usize) -> Option<Met> {
     let outcome = run(alloc, &mut source, &mut sink);
     assert!(rt; are_answers(&sink.got, &output));
     if outcome == Ok(()) {
-        assert_eq!(rt; sink.got.as_slice(), output.as_slice());
+        assert!(rt; sink.got.as_slice() == output.as_slice());
         return Some(Met::NoRefusal);
     }
-    assert_eq!(rt; outcome, Err(ReplayFault::NoMemory));
+    assert!(rt; outcome == Err(ReplayFault::NoMemory));
     let bytes = input.len().saturating_sub(source.rest.len());
     Some(Met::Refusal {
         read: newlines(&input[..bytes]),
@@ -46,7 +46,7 @@ fn refused_memory_leaves_the_answers_before_a_line(rt: HostRuntime) -> Result<()
         Some(Met::NoRefusal) => println!(rt; "no growth was refused")?,
         Some(Met::Refusal { read, answered }) => {
             // At one byte a read, the line at which memory was refused is the last that was read.
-            assert_eq!(rt; answered, read.saturating_sub(1));
+            assert!(rt; answered == read.saturating_sub(1));
             println!(rt; "refused after {answered} answers")?;
         }
     }

@@ -65,6 +65,32 @@ fn leave<N: Name, J: Errand, R: Wait + Abort>(rt: &R, thread: Mutator<'_, N, J>)
     assert!(rt; thread.exit(rt).is_ok());
 }
 
+// The last code is taken out of use while it is on the stack.
+fn invalidate_last<N: Name, J: Errand, R: Wait + Abort>(
+    rt: &R,
+    shared: &Shared<N, J>,
+    thread: &mut Mutator<'_, N, J>,
+) {
+    assert!(rt; thread.publish().is_ok() && shared.peek_counts() == 3);
+    assert!(rt; shared.invalidate(rt, 2).is_ok());
+    assert!(rt; matches!(shared.invalidate(rt, 2), Err(InvalidateFault::NotInUse)));
+}
+
+// A thread calls each code.
+fn call_each<N: Name, J: Errand, R: Wait + Abort>(
+    rt: &R,
+    alloc: Global,
+    shared: &Shared<N, J>,
+) -> Result<(), AllocError> {
+    let mut thread = started(rt, alloc, shared)?;
+    install_first(rt, shared, &mut thread);
+    install_over(rt, shared, &mut thread);
+    refuse(rt, shared, &mut thread);
+    invalidate_last(rt, shared, &mut thread);
+    leave(rt, thread);
+    Ok(())
+}
+
 fn replace<N: Name, J: Errand, R: Wait + Abort>(
     rt: &R,
     alloc: Global,
@@ -73,15 +99,7 @@ fn replace<N: Name, J: Errand, R: Wait + Abort>(
     requires tables { (parts.board ≡ N.board) × (parts.row ≡ N.poll_row) }
 {
     let shared = shared_over::<N, J>(alloc, parts)?;
-    let mut thread = started(rt, alloc, &shared)?;
-    install_first(rt, &shared, &mut thread);
-    install_over(rt, &shared, &mut thread);
-    refuse(rt, &shared, &mut thread);
-    assert!(rt; thread.publish().is_ok() && shared.peek_counts() == 3);
-    assert!(rt; shared.invalidate(rt, 2).is_ok());
-    assert!(rt; matches!(shared.invalidate(rt, 2), Err(InvalidateFault::NotInUse)));
-    leave(rt, thread);
-    Ok(())
+    call_each(rt, alloc, &shared)
 }
 
 #[test]

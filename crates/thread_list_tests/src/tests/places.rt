@@ -61,6 +61,27 @@ fn take_and_release<N: Name, J: Errand, R: Wait + Abort>(
     Ok(())
 }
 
+// A thread comes back from native code and exits.
+fn come_back<N: Name, J: Errand, R: Wait + Abort>(rt: &R, thread: Mutator<'_, N, J>) {
+    let mut thread = thread;
+    assert!(rt; matches!(thread.state(), State::InNative(Back::Java)));
+    assert!(rt; matches!(thread.from_native(rt), Ok(Poll::Go)));
+    assert!(rt; thread.exit(rt).is_ok());
+}
+
+// A thread is held while it is in native code.
+fn hold_away<N: Name, J: Errand, R: Wait + Abort>(
+    rt: &R,
+    alloc: Global,
+    shared: &Shared<N, J>,
+) -> Result<(), AllocError> {
+    let mut thread = started(rt, alloc, shared)?;
+    assert!(rt; thread.to_native(rt).is_ok());
+    take_and_release(rt, shared, &thread)?;
+    come_back(rt, thread);
+    Ok(())
+}
+
 fn hold<N: Name, J: Errand, R: Wait + Abort>(
     rt: &R,
     alloc: Global,
@@ -69,13 +90,7 @@ fn hold<N: Name, J: Errand, R: Wait + Abort>(
     requires tables { (parts.board ≡ N.board) × (parts.row ≡ N.poll_row) }
 {
     let shared = shared_over::<N, J>(alloc, parts)?;
-    let mut thread = started(rt, alloc, &shared)?;
-    assert!(rt; thread.to_native(rt).is_ok());
-    take_and_release(rt, &shared, &thread)?;
-    assert!(rt; matches!(thread.state(), State::InNative(Back::Java)));
-    assert!(rt; matches!(thread.from_native(rt), Ok(Poll::Go)));
-    assert!(rt; thread.exit(rt).is_ok());
-    Ok(())
+    hold_away(rt, alloc, &shared)
 }
 
 #[test]

@@ -45,7 +45,29 @@ fn empty<N: Name, J: Errand, R: Abort>(rt: &R, thread: &mut Mutator<'_, N, J>) {
     assert!(rt; matches!(thread.ret(), Err(ReturnFault::EmptyStack)));
 }
 
-// A call that was refused leaves no frame: as many are counted and returned from as were entered, and there is room again after a return.
+// A call that was refused leaves no frame: as many are counted as were entered.
+fn refuse_full<N: Name, J: Errand, R: Abort>(
+    rt: &R,
+    shared: &Shared<N, J>,
+    thread: &mut Mutator<'_, N, J>,
+    counted: u64,
+) {
+    assert!(rt; thread.publish().is_ok() && shared.peek_counts() == counted);
+    refuse(rt, shared, thread);
+    assert!(rt; thread.publish().is_ok() && shared.peek_counts() == counted);
+}
+
+// There is room again after a return.
+fn return_and_call<N: Name, J: Errand, R: Abort>(
+    rt: &R,
+    shared: &Shared<N, J>,
+    thread: &mut Mutator<'_, N, J>,
+) {
+    assert!(rt; matches!(thread.ret(), Ok(Poll::Go)));
+    assert!(rt; matches!(thread.call(0, shared.hint(0)), Ok(Called::Compiled(1))));
+}
+
+// A thread fills its stack twice, returns from all, and exits.
 fn fill_and_empty<N: Name, J: Errand, R: Wait + Abort>(
     rt: &R,
     alloc: Global,
@@ -53,13 +75,9 @@ fn fill_and_empty<N: Name, J: Errand, R: Wait + Abort>(
 ) -> Result<(), AllocError> {
     let mut thread = started(rt, alloc, shared)?;
     fill(rt, shared, &mut thread);
-    assert!(rt; thread.publish().is_ok() && shared.peek_counts() == 128);
-    refuse(rt, shared, &mut thread);
-    assert!(rt; thread.publish().is_ok() && shared.peek_counts() == 128);
-    assert!(rt; matches!(thread.ret(), Ok(Poll::Go)));
-    assert!(rt; matches!(thread.call(0, shared.hint(0)), Ok(Called::Compiled(1))));
-    assert!(rt; thread.publish().is_ok() && shared.peek_counts() == 129);
-    refuse(rt, shared, &mut thread);
+    refuse_full(rt, shared, &mut thread, 128);
+    return_and_call(rt, shared, &mut thread);
+    refuse_full(rt, shared, &mut thread, 129);
     empty(rt, &mut thread);
     assert!(rt; thread.exit(rt).is_ok() && shared.peek_counts() == 0);
     Ok(())

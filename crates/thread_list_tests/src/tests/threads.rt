@@ -53,7 +53,21 @@ fn run_two<N: Name + Send, J: Errand + Send, R: Wait + Threads + Sync>(
     one && other
 }
 
-// Four threads at once, which leave nothing counted.
+// Four threads at once.
+fn run_all<N: Name + Send, J: Errand + Send, R: Wait + Threads + Sync>(
+    rt: &R,
+    alloc: Global,
+    shared: &Shared<N, J>,
+) -> bool {
+    let (two, others) = join(
+        rt,
+        || run_two(rt, alloc, shared),
+        || run_two(rt, alloc, shared),
+    );
+    two && others
+}
+
+// They leave nothing counted.
 fn run_four<N: Name + Send, J: Errand + Send, R: Wait + Threads + Sync + Abort>(
     rt: &R,
     alloc: Global,
@@ -62,20 +76,10 @@ fn run_four<N: Name + Send, J: Errand + Send, R: Wait + Threads + Sync + Abort>(
     requires tables { (parts.board ≡ N.board) × (parts.row ≡ N.poll_row) }
 {
     let shared = shared_over::<N, J>(alloc, parts)?;
-    if shared.install(rt, 0).is_err() {
+    if shared.install(rt, 0).is_err() || !run_all(rt, alloc, &shared) {
         return Err(AllocError);
     }
-    let (two, others) = join(
-        rt,
-        || run_two(rt, alloc, &shared),
-        || run_two(rt, alloc, &shared),
-    );
-    if !(two && others) {
-        return Err(AllocError);
-    }
-    assert!(rt; shared.peek_counts() == 0);
-    let live = shared.live(rt)?;
-    assert!(rt; live.is_empty());
+    assert!(rt; shared.peek_counts() == 0 && shared.live(rt)?.is_empty());
     Ok(())
 }
 

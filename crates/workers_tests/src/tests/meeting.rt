@@ -35,17 +35,14 @@ fn four_ticks_meet(rt: HostRuntime) -> Result<(), Fail> {
     };
     let text = b"{\"methods\":[[\"tick\"]]}";
     let summary = run_seen(&rt, rt.alloc(), text.as_slice(), THREADS, &gate, &seen)?;
-    assert_eq!(rt; gate.here.load(Ordering::SeqCst), THREADS as u64);
-    assert_eq!(rt; gate.missed.load(Ordering::SeqCst), 0);
-    assert_eq!(rt; summary.lines.len(), THREADS);
+    assert!(rt; gate.here.load(Ordering::SeqCst) == (THREADS as u64));
+    assert!(rt; gate.missed.load(Ordering::SeqCst) == 0);
+    assert!(rt; summary.lines.len() == THREADS);
     for line in &summary.lines {
-        assert_eq!(rt; line.ending, Ending::Finished);
-        assert_eq!(rt; line.made, 3);
+        assert!(rt; line.ending == Ending::Finished);
+        assert!(rt; line.made == 3);
     }
     assert!(rt; summary.compiled);
-    assert_eq!(rt;
-        (summary.installed, summary.freed, summary.counts),
-        (2, 2, 0)
-    );
+    assert!(rt; (summary.installed, summary.freed, summary.counts) == (2, 2, 0));
     Ok(())
 }

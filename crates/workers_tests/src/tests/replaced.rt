@@ -73,20 +73,17 @@ fn codes_are_replaced_while_threads_run(rt: HostRuntime) -> Result<(), Fail> {
         third: AtomicU64::new(0),
     };
     let summary = run_seen(&rt, rt.alloc(), LOOP_OF_TICKS, 3, &gate, &seen)?;
-    assert_eq!(rt; seen.jobs(), [JOBS, JOBS, JOBS]);
-    assert_eq!(rt; seen.unlike(), 0);
+    assert!(rt; seen.jobs() == [JOBS, JOBS, JOBS]);
+    assert!(rt; seen.unlike() == 0);
     for ticks in [&gate.first, &gate.second, &gate.third] {
         assert!(rt; ticks.load(Ordering::SeqCst) > 0);
     }
-    assert_eq!(rt; summary.lines.len(), 3);
+    assert!(rt; summary.lines.len() == 3);
     for line in &summary.lines {
-        assert_eq!(rt; line.ending, Ending::Finished);
-        assert_eq!(rt; line.made, MARKS);
+        assert!(rt; line.ending == Ending::Finished);
+        assert!(rt; line.made == MARKS);
     }
     assert!(rt; summary.compiled);
-    assert_eq!(rt;
-        (summary.installed, summary.freed, summary.counts),
-        (4, 4, 0)
-    );
+    assert!(rt; (summary.installed, summary.freed, summary.counts) == (4, 4, 0));
     Ok(())
 }

@@ -1,7 +1,7 @@
 use denote.Param.Send.{sendable}
 use Rattle.std.proofs.Crossing.{crosses}
 use Rattle.thread_list.proofs.Crosses.{shared_crosses}
-use Rattle.thread_list_tests.proofs.tests.threads.run_four.Goals as goal
+use Rattle.thread_list_tests.proofs.tests.threads.run_all.Goals as goal
 
 pub join-two-requires-send-F : goal.join-two-requires-send-F
 join-two-requires-send-F g c κs within =
