@@ -75,19 +75,39 @@ fn call_and_exit<N: Name, J: Errand, R: Wait + Abort>(
     assert!(rt; thread.exit(rt).is_ok());
 }
 
-// A thread publishes what it has called before it returns. Only what is published is counted, and its exit publishes the empty stack.
+// A thread publishes what it has called before it returns. Only what is published is counted.
+fn publish_and_return<N: Name, J: Errand, R: Abort>(
+    rt: &R,
+    shared: &Shared<N, J>,
+    thread: &mut Mutator<'_, N, J>,
+) {
+    call_thrice(rt, shared, thread);
+    assert!(rt; shared.peek_counts() == 0 && thread.publish().is_ok());
+    assert!(rt; shared.peek_counts() == 1);
+    return_thrice(rt, thread);
+    assert!(rt; shared.peek_counts() == 1);
+}
+
+// Its exit publishes the empty stack.
 fn publish_and_exit<N: Name, J: Errand, R: Wait + Abort>(
     rt: &R,
     shared: &Shared<N, J>,
     thread: Mutator<'_, N, J>,
 ) {
     let mut thread = thread;
-    call_thrice(rt, shared, &mut thread);
-    assert!(rt; shared.peek_counts() == 0 && thread.publish().is_ok());
-    assert!(rt; shared.peek_counts() == 1);
-    return_thrice(rt, &mut thread);
-    assert!(rt; shared.peek_counts() == 1 && thread.exit(rt).is_ok());
+    publish_and_return(rt, shared, &mut thread);
+    assert!(rt; thread.exit(rt).is_ok());
     assert!(rt; shared.peek_counts() == 0);
+}
+
+// Whether these are the names of the threads that are live.
+fn are_live<N: Name, J: Errand, R: Wait>(
+    rt: &R,
+    shared: &Shared<N, J>,
+    names: &[u64],
+) -> Result<bool, AllocError> {
+    let live = shared.live(rt)?;
+    Ok(live.as_slice() == names)
 }
 
 // Two threads start where there are two places, and no third. The first exits, and then the second.
@@ -100,12 +120,9 @@ fn start_two<N: Name, J: Errand, R: Wait + Abort>(
     let second = started(rt, alloc, shared)?;
     assert!(rt; matches!(shared.start(rt, alloc), Err(StartFault::PlacesFull)));
     call_and_exit(rt, shared, first);
-    let live = shared.live(rt)?;
-    assert!(rt; live.len() == 1 && live[0] == 2);
-    assert!(rt; second.place() == 1);
+    assert!(rt; are_live(rt, shared, [2].as_slice())? && second.place() == 1);
     publish_and_exit(rt, shared, second);
-    let left = shared.live(rt)?;
-    assert!(rt; left.is_empty());
+    assert!(rt; are_live(rt, shared, [].as_slice())?);
     Ok(())
 }
 
@@ -270,20 +287,31 @@ fn refused_exit<'a, N: Name, J: Errand, R: Wait>(
     }
 }
 
-// A thread crosses every way, and is refused where it is in another state, also where it is to exit.
+// A thread crosses every way, and is refused where it is in another state.
+fn cross_every_way<N: Name, J: Errand, R: Wait + Abort>(rt: &R, thread: &mut Mutator<'_, N, J>) {
+    go_native(rt, thread);
+    block(rt, thread);
+    assert!(rt; matches!(thread.stop(rt), Err(State::InJava)));
+    assert!(rt; thread.to_native(rt).is_ok());
+}
+
+// It comes back from native code and exits.
+fn come_back<N: Name, J: Errand, R: Wait + Abort>(rt: &R, thread: Mutator<'_, N, J>) {
+    let mut thread = thread;
+    assert!(rt; thread.from_native(rt).is_ok());
+    assert!(rt; thread.exit(rt).is_ok());
+}
+
+// It is refused also where it is to exit.
 fn cross_and_exit<N: Name, J: Errand, R: Wait + Abort>(
     rt: &R,
     alloc: Global,
     shared: &Shared<N, J>,
 ) -> Result<(), AllocError> {
     let mut thread = started(rt, alloc, shared)?;
-    go_native(rt, &mut thread);
-    block(rt, &mut thread);
-    assert!(rt; matches!(thread.stop(rt), Err(State::InJava)));
-    assert!(rt; thread.to_native(rt).is_ok());
-    let mut back = refused_exit(rt, thread)?;
-    assert!(rt; back.from_native(rt).is_ok());
-    assert!(rt; back.exit(rt).is_ok());
+    cross_every_way(rt, &mut thread);
+    let back = refused_exit(rt, thread)?;
+    come_back(rt, back);
     Ok(())
 }
 

@@ -1,6 +1,6 @@
 // A census of two threads, with ample memory, and with each growth refused in turn: then the run stops before the event that lacks
 // memory, and can be gone on with.
-use super::{made, ran};
+use super::{is_same, made, ran};
 use operations::{Kind, Request};
 use std::alloc::Global;
 use std::process::Abort;
@@ -110,25 +110,6 @@ const WANTED: [Option<Answer>; 44] = [
     Some(Answer::Go),
     Some(Answer::Thread(3, 2)),
 ];
-
-// Whether two answers are the same, of those that a census has.
-fn is_same(found: &Answer, wanted: &Answer) -> bool {
-    match (found, wanted) {
-        (Answer::Done, Answer::Done) => true,
-        (Answer::Go, Answer::Go) => true,
-        (Answer::Entered, Answer::Entered) => true,
-        (Answer::Told, Answer::Told) => true,
-        (Answer::Thread(n, p), Answer::Thread(m, q)) => n == m && p == q,
-        (Answer::Code(n), Answer::Code(m)) => n == m,
-        (Answer::Asked(n), Answer::Asked(m)) => n == m,
-        (Answer::Opened(n, a), Answer::Opened(m, b)) => n == m && a == b,
-        (Answer::Stop(n), Answer::Stop(m)) => n == m,
-        (Answer::Changed(n, a), Answer::Changed(m, b)) => n == m && a == b,
-        (Answer::Closed(n), Answer::Closed(m)) => n == m,
-        (Answer::Refused(a), Answer::Refused(b)) => a == b,
-        _ => false,
-    }
-}
 
 // Whether an answer is the one that is wanted.
 fn is_wanted(found: &Answer, wanted: &Option<Answer>) -> bool {
