@@ -159,14 +159,15 @@ fn refused_memory_stops_a_run_before_its_event(rt: HostRuntime) -> Result<(), Fa
             return Ok(());
         }
     };
-    match system.run(alloc, &EVENTS) {
+    let (events, wanted) = (EVENTS, WANTED);
+    match system.run(alloc, &events) {
         Ok(answers) => {
-            assert!(rt; are_wanted(answers.as_slice(), &WANTED));
+            assert!(rt; are_wanted(answers.as_slice(), &wanted));
             println!(rt; "no growth was refused")?;
         }
         Err(stopped) => {
             println!(rt; "refused at event {}", stopped.at)?;
-            go_on(&rt, alloc, &mut system, &EVENTS, stopped, &WANTED);
+            go_on(&rt, alloc, &mut system, &events, stopped, &wanted);
         }
     }
     Ok(())
