@@ -49,7 +49,7 @@ fn four_threads_run_a_loop_of_calls(rt: HostRuntime) -> Result<(), Fail> {
     let found = printed(&rt, rt.alloc(), LOOP_OF_CALLS, 4, &OpenGate)?;
     let wanted =
         b"threads 4\nthread 1 finished 17\nthread 2 finished 17\nthread 3 finished 17\nthread 4 finished 17\ncompiled yes\ncodes 4 freed 4\ncounts 0\n";
-    assert_eq!(rt; found.as_slice(), wanted.as_slice());
+    assert!(rt; found.as_slice() == wanted.as_slice());
     Ok(())
 }
 
@@ -63,7 +63,7 @@ fn a_run_overflows_or_runs_out_of_fuel(rt: HostRuntime) -> Result<(), Fail> {
         &OpenGate,
     )?;
     let wanted = b"threads 1\nthread 1 overflow 256\ncompiled yes\ncodes 2 freed 2\ncounts 0\n";
-    assert_eq!(rt; found.as_slice(), wanted.as_slice());
+    assert!(rt; found.as_slice() == wanted.as_slice());
     let found = printed(
         &rt,
         rt.alloc(),
@@ -72,7 +72,7 @@ fn a_run_overflows_or_runs_out_of_fuel(rt: HostRuntime) -> Result<(), Fail> {
         &OpenGate,
     )?;
     let wanted = b"threads 1\nthread 1 fuel 1000000\ncompiled yes\ncodes 2 freed 2\ncounts 0\n";
-    assert_eq!(rt; found.as_slice(), wanted.as_slice());
+    assert!(rt; found.as_slice() == wanted.as_slice());
     Ok(())
 }
 
@@ -111,10 +111,10 @@ fn two_ticks_meet(rt: HostRuntime) -> Result<(), Fail> {
     let found = printed(&rt, rt.alloc(), b"{\"methods\":[[\"tick\"]]}", 2, &gate)?;
     let wanted =
         b"threads 2\nthread 1 finished 3\nthread 2 finished 3\ncompiled yes\ncodes 2 freed 2\ncounts 0\n";
-    assert_eq!(rt; found.as_slice(), wanted.as_slice());
-    assert_eq!(rt; gate.first.load(Ordering::SeqCst), 1);
-    assert_eq!(rt; gate.second.load(Ordering::SeqCst), 1);
-    assert_eq!(rt; gate.missed.load(Ordering::SeqCst), 0);
+    assert!(rt; found.as_slice() == wanted.as_slice());
+    assert!(rt; gate.first.load(Ordering::SeqCst) == 1);
+    assert!(rt; gate.second.load(Ordering::SeqCst) == 1);
+    assert!(rt; gate.missed.load(Ordering::SeqCst) == 0);
     Ok(())
 }
 
@@ -131,7 +131,7 @@ fn refused_memory_prints_nothing(rt: HostRuntime) -> Result<(), Fail> {
     let mut sink = IntoWriter::new(&mut out);
     let found = run_with(&rt, alloc, &code, 3, &OpenGate, &mut sink);
     match found {
-        Ok(()) => assert_eq!(rt; out.len(), 111),
+        Ok(()) => assert!(rt; out.len() == 111),
         Err(Fault::NoMemory | Fault::NoThread) => assert!(rt; out.is_empty()),
         Err(_) => return Err(Fail::from("another fault")),
     }
@@ -160,14 +160,14 @@ fn a_failed_write_of_a_run_is_told(rt: HostRuntime) -> Result<(), Fail> {
             let mut basin = new_basin(rt.alloc(), 7, bad_call, takes_nothing);
             let told = run_into(&rt, rt.alloc(), &mut basin)?;
             assert!(rt; matches!(told, Err(Fault::WriteFailed)));
-            assert_eq!(rt; basin.calls, bad_call);
-            assert_eq!(rt; basin.got.len(), 7 * (bad_call - 1));
+            assert!(rt; basin.calls == bad_call);
+            assert!(rt; basin.got.len() == 7 * (bad_call - 1));
             assert!(rt; ONE_THREAD.starts_with(basin.got.as_slice()));
         }
     }
     let mut basin = new_basin(rt.alloc(), 7, 11, false);
     assert!(rt; run_into(&rt, rt.alloc(), &mut basin)?.is_ok());
-    assert_eq!(rt; basin.got.as_slice(), ONE_THREAD);
+    assert!(rt; basin.got.as_slice() == ONE_THREAD);
     Ok(())
 }
 
@@ -180,10 +180,10 @@ fn a_failed_write_under_a_buffer_is_told(rt: HostRuntime) -> Result<(), Fail> {
         let told = run_into(&rt, rt.alloc(), &mut buffered)?;
         let flushed = buffered.flush();
         let (basin, _) = buffered.into_parts();
-        assert_eq!(rt; told.is_ok(), bad_call > 6);
-        assert_eq!(rt; told.is_ok() && flushed.is_ok(), bad_call > 10);
+        assert!(rt; told.is_ok() == (bad_call > 6));
+        assert!(rt; (told.is_ok() && flushed.is_ok()) == (bad_call > 10));
         assert!(rt; ONE_THREAD.starts_with(basin.got.as_slice()));
-        assert_eq!(rt; basin.got.len() == ONE_THREAD.len(), bad_call > 10);
+        assert!(rt; (basin.got.len() == ONE_THREAD.len()) == (bad_call > 10));
     }
     Ok(())
 }

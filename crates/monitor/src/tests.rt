@@ -23,8 +23,8 @@ fn answer_to(alloc: Global, text: &[u8]) -> Result<(String, u8), AllocError> {
 
 fn expect(rt: &impl Abort, alloc: Global, text: &[u8], printed: &str) -> Result<(), AllocError> {
     let (found, status) = answer_to(alloc, text)?;
-    assert_eq!(rt; found.as_str(), printed);
-    assert_eq!(rt; status == 0, printed.starts_with("ok"));
+    assert!(rt; found.as_str() == printed);
+    assert!(rt; (status == 0) == printed.starts_with("ok"));
     assert!(rt; status < 2);
     Ok(())
 }
@@ -102,13 +102,13 @@ fn scripts_are_checked(rt: HostRuntime) -> Result<(), Fail> {
         };
         let mut basin = new_basin(rt.alloc(), 1000, 0, false);
         match run(rt.alloc(), &mut drip, &mut basin) {
-            Ok(()) => assert_eq!(rt; told, ""),
+            Ok(()) => assert!(rt; told == ""),
             Err(fault) => {
-                assert_eq!(rt; fault.to_string(rt.alloc())?.as_str(), told);
-                assert_eq!(rt; fault.status(), 1);
+                assert!(rt; fault.to_string(rt.alloc())?.as_str() == told);
+                assert!(rt; fault.status() == 1);
             }
         }
-        assert_eq!(rt; basin.got.as_slice(), written.as_bytes());
+        assert!(rt; basin.got.as_slice() == written.as_bytes());
     }
     Ok(())
 }
@@ -159,7 +159,7 @@ fn scripts_of_full_size_are_answered(rt: HostRuntime) -> Result<(), Fail> {
     let items = text_of(alloc, b"{\"methods\":[[\"vm\"", b",\"vm\"", 65_535, b"]]}")?;
     expect(&rt, alloc, &items, "ok 1\n")?;
     let longest = text_of(alloc, b"{\"methods\":[[]]}", b" ", 1_048_560, b"")?;
-    assert_eq!(rt; longest.len(), 1_048_576);
+    assert!(rt; longest.len() == 1_048_576);
     expect(&rt, alloc, &longest, "ok 1\n")?;
     let outer = text_of(
         alloc,
@@ -212,7 +212,7 @@ fn the_programs_name_may_be_no_text(rt: HostRuntime) -> Result<(), Fail> {
             Ok(words) => words,
             Err(_) => return Err(Fail::from("good words")),
         };
-        assert_eq!(rt; read_form(&words), Some(Form::Check("a.json")));
+        assert!(rt; read_form(&words) == Some(Form::Check("a.json")));
     }
     Ok(())
 }
@@ -333,7 +333,7 @@ fn devices_may_give_and_take_a_byte_a_call(rt: HostRuntime) -> Result<(), Fail> 
         };
         let mut basin = new_basin(rt.alloc(), step, 0, false);
         assert!(rt; run(rt.alloc(), &mut drip, &mut basin).is_ok());
-        assert_eq!(rt; basin.got.as_slice(), b"ok 2\n".as_slice());
+        assert!(rt; basin.got.as_slice() == b"ok 2\n".as_slice());
     }
     Ok(())
 }
@@ -350,7 +350,7 @@ fn a_failed_read_is_the_files_fault(rt: HostRuntime) -> Result<(), Fail> {
         let mut basin = new_basin(rt.alloc(), 1, 0, false);
         let found = run(rt.alloc(), &mut drip, &mut basin);
         assert!(rt; matches!(found, Err(Fault::FileNotRead)));
-        assert_eq!(rt; drip.calls, bad_call);
+        assert!(rt; drip.calls == bad_call);
         assert!(rt; basin.got.is_empty());
     }
     Ok(())
@@ -369,8 +369,8 @@ fn a_failed_write_is_told(rt: HostRuntime) -> Result<(), Fail> {
             let mut basin = new_basin(rt.alloc(), 1, bad_call, takes_nothing);
             let found = run(rt.alloc(), &mut drip, &mut basin);
             assert!(rt; matches!(found, Err(Fault::WriteFailed)));
-            assert_eq!(rt; basin.calls, bad_call);
-            assert_eq!(rt; basin.got.len() + 1, bad_call);
+            assert!(rt; basin.calls == bad_call);
+            assert!(rt; basin.got.len() + 1 == bad_call);
         }
     }
     Ok(())
@@ -384,7 +384,7 @@ fn a_file_without_an_end_is_too_long(rt: HostRuntime) -> Result<(), Fail> {
     let Err(fault) = found else {
         return Err(Fail::from("no fault"));
     };
-    assert_eq!(rt; fault.to_string(rt.alloc())?.as_str(), "TooLong at -");
+    assert!(rt; fault.to_string(rt.alloc())?.as_str() == "TooLong at -");
     assert!(rt; endless.given < 1_200_000);
     Ok(())
 }
@@ -403,7 +403,7 @@ fn refused_memory_writes_nothing(rt: HostRuntime) -> Result<(), Fail> {
         return Ok(());
     }
     match run(rt.alloc(), &mut drip, &mut basin) {
-        Ok(()) => assert_eq!(rt; basin.got.as_slice(), b"ok 2\n".as_slice()),
+        Ok(()) => assert!(rt; basin.got.as_slice() == b"ok 2\n".as_slice()),
         Err(Fault::NoMemory) => assert!(rt; basin.got.is_empty()),
         Err(_) => return Err(Fail::from("another fault")),
     }

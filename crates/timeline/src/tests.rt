@@ -103,9 +103,9 @@ const HANDSHAKE: &[u8] =
 #[test]
 fn each_line_has_one_mark(rt: HostRuntime) -> Result<(), Fail> {
     let (outcome, text) = drawn(rt.alloc(), HANDSHAKE, 1_000_000, 0, 0);
-    assert_eq!(rt; outcome, Ok(()));
-    assert_eq!(rt; count(&text, b"<g id='line"), 24);
-    assert_eq!(rt; count(&text, b"class='accepted'><title>"), 22);
+    assert!(rt; outcome == Ok(()));
+    assert!(rt; count(&text, b"<g id='line") == 24);
+    assert!(rt; count(&text, b"class='accepted'><title>") == 22);
     assert!(rt;
         has(
             &text,
@@ -178,7 +178,7 @@ fn the_picture_is_the_same_however_it_is_read(rt: HostRuntime) -> Result<(), Fai
     let (_, whole) = drawn(rt.alloc(), HANDSHAKE, 1_000_000, 0, 0);
     for step in [1, 7] {
         let (outcome, text) = drawn(rt.alloc(), HANDSHAKE, step, 0, 0);
-        assert_eq!(rt; outcome, Ok(()));
+        assert!(rt; outcome == Ok(()));
         assert!(rt; text == whole);
     }
     Ok(())
@@ -193,8 +193,8 @@ fn a_last_line_without_a_newline_is_marked(rt: HostRuntime) -> Result<(), Fail> 
         (b"size 1 1 1\nstart\n".as_slice(), 2),
     ] {
         let (outcome, text) = drawn(rt.alloc(), input, 1, 0, 0);
-        assert_eq!(rt; outcome, Ok(()));
-        assert_eq!(rt; count(&text, b"<g id='line"), marks);
+        assert!(rt; outcome == Ok(()));
+        assert!(rt; count(&text, b"<g id='line") == marks);
     }
     Ok(())
 }
@@ -202,7 +202,7 @@ fn a_last_line_without_a_newline_is_marked(rt: HostRuntime) -> Result<(), Fail> 
 #[test]
 fn bytes_that_are_no_text_are_told_as_text(rt: HostRuntime) -> Result<(), Fail> {
     let (outcome, text) = drawn(rt.alloc(), b"<a&b>\x01\xff~\n", 1, 0, 0);
-    assert_eq!(rt; outcome, Ok(()));
+    assert!(rt; outcome == Ok(()));
     assert!(rt; has(&text, b"<title>&lt;a&amp;b&gt;??~\nbad line\n</title>"));
     Ok(())
 }
@@ -210,7 +210,7 @@ fn bytes_that_are_no_text_are_told_as_text(rt: HostRuntime) -> Result<(), Fail> 
 #[test]
 fn a_read_that_fails_writes_nothing(rt: HostRuntime) -> Result<(), Fail> {
     let (outcome, text) = drawn(rt.alloc(), HANDSHAKE, 10, 3, 0);
-    assert_eq!(rt; outcome, Err(ReplayFault::ReadFailed));
+    assert!(rt; outcome == Err(ReplayFault::ReadFailed));
     assert!(rt; text.is_empty());
     Ok(())
 }
@@ -218,7 +218,7 @@ fn a_read_that_fails_writes_nothing(rt: HostRuntime) -> Result<(), Fail> {
 #[test]
 fn a_write_that_fails_leaves_a_beginning(rt: HostRuntime) -> Result<(), Fail> {
     let (outcome, text) = drawn(rt.alloc(), HANDSHAKE, 10, 0, 3);
-    assert_eq!(rt; outcome, Err(ReplayFault::WriteFailed));
-    assert_eq!(rt; text.as_slice(), b"<svg xmlns='http://w".as_slice());
+    assert!(rt; outcome == Err(ReplayFault::WriteFailed));
+    assert!(rt; text.as_slice() == b"<svg xmlns='http://w".as_slice());
     Ok(())
 }
