@@ -1,5 +1,8 @@
 -- What reclaiming answers.
-use Rattle.std.specs.Prelude.{◌≡◌, ◌≢◌, ◌<◌, ℕ, List, Some}
+use Rattle.std.specs.Prelude.{◌≡◌, ◌≢◌, ℕ, zero, suc, List, Some}
+use Rattle.frames.specs.declared.CodeId.{CodeId}
+use Rattle.frames.specs.declared.board_rule.KeeperView.{KeeperView}
+use Rattle.frames.specs.BoardViews.{looked_at}
 use Rattle.method_table.specs.declared.Code.{Code}
 use Rattle.operations.specs.declared.Ask.{Ask}
 use Rattle.method_table.specs.Codes.{id_of, unfreed}
@@ -15,11 +18,16 @@ use Rattle.desk.specs.declared.faults.ReclaimFault.{ReclaimFault}
 use Rattle.coordinator.specs.declared.faults.Reclaimed.{Reclaimed}
 use Rattle.coordinator.specs.declared.faults.Reclaimed.TheVariants.{Freed, Used, Late}
 
--- Code that was freed has the receipt of its Free. Of what is used some activations stand. What is late is a place.
-abbrev pub IsReclaimed : {N : Type 0} → ℕ → ℕ → Reclaimed N → Type 0
-IsReclaimed places serial (Freed r) = r.entry ≡ entry.Free serial
-IsReclaimed places serial (Used n) = n ≢ 0
-IsReclaimed places serial (Late place) = place < places
+-- The keeper looked for the code at each place below this one, in their order, whatever was found there.
+abbrev pub LooksBelow : CodeId → ℕ → KeeperView → KeeperView → Type 0
+LooksBelow id zero old new = new ≡ old
+LooksBelow id (suc place) old new = (mid : KeeperView) × LooksBelow id place old mid × (found : ℕ) × (new ≡ looked_at mid id place found)
+
+-- The keeper looked for the unfreed code of the serial at each place below this one, and nothing else of the desk changed.
+pub record LooksAtAll (serial places : ℕ) (old new : DeskSeen) : Type 0 where
+  pub looks : (code : Code) → unfreed (at old).table.codes serial ≡ Some code → LooksBelow (id_of code) places old.keeper new.keeper
+  pub book_stays : new.book ≡ old.book
+  pub sizes_stay : (new.slots ≡ old.slots) × (new.methods ≡ old.methods)
 
 -- The unfreed code of the serial was weighed from what the keeper knew, with this answer.
 abbrev pub WasWeighed : ℕ → ℕ → DeskSeen → DeskSeen → Weighed → Type 0
@@ -33,6 +41,15 @@ Frees places serial old new (Freed r)
     × Enters retired new (entry.Free serial) r
 Frees places serial old new (Used n) = WasWeighed places serial old new (InUse n) × (new.book ≡ old.book)
 Frees places serial old new (Late place) = WasWeighed places serial old new (NotLooked place) × (new.book ≡ old.book)
+
+-- What reclaiming answers is what became of the code where all places had just been looked at: it was freed, or weighed as used, or a place
+-- was late, since what was found there didn't let it pass.
+pub record IsReclaimed {N : Type 0} (places serial : ℕ) (said : Reclaimed N) : Type 0 where
+  pub before : DeskSeen
+  pub looked : DeskSeen
+  pub after : DeskSeen
+  pub looks : LooksAtAll serial places before looked
+  pub frees : Frees places serial looked after said
 
 -- Why a code isn't reclaimed with these jobs: the first refusal of the desk's first step with the handshake of their targets, whether
 -- there is memory for that handshake or not.

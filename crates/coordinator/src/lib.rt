@@ -2,8 +2,8 @@
 //! closes requests, and reclaims codes.
 //!
 //! `open`, `tell`, `hold`, `serve`, `operate`, `release`, `close` and `close_of` are a step of a request each; `drive` works one request
-//! from its Open to its Close, and `drive_four` up to four handshakes at once; `reclaim` does all that it takes to free a code. `docs/STEPS.md` says which lock each call takes. No call holds
-//! two locks.
+//! from its Open to its Close, and `drive_four` up to four handshakes at once; `reclaim` does all that it takes to free a code.
+//! `docs/STEPS.md` says which lock each call takes. No call holds two locks.
 #![tactic(auto)]
 
 mod censuses;

@@ -1,5 +1,6 @@
 use Rattle.std.proofs.Common.{◌≡◌}
+use Rattle.coordinator.specs.Reclaiming.{LooksAtAll}
 use Rattle.coordinator.proofs.reclaiming.look_at_all.Given as goal
 
 abbrev pub invariant-loop-place : goal.invariant-loop-place
-invariant-loop-place g l = (l.desk.book ≡ l.fn.desk.book) × (l.desk.slots ≡ l.fn.desk.slots) × (l.desk.methods ≡ l.fn.desk.methods)
+invariant-loop-place g l = LooksAtAll l.fn.serial l.place l.fn.desk l.desk
