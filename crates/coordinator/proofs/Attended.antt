@@ -5,9 +5,9 @@ use Rattle.operations.specs.declared.Ask.{Ask as AskOf}
 use Rattle.operations.specs.Asks.{reply}
 use Rattle.desk.specs.declared.entries.Entry.TheVariants.{Finish}
 use Rattle.desk.specs.Machine.{Stands}
-use Rattle.thread_list.specs.Berths.{Moved, moved, Went}
+use Rattle.berths.specs.Berths.{Moved, moved, Went}
 use Rattle.thread_list.specs.Moves.{IsServed}
-use Rattle.thread_list.specs.declared.room.BodyAct.TheVariants.{Held}
+use Rattle.berths.specs.declared.room.BodyAct.TheVariants.{Held}
 use Rattle.coordinator.specs.Receipts.{IsBrought, IsAttended}
 use Rattle.coordinator.proofs.Each.{operated_keeps, operated_frames}
 

@@ -7,9 +7,9 @@ use Rattle.desk.specs.Machine.{Stands}
 use Rattle.operations.specs.declared.Ask.{Ask as AskOf}
 use Rattle.operations.specs.Asks.{reply}
 use Rattle.operations.specs.declared.Request.{Request}
-use Rattle.thread_list.specs.Berths.{Acted, Moved, moved, Went}
-use Rattle.thread_list.specs.declared.room.BerthAct.TheVariants.{NoJob}
-use Rattle.thread_list.specs.declared.room.BodyAct.TheVariants.{Held, Released}
+use Rattle.berths.specs.Berths.{Acted, Moved, moved, Went}
+use Rattle.berths.specs.declared.room.BerthAct.TheVariants.{NoJob}
+use Rattle.berths.specs.declared.room.BodyAct.TheVariants.{Held, Released}
 use Rattle.coordinator.specs.Holding.{Holding, StandsAt}
 
 -- The body of the place is held no more, and by the receipt it went into its berth as it was.

@@ -32,10 +32,10 @@ use Rattle.coordinator.specs.declared.faults.OperateFault.{OperateFault}
 use Rattle.coordinator.specs.declared.faults.OperateFault.TheVariants as operate
 use Rattle.coordinator.specs.Holding.{Holding, is_held, StandsAt}
 use Rattle.thread_list.specs.Moves.{IsServed}
-use Rattle.thread_list.specs.Berths.{Moved, acted, moved}
-use Rattle.thread_list.specs.declared.room.BodyAct.TheVariants as body_act
-use Rattle.thread_list.specs.declared.room.BerthAct.{BerthAct}
-use Rattle.thread_list.specs.declared.room.BerthAct.TheVariants as berth
+use Rattle.berths.specs.Berths.{Moved, acted, moved}
+use Rattle.berths.specs.declared.room.BodyAct.TheVariants as body_act
+use Rattle.berths.specs.declared.room.BerthAct.{BerthAct}
+use Rattle.berths.specs.declared.room.BerthAct.TheVariants as berth
 
 -- The name stands to the open requests as this target.
 abbrev pub IsAsked : State → ℕ → Target → Type 0

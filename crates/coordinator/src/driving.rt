@@ -7,18 +7,19 @@ ghost use Rattle.desk.specs.Fields.{at};
 ghost use Rattle.desk.specs.Targets.{open_kind};
 ghost use Rattle.coordinator.specs.Driving.{number_of, IsListed, HoldsOn, LacksList, drive_refused};
 ghost use Rattle.coordinator.specs.Receipts.{IsAttended};
-ghost use Rattle.thread_list.specs.Berths.{acted};
+ghost use Rattle.berths.specs.Berths.{acted};
 
 use crate::coordinator::Coordinator;
 use crate::faults::{DriveFault, Driven, OperateFault};
 use crate::held::Held;
 use crate::serving::{bring_back, serve_body};
+use berths::{BerthAct, BerthReceipt, BodyReceipt};
 use bodies::{Name, census_of};
 use desk::{Desk, Live, Progress, Receipt};
 use operations::job::Errand;
 use std::sync::Wait;
 use std::{hint, thread};
-use thread_list::{BerthAct, BerthReceipt, BodyReceipt, Shared};
+use thread_list::Shared;
 
 /// How often a `drive` looks at poll words without a lock before it sleeps: about as long as a thread takes to its next poll.
 pub const SPINS: u32 = 500;

@@ -1,8 +1,8 @@
 //! What the coordinator's calls answer, and why they are refused. The faults of a call are tested in the order in which they stand
 //! here.
+use berths::BerthReceipt;
 use bodies::Name;
 use desk::Receipt;
-use thread_list::BerthReceipt;
 
 /// What telling a name came to.
 #[derive(Drop)]

@@ -5,11 +5,12 @@ ghost use Rattle.bodies.specs.Bodies.{BodyView, IsPublished};
 ghost use Rattle.operations.specs.declared.Ask.{Ask};
 ghost use Rattle.operations.specs.Asks.{reply};
 ghost use Rattle.desk.specs.declared.entries.Entry.{Entry};
-ghost use Rattle.thread_list.specs.Berths.{moved};
+ghost use Rattle.berths.specs.Berths.{moved};
 ghost use Rattle.thread_list.specs.Moves.{IsCleared, IsServed};
 ghost use Rattle.coordinator.specs.Holding.{AreEach, StandsAt, is_held};
 
 use crate::serving::{serve_body, told_job};
+use berths::{BodyAct, BodyReceipt};
 use board::Board;
 use bodies::{Body, Name};
 use desk::Receipt;
@@ -18,7 +19,7 @@ use poll::PollRow;
 use std::alloc::{AllocError, Global};
 use std::marker::Model;
 use std::sync::Wait;
-use thread_list::{BodyAct, BodyReceipt, Shared};
+use thread_list::Shared;
 
 /// Bodies of different places, each of which has ended a publication, in the order in which they came. One comes out only to go back into
 /// its berth. Contracts see the bodies.

@@ -1,6 +1,6 @@
 //! Holding a thread: the coordinator takes its body out of its berth, and brings it back.
 ghost use Rattle.std.specs.Prelude.{◌≡◌, ◌≢◌, ◌<◌, ◌++◌, ◌∷◌, [], false, IfSome, IfNone, IfOk, IfErr};
-ghost use Rattle.thread_list.specs.Berths.{moved};
+ghost use Rattle.berths.specs.Berths.{moved};
 ghost use Rattle.desk.specs.Targets.{standing, progress, name_at};
 ghost use Rattle.desk.specs.Fields.{at};
 ghost use Rattle.coordinator.specs.Holding.{is_held};
@@ -9,11 +9,11 @@ ghost use Rattle.coordinator.specs.Refused.{Holds, hold_fault, hold_refused, IsU
 
 use crate::coordinator::Coordinator;
 use crate::faults::{HoldFault, ReleaseFault};
+use berths::{BerthReceipt, BodyAct, BodyReceipt};
 use bodies::{Body, Name};
 use desk::{Desk, Progress, Standing};
 use operations::job::Errand;
 use std::sync::Wait;
-use thread_list::{BerthReceipt, BodyAct, BodyReceipt};
 
 /// Why a thread isn't held: by a fault that was found before, or since it isn't safe, by the receipt that its body isn't in its berth.
 #[derive(Drop)]

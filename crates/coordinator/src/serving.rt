@@ -12,12 +12,13 @@ ghost use Rattle.coordinator.specs.Refused.{Serves, IsServeFault, serve_fault, s
 
 use crate::coordinator::Coordinator;
 use crate::faults::{ReleaseFault, ServeFault};
+use berths::{BodyReceipt, Due};
 use bodies::{Body, Name};
 use desk::{Desk, Progress, Receipt, Standing};
 use operations::job::Errand;
 use std::sync::Wait;
 use std::thread;
-use thread_list::{BodyReceipt, Due, Shared, serve};
+use thread_list::{Shared, serve};
 
 /// The job that was told to the thread of a held body.
 pub fn told_job<N: Name, J: Errand, R: Wait>(

@@ -3,17 +3,17 @@ ghost use Rattle.std.specs.Prelude.{◌≡◌, ◌<◌, ◌^◌, true, false, le
 ghost use Rattle.thread_state.specs.PollRule.{armed_with};
 ghost use Rattle.desk.specs.Fields.{at};
 ghost use Rattle.coordinator.specs.Refused.{IsUntold, tell_said, tell_stays, told_act};
-ghost use Rattle.thread_list.specs.Berths.{acted};
+ghost use Rattle.berths.specs.Berths.{acted};
 
 use crate::coordinator::Coordinator;
 use crate::faults::{TellFault, Told};
 use crate::teller::Teller;
+use berths::BerthReceipt;
 use bodies::Name;
 use desk::{Desk, Live, Standing, Target};
 use operations::job::Errand;
 use std::sync::Wait;
 use std::thread;
-use thread_list::BerthReceipt;
 
 // The oldest open request that is of the name and wasn't told to its thread, with how the name stands to it; or what telling the
 // name comes to without. None where the desk names a place that there isn't.

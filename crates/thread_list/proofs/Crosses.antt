@@ -19,9 +19,9 @@ use Rattle.method_table.specs.contracts.history.History as History
 use Rattle.method_table.specs.contracts.table.MethodTable as MethodTable
 use Rattle.desk.specs.contracts.codes.Codes as Codes
 use Rattle.desk.specs.contracts.desk.Desk as Desk
-use Rattle.thread_list.specs.contracts.room.Holder as Holder
-use Rattle.thread_list.specs.contracts.room.Room as Room
-use Rattle.thread_list.specs.contracts.berth.Berth as Berth
+use Rattle.berths.specs.contracts.room.Holder as Holder
+use Rattle.berths.specs.contracts.room.Room as Room
+use Rattle.berths.specs.contracts.berth.Berth as Berth
 use Rattle.thread_list.specs.contracts.hints.Hints as Hints
 use Rattle.thread_list.specs.contracts.shared.Shared as Shared
 

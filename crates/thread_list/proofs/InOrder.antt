@@ -2,7 +2,7 @@
 use Rattle.std.proofs.Common.{◌≡◌, ℕ, zero, suc, ◌+◌, ◌-◌, ◌<◌, List, [], ◌∷◌, ◌++◌, length, reverse, arith}
 use Rattle.std.specs.Prelude.{slice_index_or}
 use Rattle.std.proofs.lemmas.List.{get_or-reverse, length-reverse}
-use Rattle.thread_list.specs.Berths.{AreInOrder}
+use Rattle.thread_list.specs.Sharing.{AreInOrder}
 
 -- each is one less than the one before it, the first than this
 abbrev pub AreDownFrom : ℕ → List ℕ → Type 0

@@ -1,4 +1,3 @@
-pub mod Berthed
 pub mod Popped
 pub mod Turned
 pub mod Made

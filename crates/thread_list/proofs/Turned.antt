@@ -9,10 +9,10 @@ use Rattle.operations.specs.declared.Ask.{Ask}
 use Rattle.operations.specs.Asks.{reply}
 use Rattle.desk.specs.declared.entries.Entry.{Entry}
 use Rattle.desk.specs.Machine.{Stands}
-use Rattle.thread_list.specs.Berths.{Moved, moved}
+use Rattle.berths.specs.Berths.{Moved, moved}
 use Rattle.thread_list.specs.Moves.{IsTurn, IsVacated, IsKept}
 use Rattle.thread_list.specs.Refused.{HasNoFrame}
-use Rattle.thread_list.specs.declared.room.BodyAct.TheVariants.{Served, Vacated}
+use Rattle.berths.specs.declared.room.BodyAct.TheVariants.{Served, Vacated}
 
 pub turned : (place name n whom : ℕ) (ask : Ask) (out : Moved) (r : Stands) (body published after : BodyView) (found : ℕ)
     → out ≡ moved body (Served n) → body.name ≡ name → body.seat.place ≡ place → 0 < n → IsPublished body published

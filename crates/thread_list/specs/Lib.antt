@@ -1,4 +1,3 @@
-pub mod Berths
 pub mod Hinted
 pub mod Moves
 pub mod Refused

@@ -12,8 +12,8 @@ use Rattle.operations.specs.declared.Ask.{Ask}
 use Rattle.operations.specs.Asks.{reply}
 use Rattle.desk.specs.declared.entries.Entry.{Entry}
 use Rattle.desk.specs.Machine.{Stands}
-use Rattle.thread_list.specs.Berths.{Moved, moved, Outed, Went}
-use Rattle.thread_list.specs.declared.room.BodyAct.TheVariants.{Settled, Given, Resumed, Served, Vacated}
+use Rattle.berths.specs.Berths.{Moved, moved, Outed, Went}
+use Rattle.berths.specs.declared.room.BodyAct.TheVariants.{Settled, Given, Resumed, Served, Vacated}
 use Rattle.thread_list.specs.declared.polls.Poll.{Poll}
 use Rattle.thread_list.specs.declared.polls.Poll.TheVariants.{Go, Stop}
 
@@ -116,6 +116,11 @@ abbrev pub IsTurn : ℕ → ℕ → Moved → Option Stands → BodyView → Typ
 IsTurn place name out None after = Went place name (Served 0) out × IsPublished out.body after
 IsTurn place name out (Some r) after
     = (number : ℕ) × (ask : Ask) × (0 < number) × Went place name (Served number) out × (r.entry ≡ Entry.Finish number name (reply ask out.body.image.frames)) × IsServed number out.body after
+
+-- Of a stop's turns the first, which is the last where there was one alone.
+abbrev pub first_of : Option Outed → Outed → Outed
+first_of None last = last
+first_of (Some first) last = first
 
 -- A thread that has stopped, behind a turn: how its body went in its first turn and in its last, what it entered there, and the body.
 pub record Stopping : Type 0 where

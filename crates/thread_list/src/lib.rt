@@ -1,8 +1,8 @@
-//! The threads of a running system: what they share, the berth of each place, and a thread's own part.
+//! The threads of a running system: what they share, and a thread's own part.
 //!
 //! A thread that owns itself has its body in hand. It calls methods, returns, polls, publishes and crosses into the VM and back
 //! without a lock (`Mutator::call`, `ret`, `back_edge`, `publish`, `to_vm`, `from_vm`), and nobody can hold it. Where it doesn't own
-//! itself its body is in its berth, where another may take it, step for it and bring it back.
+//! itself its body is in its berth (`berths`), where another may take it, step for it and bring it back.
 //!
 //! There is one lock for the desk and one for each berth. `Shared::submit`, `install`, `invalidate`, `live`, `replies`, `finish` and
 //! `leave` take the desk's, once in each try. `Mutator::to_native`, `from_native`, `block` and `unblock` take the lock of the
@@ -10,25 +10,19 @@
 //! words and take none. No call holds two locks.
 #![tactic(auto)]
 
-mod berth;
-mod due;
 mod hints;
 mod mutator;
 mod parts;
 mod polls;
-mod room;
 mod serving;
 mod shared;
 mod starts;
 mod turns;
 mod waits;
 
-pub use berth::Berth;
-pub use due::Due;
 pub use mutator::{CallFault, Mutator, ReturnFault};
 pub use parts::{MOST_METHODS, MOST_PLACES, MOST_SLOTS, Parts, PartsFault};
 pub use polls::{Poll, poll_of};
-pub use room::{BerthAct, BerthReceipt, BodyAct, BodyReceipt, Holder, Outing, Room};
 pub use serving::{serve, served};
 pub use shared::{Exited, Shared};
 pub use turns::Turn;

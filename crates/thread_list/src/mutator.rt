@@ -6,8 +6,8 @@ ghost use Rattle.thread_list.specs.Moves.{SameThread, Polls, Leaves, is_running}
 ghost use Rattle.thread_list.specs.Refused.{call_accepted, call_refused, return_refused};
 
 use crate::polls::{Poll, poll_of};
-use crate::room::BodyReceipt;
 use crate::shared::Shared;
+use berths::BodyReceipt;
 use bodies::{Body, Called, Name};
 use frames::CodeId;
 use operations::job::Errand;

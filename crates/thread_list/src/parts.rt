@@ -3,13 +3,13 @@ ghost use Rattle.std.specs.Prelude.{◌≡◌, ◌≤◌, ◌<◌, ℕ, [], ◌�
 ghost use Rattle.frames.specs.BoardViews.{seat_view};
 ghost use Rattle.board.specs.Boards.{SeatSeen, first_keeper};
 ghost use Rattle.poll.specs.Rows.{PollerSeen, full_armer};
-ghost use Rattle.thread_list.specs.Berths.{IsRoom, AreInOrder};
+ghost use Rattle.berths.specs.Berths.{IsRoom};
+ghost use Rattle.thread_list.specs.Sharing.{AreInOrder};
 ghost use Rattle.thread_list.specs.Sized.{parts_refused, AreSeatsOf, ArePollersOf};
 
-use crate::berth::Berth;
 use crate::hints::Hints;
-use crate::room::{JOBS, Room};
 use crate::shared::Shared;
+use berths::{Berth, JOBS, Room};
 use board::{Board, Keeper, ThreadSeat};
 use bodies::{Name, SpareSeat};
 use desk::Desk;

@@ -1,16 +1,15 @@
 //! What a thread does while it has stopped.
 ghost use Rattle.std.specs.Prelude.{◌≡◌, ◌≢◌, ◌<◌, ℕ};
-ghost use Rattle.thread_list.specs.Berths.{moved, first_of};
-ghost use Rattle.thread_list.specs.Moves.{SameBody, IsLastTurn};
+ghost use Rattle.berths.specs.Berths.{moved};
+ghost use Rattle.thread_list.specs.Moves.{SameBody, IsLastTurn, first_of};
 ghost use Rattle.frames.specs.ImageView.{IsSettled};
 ghost use Rattle.operations.specs.Asks.{reply};
 ghost use Rattle.thread_state.specs.PollRule.{exchanged};
 ghost use Rattle.desk.specs.declared.entries.Entry.{Entry};
 
-use crate::due::Due;
-use crate::room::BodyAct;
 use crate::shared::Shared;
 use crate::turns::{Turn, Turned};
+use berths::{BodyAct, Due};
 use bodies::{Body, Name};
 use desk::Receipt;
 use operations::job::Errand;

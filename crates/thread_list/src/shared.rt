@@ -12,10 +12,9 @@ ghost use Rattle.desk.specs.Rising.{AreRising};
 ghost use Rattle.thread_list.specs.Sharing.{AreLive, AreRepliesOf};
 ghost use Rattle.desk.specs.Refusals.{ask_refused, install_refused};
 
-use crate::berth::Berth;
 use crate::hints::Hints;
-use crate::room::{BodyAct, BodyReceipt};
 use crate::turns::Turn;
+use berths::{Berth, BodyAct, BodyReceipt};
 use board::Board;
 use bodies::{Body, Name};
 use desk::{CodeFault, Desk, NotLive, Receipt, Refused, live_names_rise};
@@ -44,8 +43,7 @@ pub struct Shared<N: Name, J: Errand> {
 
 impl<N: Name, J: Errand> Model for Shared<N, J> {
     ghost use Rattle.std.specs.Prelude.{◌≡◌, length};
-    ghost use Rattle.thread_list.specs.Berths.{AreInOrder};
-    ghost use Rattle.thread_list.specs.Sharing.{SharedSeen};
+    ghost use Rattle.thread_list.specs.Sharing.{AreInOrder, SharedSeen};
 
     ghost Value = { SharedSeen };
 

@@ -8,9 +8,9 @@ ghost use Rattle.desk.specs.Refusals.{start_refused};
 ghost use Rattle.bodies.specs.Bodies.{BodyView};
 
 use crate::mutator::Mutator;
-use crate::room::BodyReceipt;
 use crate::serving::served;
 use crate::shared::Shared;
+use berths::BodyReceipt;
 use bodies::{Body, Name};
 use desk::{Receipt, StartFault};
 use frames::image::Image;

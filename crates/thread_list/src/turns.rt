@@ -1,11 +1,11 @@
 //! The turns of a thread that has stopped: in each its body goes into its berth, and comes out to serve.
 ghost use Rattle.std.specs.Prelude.{◌≡◌, ◌<◌, ◌≢◌, ℕ, Some, None, IfOk, IfErr};
-ghost use Rattle.thread_list.specs.Berths.{moved, first_of};
-ghost use Rattle.thread_list.specs.Moves.{SameBody, TakesTurn, IsTurn, as_polled};
+ghost use Rattle.berths.specs.Berths.{moved};
+ghost use Rattle.thread_list.specs.Moves.{SameBody, TakesTurn, IsTurn, as_polled, first_of};
 
-use crate::room::{BodyAct, Outing};
 use crate::serving::serve;
 use crate::shared::Shared;
+use berths::{BodyAct, Outing};
 use bodies::{Body, Name};
 use desk::Receipt;
 use operations::job::Errand;
@@ -31,8 +31,7 @@ pub struct Turned<N: Name> {
 
 impl<N: Name> Model for Turned<N> {
     ghost use Rattle.std.specs.Prelude.{◌≢◌, ◌<◌};
-    ghost use Rattle.thread_list.specs.Berths.{first_of};
-    ghost use Rattle.thread_list.specs.Moves.{Stopping};
+    ghost use Rattle.thread_list.specs.Moves.{Stopping, first_of};
 
     ghost Value = { Stopping };
 

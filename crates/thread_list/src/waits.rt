@@ -1,6 +1,6 @@
 //! What a thread calls that may wait for others: it gives its body away and gets it back.
 ghost use Rattle.std.specs.Prelude.{◌≡◌, ◌≢◌, ◌<◌, ◌==◌, ◌⊎◌, [], ℕ, true, false, Some, None, IfOk, OnOk, IfErr, IfSome, IfNone, length};
-ghost use Rattle.thread_list.specs.Berths.{moved, first_of, Went};
+ghost use Rattle.berths.specs.Berths.{moved, Went};
 ghost use Rattle.frames.specs.ImageView.{IsSettled};
 ghost use Rattle.bodies.specs.Bodies.{BodyView, IsPublished};
 ghost use Rattle.thread_state.specs.declared.Back.{Back as WayBack};
@@ -9,15 +9,15 @@ ghost use Rattle.thread_state.specs.declared.Move.TheVariants as movement;
 ghost use Rattle.thread_state.specs.States as table;
 ghost use Rattle.desk.specs.declared.entries.Entry.{Entry};
 ghost use Rattle.thread_list.specs.declared.polls.Poll.TheVariants.{Go as GoesOn};
-ghost use Rattle.thread_list.specs.Moves.{SameThread, SameBody, ComesBack, GoesBack, Gives, IsResumed, IsTurn, IsVacated, IsKept, IsGivenUp, IsGivenUpAfter, as_polled, is_running, owns};
+ghost use Rattle.thread_list.specs.Moves.{SameThread, SameBody, ComesBack, GoesBack, Gives, IsResumed, IsTurn, IsVacated, IsKept, IsGivenUp, IsGivenUpAfter, as_polled, first_of, is_running, owns};
 ghost use Rattle.thread_list.specs.Refused.{exit_refused, HasNoFrame};
 
 use crate::mutator::{Mutator, is_running};
 use crate::polls::{Poll, poll_of};
-use crate::room::{BodyAct, BodyReceipt};
 use crate::serving::served;
 use crate::shared::{Exited, Shared};
 use crate::turns::Turn;
+use berths::{BodyAct, BodyReceipt};
 use bodies::{Body, Name};
 use operations::job::Errand;
 use std::sync::Wait;

@@ -10,7 +10,7 @@ use Rattle.bodies.proofs.body.Body.TheSendSync as body
 use Rattle.interp.proofs.runner.Runner.TheSendSync as runner
 use Rattle.thread_list.proofs.Crosses.{shared_crosses}
 use Rattle.thread_list.specs.contracts.mutator.Mutator as Mutator
-use Rattle.thread_list.specs.contracts.room.BodyReceipt as BodyReceipt
+use Rattle.berths.specs.contracts.room.BodyReceipt as BodyReceipt
 use Rattle.workers.specs.contracts.worker.Worker as Worker
 use Rattle.workers.specs.contracts.task.Task as Task
 

@@ -1,6 +1,7 @@
 use Rattle.std.proofs.Common.{◌≡◌, ◌∙◌, sym, ap, arith, rules, length, length-append, ◌+◌, ◌∷◌, subst, []}
 use Rattle.frames.specs.declared.board_rule.SeatView.{SeatView}
-use Rattle.thread_list.specs.Berths.{IsRoom, Berthing, AreInOrder}
+use Rattle.berths.specs.Berths.{IsRoom, Berthing}
+use Rattle.thread_list.specs.Sharing.{AreInOrder}
 use Rattle.thread_list.proofs.InOrder.{AreDownFrom, down_push, turned}
 use Rattle.thread_list.proofs.Popped.{all_last, last_at, rest_at, one_less}
 use Rattle.thread_list.proofs.parts.berths_of.Goals as goal

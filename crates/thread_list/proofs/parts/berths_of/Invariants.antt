@@ -1,6 +1,6 @@
 use Rattle.std.proofs.Common.{◌≡◌, ◌≤◌, ◌+◌, length}
 use Rattle.std.specs.Prelude.{vec_len, vec_capacity, All}
-use Rattle.thread_list.specs.Berths.{IsRoom}
+use Rattle.berths.specs.Berths.{IsRoom}
 use Rattle.thread_list.proofs.InOrder.{AreDownFrom}
 use Rattle.thread_list.specs.Sized.{AreSeatsOf, ArePollersOf}
 use Rattle.thread_list.proofs.parts.berths_of.Given as goal

@@ -1,6 +1,6 @@
 use Rattle.std.proofs.Common.{◌≤◌, ◌-◌, vec_len}
 use Rattle.std.specs.Prelude.{All}
-use Rattle.thread_list.specs.Berths.{IsRoom}
+use Rattle.berths.specs.Berths.{IsRoom}
 use Rattle.thread_list.proofs.parts.job_lists.Given as goal
 
 abbrev pub invariant-loop-alloc : goal.invariant-loop-alloc

@@ -1,7 +1,7 @@
 use Rattle.std.proofs.Common.{◌≡◌}
-use Rattle.thread_list.specs.Berths.{moved, Went}
+use Rattle.berths.specs.Berths.{moved, Went}
 use Rattle.thread_list.specs.Moves.{SameBody, IsTurn}
-use Rattle.thread_list.specs.declared.room.BodyAct.TheVariants.{Given}
+use Rattle.berths.specs.declared.room.BodyAct.TheVariants.{Given}
 use Rattle.thread_list.proofs.serving.served.Given as goal
 
 abbrev pub invariant-loop : goal.invariant-loop

@@ -1,6 +1,6 @@
 use Rattle.std.proofs.Common.{◌≡◌, ◌<◌, ◌∙◌, Some, ap, rules}
-use Rattle.thread_list.specs.Berths.{moved, number_of}
-use Rattle.thread_list.specs.declared.room.BodyAct.TheVariants.{Served}
+use Rattle.berths.specs.Berths.{moved, number_of}
+use Rattle.berths.specs.declared.room.BodyAct.TheVariants.{Served}
 use Rattle.thread_list.proofs.Turned.{turned}
 use Rattle.thread_list.proofs.turns.take_turn.Goals as goal
 

@@ -3,8 +3,8 @@ ghost use Rattle.std.specs.Prelude.{◌≡◌, ◌<◌, ◌≢◌, Some, None, [
 ghost use Rattle.std.specs.Prelude.{◌++◌, ◌∷◌, ◌≤◌, ◌==◌, true, false, not, length, vec_capacity, if◌then◌else◌};
 ghost use Rattle.frames.specs.ImageView.{IsCounted};
 ghost use Rattle.frames.specs.BoardViews.{stored_as};
-ghost use Rattle.thread_list.specs.Berths.{told_of, name_of, slept, awaits_job, IsRoom, acted, moved, number_of};
-ghost use Rattle.thread_list.specs.declared.room.Holder.TheVariants.{Vacant as IsVacant, Away as IsAway, Out as IsOut, Home as IsAtHome};
+ghost use Rattle.berths.specs.Berths.{told_of, name_of, slept, awaits_job, IsRoom, acted, moved, number_of};
+ghost use Rattle.berths.specs.declared.room.Holder.TheVariants.{Vacant as IsVacant, Away as IsAway, Out as IsOut, Home as IsAtHome};
 
 use crate::due::Due;
 use board::Board;
@@ -43,7 +43,7 @@ pub struct BodyReceipt<N: Name> {
 
 impl<N: Name> Model for BodyReceipt<N> {
     ghost use Rattle.std.specs.Prelude.{◌≡◌};
-    ghost use Rattle.thread_list.specs.Berths.{Moved, moved};
+    ghost use Rattle.berths.specs.Berths.{Moved, moved};
 
     ghost Value = { Moved };
 
@@ -71,7 +71,7 @@ pub struct Outing<N: Name> {
 }
 
 impl<N: Name> Model for Outing<N> {
-    ghost use Rattle.thread_list.specs.Berths.{Outed};
+    ghost use Rattle.berths.specs.Berths.{Outed};
 
     ghost Value = { Outed };
 
@@ -121,7 +121,7 @@ pub struct BerthReceipt<N: Name> {
 }
 
 impl<N: Name> Model for BerthReceipt<N> {
-    ghost use Rattle.thread_list.specs.Berths.{Acted};
+    ghost use Rattle.berths.specs.Berths.{Acted};
 
     ghost Value = { Acted };
 
@@ -168,7 +168,7 @@ pub struct Room<N: Name, J: Errand> {
 
 impl<N: Name, J: Errand> Model for Room<N, J> {
     ghost use Rattle.std.specs.Prelude.{map, vec_capacity};
-    ghost use Rattle.thread_list.specs.Berths.{Berthing, IsBerth, told_of};
+    ghost use Rattle.berths.specs.Berths.{Berthing, IsBerth, told_of};
 
     ghost Value = { Berthing N };
 

@@ -1,7 +1,7 @@
 //! A berth: where a thread's body is while the thread doesn't own itself.
 ghost use Rattle.std.specs.Prelude.{◌≡◌, ◌≢◌, ◌<◌, ◌^◌, [], false, OnOk, IfOk, IfErr, IfSome};
 ghost use Rattle.frames.specs.ImageView.{IsCounted};
-ghost use Rattle.thread_list.specs.Berths.{acted, moved, number_of};
+ghost use Rattle.berths.specs.Berths.{acted, moved, number_of};
 
 use crate::due::Due;
 use crate::room::{BerthAct, BerthReceipt, BodyAct, BodyReceipt, Outing, Room};

@@ -1,6 +1,6 @@
 use Rattle.std.proofs.Common.{rules, vec_capacity}
-use Rattle.thread_list.proofs.Berthed.{tells}
-use Rattle.thread_list.proofs.room.Room.tell.Goals as goal
+use Rattle.berths.proofs.Berthed.{tells}
+use Rattle.berths.proofs.room.Room.tell.Goals as goal
 
 pub invariant_of-self : goal.invariant_of-self
 invariant_of-self g c =

@@ -1,9 +1,9 @@
 use Rattle.std.proofs.Common.{subst, rules, map, List, vec_capacity}
-use Rattle.thread_list.specs.declared.room.Holder.{Holder}
-use Rattle.thread_list.specs.declared.room.Holder.TheVariants.{Home}
-use Rattle.thread_list.specs.Berths.{Told, told_of, IsBerth}
-use Rattle.thread_list.proofs.Berthed.{settles}
-use Rattle.thread_list.proofs.room.Room.settle.Goals as goal
+use Rattle.berths.specs.declared.room.Holder.{Holder}
+use Rattle.berths.specs.declared.room.Holder.TheVariants.{Home}
+use Rattle.berths.specs.Berths.{Told, told_of, IsBerth}
+use Rattle.berths.proofs.Berthed.{settles}
+use Rattle.berths.proofs.room.Room.settle.Goals as goal
 
 pub invariant_of-self : goal.invariant_of-self
 invariant_of-self g c =
