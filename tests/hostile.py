@@ -5,7 +5,7 @@ threads  Each test that runs several threads, twenty times: it passes each time,
 memory   Each test of refused memory with its first growth refused, with its second, and so on until none is. It passes each time, says
          what was refused, and the growths come to an end where nothing was. Of some crates also tests that were not made for this: they
          pass, or end with the error of refused memory. Needs a C compiler, for the library that refuses the growths. Not run are tests
-         that pass whatever is refused and say nothing, as `monitor`, `interp`, `method_table` and `model` have them: it couldn't be
+         that pass whatever is refused and say nothing, as `commands`, `interp`, `method_table` and `model` have them: it couldn't be
          seen that anything was refused, nor where the growths end.
 
 Without a word it does both. `rt test` proves the tests of each crate first, and builds them; with `--built` those are run that the
@@ -43,7 +43,7 @@ THREADS = {
         "tests::leaving::a_thread_that_exits_is_gone_or_has_answered",
     ],
     "workers_tests": ["tests::meeting::four_ticks_meet", "tests::replaced::codes_are_replaced_while_threads_run"],
-    "monitor": ["running_tests::four_threads_run_a_loop_of_calls", "running_tests::two_ticks_meet"],
+    "commands_tests": ["tests::running::four_threads_run_a_loop_of_calls", "tests::running::two_ticks_meet"],
 }
 
 # Those of a list meet the same at each growth.

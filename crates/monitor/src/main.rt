@@ -3,21 +3,9 @@
 
 ghost use Rattle.std.specs.Prelude.{◌<◌, ◌≤◌};
 
-mod check;
-mod command_line;
-mod fault;
-mod running;
-#[cfg(test)]
-mod running_tests;
-#[cfg(test)]
-mod tests;
-
-use check::{check_script, read_code};
-use command_line::{Form, read_form, read_words};
-use fault::Fault;
+use commands::{Fault, Form, check_script, read_code, read_form, read_words, run_with};
 use replay::device::{FromReader, IntoWriter};
 use replay::stream::replay;
-use running::run_with;
 use std::fs::File;
 use std::process::ExitCode;
 use std::sync::Wait;

@@ -1,0 +1,31 @@
+-- What running a script comes to.
+use Rattle.std.specs.Prelude.{◌≡◌, ℕ, List, Option, Result, Ok, Err, ⊤}
+use Rattle.std.specs.Io.KnownBytes.{Appends}
+use Rattle.replay.specs.Known.{AppendsPart}
+use Rattle.script.specs.declared.code.Op.{Op}
+use Rattle.workers.specs.declared.summary.Summary.{Summary}
+use Rattle.workers.specs.Summaries.{IsSummary, summary_text}
+use Rattle.commands.specs.declared.fault.Fault.{Fault}
+use Rattle.commands.specs.declared.fault.Fault.TheVariants.{BadWords, FileNotRead, BadScript, ReadFailed, WriteFailed, NoMemory, NoThread, Refused}
+
+-- Why a run isn't done.
+abbrev pub IsNotRun : Fault → Type 0
+IsNotRun BadWords = ⊥
+IsNotRun FileNotRead = ⊥
+IsNotRun (BadScript flaw place) = ⊥
+IsNotRun ReadFailed = ⊥
+IsNotRun WriteFailed = ⊥
+IsNotRun NoMemory = ⊤
+IsNotRun NoThread = ⊤
+IsNotRun Refused = ⊤
+
+-- What a sink got of a run of that code by so many threads: the text of what the run came to, or a beginning of it where a write failed, and otherwise nothing.
+abbrev pub Printed : {A : Type 0} → List (List Op) → ℕ → Result A Fault → Option (List ℕ) → Option (List ℕ) → Type 0
+Printed code threads (Ok x) got got' = (s : Summary) × IsSummary code threads s × Appends got got' (summary_text s)
+Printed code threads (Err WriteFailed) got got' = (s : Summary) × IsSummary code threads s × AppendsPart got got' (summary_text s)
+Printed code threads (Err fault) got got' = IsNotRun fault × (got' ≡ got)
+
+-- How many writes failed.
+abbrev pub FailedWrites : {A : Type 0} → Result A Fault → ℕ → Type 0
+FailedWrites (Err WriteFailed) writes = writes ≡ 1
+FailedWrites result writes = writes ≡ 0

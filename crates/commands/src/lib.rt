@@ -1,0 +1,13 @@
+//! What the program is asked to do, by the words of its command line, and each of its forms but the answering of lines: checking a
+//! script, and running it on threads. All devices are the caller's, and a fault is told with its text and its exit status.
+#![tactic(auto)]
+
+mod check;
+mod command_line;
+mod fault;
+mod running;
+
+pub use check::{check_script, check_text, line_of, read_code};
+pub use command_line::{Form, read_form, read_words};
+pub use fault::Fault;
+pub use running::run_with;

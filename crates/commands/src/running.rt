@@ -1,0 +1,80 @@
+// Running a script on threads.
+ghost use Rattle.std.specs.Prelude.{◌≡◌, ◌≤◌, ◌<◌, ◌*◌, ◌-◌, ◌^◌, min, IfOk, IfErr, string_bytes};
+ghost use Rattle.operations.specs.Asks.{reply};
+ghost use Rattle.workers.specs.Summaries.{summary_text};
+ghost use Rattle.commands.specs.Run.{IsNotRun, Printed, FailedWrites};
+
+use crate::fault::Fault;
+use frames::image::Image;
+use operations::Ask;
+use operations::job::{Call, Job};
+use replay::device::Sink;
+use replay::stream::flush;
+use script::Code;
+use std::alloc::{AllocError, Global};
+use std::marker::Brand;
+use std::sync::Wait;
+use std::thread::Threads;
+use thread_list::{Parts, PartsFault};
+use workers::{Gate, Summary};
+
+/// Runs a script on so many threads, 1 to 64, with a tick of the gate at each of its ticks, and writes what the run came to: the
+/// threads, a line for each, whether some frame was compiled, the codes that were installed and freed, and the sum of all count words.
+/// When it returns no thread of it runs any more. Where a thread isn't given, or memory is refused, nothing is written.
+pub fn run_with<R: Threads + Wait + Sync, G: Gate + Sync, W: Sink>(
+    rt: &R,
+    alloc: Global,
+    code: &Code,
+    threads: usize,
+    gate: &G,
+    sink: &mut W,
+) -> Result<(), Fault>
+    requires threads { (0 < threads) × (threads ≤ 64) }
+    requires sink { W.failures sink.old ≡ 0 }
+    ensures printed { Printed code.now threads result (W.got sink.old) (W.got sink.new) }
+    ensures failed { FailedWrites result (W.failures sink.new) }
+{
+    let methods = code.methods();
+    let parts = parts_of(alloc, threads, methods)?;
+    let mut jobs = Vec::with_capacity(alloc, methods)?;
+    while jobs.len() < methods {
+        let mut list = Vec::with_capacity(alloc, threads)?;
+        for place in 0..threads {
+            let call: Call = Box::new(
+                alloc,
+                |image: &Image| -> u64
+                    ensures { result ≡ reply Ask.Depth image.now.frames }
+                { image.depth() as u64 },
+            )
+            .map_err(|_| AllocError)?;
+            let job = Job::new(place as u64 + 1, Ask::Depth, call);
+            list.push_reserved(job);
+        }
+        jobs.push_reserved(list);
+    }
+    let summary = workers::run::<Brand, Job, R, G>(rt, alloc, code, threads, gate, parts, jobs)?;
+    let mut text = text_of(alloc, &summary)?.into_bytes();
+    match flush(&mut text, sink) {
+        Ok(()) => Ok(()),
+        Err(_) => Err(Fault::WriteFailed),
+    }
+}
+
+// The parts of a system of so many places, with two slots a method.
+fn parts_of(alloc: Global, threads: usize, methods: usize) -> Result<Parts, Fault>
+    ensures sizes { IfOk result (λ p. (p.board.places ≡ threads) × (p.board.slots ≡ min (methods * 2) (2 ^ 64 - 1)) × (p.methods ≡ methods)) }
+    ensures refused { IfErr result IsNotRun }
+{
+    match Parts::new(alloc, threads, methods.saturating_mul(2), methods) {
+        Ok(parts) => Ok(parts),
+        Err(PartsFault::NoMemory) => Err(Fault::NoMemory),
+        Err(PartsFault::BadSize) => Err(Fault::Refused),
+    }
+}
+
+// The text of a summary.
+fn text_of(alloc: Global, summary: &Summary) -> Result<String, AllocError>
+    ensures { IfOk result (λ text. string_bytes text ≡ summary_text summary.now) }
+{
+    format!(in alloc; "{summary}")
+}
