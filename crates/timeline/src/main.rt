@@ -1,27 +1,8 @@
 //! The program: lines of events in, a picture of the run out.
 #![tactic(auto)]
 
-mod codes;
-mod drawing;
-mod fault;
-mod layout;
-mod legend;
-mod looks;
-mod marks;
-mod painting;
-mod picture;
-mod reading;
-mod requests;
-mod rows;
-mod run;
-mod subject;
-#[cfg(test)]
-mod tests;
-mod threads;
-
-use fault::Fault;
-use picture::draw_run;
 use replay::device::{FromReader, IntoWriter};
+use run_picture::{Fault, draw_run};
 use std::env;
 use std::process::ExitCode;
 

@@ -1,0 +1,122 @@
+// Bytes in, a run out: cut into lines, each done and answered by the core, as `monitor replay` does.
+ghost use Rattle.std.specs.Prelude.{◌≡◌, ◌<◌, ◌∷◌, [], None, map, vec_len, IfOk, OnOk};
+ghost use Rattle.run_picture.specs.Marks.{told_of};
+ghost use Rattle.run_picture.specs.Reading.{Read, Noted, Finished, Marked, FailedReads};
+
+use crate::run::Run;
+use crate::subject::Subject;
+use replay::device::Source;
+use replay::engine::obey;
+use replay::grammar::parse;
+use replay::held::Held;
+use replay::stream::ReplayFault;
+use std::alloc::{AllocError, Global};
+use system::System;
+
+/// Bytes that are read at a time.
+const BLOCK: usize = 65_536;
+
+/// The reads of one call.
+const READS: u64 = 1_099_511_627_775;
+
+/// A run that is being read: the core, the line whose end wasn't read yet as far as it matters, and what was read before.
+#[derive(Drop)]
+struct Reading {
+    system: Option<System>,
+    held: Held,
+    run: Run,
+}
+
+impl Reading {
+    fn new(alloc: Global) -> Reading
+        ensures system { result.system ≡ None }
+        ensures held { result.held ≡ [] }
+        ensures marks { result.run.marks.items ≡ [] }
+    {
+        Reading {
+            system: None,
+            held: Held::new(),
+            run: Run::new(alloc),
+        }
+    }
+
+    /// One byte more.
+    fn take(&mut self, alloc: Global, byte: u8) -> Result<(), AllocError>
+        ensures { OnOk result (Read self.old.system self.old.held (map told_of self.old.run.marks.items) (byte ∷ []) self.new.system self.new.held (map told_of self.new.run.marks.items)) }
+    {
+        if byte == b'\n' {
+            self.end_line(alloc)?;
+            return Ok(());
+        }
+        self.held.add(&[byte]);
+        Ok(())
+    }
+
+    /// The line that is held has ended.
+    fn end_line(&mut self, alloc: Global) -> Result<(), AllocError>
+        ensures noted { OnOk result (Noted self.old.system self.old.held (map told_of self.old.run.marks.items) self.new.system (map told_of self.new.run.marks.items)) }
+        ensures held { OnOk result (self.new.held ≡ []) }
+    {
+        let command = parse(alloc, self.held.as_slice())?;
+        let subject = Subject::of(&command);
+        let reply = obey(&mut self.system, alloc, command)?;
+        self.run.note(alloc, self.held.as_slice(), subject, &reply)?;
+        self.held.clear();
+        Ok(())
+    }
+
+    /// The bytes, one after another.
+    fn take_all(&mut self, alloc: Global, bytes: &[u8]) -> Result<(), AllocError>
+        ensures { OnOk result (Read self.old.system self.old.held (map told_of self.old.run.marks.items) bytes.now self.new.system self.new.held (map told_of self.new.run.marks.items)) }
+    {
+        for byte in bytes {
+            self.take(alloc, *byte)?;
+        }
+        Ok(())
+    }
+
+    /// The input has ended. A last line without a newline is a line.
+    fn finish(mut self, alloc: Global) -> Result<Run, AllocError>
+        ensures { IfOk result (λ run. Finished self.system self.held (map told_of self.run.marks.items) (map told_of run.marks.items)) }
+    {
+        if !self.held.is_empty() {
+            self.end_line(alloc)?;
+        }
+        Ok(self.run)
+    }
+}
+
+/// Reads all there is. Of a line that is too long only the beginning is kept.
+pub fn read_run<R: Source>(alloc: Global, source: &mut R) -> Result<Run, ReplayFault>
+    requires source { R.failures source.old ≡ 0 }
+    requires unread { R.reads source.old ≡ 0 }
+    ensures marked { IfOk result (λ run. Marked (R.left source.old) (R.left source.new) (map told_of run.marks.items)) }
+    ensures failed { FailedReads result (R.reads source.new) (R.failures source.new) }
+{
+    let Ok(mut block) = new_block(alloc) else {
+        return Err(ReplayFault::NoMemory);
+    };
+    let mut reading = Reading::new(alloc);
+    for turn in 0..READS {
+        let Ok(n) = source.read(&mut block) else {
+            return Err(ReplayFault::ReadFailed);
+        };
+        if n == 0 {
+            let Ok(run) = reading.finish(alloc) else {
+                return Err(ReplayFault::NoMemory);
+            };
+            return Ok(run);
+        }
+        match reading.take_all(alloc, &block[..n]) {
+            Ok(()) => {}
+            Err(_) => return Err(ReplayFault::NoMemory),
+        }
+    }
+    Err(ReplayFault::ReadFailed)
+}
+
+fn new_block(alloc: Global) -> Result<Vec<u8>, AllocError>
+    ensures { IfOk result (λ block. 0 < vec_len block) }
+{
+    Ok(vec![in alloc; 0u8; BLOCK]?)
+}

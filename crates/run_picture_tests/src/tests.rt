@@ -1,0 +1,224 @@
+// Whole pictures, over devices that give and take little, or fail.
+use replay::device::{FromReader, IntoWriter};
+use replay::stream::ReplayFault;
+use run_picture::draw_run;
+use std::alloc::Global;
+use std::io::{self, Read, Write};
+use std::test::Fail;
+
+// Gives its bytes, at most `step` a call. The call of number `bad_call` fails.
+#[derive(Drop)]
+struct Drip<'a> {
+    rest: &'a [u8],
+    step: usize,
+    bad_call: usize,
+    calls: usize,
+}
+
+impl<'a> Read for Drip<'a> {
+    fn read(&mut self, buf: &mut [u8]) -> io::Result<usize> {
+        self.calls = self.calls.saturating_add(1);
+        if self.calls == self.bad_call {
+            return Err(io::Error::from(io::ErrorKind::BrokenPipe));
+        }
+        let n = self.step.min(buf.len()).min(self.rest.len());
+        let (given, rest) = self.rest.split_at(n);
+        buf[..n].copy_from_slice(given);
+        self.rest = rest;
+        Ok(n)
+    }
+}
+
+// Keeps what it is given, at most `step` bytes a call. The call of number `bad_call` fails.
+#[derive(Drop)]
+struct Basin {
+    got: Vec<u8>,
+    step: usize,
+    bad_call: usize,
+    calls: usize,
+}
+
+impl Write for Basin {
+    fn write(&mut self, buf: &[u8]) -> io::Result<usize> {
+        self.calls = self.calls.saturating_add(1);
+        if self.calls == self.bad_call {
+            return Err(io::Error::from(io::ErrorKind::BrokenPipe));
+        }
+        let n = self.step.min(buf.len());
+        self.got.extend_from_slice(&buf[..n])?;
+        Ok(n)
+    }
+
+    fn flush(&mut self) -> io::Result<()> {
+        Ok(())
+    }
+}
+
+// What is answered, and what was written, where reads and writes take so many bytes and these calls fail.
+fn drawn(
+    alloc: Global,
+    input: &[u8],
+    step: usize,
+    bad_read: usize,
+    bad_write: usize,
+) -> (Result<(), ReplayFault>, Vec<u8>) {
+    let mut source = Drip {
+        rest: input,
+        step,
+        bad_call: bad_read,
+        calls: 0,
+    };
+    let mut sink = Basin {
+        got: Vec::new(alloc),
+        step,
+        bad_call: bad_write,
+        calls: 0,
+    };
+    let outcome = draw_run(
+        alloc,
+        &mut FromReader::new(&mut source),
+        &mut IntoWriter::new(&mut sink),
+    );
+    (outcome, sink.got)
+}
+
+fn has(text: &[u8], part: &[u8]) -> bool {
+    count(text, part) > 0
+}
+
+// How often a part stands in a text.
+fn count(text: &[u8], part: &[u8]) -> usize {
+    let mut times = 0usize;
+    for at in 0..text.len() {
+        if text[at..].starts_with(part) {
+            times = times.saturating_add(1);
+        }
+    }
+    times
+}
+
+const HANDSHAKE: &[u8] =
+    b"size 1 4 2\nstart\nbegin 0\nend 0\nwake 0\ncross 0\ninstall 0\nenter 0 0 1\ntonative 0\nask count 1 1\nopen\nhold 0\ntell 1\nhold 0\nbegin 0\nchange 0\nend 0\nfinish 0\nclear 0\nrelease 0\nwake 0\ncross 0\nclose\nstart 7\n";
+
+#[test]
+fn each_line_has_one_mark(rt: HostRuntime) -> Result<(), Fail> {
+    let (outcome, text) = drawn(rt.alloc(), HANDSHAKE, 1_000_000, 0, 0);
+    assert!(rt; outcome == Ok(()));
+    assert!(rt; count(&text, b"<g id='line") == 24);
+    assert!(rt; count(&text, b"class='accepted'><title>") == 22);
+    assert!(rt;
+        has(
+            &text,
+            b"<g id='line12' class='refused'><title>hold 0\nrefused NotTold\n</title><use href='#refusal'"
+        )
+    );
+    assert!(rt;
+        has(
+            &text,
+            b"<g id='line16' class='accepted'><title>change 0\nchange 1 +1\n</title><use href='#change'"
+        )
+    );
+    assert!(rt;
+        has(
+            &text,
+            b"<g id='line18' class='accepted'><title>finish 0\nreply 1\n</title><use href='#callback'"
+        )
+    );
+    assert!(rt;
+        has(
+            &text,
+            b"<g id='line24' class='bad'><title>start 7\nbad line\n</title><use href='#badline'"
+        )
+    );
+    assert!(rt; text.as_slice().ends_with(b"</g>\n</svg>\n"));
+    Ok(())
+}
+
+#[test]
+fn lanes_show_states_in_colours(rt: HostRuntime) -> Result<(), Fail> {
+    let (_, text) = drawn(rt.alloc(), HANDSHAKE, 1_000_000, 0, 0);
+    // One step is 22 pixels, and line 9 stands at 294: native from line 9 to line 21.
+    assert!(rt;
+        has(
+            &text,
+            b"<rect class='native' x='294' y='217' width='264' height='15'/>"
+        )
+    );
+    // Held from line 14 to line 20, and a publication from line 15 to line 17.
+    assert!(rt;
+        has(
+            &text,
+            b"<rect class='held' x='404' y='213' width='132' height='4'/>"
+        )
+    );
+    assert!(rt;
+        has(
+            &text,
+            b"<rect class='publishing' x='426' y='233' width='44' height='6'/>"
+        )
+    );
+    // The operation is open from line 11 to line 23, and the code in use up to the end.
+    assert!(rt;
+        has(
+            &text,
+            b"<rect class='handshake' x='338' y='176' width='264' height='12'/>"
+        )
+    );
+    assert!(rt;
+        has(
+            &text,
+            b"<rect class='inuse' x='250' y='268' width='396' height='12'/>"
+        )
+    );
+    Ok(())
+}
+
+#[test]
+fn the_picture_is_the_same_however_it_is_read(rt: HostRuntime) -> Result<(), Fail> {
+    let (_, whole) = drawn(rt.alloc(), HANDSHAKE, 1_000_000, 0, 0);
+    for step in [1, 7] {
+        let (outcome, text) = drawn(rt.alloc(), HANDSHAKE, step, 0, 0);
+        assert!(rt; outcome == Ok(()));
+        assert!(rt; text == whole);
+    }
+    Ok(())
+}
+
+#[test]
+fn a_last_line_without_a_newline_is_marked(rt: HostRuntime) -> Result<(), Fail> {
+    for (input, marks) in [
+        (b"".as_slice(), 0),
+        (b"\n".as_slice(), 1),
+        (b"size 1 1 1\nstart".as_slice(), 2),
+        (b"size 1 1 1\nstart\n".as_slice(), 2),
+    ] {
+        let (outcome, text) = drawn(rt.alloc(), input, 1, 0, 0);
+        assert!(rt; outcome == Ok(()));
+        assert!(rt; count(&text, b"<g id='line") == marks);
+    }
+    Ok(())
+}
+
+#[test]
+fn bytes_that_are_no_text_are_told_as_text(rt: HostRuntime) -> Result<(), Fail> {
+    let (outcome, text) = drawn(rt.alloc(), b"<a&b>\x01\xff~\n", 1, 0, 0);
+    assert!(rt; outcome == Ok(()));
+    assert!(rt; has(&text, b"<title>&lt;a&amp;b&gt;??~\nbad line\n</title>"));
+    Ok(())
+}
+
+#[test]
+fn a_read_that_fails_writes_nothing(rt: HostRuntime) -> Result<(), Fail> {
+    let (outcome, text) = drawn(rt.alloc(), HANDSHAKE, 10, 3, 0);
+    assert!(rt; outcome == Err(ReplayFault::ReadFailed));
+    assert!(rt; text.is_empty());
+    Ok(())
+}
+
+#[test]
+fn a_write_that_fails_leaves_a_beginning(rt: HostRuntime) -> Result<(), Fail> {
+    let (outcome, text) = drawn(rt.alloc(), HANDSHAKE, 10, 0, 3);
+    assert!(rt; outcome == Err(ReplayFault::WriteFailed));
+    assert!(rt; text.as_slice() == b"<svg xmlns='http://w".as_slice());
+    Ok(())
+}
