@@ -7,11 +7,13 @@
 # `make soak` runs threads at random over what they share, with one seed after the other, for MINUTES.
 # `make side SEEDS=1000 FIRST=22` plays as many random schedules, from that seed on, on the running layer and on the core beside it.
 # `make pictures` draws the pictures of PICTURES, which are in examples, again.
-.PHONY: run test examples embed bench hostile runs soak side pictures
+# `make edits` tries the wrong bodies of also-fail, which the gate leaves out: all of them, or those of CRATES.
+.PHONY: run test examples embed bench hostile runs soak side edits pictures
 
 MINUTES ?= 10
 SEEDS ?= 1000
 FIRST ?= 22
+CRATES ?=
 PICTURES = handshake_native safepoint_census reclaiming
 
 run:
@@ -46,6 +48,9 @@ soak:
 side:
 	@cd crates/side_by_side && rt run
 	@crates/side_by_side/out/side_by_side $(SEEDS) $(FIRST)
+
+edits:
+	@tests/edits.sh $(CRATES)
 
 pictures:
 	@cd crates/timeline && rt run < ../../examples/reclaiming.lines > /dev/null
