@@ -13,8 +13,6 @@ use std::alloc::{AllocError, Global};
 use std::marker::Model;
 
 pub mod dense;
-#[cfg(test)]
-mod tests;
 
 /// A code's serial with its count of activations.
 #[derive(Clone, Copy, Debug, PartialEq, Eq, Drop)]

@@ -5,8 +5,6 @@
 pub mod board_rule;
 pub mod image;
 mod nets;
-#[cfg(test)]
-mod tests;
 
 /// A code: the slot in which it stands, and its serial. Serials are never given out twice.
 #[derive(Clone, Copy, Debug, PartialEq, Eq, Drop)]

@@ -8,8 +8,6 @@ mod history;
 pub mod laws;
 mod slots;
 pub mod table;
-#[cfg(test)]
-mod tests;
 
 /// Whether a code may be entered, and whether it may still stand on a stack.
 #[derive(Clone, Copy, Debug, PartialEq, Eq, Drop)]

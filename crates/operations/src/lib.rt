@@ -9,8 +9,6 @@ pub mod asks;
 pub mod job;
 pub mod queue;
 pub mod requests;
-#[cfg(test)]
-mod tests;
 
 /// What a handshake asks of each target.
 #[derive(Clone, Copy, Debug, PartialEq, Eq, Drop)]

@@ -3,8 +3,6 @@
 
 mod moves;
 pub mod poll_rule;
-#[cfg(test)]
-mod tests;
 mod text;
 
 pub use moves::{cross, is_in_java, is_in_vm, is_safe, is_serving, may_cross, may_publish, step};
