@@ -1,7 +1,7 @@
-// What no clause says: that calls succeed, and worked examples. What a crate does is a text, whose rows are played: a call and its
-// answer, several of them behind one another, and for each number of a range where the row begins with one.
-use std::alloc::{AllocError, Global};
-use std::fmt::{Debug, Write};
+// What no clause says: that calls succeed, and worked examples. What is tested is a text, whose rows are played: calls with their
+// answers, as Debug writes them, and all of them for each number of a range where a row begins with one.
+use std::alloc::Global;
+use std::fmt::Debug;
 use std::process::Abort;
 
 mod codes;
@@ -12,38 +12,20 @@ mod states;
 
 /// What answers a call, which is a word and numbers.
 trait Player {
-    fn answer(
-        &mut self,
-        alloc: Global,
-        call: &str,
-        numbers: &[u64],
-        answer: &mut String,
-    ) -> Result<(), AllocError>;
+    fn answer<R: Abort>(&mut self, rt: &R, alloc: Global, call: &str, numbers: &[u64]) -> String;
 }
 
-fn play<P: Player>(
-    rt: &impl Abort,
-    alloc: Global,
-    player: &mut P,
-    rows: &str,
-) -> Result<(), AllocError> {
+fn play<P: Player>(rt: &impl Abort, alloc: Global, player: &mut P, rows: &str) {
     for row in rows.lines() {
         match row.split_once(" | ") {
-            Some((range, steps)) => play_range(rt, alloc, player, range, steps)?,
-            None => play_steps(rt, alloc, player, row)?,
+            Some((range, steps)) => play_range(rt, alloc, player, range, steps),
+            None => play_steps(rt, alloc, player, row),
         }
     }
-    Ok(())
 }
 
 // Plays the steps for each number of the range, which may also fall. A `#` stands for the number.
-fn play_range<P: Player>(
-    rt: &impl Abort,
-    alloc: Global,
-    player: &mut P,
-    range: &str,
-    steps: &str,
-) -> Result<(), AllocError> {
+fn play_range<P: Player>(rt: &impl Abort, alloc: Global, player: &mut P, range: &str, steps: &str) {
     let (first, last) = range.split_once(" to ").unwrap_or((range, range));
     let (first, last) = (number(rt, first), number(rt, last));
     for step in 0..first.abs_diff(last).saturating_add(1) {
@@ -52,65 +34,64 @@ fn play_range<P: Player>(
         } else {
             first.wrapping_sub(step)
         };
-        let number = number.to_string(alloc)?;
-        let steps = steps.replace(alloc, "#", number.as_str())?;
-        play_steps(rt, alloc, player, steps.as_str())?;
+        let steps = filled(rt, alloc, steps, number);
+        play_steps(rt, alloc, player, steps.as_str());
     }
-    Ok(())
 }
 
-fn play_steps<P: Player>(
-    rt: &impl Abort,
-    alloc: Global,
-    player: &mut P,
-    steps: &str,
-) -> Result<(), AllocError> {
+// The steps with the number in place of each `#`.
+fn filled(rt: &impl Abort, alloc: Global, steps: &str, number: u64) -> String {
+    let number = told(rt, alloc, number);
+    let mut filled = String::new(alloc);
+    for (place, part) in steps.split('#').enumerate() {
+        if place > 0 {
+            filled.push_str(number.as_str()).expect(rt, "no memory");
+        }
+        filled.push_str(part).expect(rt, "no memory");
+    }
+    filled
+}
+
+fn play_steps<P: Player>(rt: &impl Abort, alloc: Global, player: &mut P, steps: &str) {
     for step in steps.split("; ") {
         let (words, expected) = step.split_once(" => ").unwrap_or((step, "an answer"));
-        let answer = answer_to(rt, alloc, player, words)?;
-        compare(rt, step, answer.as_str(), expected);
+        let answer = answer_to(rt, alloc, player, words);
+        compare(rt, step, answer, expected);
     }
-    Ok(())
 }
 
-fn compare(rt: &impl Abort, step: &str, answer: &str, expected: &str) {
-    assert!(rt; answer == expected, "{step}, not {answer}");
-}
-
-fn answer_to<P: Player>(
-    rt: &impl Abort,
-    alloc: Global,
-    player: &mut P,
-    words: &str,
-) -> Result<String, AllocError> {
+fn answer_to<P: Player>(rt: &impl Abort, alloc: Global, player: &mut P, words: &str) -> String {
     let (call, rest) = words.split_once(' ').unwrap_or((words, ""));
+    let numbers = numbers(rt, alloc, rest);
+    player.answer(rt, alloc, call, numbers.as_slice())
+}
+
+fn numbers(rt: &impl Abort, alloc: Global, words: &str) -> Vec<u64> {
     let mut numbers = Vec::new(alloc);
-    for word in rest.split_whitespace() {
-        numbers.push(number(rt, word))?;
+    for word in words.split_whitespace() {
+        numbers.push(number(rt, word)).expect(rt, "no memory");
     }
-    let mut answer = String::new(alloc);
-    player.answer(alloc, call, numbers.as_slice(), &mut answer)?;
-    Ok(answer)
+    numbers
 }
 
 fn number(rt: &impl Abort, word: &str) -> u64 {
-    match word.parse::<u64>() {
-        Ok(number) => number,
-        Err(_) => panic!(rt; "no number"),
+    word.parse::<u64>().expect(rt, "no number")
+}
+
+fn number_at(rt: &impl Abort, numbers: &[u64], place: usize) -> u64 {
+    numbers.get(place).copied().expect(rt, "too few numbers")
+}
+
+// That a step has its answer. The message isn't formatted, which would cost the prover much.
+fn compare(rt: &impl Abort, step: &str, answer: String, expected: &str) {
+    if answer.as_str() != expected {
+        let mut told = answer;
+        told.push_str(" was answered, not ").expect(rt, step);
+        told.push_str(step).expect(rt, step);
+        rt.panic(told.as_str());
     }
 }
 
-// Every answer is written as its Debug form.
-fn tell<T: Debug>(value: &T, answer: &mut String) -> Result<(), AllocError> {
-    write!(answer, "{value:?}")
-}
-
-fn tell_whether<F: Debug + Drop>(
-    done: Result<(), F>,
-    answer: &mut String,
-) -> Result<(), AllocError> {
-    match done {
-        Ok(()) => answer.push_str("ok"),
-        Err(fault) => tell(&fault, answer),
-    }
+fn told<T: Debug + Drop>(rt: &impl Abort, alloc: Global, value: T) -> String {
+    format!(in alloc; "{value:?}").expect(rt, "no memory")
 }

@@ -1,76 +1,54 @@
-// Of `method_table`: a code is its slot and its serial.
-use super::{Player, play, tell, tell_whether};
-use frames::CodeId;
+// Of `method_table`.
+use super::{Player, number_at, play, told};
 use method_table::CodeState;
-use method_table::table::{InstallFault, Installed, MethodTable};
-use std::alloc::{AllocError, Global};
+use method_table::table::{InstallFault, MethodTable};
+use std::alloc::Global;
 use std::process::Abort;
-use std::test::Fail;
 
 impl Player for MethodTable {
-    fn answer(
-        &mut self,
-        _alloc: Global,
-        call: &str,
-        numbers: &[u64],
-        answer: &mut String,
-    ) -> Result<(), AllocError> {
-        match (call, numbers) {
-            ("install", [method]) => match self.install(*method) {
-                Ok(made) => tell_installed(made, answer),
-                Err(fault) => tell(&fault, answer),
-            },
-            ("invalidate", [serial]) => tell_whether(self.invalidate(*serial), answer),
-            ("retire", [serial]) => tell_whether(self.retire(*serial), answer),
-            ("free", [serial]) => tell_whether(self.free(*serial), answer),
-            _ => tell_look(self, call, numbers, answer),
+    fn answer<R: Abort>(&mut self, rt: &R, alloc: Global, call: &str, numbers: &[u64]) -> String {
+        if numbers.is_empty() {
+            return told_of_sizes(rt, alloc, self, call);
+        }
+        let number = number_at(rt, numbers, 0);
+        match call {
+            "install" => told(rt, alloc, self.install(number)),
+            "invalidate" => told(rt, alloc, self.invalidate(number)),
+            "retire" => told(rt, alloc, self.retire(number)),
+            "free" => told(rt, alloc, self.free(number)),
+            "entry" => told(rt, alloc, self.entry(number, number_at(rt, numbers, 1))),
+            _ => told_by(rt, alloc, self, call, number),
         }
     }
 }
 
-// What calls answer that change nothing.
-fn tell_look(
-    table: &MethodTable,
-    call: &str,
-    numbers: &[u64],
-    answer: &mut String,
-) -> Result<(), AllocError> {
-    match (call, numbers) {
-        ("slots", []) => tell(&table.slots(), answer),
-        ("methods", []) => tell(&table.methods(), answer),
-        ("refusal", [method]) => tell(&table.refusal(*method), answer),
-        ("state", [serial]) => tell(&table.state(*serial), answer),
-        ("current", [method]) => tell_code(table.current(*method), answer),
-        ("find", [serial]) => tell(&table.find(*serial), answer),
-        ("entry", [method, serial]) => tell(&table.entry(*method, *serial), answer),
-        _ => answer.push_str("no such call"),
+fn told_of_sizes(rt: &impl Abort, alloc: Global, table: &MethodTable, call: &str) -> String {
+    match call {
+        "slots" => told(rt, alloc, table.slots()),
+        "methods" => told(rt, alloc, table.methods()),
+        _ => panic!(rt; "no such call"),
     }
 }
 
-fn tell_installed(made: Installed, answer: &mut String) -> Result<(), AllocError> {
-    tell_code(Some(made.code), answer)?;
-    if made.replaced.is_some() {
-        answer.push_str(" for ")?;
-        tell_code(made.replaced, answer)?;
-    }
-    Ok(())
-}
-
-fn tell_code(code: Option<CodeId>, answer: &mut String) -> Result<(), AllocError> {
-    match code {
-        Some(code) => tell(&(code.slot, code.serial), answer),
-        None => answer.push_str("none"),
+// What is said of a method or of a serial.
+fn told_by(rt: &impl Abort, alloc: Global, table: &MethodTable, call: &str, number: u64) -> String {
+    match call {
+        "refusal" => told(rt, alloc, table.refusal(number)),
+        "current" => told(rt, alloc, table.current(number)),
+        "state" => told(rt, alloc, table.state(number)),
+        "find" => told(rt, alloc, table.find(number)),
+        _ => panic!(rt; "no such call"),
     }
 }
 
 // Plays on an empty table with so many slots and methods.
-fn play_on_table(rt: &impl Abort, alloc: Global, slots: u32, methods: u32, rows: &str) -> Result<(), AllocError> {
-    let mut table = MethodTable::new(alloc, slots, methods)?;
-    play(rt, alloc, &mut table, rows)
+fn play_on_table(rt: &impl Abort, alloc: Global, slots: u32, methods: u32, rows: &str) {
+    let mut table = MethodTable::new(alloc, slots, methods).expect(rt, "no memory");
+    play(rt, alloc, &mut table, rows);
 }
 
 #[test]
-fn installs_take_the_least_free_slot(rt: HostRuntime) -> Result<(), Fail> {
+fn installs_take_the_least_free_slot(rt: HostRuntime) {
     // Of the slots, one was never used when code 3 is installed, but the freed one is less.
     play_on_table(
         &rt,
@@ -78,17 +56,22 @@ fn installs_take_the_least_free_slot(rt: HostRuntime) -> Result<(), Fail> {
         3,
         4,
         "\
-slots => 3; methods => 4; install 0 => (0, 1); install 1 => (1, 2)
-invalidate 1 => ok; retire 1 => ok; free 1 => ok
-install 2 => (0, 3); install 3 => (2, 4); install 0 => TableFull
-invalidate 4 => ok; retire 4 => ok; free 4 => ok; invalidate 2 => ok; retire 2 => ok; free 2 => ok
-install 3 => (1, 5); install 1 => (2, 6); install 0 => TableFull",
-    )?;
-    Ok(())
+slots => 3; methods => 4
+install 0 => Ok(Installed { code: CodeId { slot: 0, serial: 1 }, replaced: None })
+install 1 => Ok(Installed { code: CodeId { slot: 1, serial: 2 }, replaced: None })
+invalidate 1 => Ok(()); retire 1 => Ok(()); free 1 => Ok(())
+install 2 => Ok(Installed { code: CodeId { slot: 0, serial: 3 }, replaced: None })
+install 3 => Ok(Installed { code: CodeId { slot: 2, serial: 4 }, replaced: None })
+install 0 => Err(TableFull)
+invalidate 4 => Ok(()); retire 4 => Ok(()); free 4 => Ok(()); invalidate 2 => Ok(()); retire 2 => Ok(()); free 2 => Ok(())
+install 3 => Ok(Installed { code: CodeId { slot: 1, serial: 5 }, replaced: None })
+install 1 => Ok(Installed { code: CodeId { slot: 2, serial: 6 }, replaced: None })
+install 0 => Err(TableFull)",
+    );
 }
 
 #[test]
-fn installs_are_refused_in_order(rt: HostRuntime) -> Result<(), Fail> {
+fn installs_are_refused_in_order(rt: HostRuntime) {
     // A method that there isn't is named first, though the table is full too. A refusal leaves the code that would be replaced in use,
     // and neither code that is not entrant nor a zombie gives its slot back.
     play_on_table(
@@ -97,50 +80,57 @@ fn installs_are_refused_in_order(rt: HostRuntime) -> Result<(), Fail> {
         1,
         2,
         "\
-install 2 => NoSuchMethod; install 0 => (0, 1)
-install 18446744073709551615 => NoSuchMethod; install 1 => TableFull
-install 0 => TableFull; state 1 => Some(InUse); invalidate 1 => ok
-install 0 => TableFull; retire 1 => ok; install 0 => TableFull; free 1 => ok; install 0 => (0, 2)",
-    )?;
-    Ok(())
+install 2 => Err(NoSuchMethod)
+install 0 => Ok(Installed { code: CodeId { slot: 0, serial: 1 }, replaced: None })
+install 18446744073709551615 => Err(NoSuchMethod); install 1 => Err(TableFull)
+install 0 => Err(TableFull); state 1 => Some(InUse); invalidate 1 => Ok(())
+install 0 => Err(TableFull); retire 1 => Ok(()); install 0 => Err(TableFull); free 1 => Ok(())
+install 0 => Ok(Installed { code: CodeId { slot: 0, serial: 2 }, replaced: None })",
+    );
 }
 
 #[test]
-fn a_new_code_replaces_the_one_in_use(rt: HostRuntime) -> Result<(), Fail> {
+fn a_new_code_replaces_the_one_in_use(rt: HostRuntime) {
     play_on_table(
         &rt,
         rt.alloc(),
         3,
         2,
         "\
-install 0 => (0, 1); install 1 => (1, 2); install 0 => (2, 3) for (0, 1); current 0 => (2, 3)
-state 1 => Some(NotEntrant); state 2 => Some(InUse); invalidate 1 => NotInUse
-entry 0 1 => Some(WrongMethod); entry 0 3 => Some(Enters(CodeId { slot: 2, serial: 3 }))
-install 0 => TableFull; current 0 => (2, 3); retire 1 => ok; free 1 => ok; install 0 => (0, 4) for (2, 3)",
-    )?;
-    Ok(())
+install 0 => Ok(Installed { code: CodeId { slot: 0, serial: 1 }, replaced: None })
+install 1 => Ok(Installed { code: CodeId { slot: 1, serial: 2 }, replaced: None })
+install 0 => Ok(Installed { code: CodeId { slot: 2, serial: 3 }, replaced: Some(CodeId { slot: 0, serial: 1 }) })
+current 0 => Some(CodeId { slot: 2, serial: 3 })
+state 1 => Some(NotEntrant); state 2 => Some(InUse); invalidate 1 => Err(NotInUse)
+entry 0 1 => Some(WrongMethod)
+entry 0 3 => Some(Enters(CodeId { slot: 2, serial: 3 }))
+install 0 => Err(TableFull)
+current 0 => Some(CodeId { slot: 2, serial: 3 })
+retire 1 => Ok(()); free 1 => Ok(())
+install 0 => Ok(Installed { code: CodeId { slot: 0, serial: 4 }, replaced: Some(CodeId { slot: 2, serial: 3 }) })",
+    );
 }
 
 #[test]
-fn states_only_go_forward(rt: HostRuntime) -> Result<(), Fail> {
+fn states_only_go_forward(rt: HostRuntime) {
     play_on_table(
         &rt,
         rt.alloc(),
         2,
         2,
         "\
-state 1 => None; invalidate 1 => Unknown; retire 1 => Unknown; free 1 => Unknown; install 1 => (0, 1)
+state 1 => None; invalidate 1 => Err(Unknown); retire 1 => Err(Unknown); free 1 => Err(Unknown)
+install 1 => Ok(Installed { code: CodeId { slot: 0, serial: 1 }, replaced: None })
 state 0 => None; state 1 => Some(InUse); state 2 => None; state 18446744073709551615 => None
-retire 1 => NotNotEntrant; free 1 => NotZombie; invalidate 1 => ok
-state 1 => Some(NotEntrant); invalidate 1 => NotInUse; free 1 => NotZombie; retire 1 => ok
-state 1 => Some(Zombie); invalidate 1 => NotInUse; retire 1 => NotNotEntrant; free 1 => ok
-state 1 => Some(Freed); invalidate 1 => Unknown; retire 1 => Unknown; free 1 => Unknown",
-    )?;
-    Ok(())
+retire 1 => Err(NotNotEntrant); free 1 => Err(NotZombie); invalidate 1 => Ok(())
+state 1 => Some(NotEntrant); invalidate 1 => Err(NotInUse); free 1 => Err(NotZombie); retire 1 => Ok(())
+state 1 => Some(Zombie); invalidate 1 => Err(NotInUse); retire 1 => Err(NotNotEntrant); free 1 => Ok(())
+state 1 => Some(Freed); invalidate 1 => Err(Unknown); retire 1 => Err(Unknown); free 1 => Err(Unknown)",
+    );
 }
 
 #[test]
-fn codes_are_found_until_they_are_freed(rt: HostRuntime) -> Result<(), Fail> {
+fn codes_are_found_until_they_are_freed(rt: HostRuntime) {
     // At last the slot of the freed code has another one.
     play_on_table(
         &rt,
@@ -148,16 +138,18 @@ fn codes_are_found_until_they_are_freed(rt: HostRuntime) -> Result<(), Fail> {
         2,
         2,
         "\
-install 0 => (0, 1); install 1 => (1, 2); invalidate 1 => ok
+install 0 => Ok(Installed { code: CodeId { slot: 0, serial: 1 }, replaced: None })
+install 1 => Ok(Installed { code: CodeId { slot: 1, serial: 2 }, replaced: None })
+invalidate 1 => Ok(())
 find 1 => Some(Code { serial: 1, slot: 0, method: 0, state: NotEntrant })
-retire 1 => ok; free 1 => ok; find 1 => None; find 3 => None
-install 0 => (0, 3); find 1 => None; state 1 => Some(Freed)",
-    )?;
-    Ok(())
+retire 1 => Ok(()); free 1 => Ok(()); find 1 => None; find 3 => None
+install 0 => Ok(Installed { code: CodeId { slot: 0, serial: 3 }, replaced: None })
+find 1 => None; state 1 => Some(Freed)",
+    );
 }
 
 #[test]
-fn calls_enter_code_in_use_of_their_method(rt: HostRuntime) -> Result<(), Fail> {
+fn calls_enter_code_in_use_of_their_method(rt: HostRuntime) {
     // A call of code that is not entrant is sent away. One of the method's next code enters it, and one of the first is sent away for good.
     play_on_table(
         &rt,
@@ -165,14 +157,18 @@ fn calls_enter_code_in_use_of_their_method(rt: HostRuntime) -> Result<(), Fail> 
         4,
         2,
         "\
-current 0 => none; install 0 => (0, 1); current 0 => (0, 1)
-entry 0 1 => Some(Enters(CodeId { slot: 0, serial: 1 })); entry 1 1 => Some(NotOf); entry 0 2 => None; entry 0 0 => None
-invalidate 1 => ok; current 0 => none; entry 0 1 => Some(WrongMethod); entry 1 1 => Some(WrongMethod)
-install 0 => (1, 2); current 0 => (1, 2); current 2 => none
-retire 1 => ok; entry 0 1 => Some(WrongMethod); free 1 => ok; entry 0 1 => Some(WrongMethod)
+current 0 => None
+install 0 => Ok(Installed { code: CodeId { slot: 0, serial: 1 }, replaced: None })
+current 0 => Some(CodeId { slot: 0, serial: 1 })
+entry 0 1 => Some(Enters(CodeId { slot: 0, serial: 1 }))
+entry 1 1 => Some(NotOf); entry 0 2 => None; entry 0 0 => None
+invalidate 1 => Ok(()); current 0 => None; entry 0 1 => Some(WrongMethod); entry 1 1 => Some(WrongMethod)
+install 0 => Ok(Installed { code: CodeId { slot: 1, serial: 2 }, replaced: None })
+current 0 => Some(CodeId { slot: 1, serial: 2 })
+current 2 => None
+retire 1 => Ok(()); entry 0 1 => Some(WrongMethod); free 1 => Ok(()); entry 0 1 => Some(WrongMethod)
 entry 0 2 => Some(Enters(CodeId { slot: 1, serial: 2 }))",
-    )?;
-    Ok(())
+    );
 }
 
 // Four codes of each method. From the second round on each takes the place of the one before it.
@@ -189,19 +185,20 @@ fn fill(rt: &impl Abort, table: &mut MethodTable) {
 
 // The most codes that may be there at once: as many as slots, four of each method.
 #[test]
-fn the_greatest_table_fills(rt: HostRuntime) -> Result<(), Fail> {
-    let mut table = MethodTable::new(rt.alloc(), 1024, 256)?;
+fn the_greatest_table_fills(rt: HostRuntime) {
+    let mut table = MethodTable::new(rt.alloc(), 1024, 256).expect(&rt, "no memory");
     fill(&rt, &mut table);
     play(
         &rt,
         rt.alloc(),
         &mut table,
         "\
-slots => 1024; methods => 256; invalidate 1024 => ok
-refusal 255 => Some(TableFull); install 255 => TableFull; refusal 256 => Some(NoSuchMethod)
-retire 300 => ok; free 300 => ok; refusal 255 => None; install 255 => (299, 1025); current 255 => (299, 1025)",
-    )?;
-    Ok(())
+slots => 1024; methods => 256; invalidate 1024 => Ok(())
+refusal 255 => Some(TableFull); install 255 => Err(TableFull); refusal 256 => Some(NoSuchMethod)
+retire 300 => Ok(()); free 300 => Ok(()); refusal 255 => None
+install 255 => Ok(Installed { code: CodeId { slot: 299, serial: 1025 }, replaced: None })
+current 255 => Some(CodeId { slot: 299, serial: 1025 })",
+    );
 }
 
 // Passes whichever allocation fails: an install that lacked memory changed nothing, and is made again.

@@ -1,13 +1,13 @@
-// Of `operations`: what is asked, requests that wait, and jobs.
+// Of `operations`: requests that wait, asks and jobs.
 ghost use Rattle.std.specs.Prelude.{◌≡◌, length};
 ghost use Rattle.frames.specs.ImageView.{IsSettled};
 
-use super::{Player, play, tell};
+use super::{Player, number_at, play, told};
 use frames::image::Image;
 use operations::job::{Call, Done, Errand, Job};
 use operations::queue::{Queue, QueueFault, Unqueued, Waiting};
-use operations::{Ask, Request, Targets};
-use std::alloc::{AllocError, Global};
+use operations::{Ask, Kind, Request, Targets};
+use std::alloc::Global;
 use std::process::Abort;
 use std::sync::Arc;
 use std::sync::atomic::{AtomicU64, Ordering};
@@ -20,164 +20,180 @@ struct Asking {
     names: Vec<u64>,
 }
 
-impl Asking {
-    fn new(alloc: Global) -> Asking {
-        Asking {
-            queue: Queue::new(alloc),
-            names: Vec::new(alloc),
-        }
-    }
-
-    // The handshake of the names.
-    fn handshake(&self, alloc: Global) -> Result<Request, AllocError> {
-        let names = Vec::from_slice(alloc, self.names.as_slice())?;
-        Ok(Request::Handshake {
-            targets: Targets::from_vec(names),
-            ask: Ask::Top,
-        })
-    }
-}
-
 impl Player for Asking {
-    fn answer(
-        &mut self,
-        alloc: Global,
-        call: &str,
-        numbers: &[u64],
-        answer: &mut String,
-    ) -> Result<(), AllocError> {
-        match (call, numbers) {
-            ("names", names) => {
+    fn answer<R: Abort>(&mut self, rt: &R, alloc: Global, call: &str, numbers: &[u64]) -> String {
+        match call {
+            "names" => {
                 self.names.clear();
-                self.names.extend_from_slice(names)?;
-                answer.push_str("ok")
+                told(rt, alloc, add_names(rt, &mut self.names, numbers))
             }
-            ("name", [name]) => {
-                self.names.push(*name)?;
-                answer.push_str("ok")
+            "name" => told(rt, alloc, add_names(rt, &mut self.names, numbers)),
+            "handshake" => {
+                let request = handshake(rt, alloc, &self.names);
+                pushed(rt, alloc, &mut self.queue, request, numbers)
             }
-            ("handshake", [number, load]) => {
-                let request = self.handshake(alloc)?;
-                tell_pushed(self.queue.push(*number, request, *load), answer)
+            "census" => pushed(rt, alloc, &mut self.queue, Request::Census, numbers),
+            "pop" => popped(rt, alloc, &mut self.queue),
+            "refusal" => {
+                let request = handshake(rt, alloc, &self.names);
+                told(rt, alloc, self.queue.refusal(&request))
             }
-            ("census", [number, load]) => {
-                tell_pushed(self.queue.push(*number, Request::Census, *load), answer)
+            "copy_of_census" => copied(rt, alloc, &Request::Census),
+            "has_targets" | "are_targets" | "is_target" | "copy" => {
+                told_of_request(rt, alloc, &handshake(rt, alloc, &self.names), call, numbers)
             }
-            ("pop", []) => tell_popped(self.queue.pop(), answer),
-            ("front", []) => tell_front(&self.queue, answer),
-            ("len", []) => tell(&self.queue.len(), answer),
-            ("empty", []) => tell(&self.queue.is_empty(), answer),
-            ("full", []) => tell(&self.queue.is_full(), answer),
-            _ => self.tell_handshake(alloc, call, numbers, answer),
+            _ => told_of_queue(rt, alloc, &self.queue, call),
         }
     }
 }
 
-impl Asking {
-    // What is said of the handshake of the names.
-    fn tell_handshake(
-        &self,
-        alloc: Global,
-        call: &str,
-        numbers: &[u64],
-        answer: &mut String,
-    ) -> Result<(), AllocError> {
-        let request = self.handshake(alloc)?;
-        match (call, numbers) {
-            ("refusal", []) => tell(&self.queue.refusal(&request), answer),
-            ("has_targets", []) => tell(&request.has_targets(), answer),
-            ("are_targets", []) => tell(&request.are_targets(), answer),
-            ("is_target", [name]) => tell(&request.is_target(*name), answer),
-            ("copy", []) => tell_request(request.copied(alloc)?, answer),
-            ("copy_of_census", []) => tell_request(Request::Census.copied(alloc)?, answer),
-            _ => answer.push_str("no such call"),
-        }
+fn add_names(rt: &impl Abort, names: &mut Vec<u64>, more: &[u64]) {
+    names.extend_from_slice(more).expect(rt, "no memory");
+}
+
+fn handshake(rt: &impl Abort, alloc: Global, names: &[u64]) -> Request {
+    let names = Vec::from_slice(alloc, names).expect(rt, "no memory");
+    Request::Handshake {
+        targets: Targets::from_vec(names),
+        ask: Ask::Top,
     }
 }
 
-// A request that is refused comes back with its load.
-fn tell_pushed(
-    pushed: Result<(), Unqueued<u64>>,
-    answer: &mut String,
-) -> Result<(), AllocError> {
-    match pushed {
-        Ok(()) => answer.push_str("ok"),
-        Err(back) => {
-            tell(&(back.fault, back.load), answer)?;
-            tell_request(back.request, answer)
-        }
-    }
-}
-
-fn tell_popped(popped: Option<Waiting<u64>>, answer: &mut String) -> Result<(), AllocError> {
-    match popped {
-        Some(oldest) => {
-            tell(&(oldest.number, oldest.load), answer)?;
-            tell_request(oldest.request, answer)
-        }
-        None => answer.push_str("none"),
-    }
-}
-
-fn tell_request(request: Request, answer: &mut String) -> Result<(), AllocError> {
+// What a handshake asks, and of whom.
+fn asked(rt: &impl Abort, alloc: Global, request: Request) -> String {
     match request {
-        Request::Handshake { targets, ask } => {
-            tell(&ask, answer)?;
-            tell(&targets.into_vec(), answer)
-        }
-        Request::Census => answer.push_str("Census"),
+        Request::Handshake { targets, ask } => told(rt, alloc, (ask, targets.into_vec())),
+        Request::Census => told(rt, alloc, Kind::Census),
     }
 }
 
-fn tell_front(queue: &Queue<u64>, answer: &mut String) -> Result<(), AllocError> {
-    match queue.front() {
-        Some(oldest) => tell(&(oldest.number, oldest.request.kind()), answer),
-        None => answer.push_str("none"),
+// Pushes the request under a number, with a load. One that is refused comes back with its load.
+fn pushed(
+    rt: &impl Abort,
+    alloc: Global,
+    queue: &mut Queue<u64>,
+    request: Request,
+    numbers: &[u64],
+) -> String {
+    let number = number_at(rt, numbers, 0);
+    let load = number_at(rt, numbers, 1);
+    match queue.push(number, request, load) {
+        Ok(()) => told(rt, alloc, ()),
+        Err(back) => told_of_unqueued(rt, alloc, back),
     }
 }
 
-fn play_on_queue(rt: &impl Abort, alloc: Global, rows: &str) -> Result<(), AllocError> {
-    let mut asking = Asking::new(alloc);
-    play(rt, alloc, &mut asking, rows)
+fn told_of_unqueued(rt: &impl Abort, alloc: Global, back: Unqueued<u64>) -> String {
+    let Unqueued {
+        fault,
+        request,
+        load,
+    } = back;
+    let fault = told(rt, alloc, (fault, load));
+    joined(rt, fault, asked(rt, alloc, request).as_str())
+}
+
+fn popped(rt: &impl Abort, alloc: Global, queue: &mut Queue<u64>) -> String {
+    match queue.pop() {
+        Some(oldest) => told_of_waiting(rt, alloc, oldest),
+        None => told(rt, alloc, ()),
+    }
+}
+
+fn told_of_waiting(rt: &impl Abort, alloc: Global, oldest: Waiting<u64>) -> String {
+    let Waiting {
+        number,
+        request,
+        load,
+    } = oldest;
+    let number = told(rt, alloc, (number, load));
+    joined(rt, number, asked(rt, alloc, request).as_str())
+}
+
+fn joined(rt: &impl Abort, start: String, end: &str) -> String {
+    let mut both = start;
+    both.push_str(" ").expect(rt, "no memory");
+    both.push_str(end).expect(rt, "no memory");
+    both
+}
+
+fn copied(rt: &impl Abort, alloc: Global, request: &Request) -> String {
+    asked(rt, alloc, request.copied(alloc).expect(rt, "no memory"))
+}
+
+fn told_of_request(
+    rt: &impl Abort,
+    alloc: Global,
+    request: &Request,
+    call: &str,
+    numbers: &[u64],
+) -> String {
+    match call {
+        "has_targets" => told(rt, alloc, request.has_targets()),
+        "are_targets" => told(rt, alloc, request.are_targets()),
+        "is_target" => told(rt, alloc, request.is_target(number_at(rt, numbers, 0))),
+        _ => copied(rt, alloc, request),
+    }
+}
+
+fn told_of_queue(rt: &impl Abort, alloc: Global, queue: &Queue<u64>, call: &str) -> String {
+    match call {
+        "front" => told(rt, alloc, oldest(queue)),
+        "len" => told(rt, alloc, queue.len()),
+        "empty" => told(rt, alloc, queue.is_empty()),
+        "full" => told(rt, alloc, queue.is_full()),
+        _ => panic!(rt; "no such call"),
+    }
+}
+
+fn oldest(queue: &Queue<u64>) -> Option<(u64, Kind)> {
+    let oldest = queue.front()?;
+    Some((oldest.number, oldest.request.kind()))
+}
+
+fn play_on_queue(rt: &impl Abort, alloc: Global, rows: &str) {
+    let mut asking = Asking {
+        queue: Queue::new(alloc),
+        names: Vec::new(alloc),
+    };
+    play(rt, alloc, &mut asking, rows);
 }
 
 #[test]
-fn sixty_four_wait_and_leave_in_order(rt: HostRuntime) -> Result<(), Fail> {
+fn sixty_four_wait_and_leave_in_order(rt: HostRuntime) {
     // A full queue comes before each other cause.
     play_on_queue(
         &rt,
         rt.alloc(),
         "\
 empty => true
-1 to 64 | full => false; names # => ok; handshake # 7# => ok
-full => true; empty => false; len => 64; names => ok; refusal => Some(QueueFull)
-handshake 65 8 => (QueueFull, 8)Top[]
-census 65 9 => (QueueFull, 9)Census
-front => (1, Handshake); len => 64
-1 to 64 | pop => (#, 7#)Top[#]
-pop => none; front => none; census 65 10 => ok; front => (65, Census)",
-    )?;
-    Ok(())
+1 to 64 | full => false; names # => (); handshake # 7# => ()
+full => true; empty => false; len => 64; names => (); refusal => Some(QueueFull)
+handshake 65 8 => (QueueFull, 8) (Top, [])
+census 65 9 => (QueueFull, 9) Census
+front => Some((1, Handshake)); len => 64
+1 to 64 | pop => (#, 7#) (Top, [#])
+pop => (); front => None; census 65 10 => (); front => Some((65, Census))",
+    );
 }
 
 #[test]
-fn bad_targets_come_back(rt: HostRuntime) -> Result<(), Fail> {
+fn bad_targets_come_back(rt: HostRuntime) {
     play_on_queue(
         &rt,
         rt.alloc(),
         "\
-names => ok; copy => Top[]; has_targets => false; refusal => Some(NoTargets)
-handshake 1 4 => (NoTargets, 4)Top[]
-names 7 7 => ok; are_targets => false; refusal => Some(BadTargets)
-handshake 1 4 => (BadTargets, 4)Top[7, 7]
-names 3 1 2 => ok; copy => Top[3, 1, 2]; copy_of_census => Census
-names 7 8 9 7 => ok; refusal => Some(BadTargets); is_target 9 => true; is_target 10 => false
-names => ok
-1 to 64 | name # => ok; is_target # => true
-has_targets => true; are_targets => true; refusal => None; handshake 1 4 => ok; len => 1
-name 65 => ok; are_targets => false; refusal => Some(BadTargets); len => 1",
-    )?;
-    Ok(())
+names => (); copy => (Top, []); has_targets => false; refusal => Some(NoTargets)
+handshake 1 4 => (NoTargets, 4) (Top, [])
+names 7 7 => (); are_targets => false; refusal => Some(BadTargets)
+handshake 1 4 => (BadTargets, 4) (Top, [7, 7])
+names 3 1 2 => (); copy => (Top, [3, 1, 2]); copy_of_census => Census
+names 7 8 9 7 => (); refusal => Some(BadTargets); is_target 9 => true; is_target 10 => false
+names => ()
+1 to 64 | name # => (); is_target # => true
+has_targets => true; are_targets => true; refusal => None; handshake 1 4 => (); len => 1
+name 65 => (); are_targets => false; refusal => Some(BadTargets); len => 1",
+    );
 }
 
 // Passes whichever allocation fails: what isn't queued comes back, and can be queued again.
@@ -197,15 +213,18 @@ fn want_of_memory_hands_back(rt: HostRuntime) {
 }
 
 // The frames 0:1, 1:i, 0:1, published.
-fn three_frames(rt: &impl Abort, alloc: Global) -> Result<Image, AllocError> {
-    let mut image = Image::new(alloc)?;
+fn three_frames(rt: &impl Abort, alloc: Global) -> Image {
+    let mut image = Image::new(alloc).expect(rt, "no memory");
     play(
         rt,
         alloc,
         &mut image,
-        "push 0 0 1 => ok; push 1 => ok; push 0 0 1 => ok; begin => ok; next => (0, 1, 2); end => ok",
-    )?;
-    Ok(image)
+        "\
+push 0 0 1 => Ok(()); push 1 => Ok(()); push 0 0 1 => Ok(()); begin => Ok(())
+next => Some(Change { code: CodeId { slot: 0, serial: 1 }, by: 2 })
+end => Ok(())",
+    );
+    image
 }
 
 fn are_replies(rt: &impl Abort, image: &Image, replies: [u64; 4]) {
@@ -217,12 +236,11 @@ fn are_replies(rt: &impl Abort, image: &Image, replies: [u64; 4]) {
 }
 
 #[test]
-fn asks_are_answered(rt: HostRuntime) -> Result<(), Fail> {
-    let mut image = three_frames(&rt, rt.alloc())?;
+fn asks_are_answered(rt: HostRuntime) {
+    let mut image = three_frames(&rt, rt.alloc());
     are_replies(&rt, &image, [3, 2, 0, 1]);
     assert!(rt; image.pop().is_ok());
     are_replies(&rt, &image, [2, 1, 0, 0]);
-    Ok(())
 }
 
 // Runs an errand under another number. It knows the trait alone.
@@ -238,7 +256,7 @@ fn run_errand<J: Errand>(rt: &impl Abort, errand: J, image: &Image) -> Done
 
 #[test]
 fn a_callback_keeps_what_it_captured(rt: HostRuntime) -> Result<(), Fail> {
-    let image = three_frames(&rt, rt.alloc())?;
+    let image = three_frames(&rt, rt.alloc());
     assert!(rt; image.is_settled());
     let calls = Arc::new(rt.alloc(), AtomicU64::new(0))?;
     let theirs = Arc::try_clone(&calls)?;

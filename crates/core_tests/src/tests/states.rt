@@ -1,6 +1,7 @@
 // Of `thread_state`.
-use std::alloc::AllocError;
-use std::fmt::Write;
+use super::compare;
+use std::alloc::{AllocError, Global};
+use std::fmt::{Display, Write};
 use std::process::Abort;
 use std::test::Fail;
 use thread_state::Back::{Java, Vm};
@@ -63,29 +64,28 @@ fn states_are_those_of_the_table(rt: HostRuntime) -> Result<(), Fail> {
     let mut rows = TABLE.lines();
     for state in STATES {
         let mut row = state.to_string(rt.alloc())?;
-        tell_allowed(state, &mut row)?;
+        tell_allowed(&rt, state, &mut row);
         tell_moves(state, &mut row)?;
         tell_polls(state, &mut row)?;
         let expected = rows.next().unwrap_or("no row");
-        assert!(rt; row.as_str() == expected, "{row}, not {expected}");
+        compare(&rt, expected, row, expected);
     }
     Ok(())
 }
 
-fn tell_allowed(state: State, row: &mut String) -> Result<(), AllocError> {
-    for (allowed, word) in [
-        (is_safe(state), " safe"),
-        (may_publish(state), " publishes"),
-        (may_cross(state), " crosses"),
-        (is_in_java(state), " in_java"),
-        (is_in_vm(state), " in_vm"),
-        (is_serving(state), " serves"),
-    ] {
-        if allowed {
-            row.push_str(word)?;
-        }
+fn tell_allowed(rt: &impl Abort, state: State, row: &mut String) {
+    tell_if(rt, is_safe(state), " safe", row);
+    tell_if(rt, may_publish(state), " publishes", row);
+    tell_if(rt, may_cross(state), " crosses", row);
+    tell_if(rt, is_in_java(state), " in_java", row);
+    tell_if(rt, is_in_vm(state), " in_vm", row);
+    tell_if(rt, is_serving(state), " serves", row);
+}
+
+fn tell_if(rt: &impl Abort, allowed: bool, word: &str, row: &mut String) {
+    if allowed {
+        row.push_str(word).expect(rt, "no memory");
     }
-    Ok(())
 }
 
 fn tell_moves(state: State, row: &mut String) -> Result<(), AllocError> {
@@ -107,17 +107,16 @@ fn tell_polls(state: State, row: &mut String) -> Result<(), AllocError> {
 }
 
 #[test]
-fn what_is_illegal_is_written_with_its_state(rt: HostRuntime) -> Result<(), Fail> {
-    let alloc = rt.alloc();
-    match step(AtPoll(Java), Move::Wake) {
-        Ok(_) => panic!(rt; "a stopped thread woke"),
-        Err(fault) => assert!(rt; fault.to_string(alloc)?.as_str() == "Illegal AtPoll(Java)"),
-    }
-    match cross(Blocked, true) {
-        Ok(_) => panic!(rt; "a blocked thread polled"),
-        Err(fault) => assert!(rt; fault.to_string(alloc)?.as_str() == "Illegal Blocked"),
-    }
-    assert!(rt; Java.to_string(alloc)?.as_str() == "Java");
-    assert!(rt; Vm.to_string(alloc)?.as_str() == "Vm");
-    Ok(())
+fn what_is_illegal_is_written_with_its_state(rt: HostRuntime) {
+    let stopped = step(AtPoll(Java), Move::Wake).expect_err(&rt, "a stopped thread woke");
+    is_written(&rt, rt.alloc(), stopped, "Illegal AtPoll(Java)");
+    let blocked = cross(Blocked, true).expect_err(&rt, "a blocked thread polled");
+    is_written(&rt, rt.alloc(), blocked, "Illegal Blocked");
+    is_written(&rt, rt.alloc(), Java, "Java");
+    is_written(&rt, rt.alloc(), Vm, "Vm");
+}
+
+fn is_written<T: Display + Drop>(rt: &impl Abort, alloc: Global, value: T, expected: &str) {
+    let text = value.to_string(alloc).expect(rt, "no memory");
+    compare(rt, expected, text, expected);
 }
