@@ -29,8 +29,11 @@ MOST_GROWTHS = 2000
 QUIET_GROWTHS = 20
 
 THREADS = {
-    "poll": ["tests::no_arming_is_lost_to_a_clear", "tests::the_armer_is_in_another_thread"],
-    "board": ["tests::stopped::a_publication_is_looked_at_from_another_thread_at_each_boundary"],
+    "words_tests": [
+        "tests::poll_rows::no_arming_is_lost_to_a_clear",
+        "tests::poll_rows::the_armer_is_in_another_thread",
+        "tests::stopped::a_publication_is_looked_at_from_another_thread_at_each_boundary",
+    ],
     "thread_list_tests": ["tests::threads::four_threads_call_and_return"],
     "handshake_tests": [
         "tests::four::four_are_closed_over_two_running_threads",
@@ -56,8 +59,7 @@ MEMORY = {
         ]
     ],
     "script": [["tests::refused_memory_is_told"]],
-    "poll": [["tests::a_row_is_made_whole_or_not_at_all"]],
-    "board": [["tests::a_board_is_made_whole_or_not_at_all"]],
+    "words_tests": [["tests::poll_rows::a_row_is_made_whole_or_not_at_all"], ["tests::boards::a_board_is_made_whole_or_not_at_all"]],
     "reclaim_tests": [["tests::memory::what_lacks_memory_is_tried_again"]],
 }
 NONE_REFUSED = "no growth was refused"

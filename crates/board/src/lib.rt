@@ -12,8 +12,6 @@ mod keeper;
 mod law;
 mod note;
 mod rule;
-#[cfg(test)]
-mod tests;
 mod thread_seat;
 mod weighed;
 mod words;

@@ -8,8 +8,6 @@
 mod body;
 mod census;
 mod name;
-#[cfg(test)]
-mod tests;
 
 pub use body::{Body, Called, SpareSeat};
 pub use census::census_of;

@@ -3,8 +3,6 @@
 
 mod law;
 mod row;
-#[cfg(test)]
-mod tests;
 pub mod views;
 mod words;
 

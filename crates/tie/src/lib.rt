@@ -2,14 +2,10 @@
 //! running tables are proved, and each accepted event changes it by just the steps that those rules let a seat make.
 #![tactic(auto)]
 
-#[cfg(test)]
-mod beside_core;
 pub mod board_laws;
 pub mod board_samples;
 pub mod followed_runs;
 pub mod poll_row;
 pub mod poll_samples;
 pub mod step_laws;
-#[cfg(test)]
-mod tests;
 pub mod worked_runs;

@@ -1,0 +1,54 @@
+// What a call says: what the core says where it is asked the same.
+
+// A text, and a number where one goes with it.
+#[derive(Clone, Copy)]
+pub struct Said {
+    text: &'static str,
+    number: Option<u64>,
+}
+
+pub fn says(text: &'static str) -> Option<Said> {
+    Some(Said { text, number: None })
+}
+
+pub fn tells(text: &'static str, number: u64) -> Option<Said> {
+    Some(Said {
+        text,
+        number: Some(number),
+    })
+}
+
+// It says so where it was made.
+pub fn made(is_made: bool, text: &'static str) -> Option<Said> {
+    if is_made { says(text) } else { None }
+}
+
+// The number that the digits are.
+pub fn number_in(digits: &str) -> Option<u64> {
+    let mut number = 0u64;
+    for digit in digits.as_bytes() {
+        if !digit.is_ascii_digit() {
+            return None;
+        }
+        number = number
+            .wrapping_mul(10)
+            .wrapping_add(digit.wrapping_sub(b'0') as u64);
+    }
+    if digits.is_empty() {
+        None
+    } else {
+        Some(number)
+    }
+}
+
+impl Said {
+    pub fn is(&self, answer: &str) -> bool {
+        let Some(rest) = answer.strip_prefix(self.text) else {
+            return false;
+        };
+        match self.number {
+            Some(number) => number_in(rest) == Some(number),
+            None => rest.is_empty(),
+        }
+    }
+}

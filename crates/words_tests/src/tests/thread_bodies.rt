@@ -1,0 +1,135 @@
+// A thread's life in one body.
+ghost use Rattle.std.specs.Prelude.{◌≡◌, [], IfOk};
+ghost use Rattle.board.specs.Boards.{first_keeper, first_seat};
+ghost use Rattle.poll.specs.Rows.{first_poller, full_armer};
+ghost use Rattle.operations.specs.Asks.{reply};
+
+use board::{Board, Keeper, ThreadSeat};
+use bodies::{Body, Called, Name, SpareSeat};
+use frames::CodeId;
+use frames::image::Image;
+use operations::Ask;
+use operations::job::{Call, Errand, Job};
+use poll::{Armer, PollRow, Poller};
+use std::alloc::{AllocError, Global};
+use std::marker::Brand;
+use std::process::Abort;
+use std::test::*;
+
+const C: CodeId = CodeId { slot: 0, serial: 1 };
+
+// A board of one place and one slot.
+fn small_board(alloc: Global) -> Result<(Board, Keeper, ThreadSeat), AllocError>
+    ensures board { IfOk result (λ t. t.0.slots ≡ 1) }
+    ensures keeper { IfOk result (λ t. t.1 ≡ first_keeper t.0) }
+    ensures seat { IfOk result (λ t. t.2 ≡ first_seat t.0 0) }
+{
+    let (board, keeper, mut seats) = Board::new(alloc, 1, 1)?;
+    let seat = seats.swap_remove(0);
+    Ok((board, keeper, seat))
+}
+
+// A poll row of one place.
+fn small_row(alloc: Global) -> Result<(PollRow, Armer, Poller), AllocError>
+    ensures armer { IfOk result (λ t. t.1 ≡ full_armer t.0 1) }
+    ensures poller { IfOk result (λ t. t.2 ≡ first_poller t.0 0) }
+{
+    let (row, armer, mut pollers) = PollRow::new(alloc, 1)?;
+    let poller = pollers.swap_remove(0);
+    Ok((row, armer, poller))
+}
+
+// Leaves every method.
+fn return_all<N: Name>(body: &mut Body<N>)
+    ensures empty { body.new.image.frames ≡ [] }
+{
+    while body.depth() > 0 {
+        let _frame = body.ret();
+    }
+}
+
+// It publishes, and calls by a code and without one, and by the code once that is invalidated. Whether each call runs as it should.
+fn calls<N: Name>(board: &Board, keeper: &mut Keeper, body: &mut Body<N>) -> bool
+    requires board { board.now ≡ N.board }
+    requires slots { board.now.slots ≡ 1 }
+    requires keeper { keeper.old ≡ first_keeper board.now }
+    requires empty { body.old.image.frames ≡ [] }
+{
+    keeper.install(board, C);
+    body.publish(board);
+    let is_in = matches!(body.call(board, 0, Some(C)), Called::Compiled(1));
+    let is_out = matches!(body.call(board, 1, None), Called::Interpreted);
+    let is_deep = body.depth() == 2 && !body.is_settled();
+    keeper.invalidate(board, C);
+    let is_late = matches!(body.call(board, 0, Some(C)), Called::Interpreted);
+    is_in && is_out && is_deep && is_late
+}
+
+// It polls before and after its place is armed. Whether it finds nothing, and then the number.
+fn is_asked<N: Name>(row: &PollRow, armer: &mut Armer, body: &mut Body<N>) -> bool
+    requires row { row.now ≡ N.poll_row }
+    requires armer { armer.old ≡ full_armer row.now 1 }
+{
+    let first = body.poll(row);
+    armer.arm(row, 0, 1);
+    first == 0 && body.poll(row) == 1
+}
+
+// A thread publishes, calls by a code and without one, is asked, returns, and gives its place up.
+fn live<N: Name, J: Errand, R: Abort>(
+    rt: &R,
+    alloc: Global,
+    board: Board,
+    keeper: Keeper,
+    seat: ThreadSeat,
+    row: PollRow,
+    armer: Armer,
+    poller: Poller,
+    job: J,
+) -> Result<(), AllocError>
+    requires names { (board ≡ N.board) × (row ≡ N.poll_row) }
+    requires sizes { board.slots ≡ 1 }
+    requires seats { (keeper ≡ first_keeper board) × (seat ≡ first_seat board 0) }
+    requires pollers { (armer ≡ full_armer row 1) × (poller ≡ first_poller row 0) }
+{
+    let mut keeper = keeper;
+    let mut armer = armer;
+    let spare: SpareSeat<N> = SpareSeat::new(seat, poller);
+    let mut body = Body::new(7, Box::new(alloc, Image::new(alloc)?)?, spare);
+    assert!(rt; calls(&board, &mut keeper, &mut body));
+    assert!(rt; is_asked(&row, &mut armer, &mut body));
+    body.publish(&board);
+    assert!(rt; body.is_settled() && board.peek_count(0) == 1);
+    assert!(rt; body.run(job).reply() == 3);
+    assert!(rt; body.clear(&row, 1) && body.poll(&row) == 0);
+    return_all(&mut body);
+    body.publish(&board);
+    let spare = body.vacate(&board);
+    assert!(rt; spare.place() == 0 && board.peek_count(0) == 0);
+    Ok(())
+}
+
+#[test]
+fn a_thread_publishes_calls_serves_and_gives_its_place_up(rt: HostRuntime) -> Result<(), Fail> {
+    let (board, keeper, seat) = small_board(rt.alloc())?;
+    let (row, armer, poller) = small_row(rt.alloc())?;
+    let call: Call = Box::new(
+        rt.alloc(),
+        |image: &Image| -> u64
+            ensures { result ≡ reply Ask.Depth image.now.frames }
+        { image.depth() as u64 },
+    )?;
+    let job = Job::new(7, Ask::Depth, call);
+    live::<Brand, Job, HostRuntime>(
+        &rt,
+        rt.alloc(),
+        board,
+        keeper,
+        seat,
+        row,
+        armer,
+        poller,
+        job,
+    )?;
+    Ok(())
+}
