@@ -5,7 +5,7 @@ threads  Each test that runs several threads, twenty times: it passes each time,
 memory   Each test of refused memory with its first growth refused, with its second, and so on until none is. It passes each time, says
          what was refused, and the growths come to an end where nothing was. Of some crates also tests that were not made for this: they
          pass, or end with the error of refused memory. Needs a C compiler, for the library that refuses the growths. Not run are tests
-         that pass whatever is refused and say nothing, as `commands`, `interp`, `method_table` and `model` have them: it couldn't be
+         that pass whatever is refused and say nothing, as `commands`, `method_table` and `model` have them: it couldn't be
          seen that anything was refused, nor where the growths end.
 
 Without a word it does both. `rt test` proves the tests of each crate first, and builds them; with `--built` those are run that the
@@ -51,14 +51,14 @@ THREADS = {
 
 # Those of a list meet the same at each growth.
 MEMORY = {
-    "system_tests": [["tests::refused_memory::refused_memory_stops_a_run_before_its_event"]],
     "replay_tests": [
         [
             "tests::refused_memory::refused_memory_leaves_the_answers_before_a_line",
             "tests::refused_memory::refused_memory_leaves_as_many_answers_of_a_block",
-        ]
+        ],
+        ["tests::run_of_events::refused_memory_stops_a_run_before_its_event"],
     ],
-    "script": [["tests::refused_memory_is_told"]],
+    "script_tests": [["tests::refused_memory::refused_memory_is_told"], ["tests::refused_memory::refused_memory_leaves_a_beginning"]],
     "words_tests": [["tests::poll_rows::a_row_is_made_whole_or_not_at_all"], ["tests::boards::a_board_is_made_whole_or_not_at_all"]],
     "reclaim_tests": [["tests::memory::what_lacks_memory_is_tried_again"]],
 }

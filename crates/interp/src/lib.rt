@@ -4,8 +4,6 @@
 mod frame;
 mod mark;
 mod runner;
-#[cfg(test)]
-mod tests;
 
 pub use mark::{Mark, Steps, Tape};
 pub use runner::{MAX_DEPTH, Outcome, Runner};

@@ -12,6 +12,7 @@ mod full_size;
 mod operation_runs;
 mod publication_runs;
 mod refused_memory;
+mod run_of_events;
 mod trap_runs;
 
 // A whole input with its answers: what a test calls it, and its lines, each `LINE => ANSWER`.

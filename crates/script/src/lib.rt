@@ -8,8 +8,6 @@ mod items;
 mod place;
 mod reading;
 mod shape;
-#[cfg(test)]
-mod tests;
 mod walk;
 
 pub use checking::{MAX_LEVELS, MAX_TURNS, check};

@@ -1,0 +1,87 @@
+// Memory that is refused. With each growth refused in turn, these show that a text is answered as ever or with NoMemory, and that a
+// run has made a beginning of its marks, and makes the others once memory is there again.
+use super::LOOP_OF_CALLS;
+use super::scripts::line_of;
+use interp::{Mark, Outcome, Runner, Tape};
+use script::{Code, check, read_script};
+use std::alloc::Global;
+use std::process::Abort;
+use std::test::Fail;
+
+const BAD_SHAPE: &str = r#"{"methods":[[],["tick",{"loop":2,"body":["tock"]}]]}"#;
+
+const BAD_CALL: &str = r#"{"methods":[[],[{"loop":2,"body":[{"call":2}]}]]}"#;
+
+// 1 where memory was refused, and else 0: then the text comes to that line.
+fn refusals(rt: &impl Abort, alloc: Global, text: &str, wanted: &str) -> u8 {
+    let Ok(line) = line_of(alloc, text.as_bytes()) else {
+        return 1;
+    };
+    if line.as_str() == "no memory" {
+        return 1;
+    }
+    assert!(rt; line.as_str() == wanted, "{line}, and not {wanted}");
+    0
+}
+
+#[test]
+fn refused_memory_is_told(rt: HostRuntime) -> Result<(), Fail> {
+    let alloc = rt.alloc();
+    let first = refusals(&rt, alloc, LOOP_OF_CALLS, "ok 2");
+    let second = refusals(&rt, alloc, BAD_SHAPE, "BadShape at 1.1.0");
+    let third = refusals(&rt, alloc, BAD_CALL, "BadCall at 1.0.0");
+    match (first, second, third) {
+        (0, 0, 0) => println!(rt; "no growth was refused")?,
+        _ => println!(rt; "refused in the texts {first} {second} {third}")?,
+    }
+    Ok(())
+}
+
+const TWO_TURNS: &str = r#"{"methods":[[{"loop":2,"body":[{"call":1}]}],["tick"]]}"#;
+
+const MARKS_OF_TWO_TURNS: [Mark; 10] = [
+    Mark::In(0),
+    Mark::In(1),
+    Mark::Tick,
+    Mark::Out(1),
+    Mark::Edge,
+    Mark::In(1),
+    Mark::Tick,
+    Mark::Out(1),
+    Mark::Edge,
+    Mark::Out(0),
+];
+
+fn code_of_two_turns(alloc: Global) -> Option<Code> {
+    let script = read_script(alloc, TWO_TURNS.as_bytes()).ok()?;
+    check(alloc, &script).ok()
+}
+
+// How many marks were made where memory was refused; none where it wasn't, or before the run.
+fn refused_after(rt: &impl Abort, runner: &mut Runner<'_>, tape: &mut Tape) -> Option<u64> {
+    let refused = match runner.run(tape, 100) {
+        Outcome::Finished => None,
+        Outcome::Refused(_) => Some(runner.made()),
+        _ => panic!(rt; "neither finished nor refused"),
+    };
+    assert!(rt; MARKS_OF_TWO_TURNS.starts_with(&tape.marks));
+    assert!(rt; runner.made() == tape.marks.len() as u64);
+    refused
+}
+
+#[test]
+fn refused_memory_leaves_a_beginning(rt: HostRuntime) -> Result<(), Fail> {
+    let code = code_of_two_turns(rt.alloc());
+    let Some(Ok(mut runner)) = code.as_ref().map(|code| Runner::new(rt.alloc(), code)) else {
+        println!(rt; "refused before the run")?;
+        return Ok(());
+    };
+    let mut tape = Tape::new(rt.alloc());
+    match refused_after(&rt, &mut runner, &mut tape) {
+        None => println!(rt; "no growth was refused")?,
+        Some(marks) => println!(rt; "refused after {marks} marks")?,
+    }
+    assert!(rt; matches!(runner.run(&mut tape, 100), Outcome::Finished));
+    assert!(rt; tape.marks.as_slice() == MARKS_OF_TWO_TURNS.as_slice());
+    Ok(())
+}
