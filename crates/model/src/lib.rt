@@ -5,6 +5,4 @@ pub mod face;
 pub mod handle;
 pub mod line_model;
 mod loose;
-#[cfg(test)]
-mod tests;
 pub(crate) mod writing;

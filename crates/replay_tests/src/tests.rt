@@ -1,8 +1,9 @@
 // Whole inputs with their answers, through the public call, over devices that give and take little.
 use replay::device::{FromReader, IntoWriter};
 use replay::stream::{ReplayFault, replay};
-use std::alloc::{AllocError, Global};
+use std::alloc::Global;
 use std::io::{self, Read, Write};
+use std::process::Abort;
 use std::test::Fail;
 
 mod bad_lines;
@@ -101,34 +102,32 @@ fn run(alloc: Global, source: &mut Drip<'_>, sink: &mut Basin) -> Result<(), Rep
     )
 }
 
-// The lines of a run, and their answers, if each line has one.
-fn split_sides(alloc: Global, run: &Transcript) -> Result<Option<(Vec<u8>, Vec<u8>)>, AllocError> {
-    let mut input = Vec::with_capacity(alloc, run.lines.len())?;
-    let mut output = Vec::with_capacity(alloc, run.lines.len())?;
-    for line in run.lines.split_terminator('\n') {
-        let Some((command, answer)) = line.split_once(" => ") else {
-            return Ok(None);
-        };
-        input.extend_from_slice(command.as_bytes())?;
-        input.push(b'\n')?;
-        output.extend_from_slice(answer.as_bytes())?;
-        output.push(b'\n')?;
-    }
-    Ok(Some((input, output)))
+fn put_line(rt: &impl Abort, text: &mut Vec<u8>, line: &str) {
+    text.extend_from_slice(line.as_bytes()).expect(rt, "memory");
+    text.extend_from_slice(b"\n").expect(rt, "memory");
 }
 
-fn sides(alloc: Global, run: &Transcript) -> Result<(Vec<u8>, Vec<u8>), Fail> {
-    match split_sides(alloc, run)? {
-        Some(sides) => Ok(sides),
-        None => Err(Fail::from("a line without an answer")),
+// The lines of a run, and their answers. Memory is taken for them before they are laid out.
+fn split_sides(rt: &impl Abort, alloc: Global, run: &Transcript) -> Option<(Vec<u8>, Vec<u8>)> {
+    let mut input = Vec::with_capacity(alloc, run.lines.len()).ok()?;
+    let mut output = Vec::with_capacity(alloc, run.lines.len()).ok()?;
+    for row in run.lines.lines() {
+        let (line, answer) = row.split_once(" => ").expect(rt, "an answer");
+        put_line(rt, &mut input, line);
+        put_line(rt, &mut output, answer);
     }
+    Some((input, output))
+}
+
+fn sides(rt: &impl Abort, alloc: Global, run: &Transcript) -> (Vec<u8>, Vec<u8>) {
+    split_sides(rt, alloc, run).expect(rt, "memory")
 }
 
 fn is_answered(alloc: Global, input: &[u8], output: &[u8]) -> bool {
     for step in [1, 7, 1_000_000] {
         let mut source = from_bytes(input, step, 0);
         let mut sink = new_basin(alloc, step, 0, false);
-        if run(alloc, &mut source, &mut sink) != Ok(()) || sink.got.as_slice() != output {
+        if run(alloc, &mut source, &mut sink).is_err() || sink.got.as_slice() != output {
             return false;
         }
     }
@@ -140,38 +139,19 @@ fn are_answers(got: &[u8], all: &[u8]) -> bool {
     all.starts_with(got) && (got.is_empty() || got.ends_with(b"\n"))
 }
 
-// The first of these runs that isn't answered as it says.
-fn first_unanswered(alloc: Global, runs: &[Transcript]) -> Result<Option<&'static str>, Fail> {
+fn expect_answers(rt: &impl Abort, alloc: Global, runs: &[Transcript]) {
     for run in runs {
-        let (input, output) = sides(alloc, run)?;
-        if !is_answered(alloc, &input, &output) {
-            return Ok(Some(run.name));
-        }
+        let (input, output) = sides(rt, alloc, run);
+        assert!(rt; is_answered(alloc, &input, &output), "{}", run.name);
     }
-    Ok(None)
 }
 
 #[test]
-fn publications_are_answered(rt: HostRuntime) -> Result<(), Fail> {
-    assert!(rt; first_unanswered(rt.alloc(), &publication_runs::RUNS)? == None);
-    Ok(())
-}
-
-#[test]
-fn operations_are_answered(rt: HostRuntime) -> Result<(), Fail> {
-    assert!(rt; first_unanswered(rt.alloc(), &operation_runs::RUNS)? == None);
-    Ok(())
-}
-
-#[test]
-fn traps_are_answered(rt: HostRuntime) -> Result<(), Fail> {
-    assert!(rt; first_unanswered(rt.alloc(), &trap_runs::RUNS)? == None);
-    Ok(())
-}
-
-#[test]
-fn bad_lines_are_answered(rt: HostRuntime) -> Result<(), Fail> {
-    assert!(rt; first_unanswered(rt.alloc(), &bad_lines::RUNS)? == None);
+fn runs_are_answered(rt: HostRuntime) -> Result<(), Fail> {
+    expect_answers(&rt, rt.alloc(), &publication_runs::RUNS);
+    expect_answers(&rt, rt.alloc(), &operation_runs::RUNS);
+    expect_answers(&rt, rt.alloc(), &trap_runs::RUNS);
+    expect_answers(&rt, rt.alloc(), &bad_lines::RUNS);
     Ok(())
 }
 
@@ -183,56 +163,54 @@ fn bytes_that_are_no_text_make_bad_lines(rt: HostRuntime) -> Result<(), Fail> {
     Ok(())
 }
 
-fn push_times(text: &mut Vec<u8>, more: &[u8], times: usize) -> Result<(), Fail> {
-    for _ in 0..times {
-        text.extend_from_slice(more)?;
+// A deep stack, with a line that is cut at the end of the input, or isn't.
+fn expect_last_line(rt: &impl Abort, alloc: Global, end: &[u8], answer: &[u8]) {
+    let mut input = b"size 1 4 2\nstart\nbegin 0\nend 0\nwake 0\ncross 0\n"
+        .to_vec(alloc)
+        .expect(rt, "memory");
+    let mut output = b"ok\nthread 1 place 0\nok\nok\nok\ngo\n"
+        .to_vec(alloc)
+        .expect(rt, "memory");
+    for _ in 0..256 {
+        put_line(rt, &mut input, "enter 0 0");
+        put_line(rt, &mut output, "entered");
     }
-    Ok(())
+    put_line(rt, &mut input, "enter 0 0");
+    put_line(rt, &mut output, "refused DepthFull");
+    input.extend_from_slice(end).expect(rt, "memory");
+    output.extend_from_slice(answer).expect(rt, "memory");
+    assert!(rt; is_answered(alloc, &input, &output));
 }
 
 #[test]
 fn the_last_line_needs_no_newline(rt: HostRuntime) -> Result<(), Fail> {
-    for (end, answer) in [
-        (b"exit 0".as_slice(), b"refused StackNotEmpty\n".as_slice()),
-        (b"lea".as_slice(), b"bad line\n".as_slice()),
-        (
-            b"exit 0\n".as_slice(),
-            b"refused StackNotEmpty\n".as_slice(),
-        ),
-        (b"".as_slice(), b"".as_slice()),
-    ] {
-        let mut input = b"size 1 4 2\nstart\nbegin 0\nend 0\nwake 0\ncross 0\n".to_vec(rt.alloc())?;
-        let mut output = b"ok\nthread 1 place 0\nok\nok\nok\ngo\n".to_vec(rt.alloc())?;
-        push_times(&mut input, b"enter 0 0\n", 257)?;
-        push_times(&mut output, b"entered\n", 256)?;
-        output.extend_from_slice(b"refused DepthFull\n")?;
-        input.extend_from_slice(end)?;
-        output.extend_from_slice(answer)?;
-        assert!(rt; is_answered(rt.alloc(), &input, &output));
-    }
+    let refused = b"refused StackNotEmpty\n";
+    expect_last_line(&rt, rt.alloc(), b"exit 0", refused);
+    expect_last_line(&rt, rt.alloc(), b"lea", b"bad line\n");
+    expect_last_line(&rt, rt.alloc(), b"exit 0\n", refused);
+    expect_last_line(&rt, rt.alloc(), b"", b"");
     Ok(())
 }
 
-// `ask depth` with 78 names, the first and the last of 13 digits: a line of so many bytes more than 1023.
-fn long_ask(alloc: Global, more: usize) -> Result<Vec<u8>, Fail> {
-    let mut input = b"size 1 1 1\nask depth 1".to_vec(alloc)?;
-    push_times(&mut input, b"0", more.saturating_add(10))?;
-    push_times(&mut input, b" 100000000001", 76)?;
-    input.extend_from_slice(b" 1000000000000\n")?;
-    Ok(input)
+// `ask depth` with 78 names, the first with so many zeros behind its 1, and the last of 13 digits: a line of 1013 bytes and the zeros.
+fn expect_long_ask(rt: &impl Abort, alloc: Global, zeros: usize, answer: &[u8]) {
+    let mut input = String::from_str(alloc, "size 1 1 1\nask depth 1").expect(rt, "memory");
+    for _ in 0..zeros {
+        input.push_str("0").expect(rt, "memory");
+    }
+    for _ in 0..76 {
+        input.push_str(" 100000000001").expect(rt, "memory");
+    }
+    input.push_str(" 1000000000000\n").expect(rt, "memory");
+    assert!(rt; input.len() == b"size 1 1 1\n".len() + 1014 + zeros);
+    assert!(rt; is_answered(alloc, input.as_bytes(), answer));
 }
 
 #[test]
 fn lines_of_1024_bytes_are_taken(rt: HostRuntime) -> Result<(), Fail> {
-    for (more, answer) in [
-        (0, b"ok\nrefused BadTargets\n".as_slice()),
-        (1, b"ok\nrefused BadTargets\n".as_slice()),
-        (2, b"ok\nbad line\n".as_slice()),
-    ] {
-        let input = long_ask(rt.alloc(), more)?;
-        assert!(rt; input.len() == b"size 1 1 1\n".len() + 1024 + more);
-        assert!(rt; is_answered(rt.alloc(), &input, answer));
-    }
+    expect_long_ask(&rt, rt.alloc(), 10, b"ok\nrefused BadTargets\n");
+    expect_long_ask(&rt, rt.alloc(), 11, b"ok\nrefused BadTargets\n");
+    expect_long_ask(&rt, rt.alloc(), 12, b"ok\nbad line\n");
     Ok(())
 }
 
@@ -240,23 +218,17 @@ fn lines_of_1024_bytes_are_taken(rt: HostRuntime) -> Result<(), Fail> {
 fn an_empty_input_is_answered_with_nothing(rt: HostRuntime) -> Result<(), Fail> {
     let mut source = from_bytes(b"", 1, 0);
     let mut sink = new_basin(rt.alloc(), 1, 0, false);
-    assert!(rt; run(rt.alloc(), &mut source, &mut sink) == Ok(()));
+    assert!(rt; run(rt.alloc(), &mut source, &mut sink).is_ok());
     assert!(rt; sink.calls == 0);
     Ok(())
 }
 
-// A size, and then a line of so many bytes without an end.
-fn endless_line(alloc: Global, len: usize) -> Result<Vec<u8>, Fail> {
-    let mut input = b"size 1 1 1\n".to_vec(alloc)?;
-    for _ in 0..len {
-        input.push(b'a')?;
-    }
-    Ok(input)
-}
-
 #[test]
 fn a_line_without_end_is_one_bad_line(rt: HostRuntime) -> Result<(), Fail> {
-    let input = endless_line(rt.alloc(), 1_000_000)?;
+    let mut input = b"size 1 1 1\n".to_vec(rt.alloc())?;
+    for _ in 0..1_000_000 {
+        input.push(b'a')?;
+    }
     assert!(rt; is_answered(rt.alloc(), &input, b"ok\nbad line\n"));
     Ok(())
 }

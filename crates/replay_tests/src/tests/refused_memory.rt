@@ -10,7 +10,7 @@ fn newlines(text: &[u8]) -> usize {
 }
 
 // What a run met that was given so many bytes a read: the lines that it read and those that it answered, where a growth was refused.
-#[derive(Clone, Copy, Debug, PartialEq, Eq, Drop)]
+#[derive(Clone, Copy, Drop)]
 enum Met {
     NoRefusal,
     Refusal { read: usize, answered: usize },
@@ -18,20 +18,17 @@ enum Met {
 
 // A run of the census of two threads. A growth may also be refused before it begins.
 fn met_in_a_run(rt: &impl Abort, alloc: Global, step: usize) -> Option<Met> {
-    let Ok(Some((input, output))) = split_sides(alloc, &operation_runs::SAFEPOINT_OF_TWO_THREADS)
-    else {
-        return None;
-    };
+    let (input, output) = split_sides(rt, alloc, &operation_runs::SAFEPOINT_OF_TWO_THREADS)?;
     let mut sink = new_basin(alloc, 1_000_000, 0, false);
     sink.got.reserve(output.len()).ok()?;
     let mut source = from_bytes(&input, step, 0);
     let outcome = run(alloc, &mut source, &mut sink);
     assert!(rt; are_answers(&sink.got, &output));
-    if outcome == Ok(()) {
+    if outcome.is_ok() {
         assert!(rt; sink.got.as_slice() == output.as_slice());
         return Some(Met::NoRefusal);
     }
-    assert!(rt; outcome == Err(ReplayFault::NoMemory));
+    assert!(rt; matches!(outcome, Err(ReplayFault::NoMemory)));
     let bytes = input.len().saturating_sub(source.rest.len());
     Some(Met::Refusal {
         read: newlines(&input[..bytes]),
