@@ -2,75 +2,115 @@
 use super::text_of;
 use interp::{Mark, Outcome, Runner, Steps, Tape};
 use script::{Code, check, read_script};
-use std::alloc::{AllocError, Global};
+use std::alloc::Global;
 use std::process::Abort;
 use std::test::Fail;
 
-pub fn code_of(rt: &impl Abort, alloc: Global, text: &[u8]) -> Code {
-    let script = read_script(alloc, text).expect(rt, "a script");
-    check(alloc, &script).expect(rt, "a script that is right")
+fn code_of(rt: &impl Abort, alloc: Global, text: &[u8]) -> Code {
+    let Ok(script) = read_script(alloc, text) else {
+        panic!(rt; "no script");
+    };
+    let Ok(code) = check(alloc, &script) else {
+        panic!(rt; "the script is wrong");
+    };
+    code
 }
 
-fn add_mark(text: &mut String, mark: Mark, times: u64) -> Result<(), AllocError> {
-    match times {
-        0 => Ok(()),
-        1 => write!(text, " {mark:?}"),
-        _ => write!(text, " {times}*{mark:?}"),
+fn runner_of<'c>(rt: &impl Abort, alloc: Global, code: &'c Code) -> Runner<'c> {
+    let Ok(runner) = Runner::new(alloc, code) else {
+        panic!(rt; "no runner");
+    };
+    runner
+}
+
+fn add_times(rt: &impl Abort, text: &mut String, times: u64) {
+    if times > 1 {
+        write!(text, "{times}*").expect(rt, "memory");
     }
+}
+
+fn add_mark(rt: &impl Abort, text: &mut String, mark: Mark) {
+    write!(text, "{mark:?} ").expect(rt, "memory");
 }
 
 // The marks in their order; one that stands there several times in a row with how often it does.
 fn marks_of(rt: &impl Abort, alloc: Global, marks: &[Mark]) -> String {
     let mut text = String::new(alloc);
-    let (mut last, mut times) = (Mark::Vm, 0u64);
-    for mark in marks {
-        if *mark != last {
-            add_mark(&mut text, last, times).expect(rt, "memory");
-            (last, times) = (*mark, 0);
+    let mut times = 1u64;
+    for (at, mark) in marks.iter().enumerate() {
+        if marks.get(at.saturating_add(1)) == Some(mark) {
+            times = times.saturating_add(1);
+        } else {
+            add_times(rt, &mut text, times);
+            add_mark(rt, &mut text, *mark);
+            times = 1;
         }
-        times = times.saturating_add(1);
     }
-    add_mark(&mut text, last, times).expect(rt, "memory");
     text
 }
 
 // So many marks, made one at a time.
 fn stepped(rt: &impl Abort, alloc: Global, code: &Code, marks: u64) -> String {
-    let mut runner = Runner::new(alloc, code).expect(rt, "a runner");
+    let mut runner = runner_of(rt, alloc, code);
     let mut tape = Tape::new(alloc);
     for _ in 0..marks {
-        assert!(rt; runner.step(&mut tape).expect(rt, "memory"));
+        assert!(rt; matches!(runner.step(&mut tape), Ok(true)));
     }
     marks_of(rt, alloc, &tape.marks)
 }
 
-// How the run ended that was given some fuel, and more of it, and so on; how many marks it made, and which. Made one at a time they are the same.
-fn run_of(rt: &impl Abort, alloc: Global, code: &Code, fuels: &str) -> String {
+// How the run ended that was given some fuel, and more of it, and so on.
+fn endings(
+    rt: &impl Abort,
+    alloc: Global,
+    runner: &mut Runner<'_>,
+    tape: &mut Tape,
+    fuels: &str,
+) -> String {
     let mut said = String::new(alloc);
-    let mut runner = Runner::new(alloc, code).expect(rt, "a runner");
-    let mut tape = Tape::new(alloc);
     for fuel in fuels.split(' ') {
-        let outcome = runner.run(&mut tape, fuel.parse::<u64>().expect(rt, "fuel"));
-        write!(said, "{outcome:?} ").expect(rt, "memory");
+        let fuel = fuel.parse::<u64>().expect(rt, "fuel");
+        let ending = match runner.run(tape, fuel) {
+            Outcome::Finished => "finished ",
+            Outcome::Overflow => "overflow ",
+            Outcome::OutOfFuel => "fuel ",
+            Outcome::Refused(_) => "refused ",
+        };
+        said.push_str(ending).expect(rt, "memory");
     }
-    if !said.ends_with("OutOfFuel ") {
-        assert!(rt; !runner.step(&mut tape).expect(rt, "memory"));
-    }
+    said
+}
+
+// How a run ended, how many marks it made, and which. Made one at a time they are the same.
+fn run_of(rt: &impl Abort, alloc: Global, code: &Code, fuels: &str) -> String {
+    let mut runner = runner_of(rt, alloc, code);
+    let mut tape = Tape::new(alloc);
+    let mut said = endings(rt, alloc, &mut runner, &mut tape, fuels);
+    assert!(rt; matches!(runner.step(&mut tape), Ok(false)));
     let marks = marks_of(rt, alloc, &tape.marks);
     assert!(rt; marks.as_str() == stepped(rt, alloc, code, runner.made()).as_str());
-    write!(said, "{}:{marks}", runner.made()).expect(rt, "memory");
+    write!(said, "{}: {marks}", runner.made()).expect(rt, "memory");
     said
 }
 
 // Each row has fuels, a script, and what its run comes to.
 const RUNS: &str = r#"
-1000000 of {"methods":[[{"loop":3,"body":[{"call":1},"native"]}],["tick"]]} => Finished 17: In(0) In(1) Tick Out(1) Native Edge In(1) Tick Out(1) Native Edge In(1) Tick Out(1) Native Edge Out(0)
-12 of {"methods":[["vm",{"loop":2,"body":[{"loop":2,"body":[]},"block"]},"tick"]]} => Finished 12: In(0) Vm 2*Edge Block 3*Edge Block Edge Tick Out(0)
-100 of {"methods":[[{"loop":2,"body":[{"call":1}]}],["tick"]]} => Finished 10: In(0) In(1) Tick Out(1) Edge In(1) Tick Out(1) Edge Out(0)
-255 1 0 of {"methods":[[{"call":0}]]} => OutOfFuel Overflow Overflow 256: 256*In(0)
-1000001 1 1 of {"methods":[[{"loop":1000000,"body":[]}]]} => OutOfFuel Finished Finished 1000002: In(0) 1000000*Edge Out(0)
-65538 of {"methods":[["vm"|65535*,"tick"|]]} => Finished 65538: In(0) Vm 65535*Tick Out(0)
+1000000 of {"methods":[[{"loop":3,"body":[{"call":1},"native"]}],["tick"]]} => finished 17: In(0) In(1) Tick Out(1) Native Edge In(1) Tick Out(1) Native Edge In(1) Tick Out(1) Native Edge Out(0)
+12 of {"methods":[["vm",{"loop":2,"body":[{"loop":2,"body":[]},"block"]},"tick"]]} => finished 12: In(0) Vm 2*Edge Block 3*Edge Block Edge Tick Out(0)
+100 of {"methods":[[{"loop":2,"body":[{"call":1}]}],["tick"]]} => finished 10: In(0) In(1) Tick Out(1) Edge In(1) Tick Out(1) Edge Out(0)
+255 1 0 of {"methods":[[{"call":0}]]} => fuel overflow overflow 256: 256*In(0)
+1001 1 1 of {"methods":[[{"loop":1000,"body":[]}]]} => fuel finished finished 1002: In(0) 1000*Edge Out(0)
+65538 of {"methods":[["vm"|65535*,"tick"|]]} => finished 65538: In(0) Vm 65535*Tick Out(0)
 "#;
+
+fn expect_run(rt: &impl Abort, alloc: Global, script: &[u8], fuels: &str, wanted: &str) {
+    let code = code_of(rt, alloc, script);
+    let found = run_of(rt, alloc, &code, fuels);
+    assert!(rt;
+        found.as_str().trim_end() == wanted,
+        "{found}, and not {wanted}"
+    );
+}
 
 #[test]
 fn runs_and_their_marks(rt: HostRuntime) -> Result<(), Fail> {
@@ -78,9 +118,7 @@ fn runs_and_their_marks(rt: HostRuntime) -> Result<(), Fail> {
     for row in RUNS.lines().skip(1) {
         let (run, wanted) = row.split_once(" => ").expect(&rt, "a run and its marks");
         let (fuels, script) = run.split_once(" of ").expect(&rt, "fuels and a script");
-        let code = code_of(&rt, alloc, &text_of(&rt, alloc, script));
-        let found = run_of(&rt, alloc, &code, fuels);
-        assert!(rt; found.as_str() == wanted, "{found}, and not {wanted}");
+        expect_run(&rt, alloc, &text_of(&rt, alloc, script), fuels, wanted);
     }
     Ok(())
 }
@@ -90,7 +128,7 @@ fn runs_and_their_marks(rt: HostRuntime) -> Result<(), Fail> {
 fn a_chain_of_256_methods_finishes(rt: HostRuntime) -> Result<(), Fail> {
     let alloc = rt.alloc();
     let mut text = String::from_str(alloc, "{\"methods\":[")?;
-    let mut wanted = String::from_str(alloc, "Finished 512: In(0)")?;
+    let mut wanted = String::from_str(alloc, "finished 512: In(0)")?;
     for method in 1..256u64 {
         write!(text, "[{{\"call\":{method}}}],")?;
         write!(wanted, " In({method})")?;
@@ -99,8 +137,7 @@ fn a_chain_of_256_methods_finishes(rt: HostRuntime) -> Result<(), Fail> {
     for method in 0..256u64 {
         write!(wanted, " Out({})", 255 - method)?;
     }
-    let code = code_of(&rt, alloc, text.as_bytes());
-    assert!(rt; run_of(&rt, alloc, &code, "512").as_str() == wanted.as_str());
+    expect_run(&rt, alloc, text.as_bytes(), "512", &wanted);
     Ok(())
 }
 
@@ -126,17 +163,38 @@ impl Steps for Patience {
     }
 }
 
+// The most turns of a loop; two marks more are those of the call.
 #[test]
-fn a_refused_mark_is_made_later(rt: HostRuntime) -> Result<(), Fail> {
-    let alloc = rt.alloc();
-    let code = code_of(&rt, alloc, br#"{"methods":[["native","vm"]]}"#);
-    let mut runner = Runner::new(alloc, &code)?;
+fn a_million_turns_take_a_million_fuel(rt: HostRuntime) -> Result<(), Fail> {
+    let code = code_of(
+        &rt,
+        rt.alloc(),
+        br#"{"methods":[[{"loop":1000000,"body":[]}]]}"#,
+    );
+    let mut runner = runner_of(&rt, rt.alloc(), &code);
+    let mut steps = Patience { left: 1_000_002 };
+    assert!(rt; matches!(runner.run(&mut steps, 1_000_001), Outcome::OutOfFuel));
+    assert!(rt; matches!(runner.run(&mut steps, 1), Outcome::Finished));
+    assert!(rt; runner.made() == 1_000_002);
+    Ok(())
+}
+
+// After two marks the third is refused by a run, and by a step.
+fn refuse_third(rt: &impl Abort, runner: &mut Runner<'_>) {
     let mut steps = Patience { left: 2 };
     assert!(rt; matches!(runner.run(&mut steps, 9), Outcome::Refused(7)));
     assert!(rt; matches!(runner.step(&mut steps), Err(7)));
     assert!(rt; runner.made() == 2);
+}
+
+#[test]
+fn a_refused_mark_is_made_later(rt: HostRuntime) -> Result<(), Fail> {
+    let alloc = rt.alloc();
+    let code = code_of(&rt, alloc, br#"{"methods":[["native","vm"]]}"#);
+    let mut runner = runner_of(&rt, alloc, &code);
+    refuse_third(&rt, &mut runner);
     let mut tape = Tape::new(alloc);
     assert!(rt; matches!(runner.run(&mut tape, 2), Outcome::Finished));
-    assert!(rt; marks_of(&rt, alloc, &tape.marks).as_str() == " Vm Out(0)");
+    assert!(rt; marks_of(&rt, alloc, &tape.marks).as_str() == "Vm Out(0) ");
     Ok(())
 }
