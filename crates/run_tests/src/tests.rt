@@ -1,0 +1,12 @@
+//! Texts of calls with their answers, and the runner that plays them.
+mod calls;
+mod lives;
+mod reclaiming;
+mod requests;
+mod rows;
+mod said;
+mod shared;
+mod states;
+mod steps;
+mod system;
+mod threads;

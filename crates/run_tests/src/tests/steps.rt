@@ -1,0 +1,102 @@
+//! What the coordinator calls.
+use crate::tests::calls::Call;
+use crate::tests::said::{Said, numbered, received, shown, word};
+use bodies::Name;
+use coordinator::{Coordinator, Driven, NotReclaimed, OperateFault, Reclaimed, Told};
+use operations::job::Errand;
+use std::alloc::Global;
+use std::sync::Wait;
+
+fn tell<N: Name, J: Errand, R: Wait>(
+    rt: &R,
+    alloc: Global,
+    coordinator: &mut Coordinator<'_, N, J>,
+    name: u64,
+) -> Said {
+    match coordinator.tell(rt, name) {
+        Ok(Told::Told(_receipt)) => word(alloc, "told"),
+        Ok(Told::Gone) => word(alloc, "gone"),
+        Err(fault) => shown(alloc, fault),
+    }
+}
+
+/// Steps of a request.
+pub fn step<N: Name, J: Errand, R: Wait>(
+    rt: &R,
+    alloc: Global,
+    coordinator: &mut Coordinator<'_, N, J>,
+    row: Call<'_>,
+) -> Option<Said> {
+    let said = match row.name {
+        "open" => numbered(alloc, coordinator.open(rt)),
+        "tell" => tell(rt, alloc, coordinator, row.first as u64),
+        "hold" => received(alloc, coordinator.hold(rt, row.first as usize)),
+        "serve" => received(alloc, coordinator.serve(rt, row.first as usize)),
+        "release" => received(alloc, coordinator.release(rt, row.first as usize)),
+        "close" => numbered(alloc, coordinator.close(rt)),
+        "close_of" => received(alloc, coordinator.close_of(rt, row.first as u64)),
+        _ => return None,
+    };
+    Some(said)
+}
+
+fn operate<N: Name, J: Errand, R: Wait>(
+    rt: &R,
+    alloc: Global,
+    coordinator: &mut Coordinator<'_, N, J>,
+) -> Said {
+    match coordinator.operate(rt) {
+        Ok((number, list, _receipt)) => census(alloc, number, list),
+        Err(OperateFault::Refused(fault)) => shown(alloc, fault),
+        Err(OperateFault::NoMemory) => word(alloc, "NoMemory"),
+    }
+}
+
+// A census with its counts, each a serial with its frames.
+fn census(alloc: Global, number: u64, list: Vec<(u64, u32)>) -> Said {
+    format!(in alloc; "census {number} {list:?}")
+}
+
+fn drive<N: Name, J: Errand, R: Wait>(
+    rt: &R,
+    alloc: Global,
+    coordinator: &mut Coordinator<'_, N, J>,
+) -> Said {
+    match coordinator.drive(rt) {
+        Ok((Driven::Handshake(number), _receipt)) => format!(in alloc; "handshake {number}"),
+        Ok((Driven::Census(number, list), _receipt)) => census(alloc, number, list),
+        Err(fault) => shown(alloc, fault),
+    }
+}
+
+/// A code is reclaimed with these jobs.
+pub fn reclaim<N: Name, J: Errand, R: Wait>(
+    rt: &R,
+    alloc: Global,
+    coordinator: &mut Coordinator<'_, N, J>,
+    serial: u64,
+    jobs: Vec<J>,
+) -> Said {
+    match coordinator.reclaim(rt, serial, jobs) {
+        Ok(Reclaimed::Freed(_receipt)) => word(alloc, "freed"),
+        Ok(Reclaimed::Used(count)) => format!(in alloc; "used {count}"),
+        Ok(Reclaimed::Late(place)) => format!(in alloc; "late {place}"),
+        Err(NotReclaimed { fault, jobs: _ }) => shown(alloc, fault),
+    }
+}
+
+/// What works on whole requests.
+pub fn work<N: Name, J: Errand, R: Wait>(
+    rt: &R,
+    alloc: Global,
+    coordinator: &mut Coordinator<'_, N, J>,
+    row: Call<'_>,
+) -> Option<Said> {
+    let said = match row.name {
+        "operate" => operate(rt, alloc, coordinator),
+        "drive" => drive(rt, alloc, coordinator),
+        "reclaim" => reclaim(rt, alloc, coordinator, row.first as u64, Vec::new(alloc)),
+        _ => return None,
+    };
+    Some(said)
+}

@@ -1,0 +1,144 @@
+//! What a thread calls.
+ghost use Rattle.std.specs.Prelude.{◌≡◌, ◌<◌, IfSome};
+
+use crate::tests::calls::{Call, number_of};
+use crate::tests::said::{Said, done, number, polled, shown, word};
+use bodies::{Called, Name};
+use frames::CodeId;
+use operations::job::Errand;
+use std::alloc::Global;
+use std::process::Abort;
+use std::sync::Wait;
+use thread_list::{Mutator, Shared, Turn};
+
+// The hint that a row writes as its slot and its serial, as `0:1`.
+fn written_hint<R: Abort>(rt: &R, slots: u32, word: &str) -> Option<CodeId>
+    ensures { IfSome result (λ c. c.slot < slots) }
+{
+    let (slot, serial) = word.split_once(':')?;
+    let slot = number_of(rt, slot);
+    let serial = number_of(rt, serial) as u64;
+    if slot < slots {
+        Some(CodeId { slot, serial })
+    } else {
+        None
+    }
+}
+
+// The hint of a call: the method's, none, or one that the row writes.
+fn hint_of<N: Name, J: Errand, R: Abort>(
+    rt: &R,
+    shared: &Shared<N, J>,
+    slots: u32,
+    method: u32,
+    last: &str,
+) -> Option<CodeId>
+    requires { slots ≡ N.board.slots }
+    ensures { IfSome result (λ c. c.slot < N.board.slots) }
+{
+    match last {
+        "" => shared.hint(method),
+        "none" => None,
+        _ => written_hint(rt, slots, last),
+    }
+}
+
+fn call<N: Name, J: Errand, R: Abort>(
+    rt: &R,
+    alloc: Global,
+    shared: &Shared<N, J>,
+    slots: u32,
+    thread: &mut Mutator<'_, N, J>,
+    row: Call<'_>,
+) -> Said
+    requires { slots ≡ N.board.slots }
+{
+    let method = row.second;
+    match thread.call(method, hint_of(rt, shared, slots, method, row.last)) {
+        Ok(Called::Compiled(serial)) => format!(in alloc; "compiled {serial}"),
+        Ok(Called::Interpreted) => word(alloc, "interpreted"),
+        Err(fault) => shown(alloc, fault),
+    }
+}
+
+/// Calls of a thread that wait for nobody.
+pub fn run<N: Name, J: Errand, R: Abort>(
+    rt: &R,
+    alloc: Global,
+    shared: &Shared<N, J>,
+    slots: u32,
+    thread: &mut Mutator<'_, N, J>,
+    row: Call<'_>,
+) -> Option<Said>
+    requires { slots ≡ N.board.slots }
+{
+    let said = match row.name {
+        "call" => call(rt, alloc, shared, slots, thread, row),
+        "ret" => polled(alloc, thread.ret()),
+        "back_edge" => polled(alloc, thread.back_edge()),
+        "publish" => done(alloc, thread.publish()),
+        "to_vm" => done(alloc, thread.to_vm()),
+        "from_vm" => polled(alloc, thread.from_vm()),
+        "state" => shown(alloc, thread.state()),
+        "place" => number(alloc, thread.place() as u64),
+        _ => return None,
+    };
+    Some(said)
+}
+
+// The body of a thread is taken from its berth by this name, once and not twice, and comes back.
+fn take<N: Name, J: Errand, R: Wait>(
+    rt: &R,
+    alloc: Global,
+    shared: &Shared<N, J>,
+    thread: &Mutator<'_, N, J>,
+    name: u64,
+) -> Said {
+    let place = thread.place();
+    let berth = shared.berth(place);
+    let Ok((body, _receipt)) = berth.take(rt, name, place) else {
+        return word(alloc, "absent");
+    };
+    let is_absent = berth.take(rt, name, place).is_err();
+    let _receipt = berth.release(rt, body, false);
+    word(alloc, if is_absent { "once" } else { "twice" })
+}
+
+// Whether a thread that stopped served a job.
+fn served<N: Name>(turn: &Turn<N>) -> &'static str {
+    match turn.finish {
+        Some(_) => "served",
+        None => "nothing",
+    }
+}
+
+fn stop<N: Name, J: Errand, R: Wait>(
+    rt: &R,
+    alloc: Global,
+    thread: &mut Mutator<'_, N, J>,
+) -> Said {
+    match thread.stop(rt) {
+        Ok(turn) => word(alloc, served(&turn)),
+        Err(state) => shown(alloc, state),
+    }
+}
+
+/// Calls of a thread that may wait.
+pub fn cross<N: Name, J: Errand, R: Wait>(
+    rt: &R,
+    alloc: Global,
+    shared: &Shared<N, J>,
+    thread: &mut Mutator<'_, N, J>,
+    row: Call<'_>,
+) -> Option<Said> {
+    let said = match row.name {
+        "to_native" => done(alloc, thread.to_native(rt)),
+        "from_native" => polled(alloc, thread.from_native(rt)),
+        "block" => done(alloc, thread.block(rt)),
+        "unblock" => polled(alloc, thread.unblock(rt)),
+        "stop" => stop(rt, alloc, thread),
+        "take" => take(rt, alloc, shared, thread, row.second as u64),
+        _ => return None,
+    };
+    Some(said)
+}
