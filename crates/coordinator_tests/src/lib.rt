@@ -1,4 +1,4 @@
-//! Tests of each call of `coordinator`, in one thread, through the public calls. They stand in a crate of their own, so that a check of them doesn't prove `coordinator` once more.
+//! A test of a whole run over `coordinator`, in one thread, through the public calls. It stands in a crate of its own, so that a check of it doesn't prove `coordinator` once more.
 #![tactic(auto)]
 
 #[cfg(test)]

@@ -1,5 +1,2 @@
-//! Requests worked on step by step.
-mod exits;
-mod refusals;
+//! A request worked on to its Close.
 mod row;
-mod states;

@@ -1,4 +1,4 @@
-//! Tests of what reclaiming answers, and of requests for which memory is refused, in one thread, through the public calls of `coordinator`.
+//! A test of requests for which memory is refused, in one thread, through the public calls of `coordinator`.
 #![tactic(auto)]
 
 #[cfg(test)]

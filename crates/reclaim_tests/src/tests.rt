@@ -1,3 +1,2 @@
-//! Codes reclaimed, and growths refused.
-mod late;
+//! Growths refused.
 mod memory;

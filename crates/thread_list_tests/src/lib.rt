@@ -1,4 +1,4 @@
-//! Tests of what threads share, through the public calls of `thread_list`. They stand in a crate of their own, so that a check of them doesn't prove `thread_list` once more.
+//! A test of running threads over what they share, through the public calls of `thread_list`. It stands in a crate of its own, so that a check of it doesn't prove `thread_list` once more.
 #![tactic(auto)]
 
 #[cfg(test)]

@@ -63,9 +63,15 @@ fn drive<N: Name, J: Errand, R: Wait>(
     coordinator: &mut Coordinator<'_, N, J>,
 ) -> Said {
     match coordinator.drive(rt) {
-        Ok((Driven::Handshake(number), _receipt)) => format!(in alloc; "handshake {number}"),
-        Ok((Driven::Census(number, list), _receipt)) => census(alloc, number, list),
+        Ok((driven, _receipt)) => worked(alloc, driven),
         Err(fault) => shown(alloc, fault),
+    }
+}
+
+fn worked(alloc: Global, driven: Driven) -> Said {
+    match driven {
+        Driven::Handshake(number) => format!(in alloc; "handshake {number}"),
+        Driven::Census(number, list) => census(alloc, number, list),
     }
 }
 
