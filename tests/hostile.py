@@ -5,7 +5,7 @@ threads  Each test that runs several threads, twenty times: it passes each time,
 memory   Each test of refused memory with its first growth refused, with its second, and so on until none is. It passes each time, says
          what was refused, and the growths come to an end where nothing was. Of some crates also tests that were not made for this: they
          pass, or end with the error of refused memory. Needs a C compiler, for the library that refuses the growths. Not run are tests
-         that pass whatever is refused and say nothing, as `commands` and `method_table` have them: it couldn't be
+         that pass whatever is refused and say nothing, as `commands_tests` and `core_tests` have them: it couldn't be
          seen that anything was refused, nor where the growths end.
 
 Without a word it does both. `rt test` proves the tests of each crate first, and builds them; with `--built` those are run that the

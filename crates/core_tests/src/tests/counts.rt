@@ -1,46 +1,46 @@
 // Of `activation_index`.
+use super::{compare, told};
 use activation_index::Index;
 use activation_index::dense::DenseIndex;
-use std::alloc::AllocError;
+use std::alloc::{AllocError, Global};
 use std::process::Abort;
-use std::test::Fail;
 
 // That a census gave this list.
 fn is_census(
     rt: &impl Abort,
+    alloc: Global,
     census: Result<Vec<(u64, u32)>, AllocError>,
-    expected: &[(u64, u32)],
-) -> Result<(), AllocError> {
-    let census = census?;
-    assert!(rt; census.as_slice() == expected);
-    Ok(())
+    expected: &str,
+) {
+    let census = census.expect(rt, "no memory");
+    compare(rt, expected, told(rt, alloc, census), expected);
 }
 
 // A count of 0 leaves no entry.
 #[test]
-fn a_census_goes_by_serial(rt: HostRuntime) -> Result<(), Fail> {
-    let mut index = Index::new(rt.alloc(), 1024)?;
+fn a_census_goes_by_serial(rt: HostRuntime) {
+    let mut index = Index::new(rt.alloc(), 1024).expect(&rt, "no memory");
     index.add(1024, 16_384);
     index.add(7, 2);
     index.add(7, -2);
     index.add(1, 2);
     assert!(rt; index.count(1024) == 16_384);
     assert!(rt; index.count(7) == 0);
-    is_census(&rt, index.census(rt.alloc()), &[(1, 2), (1024, 16_384)])?;
-    Ok(())
+    let census = index.census(rt.alloc());
+    is_census(&rt, rt.alloc(), census, "[(1, 2), (1024, 16384)]");
 }
 
 #[test]
-fn cells_go_by_slot_and_a_census_by_serial(rt: HostRuntime) -> Result<(), Fail> {
-    let mut index = DenseIndex::new(rt.alloc(), 1024)?;
+fn cells_go_by_slot_and_a_census_by_serial(rt: HostRuntime) {
+    let mut index = DenseIndex::new(rt.alloc(), 1024).expect(&rt, "no memory");
     index.place(0, 1024);
     index.add(0, 1024, 2);
     index.place(1023, 1);
     index.add(1023, 1, 16_384);
     assert!(rt; index.count(1023, 1) == 16_384);
     assert!(rt; index.count(0, 1) == 0);
-    is_census(&rt, index.census(rt.alloc()), &[(1, 16_384), (1024, 2)])?;
-    Ok(())
+    let census = index.census(rt.alloc());
+    is_census(&rt, rt.alloc(), census, "[(1, 16384), (1024, 2)]");
 }
 
 #[test]

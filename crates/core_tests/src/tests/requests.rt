@@ -24,10 +24,10 @@ impl Player for Asking {
     fn answer<R: Abort>(&mut self, rt: &R, alloc: Global, call: &str, numbers: &[u64]) -> String {
         match call {
             "names" => {
-                self.names.clear();
-                told(rt, alloc, add_names(rt, &mut self.names, numbers))
+                self.names = Vec::from_slice(alloc, numbers).expect(rt, "no memory");
+                told(rt, alloc, ())
             }
-            "name" => told(rt, alloc, add_names(rt, &mut self.names, numbers)),
+            "name" => told(rt, alloc, add_name(rt, &mut self.names, numbers)),
             "handshake" => {
                 let request = handshake(rt, alloc, &self.names);
                 pushed(rt, alloc, &mut self.queue, request, numbers)
@@ -47,8 +47,10 @@ impl Player for Asking {
     }
 }
 
-fn add_names(rt: &impl Abort, names: &mut Vec<u64>, more: &[u64]) {
-    names.extend_from_slice(more).expect(rt, "no memory");
+fn add_name(rt: &impl Abort, names: &mut Vec<u64>, numbers: &[u64]) {
+    names
+        .push(number_at(rt, numbers, 0))
+        .expect(rt, "no memory");
 }
 
 fn handshake(rt: &impl Abort, alloc: Global, names: &[u64]) -> Request {
@@ -138,7 +140,7 @@ fn told_of_request(
 
 fn told_of_queue(rt: &impl Abort, alloc: Global, queue: &Queue<u64>, call: &str) -> String {
     match call {
-        "front" => told(rt, alloc, oldest(queue)),
+        "front" => oldest(rt, alloc, queue),
         "len" => told(rt, alloc, queue.len()),
         "empty" => told(rt, alloc, queue.is_empty()),
         "full" => told(rt, alloc, queue.is_full()),
@@ -146,9 +148,11 @@ fn told_of_queue(rt: &impl Abort, alloc: Global, queue: &Queue<u64>, call: &str)
     }
 }
 
-fn oldest(queue: &Queue<u64>) -> Option<(u64, Kind)> {
-    let oldest = queue.front()?;
-    Some((oldest.number, oldest.request.kind()))
+fn oldest(rt: &impl Abort, alloc: Global, queue: &Queue<u64>) -> String {
+    match queue.front() {
+        Some(oldest) => told(rt, alloc, (oldest.number, oldest.request.kind())),
+        None => told(rt, alloc, ()),
+    }
 }
 
 fn play_on_queue(rt: &impl Abort, alloc: Global, rows: &str) {
@@ -171,9 +175,9 @@ empty => true
 full => true; empty => false; len => 64; names => (); refusal => Some(QueueFull)
 handshake 65 8 => (QueueFull, 8) (Top, [])
 census 65 9 => (QueueFull, 9) Census
-front => Some((1, Handshake)); len => 64
+front => (1, Handshake); len => 64
 1 to 64 | pop => (#, 7#) (Top, [#])
-pop => (); front => None; census 65 10 => (); front => Some((65, Census))",
+pop => (); front => (); census 65 10 => (); front => (65, Census)",
     );
 }
 
@@ -258,8 +262,8 @@ fn run_errand<J: Errand>(rt: &impl Abort, errand: J, image: &Image) -> Done
 fn a_callback_keeps_what_it_captured(rt: HostRuntime) -> Result<(), Fail> {
     let image = three_frames(&rt, rt.alloc());
     assert!(rt; image.is_settled());
-    let calls = Arc::new(rt.alloc(), AtomicU64::new(0))?;
-    let theirs = Arc::try_clone(&calls)?;
+    let calls = Arc::new(rt.alloc(), AtomicU64::new(0)).expect(&rt, "no memory");
+    let theirs = Arc::try_clone(&calls).expect(&rt, "no memory");
     let call: Call = Box::new(
         rt.alloc(),
         move |image: &Image| -> u64
@@ -270,10 +274,12 @@ fn a_callback_keeps_what_it_captured(rt: HostRuntime) -> Result<(), Fail> {
         },
     )?;
     let job = Job::new(9, Ask::Depth, call);
-    assert!(rt; job.op() == 0 && job.target() == 9 && job.ask() == Ask::Depth);
+    assert!(rt; job.op() == 0 && job.target() == 9);
+    assert!(rt; job.ask() == Ask::Depth);
     assert!(rt; calls.load(Ordering::SeqCst) == 0);
     let done = run_errand(&rt, job, &image);
-    assert!(rt; done.op() == 5 && done.target() == 9 && done.ask() == Ask::Depth);
+    assert!(rt; done.op() == 5 && done.target() == 9);
+    assert!(rt; done.ask() == Ask::Depth);
     assert!(rt; done.reply() == 3);
     assert!(rt; calls.load(Ordering::SeqCst) == 1);
     Ok(())
