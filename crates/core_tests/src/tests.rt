@@ -45,9 +45,9 @@ fn filled(rt: &impl Abort, alloc: Global, steps: &str, number: u64) -> String {
     let mut filled = String::new(alloc);
     for (place, part) in steps.split('#').enumerate() {
         if place > 0 {
-            filled.push_str(number.as_str()).expect(rt, "no memory");
+            add(rt, &mut filled, number.as_str());
         }
-        filled.push_str(part).expect(rt, "no memory");
+        add(rt, &mut filled, part);
     }
     filled
 }
@@ -86,10 +86,14 @@ fn number_at(rt: &impl Abort, numbers: &[u64], place: usize) -> u64 {
 fn compare(rt: &impl Abort, step: &str, answer: String, expected: &str) {
     if answer.as_str() != expected {
         let mut told = answer;
-        told.push_str(" was answered, not ").expect(rt, step);
-        told.push_str(step).expect(rt, step);
+        add(rt, &mut told, " was answered, not ");
+        add(rt, &mut told, step);
         rt.panic(told.as_str());
     }
+}
+
+fn add(rt: &impl Abort, text: &mut String, more: &str) {
+    text.push_str(more).expect(rt, "no memory");
 }
 
 fn told<T: Debug + Drop>(rt: &impl Abort, alloc: Global, value: T) -> String {

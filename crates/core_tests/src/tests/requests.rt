@@ -2,7 +2,7 @@
 ghost use Rattle.std.specs.Prelude.{◌≡◌, length};
 ghost use Rattle.frames.specs.ImageView.{IsSettled};
 
-use super::{Player, number_at, play, told};
+use super::{Player, add, number_at, play, told};
 use frames::image::Image;
 use operations::job::{Call, Done, Errand, Job};
 use operations::queue::{Queue, QueueFault, Unqueued, Waiting};
@@ -114,8 +114,8 @@ fn told_of_waiting(rt: &impl Abort, alloc: Global, oldest: Waiting<u64>) -> Stri
 
 fn joined(rt: &impl Abort, start: String, end: &str) -> String {
     let mut both = start;
-    both.push_str(" ").expect(rt, "no memory");
-    both.push_str(end).expect(rt, "no memory");
+    add(rt, &mut both, " ");
+    add(rt, &mut both, end);
     both
 }
 
@@ -217,7 +217,9 @@ fn want_of_memory_hands_back(rt: HostRuntime) {
 }
 
 // The frames 0:1, 1:i, 0:1, published.
-fn three_frames(rt: &impl Abort, alloc: Global) -> Image {
+fn three_frames(rt: &impl Abort, alloc: Global) -> Image
+    ensures { IsSettled result }
+{
     let mut image = Image::new(alloc).expect(rt, "no memory");
     play(
         rt,
@@ -225,10 +227,19 @@ fn three_frames(rt: &impl Abort, alloc: Global) -> Image {
         &mut image,
         "\
 push 0 0 1 => Ok(()); push 1 => Ok(()); push 0 0 1 => Ok(()); begin => Ok(())
-next => Some(Change { code: CodeId { slot: 0, serial: 1 }, by: 2 })
-end => Ok(())",
+next => Some(Change { code: CodeId { slot: 0, serial: 1 }, by: 2 })",
     );
+    end_publication(rt, &mut image);
     image
+}
+
+fn end_publication(rt: &impl Abort, image: &mut Image)
+    ensures { IsSettled image.new }
+{
+    match image.end() {
+        Ok(()) => {}
+        Err(_) => panic!(rt; "not ended"),
+    }
 }
 
 fn are_replies(rt: &impl Abort, image: &Image, replies: [u64; 4]) {
@@ -261,7 +272,6 @@ fn run_errand<J: Errand>(rt: &impl Abort, errand: J, image: &Image) -> Done
 #[test]
 fn a_callback_keeps_what_it_captured(rt: HostRuntime) -> Result<(), Fail> {
     let image = three_frames(&rt, rt.alloc());
-    assert!(rt; image.is_settled());
     let calls = Arc::new(rt.alloc(), AtomicU64::new(0)).expect(&rt, "no memory");
     let theirs = Arc::try_clone(&calls).expect(&rt, "no memory");
     let call: Call = Box::new(

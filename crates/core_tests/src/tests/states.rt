@@ -1,5 +1,5 @@
 // Of `thread_state`.
-use super::compare;
+use super::{add, compare};
 use std::alloc::{AllocError, Global};
 use std::fmt::{Display, Write};
 use std::process::Abort;
@@ -84,7 +84,7 @@ fn tell_allowed(rt: &impl Abort, state: State, row: &mut String) {
 
 fn tell_if(rt: &impl Abort, allowed: bool, word: &str, row: &mut String) {
     if allowed {
-        row.push_str(word).expect(rt, "no memory");
+        add(rt, row, word);
     }
 }
 
