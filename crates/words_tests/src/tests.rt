@@ -3,6 +3,7 @@ mod beside_core;
 mod board_runs;
 mod boards;
 mod core_lines;
+mod made;
 mod next_code;
 mod place;
 mod play;

@@ -1,7 +1,8 @@
 // Boards that end, and the greatest sizes.
-ghost use Rattle.std.specs.Prelude.{◌≡◌, ◌<◌, IfOk};
+ghost use Rattle.std.specs.Prelude.{◌≡◌, ◌<◌, ◌≤◌};
 ghost use Rattle.board.specs.Boards.{first_seat, first_keeper};
 
+use super::made::one_seat;
 use super::run::are_words;
 use board::{Board, Keeper, ThreadSeat};
 use frames::CodeId;
@@ -10,18 +11,6 @@ use std::process::Abort;
 use std::test::*;
 
 const C: CodeId = CodeId { slot: 0, serial: 1 };
-
-// A board of one slot, its keeper, and the seat of place 0.
-fn one_slot(alloc: Global, places: usize) -> Result<(Board, Keeper, ThreadSeat), AllocError>
-    requires { (0 < places) × (places < 65) }
-    ensures board { IfOk result (λ t. (t.0.slots ≡ 1) × (t.0.places ≡ places)) }
-    ensures keeper { IfOk result (λ t. t.1 ≡ first_keeper t.0) }
-    ensures seat { IfOk result (λ t. t.2 ≡ first_seat t.0 0) }
-{
-    let (board, keeper, mut seats) = Board::new(alloc, places, 1)?;
-    let seat = seats.swap_remove(0);
-    Ok((board, keeper, seat))
-}
 
 // A code is entered and counted in the second moment, and invalidated. Whether the calls say what they should.
 fn counted_once(board: &Board, keeper: &mut Keeper, seat: &mut ThreadSeat) -> bool
@@ -46,7 +35,7 @@ fn counted_once(board: &Board, keeper: &mut Keeper, seat: &mut ThreadSeat) -> bo
 
 #[test]
 fn a_board_that_ends_shows_its_words(rt: HostRuntime) -> Result<(), Fail> {
-    let (board, mut keeper, mut seat) = one_slot(rt.alloc(), 2)?;
+    let (board, mut keeper, mut seat) = one_seat(rt.alloc(), 2, 1)?;
     let is_said = counted_once(&board, &mut keeper, &mut seat);
     let closed = board.close(keeper, vec![in rt.alloc(); seat]?);
     let are_left = are_words(&closed, 1, 2, "5 1 2 0 2");
@@ -55,28 +44,39 @@ fn a_board_that_ends_shows_its_words(rt: HostRuntime) -> Result<(), Fail> {
     Ok(())
 }
 
+// Makes a board and ends it: its keeper's moment, how many seats it has, and the moment that it leaves.
+fn made_and_closed(
+    alloc: Global,
+    places: usize,
+    slots: usize,
+) -> Result<(u64, usize, u64), AllocError>
+    requires { (0 < places) × (places ≤ 64) × (slots ≤ 1024) }
+{
+    let (board, keeper, seats) = Board::new(alloc, places, slots)?;
+    let moment = keeper.moment();
+    let count = seats.len();
+    let closed = board.close(keeper, seats);
+    let left = closed.moment();
+    closed.free();
+    Ok((moment, count, left))
+}
+
 #[test]
 fn a_board_is_made_after_another(rt: HostRuntime) -> Result<(), Fail> {
-    let (board, keeper, seats) = Board::new(rt.alloc(), 64, 1024)?;
-    board.close(keeper, seats).free();
-    let (board, keeper, seats) = Board::new(rt.alloc(), 64, 1024)?;
-    assert!(rt; keeper.moment() == 1 && seats.len() == 64);
-    board.close(keeper, seats).free();
+    made_and_closed(rt.alloc(), 64, 1024)?;
+    let (moment, seats, _) = made_and_closed(rt.alloc(), 64, 1024)?;
+    assert!(rt; moment == 1 && seats == 64);
     Ok(())
 }
 
 // It passes whichever allocation is refused: the board is made whole, or not at all.
 #[test]
 fn a_board_is_made_whole_or_not_at_all(rt: HostRuntime) -> Result<(), Fail> {
-    let Ok((board, keeper, seats)) = Board::new(rt.alloc(), 3, 5) else {
+    let Ok((_, seats, left)) = made_and_closed(rt.alloc(), 3, 5) else {
         println!(rt; "refused")?;
         return Ok(());
     };
-    assert!(rt; seats.len() == 3);
-    let closed = board.close(keeper, seats);
-    let moment = closed.moment();
-    closed.free();
-    assert!(rt; moment == 1);
+    assert!(rt; seats == 3 && left == 1);
     println!(rt; "no growth was refused")?;
     Ok(())
 }

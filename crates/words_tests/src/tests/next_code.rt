@@ -1,12 +1,12 @@
 // The next code of a method, in a slot of its own, installed over the old one while a frame of that stands.
-ghost use Rattle.std.specs.Prelude.{◌≡◌, IfOk};
+ghost use Rattle.std.specs.Prelude.{◌≡◌};
 ghost use Rattle.board.specs.Boards.{first_seat, first_keeper};
 
 use super::core_lines::is_answered;
+use super::made::one_seat;
 use super::run::are_words;
 use board::{Board, Keeper, ThreadSeat, Weighed};
 use frames::CodeId;
-use std::alloc::{AllocError, Global};
 use std::process::Abort;
 use std::test::*;
 
@@ -34,19 +34,8 @@ end 0 => ok
 look 1 0 => clear
 weigh 1 => used 1";
 
-// A board of four slots and one place, its keeper, and the seat of the place.
-fn four_slots(alloc: Global) -> Result<(Board, Keeper, ThreadSeat), AllocError>
-    ensures board { IfOk result (λ t. (t.0.slots ≡ 4) × (t.0.places ≡ 1)) }
-    ensures keeper { IfOk result (λ t. t.1 ≡ first_keeper t.0) }
-    ensures seat { IfOk result (λ t. t.2 ≡ first_seat t.0 0) }
-{
-    let (board, keeper, mut seats) = Board::new(alloc, 1, 4)?;
-    let seat = seats.swap_remove(0);
-    Ok((board, keeper, seat))
-}
-
 // Whether each call says what the core answers.
-fn replaced(board: &Board, keeper: &mut Keeper, seat: &mut ThreadSeat) -> bool
+fn replaced(rt: &impl Abort, board: &Board, keeper: &mut Keeper, seat: &mut ThreadSeat) -> bool
     requires keeper { keeper.old ≡ first_keeper board.now }
     requires seat { seat.old ≡ first_seat board.now 0 }
     requires sizes { (board.now.slots ≡ 4) × (board.now.places ≡ 1) }
@@ -55,28 +44,26 @@ fn replaced(board: &Board, keeper: &mut Keeper, seat: &mut ThreadSeat) -> bool
     seat.read_moment(board);
     seat.end_publication(board);
     keeper.install(board, C);
-    if !seat.enter(board, C) {
-        return false;
-    }
+    assert!(rt; seat.enter(board, C));
     keeper.replace(board, C, NEXT);
-    if seat.enter(board, C) || !seat.enter(board, NEXT) {
-        return false;
-    }
-    if keeper.look(board, C, 0) || keeper.round(board).is_err() {
-        return false;
-    }
+    let is_old_in = seat.enter(board, C);
+    assert!(rt; seat.enter(board, NEXT));
+    let is_early = keeper.look(board, C, 0);
+    let went_round = keeper.round(board).is_ok();
     seat.read_moment(board);
     seat.count_change(board, C, 1);
     seat.count_change(board, NEXT, 1);
     seat.end_publication(board);
-    keeper.look(board, C, 0) && matches!(keeper.weigh(board, C), Weighed::Used(1))
+    let is_past = keeper.look(board, C, 0);
+    let is_used = matches!(keeper.weigh(board, C), Weighed::Used(1));
+    !is_old_in && !is_early && went_round && is_past && is_used
 }
 
 #[test]
 fn a_method_has_its_next_code(rt: HostRuntime) -> Result<(), Fail> {
-    assert!(rt; is_answered(rt.alloc(), BY_CORE)?);
-    let (board, mut keeper, mut seat) = four_slots(rt.alloc())?;
-    let is_said = replaced(&board, &mut keeper, &mut seat);
+    assert!(rt; is_answered(&rt, rt.alloc(), BY_CORE));
+    let (board, mut keeper, mut seat) = one_seat(rt.alloc(), 1, 4)?;
+    let is_said = replaced(&rt, &board, &mut keeper, &mut seat);
     let closed = board.close(keeper, Vec::new(rt.alloc()));
     let are_left = are_words(&closed, 4, 1, "5 8 3 3 1 1 0 0 2 2");
     closed.free();

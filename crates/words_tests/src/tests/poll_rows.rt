@@ -1,23 +1,13 @@
 // Poll words that threads share: no arming is lost to a clear, and rows that end show their words.
-ghost use Rattle.std.specs.Prelude.{◌≡◌, ◌≢◌, ◌<◌, ◌^◌, ◌∷◌, [], length, vec_len, slice_index, IfOk};
+ghost use Rattle.std.specs.Prelude.{◌≡◌, ◌<◌, ◌≤◌, ◌^◌, ◌∷◌, [], length, slice_index};
 ghost use Rattle.thread_state.specs.PollRule.{armed_with};
 
+use super::made::one_poller;
 use poll::{Armer, PollRow, Poller};
 use std::alloc::{AllocError, Global};
 use std::process::Abort;
 use std::test::*;
 use std::thread::{Threads, join, yield_now};
-
-// The row of one place, its armer and its poller.
-fn one_place(alloc: Global) -> Result<(PollRow, Armer, Poller), AllocError>
-    ensures tables { IfOk result (λ t. (t.1.table ≡ t.0) × (t.2.table ≡ t.0)) }
-    ensures place { IfOk result (λ t. t.2.seen.place ≡ 0) }
-    ensures armed { IfOk result (λ t. t.1.seen.armed ≡ 0 ∷ []) }
-{
-    let (row, armer, mut pollers) = PollRow::new(alloc, 1)?;
-    let poller = pollers.swap_remove(0);
-    Ok((row, armer, poller))
-}
 
 #[test]
 fn words_are_left_as_they_were_armed(rt: HostRuntime) -> Result<(), Fail> {
@@ -29,28 +19,28 @@ fn words_are_left_as_they_were_armed(rt: HostRuntime) -> Result<(), Fail> {
     Ok(())
 }
 
-// Makes a row of 64 places and ends it: how many words it leaves.
-fn made_and_closed(alloc: Global) -> Result<usize, AllocError> {
-    let (row, armer, pollers) = PollRow::new(alloc, 64)?;
-    let words = row.close(armer, pollers);
-    Ok(words.len())
+// Makes a row and ends it: the words that it leaves.
+fn made_and_closed(alloc: Global, places: usize) -> Result<Vec<u64>, AllocError>
+    requires { (0 < places) × (places ≤ 64) }
+{
+    let (row, armer, pollers) = PollRow::new(alloc, places)?;
+    Ok(row.close(armer, pollers))
 }
 
 #[test]
 fn a_row_is_made_after_another(rt: HostRuntime) -> Result<(), Fail> {
-    assert!(rt; made_and_closed(rt.alloc())? == 64);
-    assert!(rt; made_and_closed(rt.alloc())? == 64);
+    assert!(rt; made_and_closed(rt.alloc(), 64)?.len() == 64);
+    assert!(rt; made_and_closed(rt.alloc(), 64)?.len() == 64);
     Ok(())
 }
 
 // It passes whichever allocation is refused: the row is made whole, or not at all.
 #[test]
 fn a_row_is_made_whole_or_not_at_all(rt: HostRuntime) -> Result<(), Fail> {
-    let Ok((row, armer, pollers)) = PollRow::new(rt.alloc(), 3) else {
+    let Ok(words) = made_and_closed(rt.alloc(), 3) else {
         println!(rt; "refused")?;
         return Ok(());
     };
-    let words = row.close(armer, pollers);
     assert!(rt; words.as_slice() == [0, 0, 0].as_slice());
     println!(rt; "no growth was refused")?;
     Ok(())
@@ -86,7 +76,7 @@ fn is_cleared_by_two(row: &PollRow, poller: &mut Poller) -> bool
 
 #[test]
 fn the_armer_is_in_another_thread(rt: HostRuntime) -> Result<(), Fail> {
-    let (row, armer, mut poller) = one_place(rt.alloc())?;
+    let (row, armer, mut poller) = one_poller(rt.alloc())?;
     let first = poller.poll(&row);
     let armer = armed_elsewhere(&rt, &row, armer, 1);
     let second = poller.poll(&row);
@@ -184,7 +174,7 @@ fn arm_against_clear<R: Threads + Sync>(
 
 #[test]
 fn no_arming_is_lost_to_a_clear(rt: HostRuntime) -> Result<(), Fail> {
-    let (row, armer, poller) = one_place(rt.alloc())?;
+    let (row, armer, poller) = one_poller(rt.alloc())?;
     let (armer, mut poller, mut cleared) = arm_against_clear(&rt, &row, armer, poller);
     clear_once(&row, &mut poller, &mut cleared);
     assert!(rt; cleared.last == 10_000 && cleared.rising);

@@ -155,6 +155,10 @@ pub fn wrong_on_words(alloc: Global, run: Run) -> Result<Option<&'static str>, A
 pub fn assert_plays(rt: &impl Abort, alloc: Global, run: Run) -> Result<(), AllocError> {
     let wrong = wrong_on_words(alloc, run)?;
     assert!(rt; wrong.is_none(), "{}", wrong.unwrap_or(""));
-    assert!(rt; is_answered(alloc, run.lines)?, "the core at {}", run.lines);
+    assert!(rt;
+        is_answered(rt, alloc, run.lines),
+        "the core at {}",
+        run.lines
+    );
     Ok(())
 }

@@ -23,22 +23,8 @@ pub fn made(is_made: bool, text: &'static str) -> Option<Said> {
     if is_made { says(text) } else { None }
 }
 
-// The number that the digits are.
-pub fn number_in(digits: &str) -> Option<u64> {
-    let mut number = 0u64;
-    for digit in digits.as_bytes() {
-        if !digit.is_ascii_digit() {
-            return None;
-        }
-        number = number
-            .wrapping_mul(10)
-            .wrapping_add(digit.wrapping_sub(b'0') as u64);
-    }
-    if digits.is_empty() {
-        None
-    } else {
-        Some(number)
-    }
+pub fn number_in(text: &str) -> Option<u64> {
+    text.parse::<u64>().ok()
 }
 
 impl Said {

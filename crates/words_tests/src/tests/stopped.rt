@@ -4,6 +4,7 @@ ghost use Rattle.frames.specs.declared.board_rule.EntryState.TheVariants.{InUse,
 ghost use Rattle.frames.specs.BoardRule.{code};
 ghost use Rattle.frames.specs.BoardViews.{IsIn, has_code};
 
+use super::made::one_seat;
 use board::{Board, Keeper, ThreadSeat, Weighed};
 use frames::CodeId;
 use std::alloc::{AllocError, Global};
@@ -77,8 +78,7 @@ fn two_codes(alloc: Global) -> Result<(Board, Keeper, ThreadSeat), AllocError>
     ensures keeper { IfOk result (λ t. (t.1.board ≡ t.0) × IsIn t.1.seen (code 0 1) InUse) }
     ensures seat { IfOk result (λ t. (t.2.board ≡ t.0) × (t.2.seen.stored ≢ 0) × (t.2.seen.counted ≡ [])) }
 {
-    let (board, mut keeper, mut seats) = Board::new(alloc, 1, 2)?;
-    let mut seat = seats.swap_remove(0);
+    let (board, mut keeper, mut seat) = one_seat(alloc, 1, 2)?;
     keeper.install(&board, C);
     keeper.install(&board, D);
     seat.read_moment(&board);

@@ -1,9 +1,10 @@
 // A thread's life in one body.
-ghost use Rattle.std.specs.Prelude.{◌≡◌, [], IfOk};
+ghost use Rattle.std.specs.Prelude.{◌≡◌, ◌≢◌, ◌<◌, ◌+◌, [], length};
 ghost use Rattle.board.specs.Boards.{first_keeper, first_seat};
 ghost use Rattle.poll.specs.Rows.{first_poller, full_armer};
 ghost use Rattle.operations.specs.Asks.{reply};
 
+use super::made::{one_poller, one_seat};
 use board::{Board, Keeper, ThreadSeat};
 use bodies::{Body, Called, Name, SpareSeat};
 use frames::CodeId;
@@ -18,27 +19,6 @@ use std::test::*;
 
 const C: CodeId = CodeId { slot: 0, serial: 1 };
 
-// A board of one place and one slot.
-fn small_board(alloc: Global) -> Result<(Board, Keeper, ThreadSeat), AllocError>
-    ensures board { IfOk result (λ t. t.0.slots ≡ 1) }
-    ensures keeper { IfOk result (λ t. t.1 ≡ first_keeper t.0) }
-    ensures seat { IfOk result (λ t. t.2 ≡ first_seat t.0 0) }
-{
-    let (board, keeper, mut seats) = Board::new(alloc, 1, 1)?;
-    let seat = seats.swap_remove(0);
-    Ok((board, keeper, seat))
-}
-
-// A poll row of one place.
-fn small_row(alloc: Global) -> Result<(PollRow, Armer, Poller), AllocError>
-    ensures armer { IfOk result (λ t. t.1 ≡ full_armer t.0 1) }
-    ensures poller { IfOk result (λ t. t.2 ≡ first_poller t.0 0) }
-{
-    let (row, armer, mut pollers) = PollRow::new(alloc, 1)?;
-    let poller = pollers.swap_remove(0);
-    Ok((row, armer, poller))
-}
-
 // Leaves every method.
 fn return_all<N: Name>(body: &mut Body<N>)
     ensures empty { body.new.image.frames ≡ [] }
@@ -48,21 +28,34 @@ fn return_all<N: Name>(body: &mut Body<N>)
     }
 }
 
+// The serial of the code in which a method is called that is hinted at the code, 0 where it is interpreted.
+fn serial_called<N: Name>(board: &Board, body: &mut Body<N>) -> u64
+    requires board { (board.now ≡ N.board) × (board.now.slots ≡ 1) }
+    requires published { body.old.seat.stored ≢ 0 }
+    requires depth { length body.old.image.frames < 256 }
+    ensures published { body.new.seat.stored ≢ 0 }
+    ensures depth { length body.new.image.frames ≡ length body.old.image.frames + 1 }
+{
+    match body.call(board, 0, Some(C)) {
+        Called::Compiled(serial) => serial,
+        Called::Interpreted => 0,
+    }
+}
+
 // It publishes, and calls by a code and without one, and by the code once that is invalidated. Whether each call runs as it should.
 fn calls<N: Name>(board: &Board, keeper: &mut Keeper, body: &mut Body<N>) -> bool
-    requires board { board.now ≡ N.board }
-    requires slots { board.now.slots ≡ 1 }
+    requires board { (board.now ≡ N.board) × (board.now.slots ≡ 1) }
     requires keeper { keeper.old ≡ first_keeper board.now }
     requires empty { body.old.image.frames ≡ [] }
 {
     keeper.install(board, C);
     body.publish(board);
-    let is_in = matches!(body.call(board, 0, Some(C)), Called::Compiled(1));
+    let first = serial_called(board, body);
     let is_out = matches!(body.call(board, 1, None), Called::Interpreted);
     let is_deep = body.depth() == 2 && !body.is_settled();
     keeper.invalidate(board, C);
-    let is_late = matches!(body.call(board, 0, Some(C)), Called::Interpreted);
-    is_in && is_out && is_deep && is_late
+    let last = serial_called(board, body);
+    first == 1 && is_out && is_deep && last == 0
 }
 
 // It polls before and after its place is armed. Whether it finds nothing, and then the number.
@@ -111,8 +104,8 @@ fn live<N: Name, J: Errand, R: Abort>(
 
 #[test]
 fn a_thread_publishes_calls_serves_and_gives_its_place_up(rt: HostRuntime) -> Result<(), Fail> {
-    let (board, keeper, seat) = small_board(rt.alloc())?;
-    let (row, armer, poller) = small_row(rt.alloc())?;
+    let (board, keeper, seat) = one_seat(rt.alloc(), 1, 1)?;
+    let (row, armer, poller) = one_poller(rt.alloc())?;
     let call: Call = Box::new(
         rt.alloc(),
         |image: &Image| -> u64

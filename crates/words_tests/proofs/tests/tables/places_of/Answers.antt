@@ -1,7 +1,6 @@
-use Rattle.std.proofs.Common.{◌∙◌, ap, subst, ◌<◌, rules}
+use Rattle.std.proofs.Common.{◌≡◌, ap, subst, ◌<◌, length, rules}
 use Rattle.board.specs.Boards.{SeatSeen, first_seat}
 use Rattle.poll.specs.Rows.{PollerSeen, first_poller}
-use Rattle.frames.specs.declared.board_rule.SeatView.{SeatView}
 use Rattle.words_tests.proofs.Popped.{last_is, rest_is}
 use Rattle.words_tests.proofs.tests.tables.places_of.Goals as goal
 
@@ -26,5 +25,5 @@ loop-seat-preserved g c =
 pub loop-seat-init : goal.loop-seat-init
 loop-seat-init g c = record {
   seats = λ k low. c.requires.each_seat k (subst (λ n. k < n) c.requires.seats low);
-  pollers = λ k low. c.requires.each_poller k (subst (λ n. k < n) c.requires.pollers low);
+  pollers = λ k low. c.requires.each_poller k (let is : length c.args.pollers.items ≡ c.args.places = search rules in subst (λ n. k < n) is low);
 }
