@@ -163,54 +163,65 @@ fn bytes_that_are_no_text_make_bad_lines(rt: HostRuntime) -> Result<(), Fail> {
     Ok(())
 }
 
-// A deep stack, with a line that is cut at the end of the input, or isn't.
-fn expect_last_line(rt: &impl Abort, alloc: Global, end: &[u8], answer: &[u8]) {
-    let mut input = b"size 1 4 2\nstart\nbegin 0\nend 0\nwake 0\ncross 0\n"
-        .to_vec(alloc)
-        .expect(rt, "memory");
-    let mut output = b"ok\nthread 1 place 0\nok\nok\nok\ngo\n"
-        .to_vec(alloc)
-        .expect(rt, "memory");
-    for _ in 0..256 {
-        put_line(rt, &mut input, "enter 0 0");
-        put_line(rt, &mut output, "entered");
+// Adds the parts of a text, which have bars between them: `3*a` is `a` three times.
+fn add_parts(rt: &impl Abort, text: &mut Vec<u8>, parts: &str) {
+    for part in parts.split('|') {
+        match part.split_once('*') {
+            None => add_times(rt, text, part, "1"),
+            Some((times, piece)) => add_times(rt, text, piece, times),
+        }
     }
-    put_line(rt, &mut input, "enter 0 0");
-    put_line(rt, &mut output, "refused DepthFull");
-    input.extend_from_slice(end).expect(rt, "memory");
-    output.extend_from_slice(answer).expect(rt, "memory");
-    assert!(rt; is_answered(alloc, &input, &output));
+}
+
+fn add_times(rt: &impl Abort, text: &mut Vec<u8>, piece: &str, times: &str) {
+    for _ in 0..times.parse::<u64>().expect(rt, "a number") {
+        text.extend_from_slice(piece.as_bytes())
+            .expect(rt, "memory");
+    }
+}
+
+fn expect_parts(rt: &impl Abort, alloc: Global, input: &str, output: &str) {
+    let (mut lines, mut answers) = (Vec::new(alloc), Vec::new(alloc));
+    add_parts(rt, &mut lines, input);
+    add_parts(rt, &mut answers, output);
+    assert!(rt; is_answered(alloc, &lines, &answers));
+}
+
+const DEEP_STACK: &str = "size 1 4 2\nstart\nbegin 0\nend 0\nwake 0\ncross 0\n|257*enter 0 0\n";
+
+const ENTERED: &str = "ok\nthread 1 place 0\nok\nok\nok\ngo\n|256*entered\n|refused DepthFull\n";
+
+// A deep stack, and then the end of the input.
+fn expect_last_line(rt: &impl Abort, alloc: Global, end: &str, answer: &str) {
+    let (mut lines, mut answers) = (Vec::new(alloc), Vec::new(alloc));
+    add_parts(rt, &mut lines, DEEP_STACK);
+    add_parts(rt, &mut lines, end);
+    add_parts(rt, &mut answers, ENTERED);
+    add_parts(rt, &mut answers, answer);
+    assert!(rt; is_answered(alloc, &lines, &answers), "{end}");
 }
 
 #[test]
 fn the_last_line_needs_no_newline(rt: HostRuntime) -> Result<(), Fail> {
-    let refused = b"refused StackNotEmpty\n";
-    expect_last_line(&rt, rt.alloc(), b"exit 0", refused);
-    expect_last_line(&rt, rt.alloc(), b"lea", b"bad line\n");
-    expect_last_line(&rt, rt.alloc(), b"exit 0\n", refused);
-    expect_last_line(&rt, rt.alloc(), b"", b"");
+    expect_last_line(&rt, rt.alloc(), "exit 0", "refused StackNotEmpty\n");
+    expect_last_line(&rt, rt.alloc(), "lea", "bad line\n");
+    expect_last_line(&rt, rt.alloc(), "exit 0\n", "refused StackNotEmpty\n");
+    expect_last_line(&rt, rt.alloc(), "", "");
     Ok(())
 }
 
-// `ask depth` with 78 names, the first with so many zeros behind its 1, and the last of 13 digits: a line of 1013 bytes and the zeros.
-fn expect_long_ask(rt: &impl Abort, alloc: Global, zeros: usize, answer: &[u8]) {
-    let mut input = String::from_str(alloc, "size 1 1 1\nask depth 1").expect(rt, "memory");
-    for _ in 0..zeros {
-        input.push_str("0").expect(rt, "memory");
-    }
-    for _ in 0..76 {
-        input.push_str(" 100000000001").expect(rt, "memory");
-    }
-    input.push_str(" 1000000000000\n").expect(rt, "memory");
-    assert!(rt; input.len() == b"size 1 1 1\n".len() + 1014 + zeros);
-    assert!(rt; is_answered(alloc, input.as_bytes(), answer));
-}
+// Asks with 78 names, in lines of 1023, 1024 and 1025 bytes: 11 before the zeros, 76 times 13 behind them, and then 14.
+const ASK_OF_1023: &str = "size 1 1 1\nask depth 1|10*0|76* 100000000001| 1000000000000\n";
+
+const ASK_OF_1024: &str = "size 1 1 1\nask depth 1|11*0|76* 100000000001| 1000000000000\n";
+
+const ASK_OF_1025: &str = "size 1 1 1\nask depth 1|12*0|76* 100000000001| 1000000000000\n";
 
 #[test]
 fn lines_of_1024_bytes_are_taken(rt: HostRuntime) -> Result<(), Fail> {
-    expect_long_ask(&rt, rt.alloc(), 10, b"ok\nrefused BadTargets\n");
-    expect_long_ask(&rt, rt.alloc(), 11, b"ok\nrefused BadTargets\n");
-    expect_long_ask(&rt, rt.alloc(), 12, b"ok\nbad line\n");
+    expect_parts(&rt, rt.alloc(), ASK_OF_1023, "ok\nrefused BadTargets\n");
+    expect_parts(&rt, rt.alloc(), ASK_OF_1024, "ok\nrefused BadTargets\n");
+    expect_parts(&rt, rt.alloc(), ASK_OF_1025, "ok\nbad line\n");
     Ok(())
 }
 
@@ -225,10 +236,6 @@ fn an_empty_input_is_answered_with_nothing(rt: HostRuntime) -> Result<(), Fail> 
 
 #[test]
 fn a_line_without_end_is_one_bad_line(rt: HostRuntime) -> Result<(), Fail> {
-    let mut input = b"size 1 1 1\n".to_vec(rt.alloc())?;
-    for _ in 0..1_000_000 {
-        input.push(b'a')?;
-    }
-    assert!(rt; is_answered(rt.alloc(), &input, b"ok\nbad line\n"));
+    expect_parts(&rt, rt.alloc(), "size 1 1 1\n|1000000*a", "ok\nbad line\n");
     Ok(())
 }

@@ -1,7 +1,7 @@
 // The same runs through `System::run`, which is given all events at once: with ample memory, and with each growth refused in turn. Then it
 // stops before the event that lacks memory, and can be gone on with.
 use super::{Transcript, operation_runs, publication_runs, trap_runs};
-use replay::engine::Reply;
+use replay::engine::{Reply, obey};
 use replay::grammar::{Command, parse};
 use replay::print::put_reply;
 use std::alloc::{AllocError, Global};
@@ -9,19 +9,15 @@ use std::process::Abort;
 use std::test::Fail;
 use system::answers::Answer;
 use system::events::Event;
-use system::{NewFault, Stopped, System};
+use system::{Stopped, System};
 
-// The first line of a run, made.
+// The system of the first line of a run; none where memory was refused.
 fn system_of(rt: &impl Abort, alloc: Global, run: &Transcript) -> Option<System> {
     let (size, _) = run.lines.split_once(" => ").expect(rt, "a size");
-    let Ok(Some(Command::Size(places, slots, methods))) = parse(alloc, size.as_bytes()) else {
-        panic!(rt; "{size} is no size");
-    };
-    match System::new(alloc, places as usize, slots as usize, methods as usize) {
-        Ok(system) => Some(system),
-        Err(NewFault::NoMemory) => None,
-        Err(NewFault::BadSize) => panic!(rt; "{size} is a bad size"),
-    }
+    let command = parse(alloc, size.as_bytes()).ok()?;
+    let mut system = None;
+    let _ = obey(&mut system, alloc, command);
+    system
 }
 
 // The other lines of a run, as events.
