@@ -41,8 +41,7 @@ pub fn call_of<'t, R: Abort>(rt: &R, text: &'t str) -> Call<'t> {
     }
 }
 
-/// What the jobs of a call ask, and whom: `submit depth of 1 2`, `submit count_of 1 of 1 2`, `reclaim 1 with depth of 1 2`. None of a call
-/// that has no jobs.
+/// What the jobs of a call ask, and whom: `submit depth of 1 2`, `submit count_of 1 of 1 2`. None of a call that has no jobs.
 pub fn asked_in<R: Abort>(rt: &R, alloc: Global, text: &str) -> Option<(Ask, Vec<u64>)> {
     let (before, names) = text.split_once(" of ")?;
     let ask = match before.split_once("count_of ") {

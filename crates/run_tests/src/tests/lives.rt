@@ -152,10 +152,9 @@ const CODES: &str = "
     hint 0 = 0:1
     call 1 0 = compiled 1
 
-    # The second code of the method is in use from now on: a call by the hint of the first is interpreted.
-    install 0 = 2
+    # A second code of the method is in use from now on: a call by the hint of the first is interpreted.
+    call_over 1 0 = interpreted
     hint 0 = 1:2
-    call 1 0 0:1 = interpreted
     call 1 0 = compiled 2
     invalidate 1 = NotInUse
 
@@ -193,7 +192,7 @@ const DEPTH: &str = "
     peek_counts = 128
     hint 0 = 0:1
     call 1 0, call 1 0 none = DepthFull
-    call 1 1 0:1 = NoSuchMethod
+    call 1 1 = NoSuchMethod
     state 1 = InJava
     publish 1 = ok
     peek_counts = 128
@@ -204,7 +203,7 @@ const DEPTH: &str = "
     publish 1 = ok
     peek_counts = 129
     call 1 0, call 1 0 none = DepthFull
-    call 1 1 0:1 = NoSuchMethod
+    call 1 1 = NoSuchMethod
     state 1 = InJava
     publish 1 = ok
     peek_counts = 129

@@ -112,7 +112,7 @@ const REFUSALS: &str = "
     to_native 2 = ok
     hold 1 = ok
     close = Held
-    operate = census 2 []
+    operate = (2, [])
     operate = AlreadyDone
 
     # Both go.

@@ -18,18 +18,18 @@ fn play_call<N: Name, J: Errand, R: Wait + Abort>(
     rt: &R,
     alloc: Global,
     system: &mut System<'_, N, J>,
-    slots: u32,
     call: &str,
     expected: &str,
-)
-    requires { slots ≡ N.board.slots }
-{
-    let Some(said) = answer(rt, alloc, system, slots, call) else {
-        panic!(rt; "there is no {call}");
+) {
+    let Some(said) = answer(rt, alloc, system, call) else {
+        panic!(rt; "line {}: there is no {call}", system.line);
     };
     let said = said.expect(rt, "memory");
     if said.as_str() != expected {
-        panic!(rt; "{call} answers {said} and not {expected}");
+        panic!(rt;
+            "line {}: {call} answers {said} and not {expected}",
+            system.line
+        );
     }
 }
 
@@ -37,16 +37,13 @@ fn play_row<N: Name, J: Errand, R: Wait + Abort>(
     rt: &R,
     alloc: Global,
     system: &mut System<'_, N, J>,
-    slots: u32,
     row: &str,
-)
-    requires { slots ≡ N.board.slots }
-{
+) {
     let Some((calls, expected)) = row.split_once(" = ") else {
-        panic!(rt; "no answer in {row}");
+        panic!(rt; "line {}: no answer in {row}", system.line);
     };
     for call in calls.split(',') {
-        play_call(rt, alloc, system, slots, call.trim(), expected.trim());
+        play_call(rt, alloc, system, call.trim(), expected.trim());
     }
 }
 
@@ -54,17 +51,14 @@ fn play_for_each<N: Name, J: Errand, R: Wait + Abort>(
     rt: &R,
     alloc: Global,
     system: &mut System<'_, N, J>,
-    slots: u32,
     numbers: (&str, &str),
     row: &str,
-)
-    requires { slots ≡ N.board.slots }
-{
+) {
     let (first, last) = numbers;
     for number in number_of(rt, first)..=number_of(rt, last) {
         let number = format!(in alloc; "{number}").expect(rt, "memory");
         let row = row.replace(alloc, '*', &number).expect(rt, "memory");
-        play_row(rt, alloc, system, slots, &row);
+        play_row(rt, alloc, system, &row);
     }
 }
 
@@ -72,34 +66,29 @@ fn play_line<N: Name, J: Errand, R: Wait + Abort>(
     rt: &R,
     alloc: Global,
     system: &mut System<'_, N, J>,
-    slots: u32,
     line: &str,
-)
-    requires { slots ≡ N.board.slots }
-{
+) {
     if line.is_empty() || line.starts_with('#') {
         return;
     }
     let Some((numbers, row)) = line.split_once(": ") else {
-        return play_row(rt, alloc, system, slots, line);
+        return play_row(rt, alloc, system, line);
     };
     let Some(ends) = numbers.split_once("..") else {
-        panic!(rt; "no numbers in {line}");
+        panic!(rt; "line {}: no numbers in {line}", system.line);
     };
-    play_for_each(rt, alloc, system, slots, ends, row);
+    play_for_each(rt, alloc, system, ends, row);
 }
 
 fn play_lines<N: Name, J: Errand, R: Wait + Abort>(
     rt: &R,
     alloc: Global,
     system: &mut System<'_, N, J>,
-    slots: u32,
     text: &str,
-)
-    requires { slots ≡ N.board.slots }
-{
+) {
     for line in text.lines() {
-        play_line(rt, alloc, system, slots, line.trim());
+        system.line = system.line.saturating_add(1);
+        play_line(rt, alloc, system, line.trim());
     }
 }
 
@@ -107,12 +96,10 @@ fn play_over<N: Name, J: Errand, R: Wait + Abort>(
     rt: &R,
     alloc: Global,
     parts: Parts,
-    slots: u32,
-    text: &str,
+    run: Run<'_>,
     jobs: Vec<Vec<J>>,
 )
     requires tables { (parts.board ≡ N.board) × (parts.row ≡ N.poll_row) }
-    requires slots { slots ≡ parts.board.slots }
 {
     let Ok((shared, armer)) = Shared::<N, J>::new(alloc, parts) else {
         panic!(rt; "memory");
@@ -125,15 +112,16 @@ fn play_over<N: Name, J: Errand, R: Wait + Abort>(
         coordinator,
         threads: Vec::new(alloc),
         jobs,
+        line: 0,
     };
-    play_lines(rt, alloc, &mut system, slots, text);
+    play_lines(rt, alloc, &mut system, run.text);
 }
 
 /// A text over a system of so many places, slots and methods.
-#[derive(Drop, Clone, Copy)]
+#[derive(Drop)]
 struct Run<'t> {
     places: usize,
-    slots: u32,
+    slots: usize,
     methods: usize,
     text: &'t str,
 }
@@ -142,10 +130,10 @@ impl<'t, R: Wait + Abort> Scenario<R> for Run<'t> {
     type Out = ();
 
     fn play(self, rt: &R, alloc: Global, lists: Vec<Vec<Job>>) -> Result<(), AllocError> {
-        let parts = Parts::new(alloc, self.places, self.slots as usize, self.methods).map_err(
+        let parts = Parts::new(alloc, self.places, self.slots, self.methods).map_err(
             |_| AllocError,
         )?;
-        play_over::<Brand, Job, R>(rt, alloc, parts, self.slots, self.text, lists);
+        play_over::<Brand, Job, R>(rt, alloc, parts, self, lists);
         Ok(())
     }
 }
@@ -179,7 +167,7 @@ pub fn play<R: Wait + Abort>(
     rt: &R,
     alloc: Global,
     places: usize,
-    slots: u32,
+    slots: usize,
     methods: usize,
     text: &str,
 ) -> Result<(), AllocError> {

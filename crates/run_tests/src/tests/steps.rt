@@ -46,15 +46,10 @@ fn operate<N: Name, J: Errand, R: Wait>(
     coordinator: &mut Coordinator<'_, N, J>,
 ) -> Said {
     match coordinator.operate(rt) {
-        Ok((number, list, _receipt)) => census(alloc, number, list),
+        Ok((number, list, _receipt)) => shown(alloc, (number, list)),
         Err(OperateFault::Refused(fault)) => shown(alloc, fault),
         Err(OperateFault::NoMemory) => word(alloc, "NoMemory"),
     }
-}
-
-// A census with its counts, each a serial with its frames.
-fn census(alloc: Global, number: u64, list: Vec<(u64, u32)>) -> Said {
-    format!(in alloc; "census {number} {list:?}")
 }
 
 fn drive<N: Name, J: Errand, R: Wait>(
@@ -71,19 +66,18 @@ fn drive<N: Name, J: Errand, R: Wait>(
 fn worked(alloc: Global, driven: Driven) -> Said {
     match driven {
         Driven::Handshake(number) => format!(in alloc; "handshake {number}"),
-        Driven::Census(number, list) => census(alloc, number, list),
+        Driven::Census(number, list) => shown(alloc, (number, list)),
     }
 }
 
-/// A code is reclaimed with these jobs.
-pub fn reclaim<N: Name, J: Errand, R: Wait>(
+// A code is reclaimed without a handshake.
+fn reclaim<N: Name, J: Errand, R: Wait>(
     rt: &R,
     alloc: Global,
     coordinator: &mut Coordinator<'_, N, J>,
     serial: u64,
-    jobs: Vec<J>,
 ) -> Said {
-    match coordinator.reclaim(rt, serial, jobs) {
+    match coordinator.reclaim(rt, serial, Vec::new(alloc)) {
         Ok(Reclaimed::Freed(_receipt)) => word(alloc, "freed"),
         Ok(Reclaimed::Used(count)) => format!(in alloc; "used {count}"),
         Ok(Reclaimed::Late(place)) => format!(in alloc; "late {place}"),
@@ -101,7 +95,7 @@ pub fn work<N: Name, J: Errand, R: Wait>(
     let said = match row.name {
         "operate" => operate(rt, alloc, coordinator),
         "drive" => drive(rt, alloc, coordinator),
-        "reclaim" => reclaim(rt, alloc, coordinator, row.first as u64, Vec::new(alloc)),
+        "reclaim" => reclaim(rt, alloc, coordinator, row.first as u64),
         _ => return None,
     };
     Some(said)

@@ -1,10 +1,10 @@
 //! A running system whose calls are all made by one thread.
-ghost use Rattle.std.specs.Prelude.{◌≡◌, ◌<◌, length, IfSome};
+ghost use Rattle.std.specs.Prelude.{◌<◌, length, IfSome};
 
 use crate::tests::calls::{Call, asked_in, call_of};
-use crate::tests::said::{Said, shown, word};
+use crate::tests::said::{Said, number, shown, word};
 use crate::tests::shared::{ask, submit};
-use crate::tests::steps::{reclaim, step, work};
+use crate::tests::steps::{step, work};
 use crate::tests::threads::{cross, run};
 use bodies::Name;
 use coordinator::Coordinator;
@@ -23,6 +23,8 @@ pub struct System<'a, N: Name, J: Errand> {
     pub coordinator: Coordinator<'a, N, J>,
     pub threads: Vec<Mutator<'a, N, J>>,
     pub jobs: Vec<Vec<J>>,
+    /// Which line of the text is played.
+    pub line: u64,
 }
 
 // Where the thread of the name stands.
@@ -37,6 +39,16 @@ fn index_of<N: Name, J: Errand>(threads: &[Mutator<'_, N, J>], name: u64) -> Opt
     None
 }
 
+fn keep<'a, N: Name, J: Errand, R: Abort>(
+    rt: &R,
+    threads: &mut Vec<Mutator<'a, N, J>>,
+    thread: Mutator<'a, N, J>,
+) {
+    if threads.push(thread).is_err() {
+        panic!(rt; "memory");
+    }
+}
+
 fn start<'a, N: Name, J: Errand, R: Wait + Abort>(
     rt: &R,
     alloc: Global,
@@ -46,10 +58,8 @@ fn start<'a, N: Name, J: Errand, R: Wait + Abort>(
     match shared.start(rt, alloc) {
         Ok((thread, _receipt)) => {
             let name = thread.name();
-            if threads.push(thread).is_err() {
-                panic!(rt; "memory");
-            }
-            format!(in alloc; "{name}")
+            keep(rt, threads, thread);
+            number(alloc, name)
         }
         Err(fault) => shown(alloc, fault),
     }
@@ -63,13 +73,10 @@ fn exit<N: Name, J: Errand, R: Wait + Abort>(
 ) -> Said
     requires { index < length threads.old.items }
 {
-    let thread = threads.swap_remove(index);
-    match thread.exit(rt) {
+    match threads.swap_remove(index).exit(rt) {
         Ok(_receipts) => word(alloc, "exited"),
         Err((fault, back)) => {
-            if threads.push(back).is_err() {
-                panic!(rt; "memory");
-            }
+            keep(rt, threads, back);
             shown(alloc, fault)
         }
     }
@@ -80,25 +87,22 @@ fn of_thread<N: Name, J: Errand, R: Wait + Abort>(
     rt: &R,
     alloc: Global,
     shared: &Shared<N, J>,
-    slots: u32,
     threads: &mut Vec<Mutator<'_, N, J>>,
     row: Call<'_>,
-) -> Option<Said>
-    requires { slots ≡ N.board.slots }
-{
+) -> Option<Said> {
     let index = index_of(threads.as_slice(), row.first as u64)?;
     if row.name == "exit" {
         return Some(exit(rt, alloc, threads, index));
     }
     let thread = &mut threads[index];
-    match run(rt, alloc, shared, slots, thread, row) {
+    match run(alloc, shared, thread, row) {
         None => cross(rt, alloc, shared, thread, row),
         said => said,
     }
 }
 
-// A call that has jobs.
-fn with_jobs<N: Name, J: Errand, R: Wait + Abort>(
+// A handshake waits, with its jobs.
+fn submit_handshake<N: Name, J: Errand, R: Wait + Abort>(
     rt: &R,
     alloc: Global,
     system: &mut System<'_, N, J>,
@@ -106,25 +110,18 @@ fn with_jobs<N: Name, J: Errand, R: Wait + Abort>(
 ) -> Option<Said> {
     let (ask, whom) = asked_in(rt, alloc, text)?;
     let jobs = pop_list(alloc, &mut system.jobs);
-    let Some((call, _asked)) = text.split_once(" with ") else {
-        let targets = Targets::from_vec(whom);
-        let request = Request::Handshake { targets, ask };
-        return Some(submit(rt, alloc, system.shared, request, jobs));
-    };
-    let serial = call_of(rt, call).first as u64;
-    Some(reclaim(rt, alloc, &mut system.coordinator, serial, jobs))
+    let targets = Targets::from_vec(whom);
+    let request = Request::Handshake { targets, ask };
+    Some(submit(rt, alloc, system.shared, request, jobs))
 }
 
-// A call that has none.
+// A call that has no jobs.
 fn alone<N: Name, J: Errand, R: Wait + Abort>(
     rt: &R,
     alloc: Global,
     system: &mut System<'_, N, J>,
-    slots: u32,
     row: Call<'_>,
-) -> Option<Said>
-    requires { slots ≡ N.board.slots }
-{
+) -> Option<Said> {
     let said = of_coordinator(rt, alloc, &mut system.coordinator, row);
     if said.is_some() {
         return said;
@@ -133,7 +130,7 @@ fn alone<N: Name, J: Errand, R: Wait + Abort>(
     if said.is_some() {
         return said;
     }
-    of_thread(rt, alloc, system.shared, slots, &mut system.threads, row)
+    of_thread(rt, alloc, system.shared, &mut system.threads, row)
 }
 
 fn of_coordinator<N: Name, J: Errand, R: Wait>(
@@ -153,19 +150,16 @@ pub fn answer<N: Name, J: Errand, R: Wait + Abort>(
     rt: &R,
     alloc: Global,
     system: &mut System<'_, N, J>,
-    slots: u32,
     text: &str,
-) -> Option<Said>
-    requires { slots ≡ N.board.slots }
-{
+) -> Option<Said> {
     match text {
         "start" => Some(start(rt, alloc, system.shared, &mut system.threads)),
         "submit census" => {
             let none = Vec::new(alloc);
             Some(submit(rt, alloc, system.shared, Request::Census, none))
         }
-        _ => match with_jobs(rt, alloc, system, text) {
-            None => alone(rt, alloc, system, slots, call_of(rt, text)),
+        _ => match submit_handshake(rt, alloc, system, text) {
+            None => alone(rt, alloc, system, call_of(rt, text)),
             said => said,
         },
     }

@@ -1,79 +1,58 @@
 //! What a thread calls.
-ghost use Rattle.std.specs.Prelude.{◌≡◌, ◌<◌, IfSome};
+ghost use Rattle.std.specs.Prelude.{◌<◌, IfSome};
 
-use crate::tests::calls::{Call, number_of};
+use crate::tests::calls::Call;
 use crate::tests::said::{Said, done, number, polled, shown, word};
 use bodies::{Called, Name};
 use frames::CodeId;
 use operations::job::Errand;
 use std::alloc::Global;
-use std::process::Abort;
 use std::sync::Wait;
-use thread_list::{Mutator, Shared, Turn};
+use thread_list::{CallFault, Mutator, Shared, Turn};
 
-// The hint that a row writes as its slot and its serial, as `0:1`.
-fn written_hint<R: Abort>(rt: &R, slots: u32, word: &str) -> Option<CodeId>
-    ensures { IfSome result (λ c. c.slot < slots) }
-{
-    let (slot, serial) = word.split_once(':')?;
-    let slot = number_of(rt, slot);
-    let serial = number_of(rt, serial) as u64;
-    if slot < slots {
-        Some(CodeId { slot, serial })
-    } else {
-        None
-    }
-}
-
-// The hint of a call: the method's, none, or one that the row writes.
-fn hint_of<N: Name, J: Errand, R: Abort>(
-    rt: &R,
-    shared: &Shared<N, J>,
-    slots: u32,
-    method: u32,
-    last: &str,
-) -> Option<CodeId>
-    requires { slots ≡ N.board.slots }
+// The hint of a call: the method's, or none where the row says so.
+fn hint_of<N: Name, J: Errand>(shared: &Shared<N, J>, row: Call<'_>) -> Option<CodeId>
     ensures { IfSome result (λ c. c.slot < N.board.slots) }
 {
-    match last {
-        "" => shared.hint(method),
-        "none" => None,
-        _ => written_hint(rt, slots, last),
+    match row.last {
+        "" => shared.hint(row.second),
+        _ => None,
     }
 }
 
-fn call<N: Name, J: Errand, R: Abort>(
-    rt: &R,
-    alloc: Global,
-    shared: &Shared<N, J>,
-    slots: u32,
-    thread: &mut Mutator<'_, N, J>,
-    row: Call<'_>,
-) -> Said
-    requires { slots ≡ N.board.slots }
-{
-    let method = row.second;
-    match thread.call(method, hint_of(rt, shared, slots, method, row.last)) {
+// What a call of a method by a hint answers.
+fn called(alloc: Global, answer: Result<Called, CallFault>) -> Said {
+    match answer {
         Ok(Called::Compiled(serial)) => format!(in alloc; "compiled {serial}"),
         Ok(Called::Interpreted) => word(alloc, "interpreted"),
         Err(fault) => shown(alloc, fault),
     }
 }
 
-/// Calls of a thread that wait for nobody.
-pub fn run<N: Name, J: Errand, R: Abort>(
+// A method is called by the hint that was its own before another code is installed over it.
+fn call_over<N: Name, J: Errand, R: Wait>(
     rt: &R,
     alloc: Global,
     shared: &Shared<N, J>,
-    slots: u32,
+    thread: &mut Mutator<'_, N, J>,
+    method: u32,
+) -> Said {
+    let old = shared.hint(method);
+    match shared.install(rt, method) {
+        Ok(_installed) => called(alloc, thread.call(method, old)),
+        Err(fault) => shown(alloc, fault),
+    }
+}
+
+/// Calls of a thread that wait for nobody.
+pub fn run<N: Name, J: Errand>(
+    alloc: Global,
+    shared: &Shared<N, J>,
     thread: &mut Mutator<'_, N, J>,
     row: Call<'_>,
-) -> Option<Said>
-    requires { slots ≡ N.board.slots }
-{
+) -> Option<Said> {
     let said = match row.name {
-        "call" => call(rt, alloc, shared, slots, thread, row),
+        "call" => called(alloc, thread.call(row.second, hint_of(shared, row))),
         "ret" => polled(alloc, thread.ret()),
         "back_edge" => polled(alloc, thread.back_edge()),
         "publish" => done(alloc, thread.publish()),
@@ -137,6 +116,7 @@ pub fn cross<N: Name, J: Errand, R: Wait>(
         "block" => done(alloc, thread.block(rt)),
         "unblock" => polled(alloc, thread.unblock(rt)),
         "stop" => stop(rt, alloc, thread),
+        "call_over" => call_over(rt, alloc, shared, thread, row.second),
         "take" => take(rt, alloc, shared, thread, row.second as u64),
         _ => return None,
     };
