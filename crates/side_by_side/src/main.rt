@@ -3,24 +3,20 @@
 //! and of the coordinator, and plays the events that each call is on a `System`; after each call all that can be seen of both is
 //! compared. With words it prints what the calls came to. The first difference is printed in one line, and then the status is 1. So it
 //! is where a core that loses an event or a reply isn't told from the running layer: that is tried at the end.
+//!
+//! The schedules, the core's side and the comparison are `side_schedule`'s.
 #![tactic(auto)]
 
-mod calls;
-mod compare;
-mod draw;
-mod habits;
-mod oracle;
-mod play;
+mod faults;
 mod running;
-mod said;
-mod schedule;
 mod total;
 mod trials;
 mod words;
 
+use side_schedule::losses::LOSSES;
 use std::process::ExitCode;
 use total::play_all;
-use trials::{LOSSES, lose_all};
+use trials::lose_all;
 use words::{Words, read_words};
 
 fn main(rt: HostRuntime) -> ExitCode {

@@ -1,27 +1,10 @@
 //! Trials of the comparison: the core loses something, and that is to be found.
-use crate::oracle::losses::{Loss, Lost};
-use crate::play::Stopped;
 use crate::total::play_seed;
+use side_schedule::losses::{ALL, Loss, Lost};
+use side_schedule::play::Stopped;
 use std::alloc::{AllocError, Global};
 use std::fmt;
 use std::sync::Wait;
-
-/// How many things can be lost.
-pub const LOSSES: usize = 11;
-
-const ALL: [Lost; LOSSES] = [
-    Lost::Leave,
-    Lost::Change,
-    Lost::Invalidate,
-    Lost::Round,
-    Lost::Look,
-    Lost::Free,
-    Lost::Tell,
-    Lost::Release,
-    Lost::Finish,
-    Lost::Clear,
-    Lost::Reply,
-];
 
 // In how many schedules it is lost at most, in each one that more come before: a lost Tell may be made up for by another, and a lost
 // Round by that of a reclaim.
@@ -31,7 +14,7 @@ const SCHEDULES: u64 = 12;
 const STEP: u64 = 7;
 
 /// Why the trials don't show what they are to.
-#[derive(Clone, Copy, PartialEq, Eq, Debug, Drop)]
+#[derive(Clone, Copy, Drop)]
 pub enum Untold {
     NoMemory,
     /// The loss of this makes no difference that is found, in any of the schedules.

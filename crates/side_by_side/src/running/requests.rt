@@ -1,17 +1,19 @@
 //! What is called of requests, of a running system.
 ghost use Rattle.std.specs.Prelude.{◌<◌, length, IfSome};
 
-use super::Running;
-use crate::calls::{Handshake, RequestCall, StepCall};
-use crate::said::{Said, of_close, of_hold, of_open, of_release, of_serve, of_tell};
+use super::Side;
+use crate::faults::{
+    of_ask, of_close, of_drive, of_hold, of_open, of_operate, of_release, of_serve, of_tell,
+};
 use bodies::Name;
-use coordinator::{Driven, NotReclaimed, Reclaimed, Told};
+use coordinator::{Driven, Told};
 use desk::Refused;
 use operations::job::Errand;
 use operations::{Ask, Request, Targets};
-use std::alloc::{AllocError, Global};
+use side_schedule::calls::{Handshake, RequestCall, StepCall};
+use side_schedule::said::Said;
+use std::alloc::AllocError;
 use std::sync::Wait;
-use system::answers::Refusal;
 
 // Where a job for the name stands, with this ask.
 fn job_at<J: Errand>(jobs: &[J], name: u64, ask: Ask) -> Option<usize>
@@ -25,111 +27,91 @@ fn job_at<J: Errand>(jobs: &[J], name: u64, ask: Ask) -> Option<usize>
     None
 }
 
-// How many jobs for the name there are, with this ask.
-fn job_count<J: Errand>(jobs: &[J], name: u64, ask: Ask) -> u64 {
-    let mut count: u64 = 0;
-    for index in 0..jobs.len() {
-        if jobs[index].target_of() == name && jobs[index].ask_of() == ask {
-            count = count.saturating_add(1);
-        }
-    }
-    count
-}
-
-impl<'a, N: Name, J: Errand> Running<'a, N, J> {
-    /// Whether there is a job for each target of the handshake.
-    pub fn has_jobs(&self, alloc: Global, handshake: Handshake) -> Result<bool, AllocError> {
-        let needed = if handshake.step == 0 {
+impl<'a, N: Name, J: Errand> Side<'a, N, J> {
+    // The jobs for the targets, in their order; where they aren't to fit, one less than there are targets, or as many as there are.
+    pub(super) fn take_jobs(&mut self, handshake: Handshake) -> Result<Vec<J>, AllocError> {
+        let wanted = if handshake.fits {
             handshake.count
         } else {
-            1
+            handshake.count.saturating_sub(1)
         };
-        let names = handshake.names(alloc)?;
-        for name in &names {
-            if job_count(self.jobs.as_slice(), *name, handshake.ask) < needed {
-                return Ok(false);
+        let mut taken = Vec::new(self.alloc);
+        let mut name = handshake.first;
+        for _listed in 0..handshake.count {
+            if let Some(job) = self.take_job(name, handshake.ask) {
+                let list = if (taken.len() as u64) < wanted {
+                    &mut taken
+                } else {
+                    &mut self.jobs
+                };
+                if list.push(job).is_err() {
+                    return Err(AllocError);
+                }
             }
-        }
-        Ok(true)
-    }
-
-    // The jobs for the targets, in their order; where they aren't to fit, one less than there are targets, or as many as there are.
-    fn take_jobs(&mut self, alloc: Global, handshake: Handshake) -> Result<Vec<J>, AllocError> {
-        let names = handshake.names(alloc)?;
-        let mut taken = Vec::new(alloc);
-        for name in &names {
-            if let Some(index) = job_at(self.jobs.as_slice(), *name, handshake.ask) {
-                let job = self.jobs.swap_remove(index);
-                taken.push(job).map_err(|_| AllocError)?;
-            }
-        }
-        if !handshake.fits && taken.len() >= names.len() {
-            if let Some(job) = taken.pop() {
-                self.jobs.push(job).map_err(|_| AllocError)?;
-            }
+            name = name.saturating_add(handshake.step);
         }
         Ok(taken)
     }
 
-    // Jobs that come back are there for other requests.
-    fn put_back(&mut self, jobs: Vec<J>) -> Result<(), AllocError> {
-        for job in jobs {
-            self.jobs.push(job).map_err(|_| AllocError)?;
+    fn take_job(&mut self, name: u64, ask: Ask) -> Option<J> {
+        match job_at(self.jobs.as_slice(), name, ask) {
+            Some(index) => Some(self.jobs.swap_remove(index)),
+            None => None,
         }
-        Ok(())
     }
 
-    pub(super) fn of_request<R: Wait>(
-        &mut self,
-        rt: &R,
-        alloc: Global,
-        call: RequestCall,
-    ) -> Result<Said, AllocError> {
+    // Jobs that come back are there for other requests.
+    pub(super) fn put_back(&mut self, jobs: Vec<J>, said: Said) -> Said {
+        for job in jobs {
+            if self.jobs.push(job).is_err() {
+                return Said::NoMemory;
+            }
+        }
+        said
+    }
+
+    pub(super) fn of_request<R: Wait>(&mut self, rt: &R, call: RequestCall) -> Said {
         match call {
-            RequestCall::SubmitCensus => self.submit_census(rt, alloc),
-            RequestCall::Submit(handshake) => self.submit(rt, alloc, handshake),
-            RequestCall::Open => Ok(self.open(rt)),
-            RequestCall::Close => Ok(self.close(rt)),
-            RequestCall::CloseOf(number) => Ok(self.close_of(rt, number)),
+            RequestCall::SubmitCensus => self.submit(rt, Request::Census, Vec::new(self.alloc)),
+            RequestCall::Submit(handshake) => self.submit_handshake(rt, handshake),
+            RequestCall::Open => self.open(rt),
+            RequestCall::Close => self.close(rt),
+            RequestCall::CloseOf(number) => self.close_of(rt, number),
             RequestCall::Drive => self.drive(rt),
             RequestCall::DriveFour => self.drive_four(rt),
         }
     }
 
-    pub(super) fn step<R: Wait>(&mut self, rt: &R, call: StepCall) -> Result<Said, AllocError> {
+    pub(super) fn step<R: Wait>(&mut self, rt: &R, call: StepCall) -> Said {
         match call {
-            StepCall::Tell(name) => Ok(self.tell(rt, name)),
-            StepCall::Hold(place) => Ok(self.hold(rt, place)),
-            StepCall::Serve(place) => Ok(self.serve(rt, place)),
+            StepCall::Tell(name) => self.tell(rt, name),
+            StepCall::Hold(place) => self.hold(rt, place),
+            StepCall::Serve(place) => self.serve(rt, place),
             StepCall::Operate => self.operate(rt),
-            StepCall::Release(place) => Ok(self.release(rt, place)),
+            StepCall::Release(place) => self.release(rt, place),
         }
     }
 
-    fn submit_census<R: Wait>(&mut self, rt: &R, alloc: Global) -> Result<Said, AllocError> {
-        match self.shared.submit(rt, Request::Census, Vec::new(alloc)) {
-            Ok((number, _receipt)) => Ok(Said::Asked(number)),
-            Err(refused) => Said::of_ask(refused.fault),
-        }
-    }
-
-    fn submit<R: Wait>(
-        &mut self,
-        rt: &R,
-        alloc: Global,
-        handshake: Handshake,
-    ) -> Result<Said, AllocError> {
+    fn submit_handshake<R: Wait>(&mut self, rt: &R, handshake: Handshake) -> Said {
+        let Ok(names) = handshake.names(self.alloc) else {
+            return Said::NoMemory;
+        };
         let request = Request::Handshake {
-            targets: Targets::from_vec(handshake.names(alloc)?),
+            targets: Targets::from_vec(names),
             ask: handshake.ask,
         };
-        let jobs = self.take_jobs(alloc, handshake)?;
-        match self.shared.submit(rt, request, jobs) {
-            Ok((number, _receipt)) => Ok(Said::Asked(number)),
+        match self.take_jobs(handshake) {
+            Ok(jobs) => self.submit(rt, request, jobs),
+            Err(_) => Said::NoMemory,
+        }
+    }
+
+    fn submit<R: Wait>(&mut self, rt: &R, request: Request, jobs: Vec<J>) -> Said {
+        match self.tables.shared().submit(rt, request, jobs) {
+            Ok((number, _receipt)) => Said::Asked(number),
             Err(refused) => {
                 let Refused { fault, jobs } = refused;
-                self.put_back(jobs)?;
-                Said::of_ask(fault)
+                self.put_back(jobs, of_ask(fault))
             }
         }
     }
@@ -137,7 +119,7 @@ impl<'a, N: Name, J: Errand> Running<'a, N, J> {
     fn open<R: Wait>(&mut self, rt: &R) -> Said {
         match self.coordinator.open(rt) {
             Ok((number, _receipt)) => Said::Opened(number),
-            Err(fault) => Said::Refused(of_open(fault)),
+            Err(fault) => of_open(fault),
         }
     }
 
@@ -145,90 +127,69 @@ impl<'a, N: Name, J: Errand> Running<'a, N, J> {
         match self.coordinator.tell(rt, name) {
             Ok(Told::Told(_)) => Said::Told,
             Ok(Told::Gone) => Said::Gone,
-            Err(fault) => Said::Refused(of_tell(fault)),
+            Err(fault) => of_tell(fault),
         }
     }
 
     fn hold<R: Wait>(&mut self, rt: &R, place: usize) -> Said {
         match self.coordinator.hold(rt, place) {
             Ok(_) => Said::Done,
-            Err(fault) => Said::Refused(of_hold(fault)),
+            Err(fault) => of_hold(fault),
         }
     }
 
     fn serve<R: Wait>(&mut self, rt: &R, place: usize) -> Said {
         match self.coordinator.serve(rt, place) {
             Ok(_receipt) => Said::Done,
-            Err(fault) => Said::Refused(of_serve(fault)),
+            Err(fault) => of_serve(fault),
         }
     }
 
-    fn operate<R: Wait>(&mut self, rt: &R) -> Result<Said, AllocError> {
+    fn operate<R: Wait>(&mut self, rt: &R) -> Said {
         match self.coordinator.operate(rt) {
-            Ok((number, counts, _receipt)) => Ok(Said::Census(number, counts)),
-            Err(fault) => Said::of_operate(fault),
+            Ok((number, counts, _receipt)) => self.note_census(number, counts),
+            Err(fault) => of_operate(fault),
         }
+    }
+
+    fn note_census(&mut self, number: u64, counts: Vec<(u64, u32)>) -> Said {
+        self.counted = counts;
+        Said::Census(number)
     }
 
     fn release<R: Wait>(&mut self, rt: &R, place: usize) -> Said {
         match self.coordinator.release(rt, place) {
             Ok(_receipt) => Said::Done,
-            Err(fault) => Said::Refused(of_release(fault)),
+            Err(fault) => of_release(fault),
         }
     }
 
     fn close<R: Wait>(&mut self, rt: &R) -> Said {
         match self.coordinator.close(rt) {
             Ok((number, _receipt)) => Said::Closed(number),
-            Err(fault) => Said::Refused(of_close(fault)),
+            Err(fault) => of_close(fault),
         }
     }
 
     fn close_of<R: Wait>(&mut self, rt: &R, number: u64) -> Said {
         match self.coordinator.close_of(rt, number) {
             Ok(_receipt) => Said::Closed(number),
-            Err(fault) => Said::Refused(of_close(fault)),
+            Err(fault) => of_close(fault),
         }
     }
 
-    fn drive_four<R: Wait>(&mut self, rt: &R) -> Result<Said, AllocError> {
+    fn drive_four<R: Wait>(&mut self, rt: &R) -> Said {
         match self.coordinator.drive_four(rt) {
-            Ok(closed) => Ok(Said::Number(closed as u64)),
-            Err(fault) => Said::of_drive(fault),
+            Ok(closed) => Said::Number(closed as u64),
+            Err(fault) => of_drive(fault),
         }
     }
 
-    fn drive<R: Wait>(&mut self, rt: &R) -> Result<Said, AllocError> {
-        let driven = match self.coordinator.drive(rt) {
-            Ok((driven, _receipt)) => driven,
-            Err(fault) => return Said::of_drive(fault),
-        };
-        match driven {
-            Driven::Handshake(number) => Ok(Said::Handshake(number)),
-            Driven::Census(number, counts) => Ok(Said::Census(number, counts)),
-        }
-    }
-
-    pub(super) fn reclaim<R: Wait>(
-        &mut self,
-        rt: &R,
-        alloc: Global,
-        serial: u64,
-        handshake: Option<Handshake>,
-    ) -> Result<Said, AllocError> {
-        let jobs = match handshake {
-            Some(handshake) => self.take_jobs(alloc, handshake)?,
-            None => Vec::new(alloc),
-        };
-        match self.coordinator.reclaim(rt, serial, jobs) {
-            Ok(Reclaimed::Freed(_receipt)) => Ok(Said::Freed),
-            Ok(Reclaimed::Used(count)) => Ok(Said::Used(count)),
-            Ok(Reclaimed::Late(place)) => Ok(Said::NotLooked(place)),
-            Err(refused) => {
-                let NotReclaimed { fault, jobs } = refused;
-                self.put_back(jobs)?;
-                Said::of_reclaim(fault)
-            }
+    fn drive<R: Wait>(&mut self, rt: &R) -> Said {
+        match self.coordinator.drive(rt) {
+            Ok((Driven::Handshake(number), _)) => Said::Handshake(number),
+            Ok((Driven::Census(number, counts), _)) => self.note_census(number, counts),
+            Err(fault) => of_drive(fault),
         }
     }
 }

@@ -1,16 +1,16 @@
 //! What a thread calls, of a running system.
 ghost use Rattle.std.specs.Prelude.{◌≡◌, ◌<◌, length, IfSome};
 
-use super::Running;
-use crate::calls::ThreadCall;
-use crate::said::{Said, of_call, of_exit, of_return};
+use super::Side;
+use crate::faults::{of_call, of_exit, of_return, of_start};
 use bodies::{Called, Name};
 use frames::CodeId;
 use operations::job::Errand;
-use std::alloc::{AllocError, Global};
+use side_schedule::calls::ThreadCall;
+use side_schedule::said::Said;
 use std::sync::Wait;
 use system::answers::Refusal;
-use thread_list::{Mutator, Poll, ReturnFault};
+use thread_list::{CallFault, Mutator, Poll, ReturnFault};
 use thread_state::State;
 
 // Where the thread of the name stands.
@@ -33,110 +33,121 @@ fn of_done(said: Result<(), State>) -> Said {
     }
 }
 
+fn of_poll(poll: Poll) -> Said {
+    match poll {
+        Poll::Go => Said::Go,
+        Poll::Stop(number) => Said::Stop(number),
+    }
+}
+
 fn of_polled(said: Result<Poll, State>) -> Said {
     match said {
-        Ok(poll) => Said::of_poll(poll),
+        Ok(poll) => of_poll(poll),
         Err(state) => Said::Refused(Refusal::Illegal(state)),
     }
 }
 
 fn of_returned(said: Result<Poll, ReturnFault>) -> Said {
     match said {
-        Ok(poll) => Said::of_poll(poll),
-        Err(fault) => Said::Refused(of_return(fault)),
+        Ok(poll) => of_poll(poll),
+        Err(fault) => of_return(fault),
     }
 }
 
-fn call_method<N: Name, J: Errand>(
-    thread: &mut Mutator<'_, N, J>,
-    slots: u32,
-    method: u32,
-    hint: Option<CodeId>,
-) -> Said
-    requires { slots ≡ N.board.slots }
-{
-    let hint = match hint {
-        Some(id) if id.slot < slots => Some(id),
-        _ => None,
-    };
-    match thread.call(method, hint) {
+fn of_called(said: Result<Called, CallFault>) -> Said {
+    match said {
         Ok(Called::Compiled(serial)) => Said::Compiled(serial),
         Ok(Called::Interpreted) => Said::Interpreted,
-        Err(fault) => Said::Refused(of_call(fault)),
+        Err(fault) => of_call(fault),
     }
 }
 
-fn make<N: Name, J: Errand, R: Wait>(
-    rt: &R,
-    thread: &mut Mutator<'_, N, J>,
-    slots: u32,
-    call: ThreadCall,
-) -> Said
-    requires { slots ≡ N.board.slots }
-{
+// A call that neither waits nor needs a hint.
+fn make<N: Name, J: Errand>(thread: &mut Mutator<'_, N, J>, call: ThreadCall) -> Said {
     match call {
-        ThreadCall::Call(method, hint) => call_method(thread, slots, method, hint),
         ThreadCall::Ret => of_returned(thread.ret()),
         ThreadCall::BackEdge => of_polled(thread.back_edge()),
         ThreadCall::Publish => of_done(thread.publish()),
         ThreadCall::ToVm => of_done(thread.to_vm()),
-        ThreadCall::FromVm => of_polled(thread.from_vm()),
+        _ => of_polled(thread.from_vm()),
+    }
+}
+
+// A call that locks a berth.
+fn wait<N: Name, J: Errand, R: Wait>(
+    rt: &R,
+    thread: &mut Mutator<'_, N, J>,
+    call: ThreadCall,
+) -> Said {
+    match call {
         ThreadCall::ToNative => of_done(thread.to_native(rt)),
         ThreadCall::FromNative => of_polled(thread.from_native(rt)),
         ThreadCall::Block => of_done(thread.block(rt)),
         ThreadCall::Unblock => of_polled(thread.unblock(rt)),
-        ThreadCall::Stop => match thread.stop(rt) {
-            Ok(_turn) => Said::Done,
-            Err(state) => Said::Refused(Refusal::Illegal(state)),
-        },
+        _ => stop(rt, thread),
     }
 }
 
-impl<'a, N: Name, J: Errand> Running<'a, N, J> {
-    pub(super) fn start<R: Wait>(&mut self, rt: &R, alloc: Global) -> Result<Said, AllocError> {
-        match self.shared.start(rt, alloc) {
+fn stop<N: Name, J: Errand, R: Wait>(rt: &R, thread: &mut Mutator<'_, N, J>) -> Said {
+    match thread.stop(rt) {
+        Ok(_turn) => Said::Done,
+        Err(state) => Said::Refused(Refusal::Illegal(state)),
+    }
+}
+
+impl<'a, N: Name, J: Errand> Side<'a, N, J> {
+    pub(super) fn start<R: Wait>(&mut self, rt: &R) -> Said {
+        match self.tables.shared().start(rt, self.alloc) {
             Ok((thread, _receipt)) => {
                 let said = Said::Thread(thread.name(), thread.place());
-                self.keep(thread)?;
-                Ok(said)
+                self.keep(thread, said)
             }
-            Err(fault) => Said::of_start(fault),
+            Err(fault) => of_start(fault),
         }
     }
 
-    fn keep(&mut self, thread: Mutator<'a, N, J>) -> Result<(), AllocError> {
-        self.threads.push(thread).map_err(|_| AllocError)
+    // The thread is there for other calls.
+    fn keep(&mut self, thread: Mutator<'a, N, J>, said: Said) -> Said {
+        match self.threads.push(thread) {
+            Ok(()) => said,
+            Err(_) => Said::NoMemory,
+        }
     }
 
-    pub(super) fn of_thread<R: Wait>(
-        &mut self,
-        rt: &R,
-        slots: u32,
-        name: u64,
-        call: ThreadCall,
-    ) -> Result<Said, AllocError>
-        requires { slots ≡ N.board.slots }
-    {
+    pub(super) fn of_thread<R: Wait>(&mut self, rt: &R, name: u64, call: ThreadCall) -> Said {
         let Some(index) = index_of(self.threads.as_slice(), name) else {
-            return Ok(Said::Gone);
+            return Said::Gone;
         };
         let mut thread = self.threads.swap_remove(index);
-        let said = make(rt, &mut thread, slots, call);
-        self.keep(thread)?;
-        Ok(said)
+        let said = self.call_of(rt, &mut thread, call);
+        self.keep(thread, said)
     }
 
-    pub(super) fn exit<R: Wait>(&mut self, rt: &R, name: u64) -> Result<Said, AllocError> {
+    fn call_of<R: Wait>(&self, rt: &R, thread: &mut Mutator<'a, N, J>, call: ThreadCall) -> Said {
+        match call {
+            ThreadCall::Call(method, hint) => self.call(thread, method, hint),
+            ThreadCall::Ret
+            | ThreadCall::BackEdge
+            | ThreadCall::Publish
+            | ThreadCall::ToVm
+            | ThreadCall::FromVm => make(thread, call),
+            _ => wait(rt, thread, call),
+        }
+    }
+
+    fn call(&self, thread: &mut Mutator<'a, N, J>, method: u32, hint: Option<CodeId>) -> Said {
+        let hint = self.tables.known(hint);
+        of_called(thread.call(method, hint))
+    }
+
+    pub(super) fn exit<R: Wait>(&mut self, rt: &R, name: u64) -> Said {
         let Some(index) = index_of(self.threads.as_slice(), name) else {
-            return Ok(Said::Gone);
+            return Said::Gone;
         };
         let thread = self.threads.swap_remove(index);
         match thread.exit(rt) {
-            Ok(_receipt) => Ok(Said::Exited(name)),
-            Err((fault, back)) => {
-                self.keep(back)?;
-                Ok(Said::Refused(of_exit(fault)))
-            }
+            Ok(_receipt) => Said::Exited(name),
+            Err((fault, back)) => self.keep(back, of_exit(fault)),
         }
     }
 }

@@ -2,7 +2,7 @@
 ghost use Rattle.std.specs.Prelude.{◌<◌};
 
 /// What threads are about: one phase follows another.
-#[derive(Clone, Copy, PartialEq, Eq, Debug, Drop)]
+#[derive(Clone, Copy, Drop)]
 pub enum Phase {
     /// Threads start, and stacks grow.
     Grow,
@@ -15,7 +15,7 @@ pub enum Phase {
 }
 
 /// The habits of a seed.
-#[derive(Clone, Copy, PartialEq, Eq, Debug, Drop)]
+#[derive(Clone, Copy, Drop)]
 pub struct Habits {
     /// How long a phase is, in calls.
     pub phase: u64,
@@ -26,7 +26,7 @@ pub struct Habits {
 }
 
 /// Of a hundred calls, how many are those of threads, and how many those and of codes; all others are of requests.
-#[derive(Clone, Copy, PartialEq, Eq, Debug, Drop)]
+#[derive(Clone, Copy, Drop)]
 pub struct Shares {
     pub threads: u64,
     pub codes: u64,

@@ -4,7 +4,7 @@ use operations::Ask;
 use std::alloc::{AllocError, Global};
 
 /// What a thread calls.
-#[derive(Clone, Copy, PartialEq, Eq, Debug, Drop)]
+#[derive(Clone, Copy, Debug, Drop)]
 pub enum ThreadCall {
     /// Of the method, by the hint.
     Call(u32, Option<CodeId>),
@@ -21,7 +21,7 @@ pub enum ThreadCall {
 }
 
 /// A handshake of so many names, from the first on with the same step between two; with a step of 0 one name stands as often.
-#[derive(Clone, Copy, PartialEq, Eq, Debug, Drop)]
+#[derive(Clone, Copy, Debug, Drop)]
 pub struct Handshake {
     pub first: u64,
     pub step: u64,
@@ -45,7 +45,7 @@ impl Handshake {
 }
 
 /// What is called of codes. `Round`, `Look`, `Weigh` and `Free` are the desk's own calls, which `Reclaim` makes in a row.
-#[derive(Clone, Copy, PartialEq, Eq, Debug, Drop)]
+#[derive(Clone, Copy, Debug, Drop)]
 pub enum CodeCall {
     Install(u32),
     Invalidate(u64),
@@ -57,7 +57,7 @@ pub enum CodeCall {
 }
 
 /// What is called of a request as a whole.
-#[derive(Clone, Copy, PartialEq, Eq, Debug, Drop)]
+#[derive(Clone, Copy, Debug, Drop)]
 pub enum RequestCall {
     SubmitCensus,
     Submit(Handshake),
@@ -69,7 +69,7 @@ pub enum RequestCall {
 }
 
 /// A step of the open requests, for a name, for a place, or for all.
-#[derive(Clone, Copy, PartialEq, Eq, Debug, Drop)]
+#[derive(Clone, Copy, Debug, Drop)]
 pub enum StepCall {
     Tell(u64),
     Hold(usize),
@@ -79,7 +79,7 @@ pub enum StepCall {
 }
 
 /// A call of the running layer. Threads are told by their names, codes by their serials.
-#[derive(Clone, Copy, PartialEq, Eq, Debug, Drop)]
+#[derive(Clone, Copy, Debug, Drop)]
 pub enum Call {
     Start,
     Of(u64, ThreadCall),
@@ -87,4 +87,15 @@ pub enum Call {
     Code(CodeCall),
     Request(RequestCall),
     Step(StepCall),
+}
+
+impl Call {
+    /// The handshake whose jobs the call takes where it isn't refused.
+    pub(crate) fn takes_jobs(self) -> Option<Handshake> {
+        match self {
+            Call::Request(RequestCall::Submit(handshake)) => Some(handshake),
+            Call::Code(CodeCall::Reclaim(_, handshake)) => handshake,
+            _ => None,
+        }
+    }
 }

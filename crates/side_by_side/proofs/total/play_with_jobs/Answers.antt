@@ -1,7 +1,7 @@
 use Rattle.std.proofs.Common.{refl, rules}
 use Rattle.operations.proofs.Boxed.{answered}
-use Rattle.side_by_side.proofs.total.play_seed.OwnLists as own
-use Rattle.side_by_side.proofs.total.play_seed.Goals as goal
+use Rattle.side_by_side.proofs.total.play_with_jobs.OwnLists as own
+use Rattle.side_by_side.proofs.total.play_with_jobs.Goals as goal
 
 -- The boxed callback answers what its closure does.
 pub new-requires-in-loop-index-2-clause-answers : goal.new-requires-in-loop-index-2-clause-answers

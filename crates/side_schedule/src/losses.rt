@@ -1,12 +1,29 @@
 //! Wrong cores, to see that each is told from a running system: it loses one thing, and answers as if it were done.
 //!
 //! No Hold is lost: the core would let a held thread go on, for which the running system waits.
-use super::Oracle;
 use crate::said::Said;
 use system::events::{Act, Event};
 
+/// How many things can be lost.
+pub const LOSSES: usize = 11;
+
+/// All of them.
+pub const ALL: [Lost; LOSSES] = [
+    Lost::Leave,
+    Lost::Change,
+    Lost::Invalidate,
+    Lost::Round,
+    Lost::Look,
+    Lost::Free,
+    Lost::Tell,
+    Lost::Release,
+    Lost::Finish,
+    Lost::Clear,
+    Lost::Reply,
+];
+
 /// What can be lost: an event of a kind, or a reply, which then isn't noted.
-#[derive(Clone, Copy, PartialEq, Eq, Debug, Drop)]
+#[derive(Clone, Copy, PartialEq, Debug, Drop)]
 pub enum Lost {
     Leave,
     Change,
@@ -22,15 +39,15 @@ pub enum Lost {
 }
 
 /// Which of those is lost: the one that so many come before.
-#[derive(Clone, Copy, PartialEq, Eq, Debug, Drop)]
+#[derive(Clone, Copy, Drop)]
 pub struct Loss {
     pub lost: Lost,
     pub before: u64,
 }
 
 impl Lost {
-    // What the event is, where it can be lost. A look at the place that no system has is a question alone.
-    fn of(event: &Event) -> Option<Lost> {
+    /// What the event is, where it can be lost. A look at the place that no system has is a question alone.
+    pub(crate) fn of(event: &Event) -> Option<Lost> {
         match event {
             Event::At(_, act) => Lost::of_act(*act),
             Event::Invalidate(_) => Some(Lost::Invalidate),
@@ -53,8 +70,8 @@ impl Lost {
         }
     }
 
-    // What is answered in its place. A lost Change is answered as if there were none, and the reply of a lost Finish is 0.
-    fn said(self) -> Said {
+    /// What is answered in its place. A lost Change is answered as if there were none, and the reply of a lost Finish is 0.
+    pub(crate) fn said(self) -> Said {
         match self {
             Lost::Leave => Said::Go,
             Lost::Change => Said::NoChange,
@@ -63,33 +80,5 @@ impl Lost {
             Lost::Finish => Said::Reply(0),
             _ => Said::Done,
         }
-    }
-}
-
-impl Oracle {
-    // What is answered in place of the event, where it is to be lost.
-    pub(super) fn lose(&mut self, event: &Event) -> Option<Said> {
-        let lost = Lost::of(event)?;
-        if self.loses(lost) {
-            return Some(lost.said());
-        }
-        None
-    }
-
-    /// Whether this one is to be lost. It is one of those that are counted.
-    pub(super) fn loses(&mut self, lost: Lost) -> bool {
-        let Some(loss) = self.loss else { return false };
-        if loss.lost != lost {
-            return false;
-        }
-        if loss.before == 0 {
-            self.loss = None;
-            return true;
-        }
-        self.loss = Some(Loss {
-            lost,
-            before: loss.before - 1,
-        });
-        false
     }
 }

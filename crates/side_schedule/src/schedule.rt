@@ -5,12 +5,10 @@ use crate::calls::{Call, CodeCall, Handshake, RequestCall, StepCall, ThreadCall}
 use crate::draw::Draw;
 use crate::habits::{Habits, Phase, Shares};
 use crate::oracle::{Live, Oracle};
-use crate::running::{Running, Sizes};
-use bodies::Name;
+use crate::running::{Sizes, Thread};
+use crate::stock::Stock;
 use frames::CodeId;
 use operations::Ask;
-use operations::job::Errand;
-use std::alloc::{AllocError, Global};
 use thread_state::{Back, State};
 
 // Where more requests wait, few more are submitted.
@@ -18,17 +16,17 @@ const FEW: usize = 3;
 
 /// What a schedule looks at.
 #[derive(Drop)]
-pub struct Scene<'s, 'a, N: Name, J: Errand> {
-    pub alloc: Global,
+pub struct Scene<'s> {
     pub phase: Phase,
     pub habits: Habits,
     pub sizes: Sizes,
     pub oracle: &'s Oracle,
-    pub running: &'s Running<'a, N, J>,
+    pub threads: &'s [Thread],
+    pub stock: &'s Stock,
 }
 
 // Whom a step of a request is for.
-#[derive(Clone, Copy, PartialEq, Eq, Debug, Drop)]
+#[derive(Clone, Copy, Drop)]
 enum Want {
     /// Of an open request, and not told.
     Untold,
@@ -40,11 +38,11 @@ enum Want {
     Served,
 }
 
-impl<N: Name, J: Errand> Scene<'_, '_, N, J> {
+impl Scene<'_> {
     /// The next call. Most are lawful where they are made, some aren't.
-    pub fn pick(&self, draw: &mut Draw) -> Result<Call, AllocError> {
+    pub fn pick(&self, draw: &mut Draw) -> Call {
         if self.starts(draw) {
-            return Ok(Call::Start);
+            return Call::Start;
         }
         let Shares { threads, codes } = self.habits.shares(self.phase);
         let drawn = draw.below(100);
@@ -59,41 +57,41 @@ impl<N: Name, J: Errand> Scene<'_, '_, N, J> {
 
     // While stacks grow vacant places are mostly taken; else one starts now and then, also where no place is vacant.
     fn starts(&self, draw: &mut Draw) -> bool {
-        if self.running.threads.is_empty() {
+        if self.threads.is_empty() {
             return draw.one_in(2);
         }
-        if self.phase == Phase::Grow && self.running.threads.len() < self.sizes.places {
+        if matches!(self.phase, Phase::Grow) && self.threads.len() < self.sizes.places {
             return draw.one_in(4);
         }
         draw.one_in(40)
     }
 
-    fn of_thread(&self, draw: &mut Draw) -> Result<Call, AllocError> {
-        if self.running.threads.is_empty() {
-            return Ok(Call::Start);
+    fn of_thread(&self, draw: &mut Draw) -> Call {
+        if self.threads.is_empty() {
+            return Call::Start;
         }
-        let index = draw.index(self.running.threads.len());
-        let name = self.running.threads[index].name();
+        let index = draw.index(self.threads.len());
+        let Thread { name, state, .. } = self.threads[index];
         let state = if draw.one_in(12) {
             any_state(draw)
         } else {
-            self.running.threads[index].state()
+            state
         };
         match state {
-            State::InJava => Ok(self.in_java(draw, name)),
-            State::InVm => Ok(self.in_vm(draw, name)),
+            State::InJava => self.in_java(draw, name),
+            State::InVm => self.in_vm(draw, name),
             State::InNative(_) => self.away(draw, Call::Of(name, ThreadCall::FromNative)),
             State::Blocked => self.away(draw, Call::Of(name, ThreadCall::Unblock)),
-            _ => Ok(Call::Of(name, ThreadCall::Stop)),
+            _ => Call::Of(name, ThreadCall::Stop),
         }
     }
 
     // While threads rest, those that are away mostly stay there.
-    fn away(&self, draw: &mut Draw, back: Call) -> Result<Call, AllocError> {
-        if self.phase == Phase::Rest && !draw.one_in(8) {
+    fn away(&self, draw: &mut Draw, back: Call) -> Call {
+        if matches!(self.phase, Phase::Rest) && !draw.one_in(8) {
             return self.of_request(draw);
         }
-        Ok(back)
+        back
     }
 
     fn in_java(&self, draw: &mut Draw, name: u64) -> Call {
@@ -105,10 +103,10 @@ impl<N: Name, J: Errand> Scene<'_, '_, N, J> {
         if drawn < self.habits.returns(self.phase) {
             return Call::Of(name, ThreadCall::Ret);
         }
-        if self.phase == Phase::Rest && draw.one_in(2) {
+        if matches!(self.phase, Phase::Rest) && draw.one_in(2) {
             return Call::Of(name, ThreadCall::ToNative);
         }
-        if self.phase == Phase::Shrink && draw.one_in(2) {
+        if matches!(self.phase, Phase::Shrink) && draw.one_in(2) {
             return Call::Exit(name);
         }
         match draw.below(20) {
@@ -121,7 +119,7 @@ impl<N: Name, J: Errand> Scene<'_, '_, N, J> {
     }
 
     fn in_vm(&self, draw: &mut Draw, name: u64) -> Call {
-        if self.phase == Phase::Rest && draw.one_in(2) {
+        if matches!(self.phase, Phase::Rest) && draw.one_in(2) {
             return Call::Of(name, ThreadCall::Block);
         }
         match draw.below(12) {
@@ -139,7 +137,7 @@ impl<N: Name, J: Errand> Scene<'_, '_, N, J> {
         let hint = match draw.below(8) {
             0 => None,
             1 => self.any_code(draw),
-            _ => self.running.shared.hint(method),
+            _ => self.oracle.hint(method),
         };
         ThreadCall::Call(method, hint)
     }
@@ -169,36 +167,39 @@ impl<N: Name, J: Errand> Scene<'_, '_, N, J> {
         self.oracle.slots[slot]
     }
 
-    fn of_code(&self, draw: &mut Draw) -> Result<Call, AllocError> {
-        Ok(match draw.below(16) {
+    fn of_code(&self, draw: &mut Draw) -> Call {
+        match draw.below(16) {
             0..=3 => Call::Code(CodeCall::Install(self.method(draw))),
             4..=6 => Call::Code(CodeCall::Invalidate(self.serial(draw))),
             7 => Call::Code(CodeCall::Round),
             8 | 9 => Call::Code(CodeCall::Look(self.serial(draw), self.place(draw))),
             10 | 11 => Call::Code(CodeCall::Weigh(self.serial(draw))),
             12 => Call::Code(CodeCall::Free(self.serial(draw))),
-            _ => self.reclaim(draw)?,
-        })
+            _ => self.reclaim(draw),
+        }
     }
 
     // Where a request is open or waits, that is mostly worked on first.
-    fn reclaim(&self, draw: &mut Draw) -> Result<Call, AllocError> {
+    fn reclaim(&self, draw: &mut Draw) -> Call {
         let idle = self.oracle.open.is_empty() && self.oracle.waiting.is_empty();
         if !idle && !draw.one_in(8) {
-            return Ok(self.drive(draw));
+            return self.drive(draw);
         }
         if draw.one_in(2) {
-            return Ok(Call::Code(CodeCall::Reclaim(self.serial(draw), None)));
+            return Call::Code(CodeCall::Reclaim(self.serial(draw), None));
         }
         self.reclaim_with_jobs(draw)
     }
 
     // With jobs, where there are jobs for the handshake.
-    fn reclaim_with_jobs(&self, draw: &mut Draw) -> Result<Call, AllocError> {
+    fn reclaim_with_jobs(&self, draw: &mut Draw) -> Call {
         let handshake = self.handshake(draw);
-        let fits = self.running.has_jobs(self.alloc, handshake)?;
-        let jobs = if fits { Some(handshake) } else { None };
-        Ok(Call::Code(CodeCall::Reclaim(self.serial(draw), jobs)))
+        let jobs = if self.stock.has(handshake) {
+            Some(handshake)
+        } else {
+            None
+        };
+        Call::Code(CodeCall::Reclaim(self.serial(draw), jobs))
     }
 
     // A place, now and then the one past the last.
@@ -246,7 +247,7 @@ impl<N: Name, J: Errand> Scene<'_, '_, N, J> {
 
     fn is_wanted(&self, want: Want, live: Live) -> bool {
         let told = self.oracle.undone(live).is_some();
-        let held = self.oracle.held.contains(&live.place);
+        let held = self.oracle.is_held(live.place);
         match want {
             Want::Untold => self.oracle.untold(live).is_some(),
             Want::Unheld => told && !held && self.is_away(live.name),
@@ -257,10 +258,9 @@ impl<N: Name, J: Errand> Scene<'_, '_, N, J> {
 
     // Whether the thread is in native code or waits.
     fn is_away(&self, name: u64) -> bool {
-        for index in 0..self.running.threads.len() {
-            if self.running.threads[index].name() == name {
-                let state = self.running.threads[index].state();
-                return matches!(state, State::InNative(_) | State::Blocked);
+        for thread in self.threads {
+            if thread.name == name {
+                return matches!(thread.state, State::InNative(_) | State::Blocked);
             }
         }
         false
@@ -295,21 +295,21 @@ impl<N: Name, J: Errand> Scene<'_, '_, N, J> {
     }
 
     // A handshake or a census; few where many wait.
-    fn submit(&self, draw: &mut Draw) -> Result<Call, AllocError> {
+    fn submit(&self, draw: &mut Draw) -> Call {
         if self.oracle.waiting.len() > FEW && !self.habits.greedy && !draw.one_in(6) {
-            return Ok(Call::Request(RequestCall::Open));
+            return Call::Request(RequestCall::Open);
         }
         if draw.one_in(4) {
-            return Ok(Call::Request(RequestCall::SubmitCensus));
+            return Call::Request(RequestCall::SubmitCensus);
         }
         let handshake = self.handshake(draw);
         let spoiled = draw.one_in(16);
-        let fits = !spoiled && self.running.has_jobs(self.alloc, handshake)?;
-        Ok(Call::Request(RequestCall::Submit(Handshake { fits, ..handshake })))
+        let fits = !spoiled && self.stock.has(handshake);
+        Call::Request(RequestCall::Submit(Handshake { fits, ..handshake }))
     }
 
-    fn of_request(&self, draw: &mut Draw) -> Result<Call, AllocError> {
-        if self.habits.greedy && self.phase == Phase::Stay && !draw.one_in(8) {
+    fn of_request(&self, draw: &mut Draw) -> Call {
+        if self.habits.greedy && matches!(self.phase, Phase::Stay) && !draw.one_in(8) {
             return self.submit(draw);
         }
         if !self.oracle.open.is_empty() && draw.one_in(3) {
@@ -320,9 +320,9 @@ impl<N: Name, J: Errand> Scene<'_, '_, N, J> {
         }
         match draw.below(12) {
             0..=3 => self.submit(draw),
-            4..=6 => Ok(self.drive(draw)),
+            4..=6 => self.drive(draw),
             7 => self.reclaim(draw),
-            _ => Ok(Call::Request(RequestCall::Open)),
+            _ => Call::Request(RequestCall::Open),
         }
     }
 
@@ -334,11 +334,11 @@ impl<N: Name, J: Errand> Scene<'_, '_, N, J> {
     }
 
     // One more is opened, or where none waits asked for.
-    fn open_more(&self, draw: &mut Draw) -> Result<Call, AllocError> {
+    fn open_more(&self, draw: &mut Draw) -> Call {
         if self.oracle.waiting.is_empty() {
             return self.submit(draw);
         }
-        Ok(Call::Request(RequestCall::Open))
+        Call::Request(RequestCall::Open)
     }
 
     // The oldest is closed, or that of a number, which may be open or not.
@@ -354,18 +354,18 @@ impl<N: Name, J: Errand> Scene<'_, '_, N, J> {
     }
 
     // A step of the open requests that is lawful, from a drawn kind on; now and then any, and where there is none any too.
-    fn step_of_request(&self, draw: &mut Draw) -> Result<Call, AllocError> {
+    fn step_of_request(&self, draw: &mut Draw) -> Call {
         if draw.one_in(5) {
             return self.any_step(draw);
         }
         let first = draw.below(4);
         for turn in 0..4 {
             if let Some(call) = self.lawful_step(draw, (first + turn) % 4) {
-                return Ok(call);
+                return call;
             }
         }
         if self.oracle.held.is_empty() && draw.one_in(2) {
-            return Ok(self.close(draw));
+            return self.close(draw);
         }
         self.any_step(draw)
     }
@@ -388,8 +388,8 @@ impl<N: Name, J: Errand> Scene<'_, '_, N, J> {
         }
     }
 
-    fn any_step(&self, draw: &mut Draw) -> Result<Call, AllocError> {
-        Ok(match draw.below(16) {
+    fn any_step(&self, draw: &mut Draw) -> Call {
+        match draw.below(16) {
             0 | 1 => Call::Step(StepCall::Tell(self.name(draw))),
             2..=4 => Call::Step(StepCall::Hold(self.place_of_thread(draw))),
             5 | 6 => Call::Step(StepCall::Serve(self.place_of_thread(draw))),
@@ -397,9 +397,9 @@ impl<N: Name, J: Errand> Scene<'_, '_, N, J> {
             9 => Call::Step(StepCall::Release(self.place_of_thread(draw))),
             10 | 11 => self.close(draw),
             12 => Call::Request(RequestCall::Open),
-            13 => self.submit(draw)?,
+            13 => self.submit(draw),
             _ => self.drive(draw),
-        })
+        }
     }
 }
 

@@ -1,0 +1,91 @@
+//! What the threads of a system share, with its sizes.
+ghost use Rattle.std.specs.Prelude.{◌≡◌, ◌<◌, IfSome};
+
+use crate::faults::of_retire;
+use bodies::Name;
+use frames::CodeId;
+use operations::job::Errand;
+use side_schedule::said::Said;
+use std::marker::Model;
+use std::sync::Wait;
+use system::answers::Refusal;
+use thread_list::Shared;
+
+/// Contracts see that the sizes are those of its tables.
+#[derive(Drop)]
+pub struct Tables<'a, N: Name, J: Errand> {
+    shared: &'a Shared<N, J>,
+    places: usize,
+    slots: u32,
+}
+
+impl<'a, N: Name, J: Errand> Model for Tables<'a, N, J> {
+    ghost use Rattle.std.specs.Prelude.{◌≡◌, ℕ};
+
+    ghost Value = { ℕ };
+
+    ghost view = { λ t. t.slots };
+
+    ghost invariant = { λ t. (t.places ≡ N.board.places) × (t.slots ≡ N.board.slots) };
+}
+
+impl<'a, N: Name, J: Errand> Tables<'a, N, J> {
+    pub fn new(shared: &'a Shared<N, J>, places: usize, slots: u32) -> Tables<'a, N, J>
+        requires sizes { (places ≡ N.board.places) × (slots ≡ N.board.slots) }
+    {
+        Tables {
+            shared,
+            places,
+            slots,
+        }
+    }
+
+    pub fn shared(&self) -> &'a Shared<N, J> {
+        let _ = &self.slots;
+        self.shared
+    }
+
+    /// The hint, where its slot is one that there is.
+    pub fn known(&self, hint: Option<CodeId>) -> Option<CodeId>
+        ensures { IfSome result (λ c. c.slot < N.board.slots) }
+    {
+        match hint {
+            Some(id) if id.slot < self.slots => Some(id),
+            _ => None,
+        }
+    }
+
+    /// The count word of the slot.
+    pub fn count(&self, slot: u32) -> u64 {
+        if slot >= self.slots {
+            return 0;
+        }
+        self.shared.board().peek_count(slot)
+    }
+
+    /// A look at a place. One that isn't there is refused behind all else.
+    pub fn look<R: Wait>(&self, rt: &R, serial: u64, place: usize) -> Said {
+        if place >= self.places {
+            return match self.weighable(rt, serial) {
+                Said::Done => Said::Refused(Refusal::NoSuchPlace),
+                other => other,
+            };
+        }
+        let mut desk = self.shared.desk().lock(rt);
+        match desk.look(self.shared.board(), serial, place) {
+            Ok(true) => Said::Clear,
+            Ok(false) => Said::Late,
+            Err(fault) => of_retire(fault),
+        }
+    }
+
+    /// Why the code can't be weighed, or Done where it can.
+    pub fn weighable<R: Wait>(&self, rt: &R, serial: u64) -> Said {
+        let _ = &self.slots;
+        let desk = self.shared.desk().lock(rt);
+        match desk.weigh_fault(serial) {
+            None => Said::Done,
+            Some(fault) => of_retire(fault),
+        }
+    }
+}
