@@ -80,7 +80,9 @@ ENDING = {
     "desk_tests": [
         "tests::sixty_four_requests_wait",
         "tests::a_handshake_is_answered_once",
+        "tests::four_handshakes_are_answered_in_order_and_closed_in_any",
         "tests::a_code_is_reclaimed",
+        "tests::a_code_is_installed_over_another",
         "tests::a_full_history_takes_no_entry",
     ],
 }
