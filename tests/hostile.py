@@ -60,12 +60,12 @@ MEMORY = {
     ],
     "script_tests": [["tests::refused_memory::refused_memory_is_told"], ["tests::refused_memory::refused_memory_leaves_a_beginning"]],
     "words_tests": [["tests::poll_rows::a_row_is_made_whole_or_not_at_all"], ["tests::boards::a_board_is_made_whole_or_not_at_all"]],
-    "reclaim_tests": [["tests::memory::what_lacks_memory_is_tried_again"]],
+    "coordinator_tests": [["tests::memory::what_lacks_memory_is_tried_again"]],
 }
 NONE_REFUSED = "no growth was refused"
 # What runs of these must have met, each in some of them.
 TO_MEET = {
-    "reclaim_tests": [
+    "coordinator_tests": [
         "a coordinator was refused",
         "the submit of a census was refused",
         "the list of a census was refused",

@@ -1,4 +1,4 @@
-//! A test of a whole run over `coordinator`, in one thread, through the public calls. It stands in a crate of its own, so that a check of it doesn't prove `coordinator` once more.
+//! Whole runs over `coordinator`, in one thread, through the public calls: one with ample memory, and one with growths refused. They stand in a crate of their own, so that a check of them doesn't prove `coordinator` once more.
 #![tactic(auto)]
 
 #[cfg(test)]

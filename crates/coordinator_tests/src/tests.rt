@@ -1,2 +1,3 @@
-//! A request worked on to its Close.
+//! A whole run, and one with memory refused.
+mod memory;
 mod row;

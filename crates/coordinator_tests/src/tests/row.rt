@@ -16,7 +16,7 @@ use std::test::*;
 use thread_list::{Mutator, Parts, Poll, Shared};
 
 // A thread starts, calls method 0 so many times and goes into native code.
-fn gone_away<'a, N: Name, J: Errand, R: Wait + Abort>(
+pub fn gone_away<'a, N: Name, J: Errand, R: Wait + Abort>(
     rt: &R,
     alloc: Global,
     shared: &'a Shared<N, J>,
@@ -76,7 +76,7 @@ fn drive_counts<N: Name, J: Errand, R: Wait + Abort>(
 }
 
 // A thread comes back from native code, returns so many times and exits.
-fn finish<N: Name, J: Errand, R: Wait + Abort>(rt: &R, thread: Mutator<'_, N, J>, calls: u64) {
+pub fn finish<N: Name, J: Errand, R: Wait + Abort>(rt: &R, thread: Mutator<'_, N, J>, calls: u64) {
     let mut thread = thread;
     assert!(rt; matches!(thread.from_native(rt), Ok(Poll::Go)));
     for _ in 0..calls {
@@ -86,7 +86,7 @@ fn finish<N: Name, J: Errand, R: Wait + Abort>(rt: &R, thread: Mutator<'_, N, J>
 }
 
 // No thread is on the code: it is freed, and isn't known any more.
-fn free<N: Name, J: Errand, R: Wait + Abort>(
+pub fn free<N: Name, J: Errand, R: Wait + Abort>(
     rt: &R,
     alloc: Global,
     coordinator: &mut Coordinator<'_, N, J>,

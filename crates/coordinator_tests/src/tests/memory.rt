@@ -2,14 +2,14 @@
 ghost use Rattle.std.specs.Prelude.{◌≡◌};
 ghost use Rattle.poll.specs.Rows.{full_armer};
 
-use bodies::{Called, Name};
+use crate::tests::row::{finish, free, gone_away};
+use bodies::Name;
 use coordinator::{
     Coordinator, DriveFault, Driven, HoldFault, NotReclaimed, ReclaimFault, Reclaimed,
 };
-use coordinator_testing::{both, started};
+use coordinator_testing::both;
 use desk::{AskFault, OpenFault, Refused, StartFault};
 use jobs_testing::{Scenario, each, pop_list, with_jobs};
-use method_table::table::RetireFault;
 use operations::job::{Errand, Job};
 use operations::{Ask, Request};
 use poll::Armer;
@@ -18,7 +18,7 @@ use std::marker::Brand;
 use std::process::Abort;
 use std::sync::Wait;
 use std::test::*;
-use thread_list::{Mutator, Parts, Poll, Shared};
+use thread_list::{Parts, Shared};
 
 // Where a growth was refused.
 #[derive(Clone, Copy, Drop)]
@@ -214,31 +214,6 @@ fn try_reclaim<N: Name, J: Errand, R: Wait + Abort>(
     Ok(Met::Reclaim)
 }
 
-// A thread starts, calls method 0 so many times and goes into native code.
-fn gone_away<'a, N: Name, J: Errand, R: Wait + Abort>(
-    rt: &R,
-    alloc: Global,
-    shared: &'a Shared<N, J>,
-    calls: u64,
-) -> Result<Mutator<'a, N, J>, AllocError> {
-    let mut thread = started(rt, alloc, shared)?;
-    for _ in 0..calls {
-        assert!(rt; matches!(thread.call(0, shared.hint(0)), Ok(Called::Compiled(1))));
-    }
-    assert!(rt; thread.to_native(rt).is_ok());
-    Ok(thread)
-}
-
-// A thread comes back from native code, returns so many times and exits.
-fn finish<N: Name, J: Errand, R: Wait + Abort>(rt: &R, thread: Mutator<'_, N, J>, calls: u64) {
-    let mut thread = thread;
-    assert!(rt; matches!(thread.from_native(rt), Ok(Poll::Go)));
-    for _ in 0..calls {
-        assert!(rt; matches!(thread.ret(), Ok(Poll::Go)));
-    }
-    assert!(rt; thread.exit(rt).is_ok());
-}
-
 // A census, a handshake, and a reclaim that finds the code in use, over two threads in native code.
 fn ask_all<N: Name, J: Errand, R: Wait + Abort>(
     rt: &R,
@@ -255,26 +230,6 @@ fn ask_all<N: Name, J: Errand, R: Wait + Abort>(
     assert!(rt; shared.peek_counts() == 3 && shared.invalidate(rt, 1).is_ok());
     let tried = try_reclaim(rt, shared, coordinator, depths)?;
     Ok(waits.or(counted).or(asked).or(tried))
-}
-
-// No thread is on the code: it is freed, and isn't known any more.
-fn free<N: Name, J: Errand, R: Wait + Abort>(
-    rt: &R,
-    alloc: Global,
-    coordinator: &mut Coordinator<'_, N, J>,
-) {
-    let freed = coordinator.reclaim(rt, 1, Vec::new(alloc));
-    assert!(rt; matches!(freed, Ok(Reclaimed::Freed(_))));
-    let unknown = coordinator.reclaim(rt, 1, Vec::new(alloc));
-    assert!(rt;
-        matches!(
-            unknown,
-            Err(NotReclaimed {
-                fault: ReclaimFault::Code(RetireFault::Unknown),
-                ..
-            })
-        )
-    );
 }
 
 // Two threads are counted by a census and by a handshake, and then leave their code.

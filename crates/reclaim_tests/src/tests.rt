@@ -1,2 +1,0 @@
-//! Growths refused.
-mod memory;
