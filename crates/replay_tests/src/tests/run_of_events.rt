@@ -1,7 +1,7 @@
 // The same runs through `System::run`, which is given all events at once: with ample memory, and with each growth refused in turn. Then it
 // stops before the event that lacks memory, and can be gone on with.
 use super::{Transcript, operation_runs, publication_runs, trap_runs};
-use replay::engine::{Reply, obey};
+use replay::engine::Reply;
 use replay::grammar::{Command, parse};
 use replay::print::put_reply;
 use std::alloc::{AllocError, Global};
@@ -11,13 +11,17 @@ use system::answers::Answer;
 use system::events::Event;
 use system::{Stopped, System};
 
-// The system of the first line of a run; none where memory was refused.
-fn system_of(rt: &impl Abort, alloc: Global, run: &Transcript) -> Option<System> {
+// The sizes of the first line of a run.
+fn sizes_of(rt: &impl Abort, alloc: Global, run: &Transcript) -> (u64, u64, u64) {
     let (size, _) = run.lines.split_once(" => ").expect(rt, "a size");
-    let command = parse(alloc, size.as_bytes()).ok()?;
-    let mut system = None;
-    let _ = obey(&mut system, alloc, command);
-    system
+    match parse(alloc, size.as_bytes()) {
+        Ok(Some(Command::Size(places, slots, methods))) => (places, slots, methods),
+        _ => panic!(rt; "{size} is no size"),
+    }
+}
+
+fn made(alloc: Global, places: u64, slots: u64, methods: u64) -> Option<System> {
+    System::new(alloc, places as usize, slots as usize, methods as usize).ok()
 }
 
 // The other lines of a run, as events.
@@ -78,12 +82,42 @@ fn has_answers(text: &[u8], run: &Transcript) -> bool {
     rest.is_empty()
 }
 
-fn expect_answers(rt: &impl Abort, alloc: Global, run: &Transcript) {
-    let mut system = system_of(rt, alloc, run).expect(rt, "a system");
-    let events = events_of(rt, alloc, run).expect(rt, "memory");
-    let mut text = Vec::new(alloc);
-    assert!(rt; stopped_at(rt, alloc, &mut system, &events, &mut text).is_none());
+// Room for all answers of a run.
+const ROOM: usize = 4096;
+
+// Does all events. Where memory was refused at one, it and those behind it are done then.
+fn resume(
+    rt: &impl Abort,
+    alloc: Global,
+    system: &mut System,
+    events: &[Event],
+    text: &mut Vec<u8>,
+) -> Option<usize> {
+    let stopped = stopped_at(rt, alloc, system, events, text);
+    if let Some(at) = stopped {
+        let rest = events.get(at..).expect(rt, "events");
+        assert!(rt; stopped_at(rt, alloc, system, rest, text).is_none());
+    }
+    stopped
+}
+
+// Where a run stopped for want of memory, if it was begun. The answers are the same.
+fn resumed_at(rt: &impl Abort, alloc: Global, run: &Transcript) -> Option<Option<usize>> {
+    let (places, slots, methods) = sizes_of(rt, alloc, run);
+    let events = events_of(rt, alloc, run).ok()?;
+    let mut text = Vec::with_capacity(alloc, ROOM).ok()?;
+    let mut system = made(alloc, places, slots, methods)?;
+    let stopped = resume(rt, alloc, &mut system, &events, &mut text);
     assert!(rt; has_answers(&text, run), "{}", run.name);
+    Some(stopped)
+}
+
+fn expect_answers(rt: &impl Abort, alloc: Global, run: &Transcript) {
+    assert!(rt;
+        matches!(resumed_at(rt, alloc, run), Some(None)),
+        "{}",
+        run.name
+    );
 }
 
 #[test]
@@ -98,23 +132,6 @@ fn events_are_answered_at_once(rt: HostRuntime) -> Result<(), Fail> {
         expect_answers(&rt, rt.alloc(), &run);
     }
     Ok(())
-}
-
-// Room for all answers of a run.
-const ROOM: usize = 4096;
-
-// Where a run stopped for want of memory, if it was begun. The answers are the same, since what is left is done then.
-fn resumed_at(rt: &impl Abort, alloc: Global, run: &Transcript) -> Option<Option<usize>> {
-    let mut text = Vec::with_capacity(alloc, ROOM).ok()?;
-    let events = events_of(rt, alloc, run).ok()?;
-    let mut system = system_of(rt, alloc, run)?;
-    let stopped = stopped_at(rt, alloc, &mut system, &events, &mut text);
-    if let Some(at) = stopped {
-        let again = stopped_at(rt, alloc, &mut system, &events[at..], &mut text);
-        assert!(rt; again.is_none());
-    }
-    assert!(rt; has_answers(&text, run));
-    Some(stopped)
 }
 
 #[test]
