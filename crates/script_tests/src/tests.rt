@@ -1,4 +1,5 @@
 // Tables of text: each row has a script, and the line that reading and checking it come to, or how its run ends and the marks that it made.
+use script::{Code, ScriptFault, check, read_script};
 use std::alloc::Global;
 use std::process::Abort;
 
@@ -9,6 +10,11 @@ mod refused_memory;
 mod scripts;
 
 const LOOP_OF_CALLS: &str = r#"{"methods":[[{"loop":3,"body":[{"call":1},"native"]}],["tick"]]}"#;
+
+fn code_of(alloc: Global, text: &[u8]) -> Result<Code, ScriptFault> {
+    let script = read_script(alloc, text)?;
+    check(alloc, &script)
+}
 
 // The text of a row: its parts have bars between them, and `3*vm` is `vm` three times.
 fn text_of(rt: &impl Abort, alloc: Global, row: &str) -> Vec<u8> {

@@ -1,16 +1,13 @@
 // What no clause says of runs: that calls succeed, and that the trace's definition is the one that is meant.
-use super::text_of;
+use super::{code_of, text_of};
 use interp::{Mark, Outcome, Runner, Steps, Tape};
-use script::{Code, check, read_script};
+use script::Code;
 use std::alloc::Global;
 use std::process::Abort;
 use std::test::Fail;
 
-fn code_of(rt: &impl Abort, alloc: Global, text: &[u8]) -> Code {
-    let Ok(script) = read_script(alloc, text) else {
-        panic!(rt; "no script");
-    };
-    let Ok(code) = check(alloc, &script) else {
+fn runnable(rt: &impl Abort, alloc: Global, text: &[u8]) -> Code {
+    let Ok(code) = code_of(alloc, text) else {
         panic!(rt; "the script is wrong");
     };
     code
@@ -104,7 +101,7 @@ const RUNS: &str = r#"
 "#;
 
 fn expect_run(rt: &impl Abort, alloc: Global, script: &[u8], fuels: &str, wanted: &str) {
-    let code = code_of(rt, alloc, script);
+    let code = runnable(rt, alloc, script);
     let found = run_of(rt, alloc, &code, fuels);
     assert!(rt;
         found.as_str().trim_end() == wanted,
@@ -166,7 +163,7 @@ impl Steps for Patience {
 // The most turns of a loop; two marks more are those of the call.
 #[test]
 fn a_million_turns_take_a_million_fuel(rt: HostRuntime) -> Result<(), Fail> {
-    let code = code_of(
+    let code = runnable(
         &rt,
         rt.alloc(),
         br#"{"methods":[[{"loop":1000000,"body":[]}]]}"#,
@@ -190,7 +187,7 @@ fn refuse_third(rt: &impl Abort, runner: &mut Runner<'_>) {
 #[test]
 fn a_refused_mark_is_made_later(rt: HostRuntime) -> Result<(), Fail> {
     let alloc = rt.alloc();
-    let code = code_of(&rt, alloc, br#"{"methods":[["native","vm"]]}"#);
+    let code = runnable(&rt, alloc, br#"{"methods":[["native","vm"]]}"#);
     let mut runner = runner_of(&rt, alloc, &code);
     refuse_third(&rt, &mut runner);
     let mut tape = Tape::new(alloc);

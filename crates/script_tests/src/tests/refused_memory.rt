@@ -1,9 +1,8 @@
 // Memory that is refused. With each growth refused in turn, these show that a text is answered as ever or with NoMemory, and that a
 // run has made a beginning of its marks, and makes the others once memory is there again.
-use super::LOOP_OF_CALLS;
 use super::scripts::line_of;
+use super::{LOOP_OF_CALLS, code_of};
 use interp::{Mark, Outcome, Runner, Tape};
-use script::{Code, check, read_script};
 use std::alloc::Global;
 use std::process::Abort;
 use std::test::Fail;
@@ -52,11 +51,6 @@ const MARKS_OF_TWO_TURNS: [Mark; 10] = [
     Mark::Out(0),
 ];
 
-fn code_of_two_turns(alloc: Global) -> Option<Code> {
-    let script = read_script(alloc, TWO_TURNS.as_bytes()).ok()?;
-    check(alloc, &script).ok()
-}
-
 // How many marks were made where memory was refused; none where it wasn't, or before the run.
 fn refused_after(rt: &impl Abort, runner: &mut Runner<'_>, tape: &mut Tape) -> Option<u64> {
     let refused = match runner.run(tape, 100) {
@@ -71,7 +65,7 @@ fn refused_after(rt: &impl Abort, runner: &mut Runner<'_>, tape: &mut Tape) -> O
 
 #[test]
 fn refused_memory_leaves_a_beginning(rt: HostRuntime) -> Result<(), Fail> {
-    let code = code_of_two_turns(rt.alloc());
+    let code = code_of(rt.alloc(), TWO_TURNS.as_bytes()).ok();
     let Some(Ok(mut runner)) = code.as_ref().map(|code| Runner::new(rt.alloc(), code)) else {
         println!(rt; "refused before the run")?;
         return Ok(());

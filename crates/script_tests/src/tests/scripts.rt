@@ -1,18 +1,15 @@
 // What no clause says of scripts: the printed lines, and that `serde_json`'s reading of a text is the one that is meant.
-use super::{LOOP_OF_CALLS, text_of};
-use script::{Code, Place, check, read_script};
+use super::{LOOP_OF_CALLS, code_of, text_of};
+use script::{Code, Place};
 use std::alloc::{AllocError, Global};
 use std::process::Abort;
 use std::test::Fail;
 
 // What reading and checking a text come to, as a program prints it.
 pub fn line_of(alloc: Global, text: &[u8]) -> Result<String, AllocError> {
-    match read_script(alloc, text) {
+    match code_of(alloc, text) {
         Err(fault) => fault.to_string(alloc),
-        Ok(script) => match check(alloc, &script) {
-            Err(fault) => fault.to_string(alloc),
-            Ok(code) => format!(in alloc; "ok {}", code.methods()),
-        },
+        Ok(code) => format!(in alloc; "ok {}", code.methods()),
     }
 }
 
@@ -108,8 +105,7 @@ fn add_steps(rt: &impl Abort, code: &Code, method: usize, text: &mut String) {
 #[test]
 fn code_is_flat(rt: HostRuntime) -> Result<(), Fail> {
     let alloc = rt.alloc();
-    let script = read_script(alloc, LOOP_OF_CALLS.as_bytes())?;
-    let code = check(alloc, &script)?;
+    let code = code_of(alloc, LOOP_OF_CALLS.as_bytes())?;
     let mut text = String::new(alloc);
     for method in 0..3 {
         add_steps(&rt, &code, method, &mut text);
@@ -122,18 +118,17 @@ fn code_is_flat(rt: HostRuntime) -> Result<(), Fail> {
 
 #[test]
 fn places_are_lists_of_numbers(rt: HostRuntime) -> Result<(), Fail> {
-    let alloc = rt.alloc();
-    let mut place = Place::document(alloc);
-    let document = place.to_string(alloc)?;
+    let mut text = String::new(rt.alloc());
+    let mut place = Place::document(rt.alloc());
+    write!(text, "{place}")?;
     place.enter(2)?;
     place.enter(0)?;
     place.enter(3)?;
-    let entered = place.to_string(alloc)?;
+    write!(text, " {place}")?;
     place.leave();
-    let left = place.to_string(alloc)?;
-    let numbers = format!(in alloc; "{document} {entered} {left} {:?}", place.numbers())?;
-    assert!(rt; numbers.as_str() == "- 2.0.3 2.0 [2, 0]", "{numbers}");
-    let again = Place::new(place.into_numbers()).to_string(alloc)?;
-    assert!(rt; again.as_str() == "2.0", "{again}");
+    write!(text, " {place} {:?}", place.numbers())?;
+    let place = Place::new(place.into_numbers());
+    write!(text, " {place}")?;
+    assert!(rt; text.as_str() == "- 2.0.3 2.0 [2, 0] 2.0", "{text}");
     Ok(())
 }
