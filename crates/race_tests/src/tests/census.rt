@@ -29,6 +29,15 @@ const AT_POLL: usize = 3;
 
 const IN_VM: usize = 4;
 
+// What the threads and the coordinator tell one another: how many threads are where they are found, that all are told, and that all is
+// done.
+#[derive(Drop)]
+struct Meeting {
+    there: AtomicU64,
+    told: AtomicBool,
+    done: AtomicBool,
+}
+
 // Goes where the thread of this index is found.
 fn go<N: Name, J: Errand, R: Wait>(rt: &R, thread: &mut Mutator<'_, N, J>, index: usize) -> bool {
     if index == IN_NATIVE {
@@ -57,12 +66,12 @@ fn wait_done<R: Wait>(rt: &R, done: &AtomicBool) {
 }
 
 // Waits until all threads are told, or all is done without that. Answers whether they are told.
-fn wait_told<R: Wait>(rt: &R, told: &AtomicBool, done: &AtomicBool) -> bool {
+fn wait_told<R: Wait>(rt: &R, meeting: &Meeting) -> bool {
     for _ in rt.forever() {
-        if told.load(Ordering::SeqCst) {
+        if meeting.told.load(Ordering::SeqCst) {
             return true;
         }
-        if done.load(Ordering::SeqCst) {
+        if meeting.done.load(Ordering::SeqCst) {
             return false;
         }
         thread::yield_now();
@@ -90,15 +99,13 @@ fn come_to_poll<N: Name, J: Errand, R: Wait>(
 fn linger<N: Name, J: Errand, R: Wait>(
     rt: &R,
     thread: &mut Mutator<'_, N, J>,
-    there: &AtomicU64,
-    told: &AtomicBool,
-    done: &AtomicBool,
+    meeting: &Meeting,
 ) -> bool {
-    if !come_to_poll(rt, thread, done) {
+    if !come_to_poll(rt, thread, &meeting.done) {
         return false;
     }
-    there.fetch_add(1, Ordering::SeqCst);
-    wait_told(rt, told, done) && thread.stop(rt).is_ok()
+    meeting.there.fetch_add(1, Ordering::SeqCst);
+    wait_told(rt, meeting) && thread.stop(rt).is_ok()
 }
 
 // Polls on the way from the VM into Java, and stops where it is told to.
@@ -113,10 +120,9 @@ fn leave_vm<N: Name, J: Errand, R: Wait>(rt: &R, thread: &mut Mutator<'_, N, J>)
 fn stop_from_vm<N: Name, J: Errand, R: Wait>(
     rt: &R,
     thread: &mut Mutator<'_, N, J>,
-    told: &AtomicBool,
-    done: &AtomicBool,
+    meeting: &Meeting,
 ) -> bool {
-    wait_told(rt, told, done)
+    wait_told(rt, meeting)
         && matches!(thread.from_vm(), Ok(Poll::Stop(1)))
         && thread.stop(rt).is_ok()
 }
@@ -126,24 +132,22 @@ fn come_back<N: Name, J: Errand, R: Wait>(
     rt: &R,
     thread: &mut Mutator<'_, N, J>,
     index: usize,
-    there: &AtomicU64,
-    told: &AtomicBool,
-    done: &AtomicBool,
+    meeting: &Meeting,
 ) -> bool {
     match index {
         IN_NATIVE => {
-            wait_done(rt, done);
+            wait_done(rt, &meeting.done);
             thread.from_native(rt).is_ok()
         }
         BLOCKED => {
-            wait_done(rt, done);
+            wait_done(rt, &meeting.done);
             if thread.unblock(rt).is_err() {
                 return false;
             }
             leave_vm(rt, thread)
         }
-        AT_POLL => linger(rt, thread, there, told, done),
-        IN_VM => stop_from_vm(rt, thread, told, done),
+        AT_POLL => linger(rt, thread, meeting),
+        IN_VM => stop_from_vm(rt, thread, meeting),
         _ => true,
     }
 }
@@ -162,47 +166,48 @@ fn call_all<N: Name, J: Errand>(
     thread.call(0, shared.hint(0)).is_ok()
 }
 
-// Returns from all methods and exits.
-fn end<N: Name, J: Errand, R: Wait>(rt: &R, thread: Mutator<'_, N, J>, index: usize) -> bool {
-    let mut thread = thread;
+// Returns from all methods.
+fn return_all<N: Name, J: Errand>(thread: &mut Mutator<'_, N, J>, index: usize) -> bool {
     for _ in 0..index {
         if thread.ret().is_err() {
             return false;
         }
     }
-    if thread.ret().is_err() {
-        return false;
-    }
-    thread.exit(rt).is_ok()
+    thread.ret().is_ok()
 }
 
-// A thread starts, calls, goes where it is found, comes back, and exits.
+// A thread calls, goes where it is found, comes back, and returns once all is done.
+fn live_through<N: Name, J: Errand, R: Wait>(
+    rt: &R,
+    shared: &Shared<N, J>,
+    thread: &mut Mutator<'_, N, J>,
+    index: usize,
+    meeting: &Meeting,
+) -> bool {
+    if !call_all(shared, thread, index) || !go(rt, thread, index) {
+        return false;
+    }
+    meeting.there.fetch_add(1, Ordering::SeqCst);
+    come_back(rt, thread, index, meeting)
+        && run_until(rt, thread, &meeting.done)
+        && return_all(thread, index)
+}
+
+// A thread starts, lives, and exits.
 fn live<N: Name, J: Errand, R: Wait>(
     rt: &R,
     alloc: Global,
     shared: &Shared<N, J>,
     index: usize,
-    there: &AtomicU64,
-    told: &AtomicBool,
-    done: &AtomicBool,
+    meeting: &Meeting,
 ) -> bool {
-    let Ok(mut thread) = started(rt, alloc, shared) else {
-        return false;
-    };
-    if !call_all(shared, &mut thread, index) {
-        return false;
+    match started(rt, alloc, shared) {
+        Ok(mut thread) => {
+            let lived = live_through(rt, shared, &mut thread, index, meeting);
+            thread.exit(rt).is_ok() && lived
+        }
+        Err(_) => false,
     }
-    if !go(rt, &mut thread, index) {
-        return false;
-    }
-    there.fetch_add(1, Ordering::SeqCst);
-    if !come_back(rt, &mut thread, index, there, told, done) {
-        return false;
-    }
-    if !run_until(rt, &mut thread, done) {
-        return false;
-    }
-    end(rt, thread, index)
 }
 
 // Holds the thread of a place once its body is in its berth, where it isn't held.
@@ -226,16 +231,9 @@ fn live_all<N: Name + Send + Sync, J: Errand + Send, R: Threads + Wait + Sync>(
     rt: &R,
     alloc: Global,
     shared: &Shared<N, J>,
-    there: &AtomicU64,
-    told: &AtomicBool,
-    done: &AtomicBool,
+    meeting: &Meeting,
 ) -> bool {
-    match map_indices(
-        rt,
-        alloc,
-        THREADS,
-        &|i| live(rt, alloc, shared, i, there, told, done),
-    ) {
+    match map_indices(rt, alloc, THREADS, &|i| live(rt, alloc, shared, i, meeting)) {
         Ok(lived) => lived.iter().all(|it| *it),
         Err(_) => false,
     }
@@ -257,17 +255,16 @@ fn not_safe<N: Name, J: Errand, R: Wait>(rt: &R, coordinator: &mut Coordinator<'
 fn tell_all<N: Name, J: Errand, R: Wait>(
     rt: &R,
     coordinator: &mut Coordinator<'_, N, J>,
-    there: &AtomicU64,
-    told: &AtomicBool,
+    meeting: &Meeting,
 ) -> bool {
     for name in 1..6 {
         if coordinator.tell(rt, name).is_err() {
             return false;
         }
     }
-    let came = wait_for(THREADS as u64 + 1, there);
+    let came = wait_for(THREADS as u64 + 1, &meeting.there);
     let stayed = not_safe(rt, coordinator) >= 2;
-    told.store(true, Ordering::SeqCst);
+    meeting.told.store(true, Ordering::SeqCst);
     came && stayed
 }
 
@@ -281,31 +278,45 @@ fn hold_all<N: Name, J: Errand, R: Wait>(rt: &R, coordinator: &mut Coordinator<'
     true
 }
 
-// Works on a census over all threads; the counts are those of the count words.
-fn count<N: Name, J: Errand, R: Wait>(
+// Operates the census; the counts are those of the count words.
+fn operate<N: Name, J: Errand, R: Wait>(
     rt: &R,
     shared: &Shared<N, J>,
     coordinator: &mut Coordinator<'_, N, J>,
-    there: &AtomicU64,
-    told: &AtomicBool,
 ) -> bool {
-    if coordinator.open(rt).is_err() {
-        return false;
+    match coordinator.operate(rt) {
+        Ok((_, list, _)) => list.len() == 1 && list[0] == (1, 15) && shared.peek_counts() == 15,
+        Err(_) => false,
     }
-    if !tell_all(rt, coordinator, there, told) || !hold_all(rt, coordinator) {
-        return false;
-    }
-    let Ok((_, list, _)) = coordinator.operate(rt) else {
-        return false;
-    };
-    let counted = list.len() == 1 && list[0] == (1, 15) && shared.peek_counts() == 15;
+}
+
+fn release_all<N: Name, J: Errand, R: Wait>(
+    rt: &R,
+    coordinator: &mut Coordinator<'_, N, J>,
+) -> bool {
     for place in 0..THREADS {
         if coordinator.release(rt, place).is_err() {
             return false;
         }
     }
-    let closed = coordinator.close(rt).is_ok();
-    counted && closed
+    true
+}
+
+// Works on a census over all threads.
+fn count<N: Name, J: Errand, R: Wait>(
+    rt: &R,
+    shared: &Shared<N, J>,
+    coordinator: &mut Coordinator<'_, N, J>,
+    meeting: &Meeting,
+) -> bool {
+    if coordinator.open(rt).is_err() {
+        return false;
+    }
+    if !tell_all(rt, coordinator, meeting) || !hold_all(rt, coordinator) {
+        return false;
+    }
+    let counted = operate(rt, shared, coordinator);
+    release_all(rt, coordinator) && coordinator.close(rt).is_ok() && counted
 }
 
 // Opens a census once all threads are there, works on it, and lets the threads end.
@@ -314,15 +325,13 @@ fn coordinate<N: Name, J: Errand, R: Wait>(
     alloc: Global,
     shared: &Shared<N, J>,
     coordinator: Coordinator<'_, N, J>,
-    there: &AtomicU64,
-    told: &AtomicBool,
-    done: &AtomicBool,
+    meeting: &Meeting,
 ) -> bool {
     let mut coordinator = coordinator;
-    let came = wait_for(THREADS as u64, there);
+    let came = wait_for(THREADS as u64, &meeting.there);
     let asked = shared.submit(rt, Request::Census, Vec::new(alloc)).is_ok();
-    let counted = count(rt, shared, &mut coordinator, there, told);
-    done.store(true, Ordering::SeqCst);
+    let counted = count(rt, shared, &mut coordinator, meeting);
+    meeting.done.store(true, Ordering::SeqCst);
     came && asked && counted
 }
 
@@ -333,13 +342,15 @@ fn count_beside<N: Name + Send + Sync, J: Errand + Send, R: Threads + Wait + Syn
     shared: &Shared<N, J>,
     coordinator: Coordinator<'_, N, J>,
 ) {
-    let there = AtomicU64::new(0);
-    let told = AtomicBool::new(false);
-    let done = AtomicBool::new(false);
+    let meeting = Meeting {
+        there: AtomicU64::new(0),
+        told: AtomicBool::new(false),
+        done: AtomicBool::new(false),
+    };
     let (lived, counted) = join(
         rt,
-        || live_all(rt, alloc, shared, &there, &told, &done),
-        || coordinate(rt, alloc, shared, coordinator, &there, &told, &done),
+        || live_all(rt, alloc, shared, &meeting),
+        || coordinate(rt, alloc, shared, coordinator, &meeting),
     );
     assert!(rt; lived && counted);
     assert!(rt; shared.peek_counts() == 0);
@@ -355,12 +366,10 @@ fn count_all<N: Name + Send + Sync, J: Errand + Send, R: Threads + Wait + Sync +
     let Ok((shared, armer)) = Shared::<N, J>::new(alloc, parts) else {
         return Err(AllocError);
     };
+    assert!(rt; shared.install(rt, 0).is_ok());
     let Ok(coordinator) = Coordinator::new(&shared, armer, alloc) else {
         return Err(AllocError);
     };
-    if shared.install(rt, 0).is_err() {
-        return Err(AllocError);
-    }
     count_beside(rt, alloc, &shared, coordinator);
     Ok(())
 }

@@ -83,6 +83,21 @@ fn call_by_hint<N: Name, J: Errand, R: Wait>(
     true
 }
 
+// Calls as often as a thread calls.
+fn call_all<N: Name, J: Errand, R: Wait>(
+    rt: &R,
+    shared: &Shared<N, J>,
+    thread: &mut Mutator<'_, N, J>,
+    told: &Told,
+) -> bool {
+    for _ in 0..CALLS / CALLS_OF_HINT {
+        if !call_by_hint(rt, shared, thread, told) {
+            return false;
+        }
+    }
+    true
+}
+
 // A thread starts, calls and exits.
 fn live<N: Name, J: Errand, R: Wait>(
     rt: &R,
@@ -90,15 +105,13 @@ fn live<N: Name, J: Errand, R: Wait>(
     shared: &Shared<N, J>,
     told: &Told,
 ) -> bool {
-    let Ok(mut thread) = started(rt, alloc, shared) else {
-        return false;
-    };
-    for _ in 0..CALLS / CALLS_OF_HINT {
-        if !call_by_hint(rt, shared, &mut thread, told) {
-            return false;
+    match started(rt, alloc, shared) {
+        Ok(mut thread) => {
+            let called = call_all(rt, shared, &mut thread, told);
+            thread.exit(rt).is_ok() && called
         }
+        Err(_) => false,
     }
-    thread.exit(rt).is_ok()
 }
 
 // Each thread in a thread of its own.

@@ -16,34 +16,46 @@ use std::sync::atomic::{AtomicU64, Ordering};
 use std::test::*;
 use std::thread;
 use std::thread::{Threads, join};
-use thread_list::{Parts, Shared};
+use thread_list::{Mutator, Parts, Shared};
 
 // How many threads exit, one after the other. They have the names from 1 on.
 const EXITS: u64 = 1000;
 
-// The thread of this name starts in the place of the one before, waits until it is asked, and exits, now sooner and now later.
+// What the two sides tell one another: the last name that is live, and the last that is asked.
+#[derive(Drop)]
+struct Turns {
+    live: AtomicU64,
+    asked: AtomicU64,
+}
+
+// The thread of this name waits until it is asked, and a bit longer, now more and now less.
+fn wait_asked<N: Name, J: Errand>(thread: &Mutator<'_, N, J>, turns: &Turns, name: u64) -> bool {
+    if thread.name() != name || thread.place() != 0 {
+        return false;
+    }
+    turns.live.store(name, Ordering::SeqCst);
+    let asked = wait_for(name, &turns.asked);
+    for _ in 0..name % 8 {
+        thread::yield_now();
+    }
+    asked
+}
+
+// The thread of this name starts in the place of the one before, waits until it is asked, and exits.
 fn start_and_exit<N: Name, J: Errand, R: Wait>(
     rt: &R,
     alloc: Global,
     shared: &Shared<N, J>,
-    live: &AtomicU64,
-    asked: &AtomicU64,
+    turns: &Turns,
     name: u64,
 ) -> bool {
-    let Ok(thread) = started(rt, alloc, shared) else {
-        return false;
-    };
-    if thread.name() != name || thread.place() != 0 {
-        return false;
+    match started(rt, alloc, shared) {
+        Ok(thread) => {
+            let asked = wait_asked(&thread, turns, name);
+            thread.exit(rt).is_ok() && asked
+        }
+        Err(_) => false,
     }
-    live.store(name, Ordering::SeqCst);
-    if !wait_for(name, asked) {
-        return false;
-    }
-    for _ in 0..name % 8 {
-        thread::yield_now();
-    }
-    thread.exit(rt).is_ok()
 }
 
 // One thread after the other starts and exits.
@@ -51,35 +63,32 @@ fn exit_all<N: Name, J: Errand, R: Wait>(
     rt: &R,
     alloc: Global,
     shared: &Shared<N, J>,
-    live: &AtomicU64,
-    asked: &AtomicU64,
+    turns: &Turns,
 ) -> bool {
     for name in 1..EXITS + 1 {
-        if !start_and_exit(rt, alloc, shared, live, asked, name) {
+        if !start_and_exit(rt, alloc, shared, turns, name) {
             return false;
         }
     }
     true
 }
 
-// A handshake of this name waits.
+// A handshake of this name waits. Answers whether it does.
 fn ask<N: Name, J: Errand, R: Wait>(
     rt: &R,
     alloc: Global,
     shared: &Shared<N, J>,
     name: u64,
     jobs: Vec<J>,
-) -> Result<(), AllocError> {
-    let mut names = Vec::new(alloc);
-    names.push(name).map_err(|_| AllocError)?;
+) -> bool {
+    let Ok(names) = Vec::from_array(alloc, [name]) else {
+        return false;
+    };
     let request = Request::Handshake {
         targets: Targets::from_vec(names),
         ask: Ask::Depth,
     };
-    match shared.submit(rt, request, jobs) {
-        Ok(_) => Ok(()),
-        Err(_) => Err(AllocError),
-    }
+    shared.submit(rt, request, jobs).is_ok()
 }
 
 // Closes the open handshake once its target has answered or is gone. Answers whether it could.
@@ -99,12 +108,12 @@ fn are_replies<N: Name, J: Errand, R: Wait>(
     shared: &Shared<N, J>,
     name: u64,
     was_told: bool,
-) -> Result<bool, AllocError> {
-    let replies = shared.replies(rt, name)?;
-    if !was_told {
-        return Ok(replies.is_empty());
+) -> bool {
+    match shared.replies(rt, name) {
+        Ok(replies) if was_told => replies.len() == 1 && replies[0] == (name, 0),
+        Ok(replies) => replies.is_empty(),
+        Err(_) => false,
     }
-    Ok(replies.len() == 1 && replies[0] == (name, 0))
 }
 
 // Tells the thread of this name, which exits meanwhile. Answers whether it was told, and not gone; None where a call went wrong.
@@ -114,48 +123,86 @@ fn tell<N: Name, J: Errand, R: Wait>(
     coordinator: &mut Coordinator<'_, N, J>,
     asked: &AtomicU64,
     name: u64,
-) -> Result<Option<bool>, AllocError> {
+) -> Option<bool> {
     if coordinator.open(rt).is_err() {
-        return Ok(None);
+        return None;
     }
     asked.store(name, Ordering::SeqCst);
-    let Ok(told) = coordinator.tell(rt, name) else {
-        return Ok(None);
+    let was_told = match coordinator.tell(rt, name) {
+        Ok(told) => matches!(told, Told::Told(_)),
+        Err(_) => return None,
     };
-    let was_told = matches!(told, Told::Told(_));
-    if close(rt, coordinator) && are_replies(rt, shared, name, was_told)? {
-        return Ok(Some(was_told));
+    if close(rt, coordinator) && are_replies(rt, shared, name, was_told) {
+        return Some(was_told);
     }
-    Ok(None)
+    None
 }
 
-// Asks and tells one thread after the other. The handshake of a name has that number. Answers which were told.
+// Asks the thread of this name once it is live, and tells it. The handshake of a name has that number.
+fn ask_and_tell<N: Name, J: Errand, R: Wait>(
+    rt: &R,
+    alloc: Global,
+    shared: &Shared<N, J>,
+    coordinator: &mut Coordinator<'_, N, J>,
+    turns: &Turns,
+    name: u64,
+    jobs: Vec<J>,
+) -> Option<bool> {
+    if wait_for(name, &turns.live) && ask(rt, alloc, shared, name, jobs) {
+        return tell(rt, shared, coordinator, &turns.asked, name);
+    }
+    None
+}
+
+// Asks and tells one thread after the other, and writes down which were told. Answers whether each call was well.
+fn tell_each<N: Name, J: Errand, R: Wait>(
+    rt: &R,
+    alloc: Global,
+    shared: &Shared<N, J>,
+    coordinator: &mut Coordinator<'_, N, J>,
+    turns: &Turns,
+    left: &mut Vec<Vec<J>>,
+    told: &mut Vec<bool>,
+) -> bool {
+    for name in 1..EXITS + 1 {
+        let Some(jobs) = left.pop() else {
+            return false;
+        };
+        let said = ask_and_tell(rt, alloc, shared, coordinator, turns, name, jobs);
+        let Some(was_told) = said else {
+            return false;
+        };
+        if told.push(was_told).is_err() {
+            return false;
+        }
+    }
+    true
+}
+
+// Asks and tells all. Answers which were told; none where a call went wrong.
 fn tell_all<N: Name, J: Errand, R: Wait>(
     rt: &R,
     alloc: Global,
     shared: &Shared<N, J>,
     coordinator: Coordinator<'_, N, J>,
-    live: &AtomicU64,
-    asked: &AtomicU64,
+    turns: &Turns,
     jobs: Vec<Vec<J>>,
-) -> Result<Option<Vec<bool>>, AllocError> {
+) -> Vec<bool> {
     let mut coordinator = coordinator;
     let mut left = jobs;
     let mut told = Vec::new(alloc);
-    for name in 1..EXITS + 1 {
-        let Some(jobs) = left.pop() else {
-            return Ok(None);
-        };
-        if !wait_for(name, live) {
-            return Ok(None);
-        }
-        ask(rt, alloc, shared, name, jobs)?;
-        let Some(was_told) = tell(rt, shared, &mut coordinator, asked, name)? else {
-            return Ok(None);
-        };
-        told.push(was_told).map_err(|_| AllocError)?;
+    if !tell_each(
+        rt,
+        alloc,
+        shared,
+        &mut coordinator,
+        turns,
+        &mut left,
+        &mut told,
+    ) {
+        told.clear();
     }
-    Ok(Some(told))
+    told
 }
 
 // Whether all replies are what they were, now that threads have started in the place of each and exited.
@@ -163,13 +210,13 @@ fn are_as_before<N: Name, J: Errand, R: Wait>(
     rt: &R,
     shared: &Shared<N, J>,
     told: &[bool],
-) -> Result<bool, AllocError> {
+) -> bool {
     for before in 0..told.len() {
-        if !are_replies(rt, shared, before as u64 + 1, told[before])? {
-            return Ok(false);
+        if !are_replies(rt, shared, before as u64 + 1, told[before]) {
+            return false;
         }
     }
-    Ok(told.len() as u64 == EXITS)
+    true
 }
 
 // Threads exit beside the coordinator, which tells them.
@@ -179,20 +226,19 @@ fn exit_beside<N: Name + Send + Sync, J: Errand + Send, R: Threads + Wait + Sync
     shared: &Shared<N, J>,
     coordinator: Coordinator<'_, N, J>,
     jobs: Vec<Vec<J>>,
-) -> Result<(), AllocError> {
-    let live = AtomicU64::new(0);
-    let asked = AtomicU64::new(0);
+) {
+    let turns = Turns {
+        live: AtomicU64::new(0),
+        asked: AtomicU64::new(0),
+    };
     let (exited, told) = join(
         rt,
-        || exit_all(rt, alloc, shared, &live, &asked),
-        || tell_all(rt, alloc, shared, coordinator, &live, &asked, jobs),
+        || exit_all(rt, alloc, shared, &turns),
+        || tell_all(rt, alloc, shared, coordinator, &turns, jobs),
     );
     assert!(rt; exited);
-    let Some(told) = told? else {
-        panic!(rt; "a call went wrong");
-    };
-    assert!(rt; are_as_before(rt, shared, told.as_slice())?);
-    Ok(())
+    assert!(rt; told.len() as u64 == EXITS, "a call went wrong");
+    assert!(rt; are_as_before(rt, shared, told.as_slice()));
 }
 
 fn race<N: Name + Send + Sync, J: Errand + Send, R: Threads + Wait + Sync + Abort>(
@@ -209,12 +255,12 @@ fn race<N: Name + Send + Sync, J: Errand + Send, R: Threads + Wait + Sync + Abor
     let Ok(coordinator) = Coordinator::new(&shared, armer, alloc) else {
         return Err(AllocError);
     };
-    exit_beside(rt, alloc, &shared, coordinator, jobs)
+    exit_beside(rt, alloc, &shared, coordinator, jobs);
+    Ok(())
 }
 
 #[test]
 fn a_thread_that_exits_is_gone_or_has_answered(rt: HostRuntime) -> Result<(), Fail> {
-    let parts = Parts::new(rt.alloc(), 2, 4, 2).map_err(|_| AllocError)?;
     let mut all = Vec::new(rt.alloc());
     for before in 0..EXITS {
         let mut jobs = Vec::new(rt.alloc());
@@ -228,6 +274,7 @@ fn a_thread_that_exits_is_gone_or_has_answered(rt: HostRuntime) -> Result<(), Fa
             .map_err(|_| AllocError)?;
         all.push(jobs).map_err(|_| AllocError)?;
     }
+    let parts = Parts::new(rt.alloc(), 2, 4, 2).map_err(|_| AllocError)?;
     race::<Brand, Job, HostRuntime>(&rt, rt.alloc(), parts, all)?;
     Ok(())
 }
