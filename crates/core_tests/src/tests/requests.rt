@@ -195,6 +195,7 @@ names 3 1 2 => (); copy => (Top, [3, 1, 2]); copy_of_census => Census
 names 7 8 9 7 => (); refusal => Some(BadTargets); is_target 9 => true; is_target 10 => false
 names => ()
 1 to 64 | name # => (); is_target # => true
+copy => (Top, [1, 2, 3, 4, 5, 6, 7, 8, 9, 10, 11, 12, 13, 14, 15, 16, 17, 18, 19, 20, 21, 22, 23, 24, 25, 26, 27, 28, 29, 30, 31, 32, 33, 34, 35, 36, 37, 38, 39, 40, 41, 42, 43, 44, 45, 46, 47, 48, 49, 50, 51, 52, 53, 54, 55, 56, 57, 58, 59, 60, 61, 62, 63, 64])
 has_targets => true; are_targets => true; refusal => None; handshake 1 4 => (); len => 1
 name 65 => (); are_targets => false; refusal => Some(BadTargets); len => 1",
     );
