@@ -7,7 +7,6 @@ ghost use Rattle.std.specs.Prelude.{◌≡◌};
 ghost use Rattle.operations.specs.Asks.{reply};
 
 mod calls;
-mod lists;
 mod plan;
 mod requests;
 mod running;
@@ -17,7 +16,6 @@ mod threads;
 mod wrong;
 
 use frames::image::Image;
-use lists::keep;
 use operations::Ask;
 use operations::job::{Call, Job};
 use plan::{KINDS, Kind, Plan};
@@ -124,9 +122,10 @@ fn make_run<R: Threads + Wait + Clock + Sync>(
             )
             .map_err(|_| AllocError)?;
             let name = (thread as u64).saturating_add(1);
-            keep(&mut list, Job::new(name, Ask::Depth, call))?;
+            list.push(Job::new(name, Ask::Depth, call))
+                .map_err(|_| AllocError)?;
         }
-        keep(&mut jobs, list)?;
+        jobs.push(list).map_err(|_| AllocError)?;
     }
     run::<Brand, Job, R>(rt, alloc, plan, parts, jobs)
 }

@@ -1,11 +1,10 @@
 //! The stops of a run, one after the other.
-use crate::lists::keep;
 use crate::plan::Plan;
 use crate::requests::Asker;
 use crate::wrong::Wrong;
 use bodies::Name;
 use operations::job::Errand;
-use std::alloc::Global;
+use std::alloc::{AllocError, Global};
 use std::sync::Wait;
 use std::time::{Clock, Duration, Instant};
 
@@ -27,7 +26,7 @@ pub fn time_stops<N: Name, J: Errand, R: Wait + Clock>(
     for turn in 0..plan.turns.saturating_add(WARM_UP) {
         let took = asker.ask(plan.kind)?;
         if turn >= WARM_UP {
-            keep(&mut times, nanoseconds(took))?;
+            times.push(nanoseconds(took)).map_err(|_| AllocError)?;
         }
         if start.elapsed(rt)? >= Duration::from_secs(LONGEST) {
             break;
