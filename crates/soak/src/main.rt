@@ -8,7 +8,6 @@ ghost use Rattle.operations.specs.Asks.{reply};
 
 mod codes;
 mod driver;
-mod lists;
 mod player;
 mod requests;
 mod rng;
@@ -22,7 +21,6 @@ mod wrong;
 
 use driver::Sizes;
 use frames::image::Image;
-use lists::keep;
 use operations::Ask;
 use operations::job::{Call, Job};
 use running::{Plan, run};
@@ -130,9 +128,10 @@ fn make_run<R: Threads + Wait + Sync>(
                 { ask.reply_on(image) },
             )
             .map_err(|_| AllocError)?;
-            keep(&mut list, Job::new(name.saturating_add(1), ask, call))?;
+            list.push(Job::new(name.saturating_add(1), ask, call))
+                .map_err(|_| AllocError)?;
         }
-        keep(&mut jobs, list)?;
+        jobs.push(list).map_err(|_| AllocError)?;
     }
     let plan = Plan {
         sizes,

@@ -1,5 +1,4 @@
 //! What a run has done, in numbers.
-use crate::lists::keep;
 use crate::wrong::Wrong;
 use operations::Ask;
 use std::alloc::{AllocError, Global};
@@ -51,7 +50,7 @@ fn add_frame(frames: &mut Vec<(u64, u64)>, serial: u64) -> Result<(), AllocError
             return Ok(());
         }
     }
-    keep(frames, (serial, 1))
+    frames.push((serial, 1)).map_err(|_| AllocError)
 }
 
 // How many frames the code has.
