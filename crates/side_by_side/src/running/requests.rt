@@ -186,10 +186,13 @@ impl<'a, N: Name, J: Errand> Side<'a, N, J> {
     }
 
     fn drive<R: Wait>(&mut self, rt: &R) -> Said {
-        match self.coordinator.drive(rt) {
-            Ok((Driven::Handshake(number), _)) => Said::Handshake(number),
-            Ok((Driven::Census(number, counts), _)) => self.note_census(number, counts),
-            Err(fault) => of_drive(fault),
+        let driven = match self.coordinator.drive(rt) {
+            Ok((driven, _receipt)) => driven,
+            Err(fault) => return of_drive(fault),
+        };
+        match driven {
+            Driven::Handshake(number) => Said::Handshake(number),
+            Driven::Census(number, counts) => self.note_census(number, counts),
         }
     }
 }
