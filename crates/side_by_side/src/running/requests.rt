@@ -30,25 +30,22 @@ fn job_at<J: Errand>(jobs: &[J], name: u64, ask: Ask) -> Option<usize>
 impl<'a, N: Name, J: Errand> Side<'a, N, J> {
     // The jobs for the targets, in their order; where they aren't to fit, one less than there are targets, or as many as there are.
     pub(super) fn take_jobs(&mut self, handshake: Handshake) -> Result<Vec<J>, AllocError> {
-        let wanted = if handshake.fits {
-            handshake.count
-        } else {
-            handshake.count.saturating_sub(1)
-        };
         let mut taken = Vec::new(self.alloc);
         let mut name = handshake.first;
         for _listed in 0..handshake.count {
             if let Some(job) = self.take_job(name, handshake.ask) {
-                let list = if (taken.len() as u64) < wanted {
-                    &mut taken
-                } else {
-                    &mut self.jobs
-                };
-                if list.push(job).is_err() {
+                if taken.push(job).is_err() {
                     return Err(AllocError);
                 }
             }
             name = name.saturating_add(handshake.step);
+        }
+        if !handshake.fits && taken.len() as u64 >= handshake.count {
+            if let Some(job) = taken.pop() {
+                if self.jobs.push(job).is_err() {
+                    return Err(AllocError);
+                }
+            }
         }
         Ok(taken)
     }
