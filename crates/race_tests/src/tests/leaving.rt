@@ -16,46 +16,34 @@ use std::sync::atomic::{AtomicU64, Ordering};
 use std::test::*;
 use std::thread;
 use std::thread::{Threads, join};
-use thread_list::{Mutator, Parts, Shared};
+use thread_list::{Parts, Shared};
 
 // How many threads exit, one after the other. They have the names from 1 on.
 const EXITS: u64 = 1000;
 
-// What the two sides tell one another: the last name that is live, and the last that is asked.
-#[derive(Drop)]
-struct Turns {
-    live: AtomicU64,
-    asked: AtomicU64,
-}
-
-// The thread of this name waits until it is asked, and a bit longer, now more and now less.
-fn wait_asked<N: Name, J: Errand>(thread: &Mutator<'_, N, J>, turns: &Turns, name: u64) -> bool {
-    if thread.name() != name || thread.place() != 0 {
-        return false;
-    }
-    turns.live.store(name, Ordering::SeqCst);
-    let asked = wait_for(name, &turns.asked);
-    for _ in 0..name % 8 {
-        thread::yield_now();
-    }
-    asked
-}
-
-// The thread of this name starts in the place of the one before, waits until it is asked, and exits.
+// The thread of this name starts in the place of the one before, waits until it is asked, and exits, now sooner and now later.
 fn start_and_exit<N: Name, J: Errand, R: Wait>(
     rt: &R,
     alloc: Global,
     shared: &Shared<N, J>,
-    turns: &Turns,
+    live: &AtomicU64,
+    asked: &AtomicU64,
     name: u64,
 ) -> bool {
-    match started(rt, alloc, shared) {
-        Ok(thread) => {
-            let asked = wait_asked(&thread, turns, name);
-            thread.exit(rt).is_ok() && asked
-        }
-        Err(_) => false,
+    let Ok(thread) = started(rt, alloc, shared) else {
+        return false;
+    };
+    if thread.name() != name || thread.place() != 0 {
+        return false;
     }
+    live.store(name, Ordering::SeqCst);
+    if !wait_for(name, asked) {
+        return false;
+    }
+    for _ in 0..name % 8 {
+        thread::yield_now();
+    }
+    thread.exit(rt).is_ok()
 }
 
 // One thread after the other starts and exits.
@@ -63,32 +51,35 @@ fn exit_all<N: Name, J: Errand, R: Wait>(
     rt: &R,
     alloc: Global,
     shared: &Shared<N, J>,
-    turns: &Turns,
+    live: &AtomicU64,
+    asked: &AtomicU64,
 ) -> bool {
     for name in 1..EXITS + 1 {
-        if !start_and_exit(rt, alloc, shared, turns, name) {
+        if !start_and_exit(rt, alloc, shared, live, asked, name) {
             return false;
         }
     }
     true
 }
 
-// A handshake of this name waits. Answers whether it does.
+// A handshake of this name waits.
 fn ask<N: Name, J: Errand, R: Wait>(
     rt: &R,
     alloc: Global,
     shared: &Shared<N, J>,
     name: u64,
     jobs: Vec<J>,
-) -> bool {
-    let Ok(names) = Vec::from_array(alloc, [name]) else {
-        return false;
-    };
+) -> Result<(), AllocError> {
+    let mut names = Vec::new(alloc);
+    names.push(name).map_err(|_| AllocError)?;
     let request = Request::Handshake {
         targets: Targets::from_vec(names),
         ask: Ask::Depth,
     };
-    shared.submit(rt, request, jobs).is_ok()
+    match shared.submit(rt, request, jobs) {
+        Ok(_) => Ok(()),
+        Err(_) => Err(AllocError),
+    }
 }
 
 // Closes the open handshake once its target has answered or is gone. Answers whether it could.
@@ -108,12 +99,12 @@ fn are_replies<N: Name, J: Errand, R: Wait>(
     shared: &Shared<N, J>,
     name: u64,
     was_told: bool,
-) -> bool {
-    match shared.replies(rt, name) {
-        Ok(replies) if was_told => replies.len() == 1 && replies[0] == (name, 0),
-        Ok(replies) => replies.is_empty(),
-        Err(_) => false,
+) -> Result<bool, AllocError> {
+    let replies = shared.replies(rt, name)?;
+    if !was_told {
+        return Ok(replies.is_empty());
     }
+    Ok(replies.len() == 1 && replies[0] == (name, 0))
 }
 
 // Tells the thread of this name, which exits meanwhile. Answers whether it was told, and not gone; None where a call went wrong.
@@ -123,86 +114,48 @@ fn tell<N: Name, J: Errand, R: Wait>(
     coordinator: &mut Coordinator<'_, N, J>,
     asked: &AtomicU64,
     name: u64,
-) -> Option<bool> {
+) -> Result<Option<bool>, AllocError> {
     if coordinator.open(rt).is_err() {
-        return None;
+        return Ok(None);
     }
     asked.store(name, Ordering::SeqCst);
-    let was_told = match coordinator.tell(rt, name) {
-        Ok(told) => matches!(told, Told::Told(_)),
-        Err(_) => return None,
+    let Ok(told) = coordinator.tell(rt, name) else {
+        return Ok(None);
     };
-    if close(rt, coordinator) && are_replies(rt, shared, name, was_told) {
-        return Some(was_told);
+    let was_told = matches!(told, Told::Told(_));
+    if close(rt, coordinator) && are_replies(rt, shared, name, was_told)? {
+        return Ok(Some(was_told));
     }
-    None
+    Ok(None)
 }
 
-// Asks the thread of this name once it is live, and tells it. The handshake of a name has that number.
-fn ask_and_tell<N: Name, J: Errand, R: Wait>(
-    rt: &R,
-    alloc: Global,
-    shared: &Shared<N, J>,
-    coordinator: &mut Coordinator<'_, N, J>,
-    turns: &Turns,
-    name: u64,
-    jobs: Vec<J>,
-) -> Option<bool> {
-    if wait_for(name, &turns.live) && ask(rt, alloc, shared, name, jobs) {
-        return tell(rt, shared, coordinator, &turns.asked, name);
-    }
-    None
-}
-
-// Asks and tells one thread after the other, and writes down which were told. Answers whether each call was well.
-fn tell_each<N: Name, J: Errand, R: Wait>(
-    rt: &R,
-    alloc: Global,
-    shared: &Shared<N, J>,
-    coordinator: &mut Coordinator<'_, N, J>,
-    turns: &Turns,
-    left: &mut Vec<Vec<J>>,
-    told: &mut Vec<bool>,
-) -> bool {
-    for name in 1..EXITS + 1 {
-        let Some(jobs) = left.pop() else {
-            return false;
-        };
-        let said = ask_and_tell(rt, alloc, shared, coordinator, turns, name, jobs);
-        let Some(was_told) = said else {
-            return false;
-        };
-        if told.push(was_told).is_err() {
-            return false;
-        }
-    }
-    true
-}
-
-// Asks and tells all. Answers which were told; none where a call went wrong.
+// Asks and tells one thread after the other. The handshake of a name has that number. Answers which were told.
 fn tell_all<N: Name, J: Errand, R: Wait>(
     rt: &R,
     alloc: Global,
     shared: &Shared<N, J>,
     coordinator: Coordinator<'_, N, J>,
-    turns: &Turns,
+    live: &AtomicU64,
+    asked: &AtomicU64,
     jobs: Vec<Vec<J>>,
-) -> Vec<bool> {
+) -> Result<Option<Vec<bool>>, AllocError> {
     let mut coordinator = coordinator;
     let mut left = jobs;
     let mut told = Vec::new(alloc);
-    if !tell_each(
-        rt,
-        alloc,
-        shared,
-        &mut coordinator,
-        turns,
-        &mut left,
-        &mut told,
-    ) {
-        told.clear();
+    for name in 1..EXITS + 1 {
+        let Some(jobs) = left.pop() else {
+            return Ok(None);
+        };
+        if !wait_for(name, live) {
+            return Ok(None);
+        }
+        ask(rt, alloc, shared, name, jobs)?;
+        let Some(was_told) = tell(rt, shared, &mut coordinator, asked, name)? else {
+            return Ok(None);
+        };
+        told.push(was_told).map_err(|_| AllocError)?;
     }
-    told
+    Ok(Some(told))
 }
 
 // Whether all replies are what they were, now that threads have started in the place of each and exited.
@@ -210,13 +163,13 @@ fn are_as_before<N: Name, J: Errand, R: Wait>(
     rt: &R,
     shared: &Shared<N, J>,
     told: &[bool],
-) -> bool {
+) -> Result<bool, AllocError> {
     for before in 0..told.len() {
-        if !are_replies(rt, shared, before as u64 + 1, told[before]) {
-            return false;
+        if !are_replies(rt, shared, before as u64 + 1, told[before])? {
+            return Ok(false);
         }
     }
-    true
+    Ok(told.len() as u64 == EXITS)
 }
 
 // Threads exit beside the coordinator, which tells them.
@@ -226,19 +179,20 @@ fn exit_beside<N: Name + Send + Sync, J: Errand + Send, R: Threads + Wait + Sync
     shared: &Shared<N, J>,
     coordinator: Coordinator<'_, N, J>,
     jobs: Vec<Vec<J>>,
-) {
-    let turns = Turns {
-        live: AtomicU64::new(0),
-        asked: AtomicU64::new(0),
-    };
+) -> Result<(), AllocError> {
+    let live = AtomicU64::new(0);
+    let asked = AtomicU64::new(0);
     let (exited, told) = join(
         rt,
-        || exit_all(rt, alloc, shared, &turns),
-        || tell_all(rt, alloc, shared, coordinator, &turns, jobs),
+        || exit_all(rt, alloc, shared, &live, &asked),
+        || tell_all(rt, alloc, shared, coordinator, &live, &asked, jobs),
     );
     assert!(rt; exited);
-    assert!(rt; told.len() as u64 == EXITS, "a call went wrong");
-    assert!(rt; are_as_before(rt, shared, told.as_slice()));
+    let Some(told) = told? else {
+        panic!(rt; "a call went wrong");
+    };
+    assert!(rt; are_as_before(rt, shared, told.as_slice())?);
+    Ok(())
 }
 
 fn race<N: Name + Send + Sync, J: Errand + Send, R: Threads + Wait + Sync + Abort>(
@@ -255,12 +209,12 @@ fn race<N: Name + Send + Sync, J: Errand + Send, R: Threads + Wait + Sync + Abor
     let Ok(coordinator) = Coordinator::new(&shared, armer, alloc) else {
         return Err(AllocError);
     };
-    exit_beside(rt, alloc, &shared, coordinator, jobs);
-    Ok(())
+    exit_beside(rt, alloc, &shared, coordinator, jobs)
 }
 
 #[test]
 fn a_thread_that_exits_is_gone_or_has_answered(rt: HostRuntime) -> Result<(), Fail> {
+    let parts = Parts::new(rt.alloc(), 2, 4, 2).map_err(|_| AllocError)?;
     let mut all = Vec::new(rt.alloc());
     for before in 0..EXITS {
         let mut jobs = Vec::new(rt.alloc());
@@ -274,7 +228,6 @@ fn a_thread_that_exits_is_gone_or_has_answered(rt: HostRuntime) -> Result<(), Fa
             .map_err(|_| AllocError)?;
         all.push(jobs).map_err(|_| AllocError)?;
     }
-    let parts = Parts::new(rt.alloc(), 2, 4, 2).map_err(|_| AllocError)?;
     race::<Brand, Job, HostRuntime>(&rt, rt.alloc(), parts, all)?;
     Ok(())
 }
