@@ -141,6 +141,9 @@ impl<'a, N: Name, J: Errand, R: Wait> Running<R> for Side<'a, N, J> {
     }
 
     fn stack(&self, rt: &R, thread: Thread) -> Result<Option<Vec<Frame>>, AllocError> {
+        if thread.place >= self.tables.shared().places() {
+            return Ok(None);
+        }
         let berth = self.tables.shared().berth(thread.place);
         let Ok((body, _held)) = berth.take(rt, thread.name, thread.place) else {
             return Ok(None);
