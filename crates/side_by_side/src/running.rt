@@ -141,11 +141,11 @@ impl<'a, N: Name, J: Errand, R: Wait> Running<R> for Side<'a, N, J> {
     }
 
     fn stack(&self, rt: &R, thread: Thread) -> Result<Option<Vec<Frame>>, AllocError> {
-        if thread.place >= self.tables.shared().places() {
+        let Some(place) = self.tables.place(thread.place) else {
             return Ok(None);
-        }
-        let berth = self.tables.shared().berth(thread.place);
-        let Ok((body, _held)) = berth.take(rt, thread.name, thread.place) else {
+        };
+        let berth = self.tables.shared().berth(place);
+        let Ok((body, _held)) = berth.take(rt, thread.name, place) else {
             return Ok(None);
         };
         let frames = Vec::from_slice(self.alloc, body.frames());

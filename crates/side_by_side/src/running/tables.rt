@@ -55,6 +55,17 @@ impl<'a, N: Name, J: Errand> Tables<'a, N, J> {
         }
     }
 
+    /// A place, where it is one that there is.
+    pub fn place(&self, place: usize) -> Option<usize>
+        ensures { IfSome result (λ p. p < N.board.places) }
+    {
+        if place < self.places {
+            Some(place)
+        } else {
+            None
+        }
+    }
+
     /// The count word of the slot.
     pub fn count(&self, slot: u32) -> u64 {
         if slot >= self.slots {
