@@ -20,7 +20,7 @@ count() {
 }
 
 embed() {
-    (cd crates/model && rt lib) && tests/embed.py crates/model/out/libmodel.a
+    tests/archive.py && tests/embed.py crates/model/out/libmodel.a
 }
 
 PYTHONUNBUFFERED=1 rt ci | tee "$said" || exit
