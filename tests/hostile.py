@@ -34,13 +34,11 @@ THREADS = {
         "tests::poll_rows::the_armer_is_in_another_thread",
         "tests::stopped::a_publication_is_looked_at_from_another_thread_at_each_boundary",
     ],
-    "thread_list_tests": ["tests::threads::four_threads_call_and_return"],
-    "handshake_tests": [
+    "running_tests": [
+        "tests::threads::four_threads_call_and_return",
         "tests::four::four_are_closed_over_two_running_threads",
         "tests::many::sixty_four_threads_shake_hands_a_thousand_times",
         "tests::meeting::one_job_waits_for_the_other",
-    ],
-    "race_tests": [
         "tests::census::a_census_counts_what_the_words_count",
         "tests::invalidated::no_call_enters_what_is_seen_invalidated",
         "tests::leaving::a_thread_that_exits_is_gone_or_has_answered",
@@ -60,12 +58,12 @@ MEMORY = {
     ],
     "script_tests": [["tests::refused_memory::refused_memory_is_told"], ["tests::refused_memory::refused_memory_leaves_a_beginning"]],
     "words_tests": [["tests::poll_rows::a_row_is_made_whole_or_not_at_all"], ["tests::boards::a_board_is_made_whole_or_not_at_all"]],
-    "coordinator_tests": [["tests::memory::what_lacks_memory_is_tried_again"]],
+    "running_tests": [["tests::memory::what_lacks_memory_is_tried_again"]],
 }
 NONE_REFUSED = "no growth was refused"
 # What runs of these must have met, each in some of them.
 TO_MEET = {
-    "coordinator_tests": [
+    "running_tests": [
         "a coordinator was refused",
         "the submit of a census was refused",
         "the list of a census was refused",

@@ -8,8 +8,9 @@ use Rattle.desk.specs.Machine.{Stands}
 use Rattle.berths.specs.Berths.{Moved, moved, Went}
 use Rattle.thread_list.specs.Moves.{IsServed}
 use Rattle.berths.specs.declared.room.BodyAct.TheVariants.{Held}
-use Rattle.coordinator.specs.Receipts.{IsBrought, IsAttended}
-use Rattle.coordinator.proofs.Each.{operated_keeps, operated_frames}
+use Rattle.held_threads.specs.Brought.{IsBrought}
+use Rattle.coordinator.specs.Receipts.{IsAttended}
+use Rattle.held_threads.proofs.Each.{operated_keeps, operated_frames}
 
 went_so : (place name : ℕ) (out : Moved) (body : BodyView) → out ≡ moved body Held → body.name ≡ name → body.seat.place ≡ place → Went place name Held out
 went_so place name out body is named placed =

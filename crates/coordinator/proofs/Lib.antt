@@ -1,6 +1,5 @@
-mod Apart
 mod HoldsMore
-mod Each
+mod Published
 mod Attended
 mod Holdings
 mod Closed

@@ -10,17 +10,15 @@ use Rattle.operations.specs.declared.Request.{Request}
 use Rattle.berths.specs.Berths.{Acted, Moved, moved, Went}
 use Rattle.berths.specs.declared.room.BerthAct.TheVariants.{NoJob}
 use Rattle.berths.specs.declared.room.BodyAct.TheVariants.{Held, Released}
-use Rattle.coordinator.specs.Holding.{Holding, StandsAt}
+use Rattle.held_threads.specs.Held.{StandsAt}
+use Rattle.held_threads.specs.Brought.{IsBrought}
+use Rattle.coordinator.specs.Holding.{Holding}
 
 -- The body of the place is held no more, and by the receipt it went into its berth as it was.
 abbrev pub Releases : Holding → Holding → ℕ → Moved → Type 0
 Releases old new place receipt
     = (index : ℕ) × (body : BodyView) × StandsAt old.held index place body × (new ≡ record old { held = remove old.held index })
     × (receipt ≡ moved body (Released old.operated))
-
--- A body that was served went back with its frames.
-abbrev pub IsBrought : BodyView → Moved → Type 0
-IsBrought body back = Went body.seat.place body.name (Released false) back × (back.body.image.frames ≡ body.image.frames)
 
 -- What the oldest job that was told to a thread answered by the body's frames is entered, or nothing was told to it.
 abbrev pub IsAnswered : BodyView → Result Stands Acted → Type 0

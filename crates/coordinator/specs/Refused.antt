@@ -30,7 +30,8 @@ use Rattle.coordinator.specs.declared.holding.Unheld.{Unheld}
 use Rattle.coordinator.specs.declared.holding.Unheld.TheVariants as unheld
 use Rattle.coordinator.specs.declared.faults.OperateFault.{OperateFault}
 use Rattle.coordinator.specs.declared.faults.OperateFault.TheVariants as operate
-use Rattle.coordinator.specs.Holding.{Holding, is_held, StandsAt}
+use Rattle.held_threads.specs.Held.{is_held, StandsAt}
+use Rattle.coordinator.specs.Holding.{Holding}
 use Rattle.thread_list.specs.Moves.{IsServed}
 use Rattle.berths.specs.Berths.{Moved, acted, moved}
 use Rattle.berths.specs.declared.room.BodyAct.TheVariants as body_act

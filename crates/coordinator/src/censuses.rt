@@ -6,16 +6,16 @@ ghost use Rattle.desk.specs.declared.entries.Entry.{Entry};
 ghost use Rattle.desk.specs.Machine.{State as DeskState};
 ghost use Rattle.desk.specs.Fields.{Enters, at};
 ghost use Rattle.desk.specs.Refusals.{are_all, MayOperate};
-ghost use Rattle.coordinator.specs.Holding.{AreEach};
+ghost use Rattle.held_threads.specs.Held.{AreEach};
 ghost use Rattle.thread_list.specs.Moves.{IsOperated};
 ghost use Rattle.coordinator.specs.Refused.{census_refused};
 
 use crate::coordinator::Coordinator;
 use crate::faults::OperateFault;
-use crate::held::Held;
 use board::Board;
 use bodies::{Name, census_of};
 use desk::{Desk, Receipt};
+use held_threads::Held;
 use operations::job::Errand;
 use std::alloc::Global;
 use std::sync::Wait;

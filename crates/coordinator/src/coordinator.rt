@@ -7,11 +7,10 @@ ghost use Rattle.desk.specs.Refusals.{open_refused};
 ghost use Rattle.coordinator.specs.Holding.{held_nothing};
 ghost use Rattle.coordinator.specs.Refused.{MayClose, not_closed};
 
-use crate::held::Held;
-use crate::teller::Teller;
 use crate::telling::Untold;
 use bodies::Name;
 use desk::{CloseFault, Live, OpenFault, Receipt};
+use held_threads::{Held, Teller};
 use operations::job::Errand;
 use poll::Armer;
 use std::alloc::Global;

@@ -11,11 +11,10 @@ ghost use Rattle.berths.specs.Berths.{acted};
 
 use crate::coordinator::Coordinator;
 use crate::faults::{DriveFault, Driven, OperateFault};
-use crate::held::Held;
-use crate::serving::{bring_back, serve_body};
 use berths::{BerthAct, BerthReceipt, BodyReceipt};
 use bodies::{Name, census_of};
 use desk::{Desk, Live, Progress, Receipt};
+use held_threads::{Held, bring_back, serve_body};
 use operations::job::Errand;
 use std::sync::Wait;
 use std::{hint, thread};

@@ -3,7 +3,7 @@ ghost use Rattle.std.specs.Prelude.{◌≡◌, ◌≢◌, ◌<◌, ◌++◌, ◌
 ghost use Rattle.berths.specs.Berths.{moved};
 ghost use Rattle.desk.specs.Targets.{standing, progress, name_at};
 ghost use Rattle.desk.specs.Fields.{at};
-ghost use Rattle.coordinator.specs.Holding.{is_held};
+ghost use Rattle.held_threads.specs.Held.{is_held};
 ghost use Rattle.coordinator.specs.Receipts.{Releases};
 ghost use Rattle.coordinator.specs.Refused.{Holds, hold_fault, hold_refused, IsUnheld, HasNoHeld};
 

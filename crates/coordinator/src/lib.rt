@@ -11,11 +11,9 @@ mod coordinator;
 mod driving;
 mod faults;
 mod four;
-mod held;
 mod holding;
 mod reclaiming;
 mod serving;
-mod teller;
 mod telling;
 
 pub use coordinator::Coordinator;

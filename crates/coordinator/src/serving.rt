@@ -1,79 +1,17 @@
-//! Serving a held thread: its job runs on its body.
-ghost use Rattle.std.specs.Prelude.{◌≡◌, ◌≢◌, ◌<◌, ℕ, None, false, length, IfOk, IfErr};
-ghost use Rattle.operations.specs.Asks.{reply};
+//! Whether a held thread is served, and the serving of one.
+ghost use Rattle.std.specs.Prelude.{◌≡◌, ◌<◌, ℕ, None, length, IfOk, IfErr};
 ghost use Rattle.bodies.specs.Bodies.{BodyView};
-ghost use Rattle.desk.specs.declared.entries.Entry.{Entry};
 ghost use Rattle.desk.specs.Fields.{at};
 ghost use Rattle.desk.specs.Targets.{standing, progress};
-ghost use Rattle.coordinator.specs.Receipts.{IsBrought};
-ghost use Rattle.coordinator.specs.Holding.{StandsAt};
-ghost use Rattle.thread_list.specs.Moves.{IsServed};
+ghost use Rattle.held_threads.specs.Held.{StandsAt};
 ghost use Rattle.coordinator.specs.Refused.{Serves, IsServeFault, serve_fault, serve_refused, unserved};
 
 use crate::coordinator::Coordinator;
 use crate::faults::{ReleaseFault, ServeFault};
-use berths::{BodyReceipt, Due};
-use bodies::{Body, Name};
+use bodies::Name;
 use desk::{Desk, Progress, Receipt, Standing};
 use operations::job::Errand;
 use std::sync::Wait;
-use std::thread;
-use thread_list::{Shared, serve};
-
-/// The job that was told to the thread of a held body.
-pub fn told_job<N: Name, J: Errand, R: Wait>(
-    rt: &R,
-    shared: &Shared<N, J>,
-    body: &Body<N>,
-) -> Due<J>
-    ensures { (J.whom result ≡ body.now.name) × (0 < J.number result) }
-{
-    for _ in rt.forever() {
-        match shared.berth_of(body).job(rt, body.name()) {
-            Ok(job) => return job,
-            Err(_) => thread::yield_now(),
-        }
-    }
-    unreachable!()
-}
-
-/// Publishes a body, runs its job on it, enters what the job answered, and clears the operation. The receipt is of that entry.
-pub fn serve_body<N: Name, J: Errand, R: Wait>(
-    rt: &R,
-    shared: &Shared<N, J>,
-    body: &mut Body<N>,
-    job: Due<J>,
-) -> Receipt<N>
-    requires { (J.whom job ≡ body.old.name) × (0 < J.number job) }
-    ensures entry { result.entry ≡ Entry.Finish (J.number job) body.old.name (reply (J.asks job) body.old.image.frames) }
-    ensures served { IsServed (J.number job) body.old body.new }
-{
-    body.publish(shared.board());
-    let (receipt, _others) = serve(rt, shared, body, job);
-    receipt
-}
-
-/// Brings a body that was taken out of its berth back, once what its thread was told meanwhile is served, job by job in order.
-pub fn bring_back<N: Name, J: Errand, R: Wait>(
-    rt: &R,
-    shared: &Shared<N, J>,
-    body: Body<N>,
-) -> BodyReceipt<N>
-    requires body { (body.seat.stored ≢ 0) × (0 < body.name) }
-    ensures { IsBrought body result }
-{
-    let mut body = body;
-    for _ in rt.forever() {
-        match shared.berth_of(&body).bring(rt, body) {
-            Ok(receipt) => return receipt,
-            Err((back, job)) => {
-                body = back;
-                let _ = serve_body(rt, shared, &mut body, job);
-            }
-        }
-    }
-    unreachable!()
-}
 
 // Why the thread of a place that has no held one isn't served.
 fn unserved(fault: ReleaseFault) -> ServeFault

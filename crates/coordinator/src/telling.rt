@@ -7,10 +7,10 @@ ghost use Rattle.berths.specs.Berths.{acted};
 
 use crate::coordinator::Coordinator;
 use crate::faults::{TellFault, Told};
-use crate::teller::Teller;
 use berths::BerthReceipt;
 use bodies::Name;
 use desk::{Desk, Live, Standing, Target};
+use held_threads::Teller;
 use operations::job::Errand;
 use std::sync::Wait;
 use std::thread;

@@ -10,6 +10,7 @@ use std::alloc::Global;
 use std::sync::Wait;
 use std::time::{Clock, Instant};
 use thread_list::{Mutator, Poll, Shared};
+use thread_state::State;
 
 // The method that is called again and again.
 const METHOD: u32 = 3;
@@ -52,8 +53,23 @@ fn turns_of<N: Name, J: Errand, R: Wait>(
 }
 
 #[inline(always)]
-fn goes_on<E: Drop>(said: Result<Poll, E>) -> bool {
+fn goes_on(said: Result<Poll, State>) -> bool {
     matches!(said, Ok(Poll::Go))
+}
+
+#[inline(always)]
+fn ret<N: Name, J: Errand>(thread: &mut Mutator<'_, N, J>) -> bool {
+    matches!(thread.ret(), Ok(Poll::Go))
+}
+
+#[inline(always)]
+fn interpret<N: Name, J: Errand>(thread: &mut Mutator<'_, N, J>) -> bool {
+    matches!(thread.call(METHOD, None), Ok(Called::Interpreted))
+}
+
+#[inline(always)]
+fn publish<N: Name, J: Errand>(thread: &mut Mutator<'_, N, J>) -> bool {
+    thread.publish().is_ok()
 }
 
 fn back_edges<N: Name, J: Errand>(thread: &mut Mutator<'_, N, J>, turns: u64) -> bool {
@@ -84,7 +100,7 @@ pub fn pairs<N: Name, J: Errand>(
     let mut all = true;
     for _ in 0..turns {
         all &= call(shared, thread, method);
-        all &= goes_on(thread.ret());
+        all &= ret(thread);
     }
     all
 }
@@ -92,8 +108,8 @@ pub fn pairs<N: Name, J: Errand>(
 fn interpreted_pairs<N: Name, J: Errand>(thread: &mut Mutator<'_, N, J>, turns: u64) -> bool {
     let mut all = true;
     for _ in 0..turns {
-        all &= thread.call(METHOD, None) == Ok(Called::Interpreted);
-        all &= goes_on(thread.ret());
+        all &= interpret(thread);
+        all &= ret(thread);
     }
     all
 }
@@ -116,7 +132,7 @@ fn go_down<N: Name, J: Errand>(
 fn go_up<N: Name, J: Errand>(thread: &mut Mutator<'_, N, J>, depth: u64) -> bool {
     let mut all = true;
     for _ in 0..depth {
-        all &= goes_on(thread.ret());
+        all &= ret(thread);
     }
     all
 }
@@ -145,9 +161,9 @@ fn publications<N: Name, J: Errand>(
     let mut all = true;
     for _ in 0..turns {
         all &= go_down(shared, thread, codes, 1);
-        all &= thread.publish().is_ok();
+        all &= publish(thread);
         all &= go_up(thread, codes);
-        all &= thread.publish().is_ok();
+        all &= publish(thread);
     }
     all
 }
@@ -180,10 +196,10 @@ pub fn publishing_pairs<N: Name, J: Errand>(
     let mut all = true;
     for _ in 0..turns.checked_div(every).unwrap_or(0) {
         all &= call(shared, thread, method);
-        all &= thread.publish().is_ok();
+        all &= publish(thread);
         all &= pairs(shared, thread, method, every.saturating_sub(1));
-        all &= goes_on(thread.ret());
-        all &= thread.publish().is_ok();
+        all &= ret(thread);
+        all &= publish(thread);
     }
     all
 }

@@ -7,6 +7,7 @@ ghost use Rattle.std.specs.Prelude.{◌≡◌};
 ghost use Rattle.operations.specs.Asks.{reply};
 
 mod calls;
+mod lists;
 mod plan;
 mod requests;
 mod running;
@@ -16,6 +17,7 @@ mod threads;
 mod wrong;
 
 use frames::image::Image;
+use lists::keep;
 use operations::Ask;
 use operations::job::{Call, Job};
 use plan::{KINDS, Kind, Plan};
@@ -122,10 +124,9 @@ fn make_run<R: Threads + Wait + Clock + Sync>(
             )
             .map_err(|_| AllocError)?;
             let name = (thread as u64).saturating_add(1);
-            list.push(Job::new(name, Ask::Depth, call))
-                .map_err(|_| AllocError)?;
+            keep(&mut list, Job::new(name, Ask::Depth, call))?;
         }
-        jobs.push(list).map_err(|_| AllocError)?;
+        keep(&mut jobs, list)?;
     }
     run::<Brand, Job, R>(rt, alloc, plan, parts, jobs)
 }

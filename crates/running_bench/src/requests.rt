@@ -1,4 +1,5 @@
 //! What the main thread asks of the others, once.
+use crate::lists::keep;
 use crate::plan::Kind;
 use crate::wrong::Wrong;
 use bodies::Name;
@@ -23,13 +24,23 @@ pub struct Asker<'a, N: Name, J: Errand, R> {
     // A job for each live thread, in the order of their names, for each stop that has jobs.
     jobs: Vec<Vec<J>>,
     threads: usize,
+    // What the last census counted.
+    counted: Vec<(u64, u32)>,
+}
+
+// What a request was that was worked on to its Close.
+#[derive(Clone, Copy, Drop)]
+enum Done {
+    Handshake,
+    Census,
+    Nothing,
 }
 
 // The names that the jobs are for, in their order.
 fn names_of<J: Errand>(alloc: Global, jobs: &[J]) -> Result<Vec<u64>, AllocError> {
     let mut names = Vec::with_capacity(alloc, jobs.len())?;
     for job in jobs {
-        names.push(job.target_of()).map_err(|_| AllocError)?;
+        keep(&mut names, job.target_of())?;
     }
     Ok(names)
 }
@@ -51,6 +62,7 @@ impl<'a, N: Name, J: Errand, R: Wait + Clock> Asker<'a, N, J, R> {
             coordinator,
             jobs,
             threads,
+            counted: Vec::new(alloc),
         }
     }
 
@@ -63,6 +75,38 @@ impl<'a, N: Name, J: Errand, R: Wait + Clock> Asker<'a, N, J, R> {
         }
     }
 
+    fn is_asked(&self, request: Request, jobs: Vec<J>) -> bool {
+        self.shared.submit(self.rt, request, jobs).is_ok()
+    }
+
+    // The oldest request is worked on to its Close.
+    fn drive(&mut self) -> Done {
+        let driven = match self.coordinator.drive(self.rt) {
+            Ok((driven, _receipt)) => driven,
+            Err(_) => return Done::Nothing,
+        };
+        match driven {
+            Driven::Handshake(_) => Done::Handshake,
+            Driven::Census(_, list) => {
+                self.counted = list;
+                Done::Census
+            }
+        }
+    }
+
+    // The time of a request from its Ask to its Close, and what it was.
+    fn time(&mut self, request: Request, jobs: Vec<J>) -> Result<(Duration, Done), Wrong> {
+        let start = Instant::now(self.rt);
+        let is_asked = self.is_asked(request, jobs);
+        let done = self.drive();
+        let took = start?.elapsed(self.rt)?;
+        if is_asked {
+            Ok((took, done))
+        } else {
+            Err(Wrong::Answer)
+        }
+    }
+
     fn shake_hands(&mut self) -> Result<Duration, Wrong> {
         let Some(jobs) = self.jobs.pop() else {
             return Err(Wrong::Answer);
@@ -72,59 +116,66 @@ impl<'a, N: Name, J: Errand, R: Wait + Clock> Asker<'a, N, J, R> {
             targets: Targets::from_vec(names),
             ask: Ask::Depth,
         };
-        let start = Instant::now(self.rt)?;
-        let asked = self.shared.submit(self.rt, request, jobs);
-        let driven = self.coordinator.drive(self.rt);
-        let took = start.elapsed(self.rt)?;
-        let (Ok(_), Ok((done, _receipt))) = (asked, driven) else {
-            return Err(Wrong::Answer);
-        };
-        match done {
-            Driven::Handshake(_) => Ok(took),
-            Driven::Census(_, _) => Err(Wrong::Answer),
-        }
-    }
-
-    fn count(&mut self) -> Result<Duration, Wrong> {
-        let start = Instant::now(self.rt)?;
-        let asked = self
-            .shared
-            .submit(self.rt, Request::Census, Vec::new(self.alloc));
-        let driven = self.coordinator.drive(self.rt);
-        let took = start.elapsed(self.rt)?;
-        let (Ok(_), Ok((done, _receipt))) = (asked, driven) else {
-            return Err(Wrong::Answer);
-        };
-        match done {
-            Driven::Census(_, list) => self.check_census(list.as_slice(), took),
-            Driven::Handshake(_) => Err(Wrong::Answer),
-        }
-    }
-
-    // Each thread has a frame of the one code.
-    fn check_census(&self, list: &[(u64, u32)], took: Duration) -> Result<Duration, Wrong> {
-        match list {
-            [(_, frames)] if *frames as usize == self.threads => Ok(took),
+        match self.time(request, jobs)? {
+            (took, Done::Handshake) => Ok(took),
             _ => Err(Wrong::Answer),
         }
     }
 
+    fn count(&mut self) -> Result<Duration, Wrong> {
+        // The list of the last census goes before the time begins.
+        self.counted = Vec::new(self.alloc);
+        match self.time(Request::Census, Vec::new(self.alloc))? {
+            (took, Done::Census) if self.are_counted() => Ok(took),
+            _ => Err(Wrong::Answer),
+        }
+    }
+
+    // Each thread has a frame of the one code.
+    fn are_counted(&self) -> bool {
+        match self.counted.as_slice() {
+            [(_, frames)] => *frames as usize == self.threads,
+            _ => false,
+        }
+    }
+
+    fn install(&self) -> Result<u64, Wrong> {
+        match self.shared.install(self.rt, METHOD) {
+            Ok((serial, _receipt)) => Ok(serial),
+            Err(_) => Err(Wrong::Answer),
+        }
+    }
+
+    fn is_invalidated(&self, serial: u64) -> bool {
+        self.shared.invalidate(self.rt, serial).is_ok()
+    }
+
+    fn is_freed(&mut self, serial: u64, jobs: Vec<J>) -> bool {
+        matches!(
+            self.coordinator.reclaim(self.rt, serial, jobs),
+            Ok(Reclaimed::Freed(_))
+        )
+    }
+
     fn reclaim(&mut self) -> Result<Duration, Wrong> {
-        let Ok((serial, _receipt)) = self.shared.install(self.rt, METHOD) else {
-            return Err(Wrong::Answer);
-        };
+        let serial = self.install()?;
         let Some(jobs) = self.jobs.pop() else {
             return Err(Wrong::Answer);
         };
         // As before a handshake, the jobs are looked at before the time begins.
         let _names = names_of(self.alloc, jobs.as_slice())?;
-        let start = Instant::now(self.rt)?;
-        let invalidated = self.shared.invalidate(self.rt, serial);
-        let reclaimed = self.coordinator.reclaim(self.rt, serial, jobs);
-        let took = start.elapsed(self.rt)?;
-        match (invalidated, reclaimed) {
-            (Ok(_), Ok(Reclaimed::Freed(_))) => Ok(took),
-            _ => Err(Wrong::Answer),
+        self.time_reclaim(serial, jobs)
+    }
+
+    fn time_reclaim(&mut self, serial: u64, jobs: Vec<J>) -> Result<Duration, Wrong> {
+        let start = Instant::now(self.rt);
+        let is_invalidated = self.is_invalidated(serial);
+        let is_freed = self.is_freed(serial, jobs);
+        let took = start?.elapsed(self.rt)?;
+        if is_invalidated && is_freed {
+            Ok(took)
+        } else {
+            Err(Wrong::Answer)
         }
     }
 }

@@ -1,10 +1,11 @@
 //! The stops of a run, one after the other.
+use crate::lists::keep;
 use crate::plan::Plan;
 use crate::requests::Asker;
 use crate::wrong::Wrong;
 use bodies::Name;
 use operations::job::Errand;
-use std::alloc::{AllocError, Global};
+use std::alloc::Global;
 use std::sync::Wait;
 use std::time::{Clock, Duration, Instant};
 
@@ -26,7 +27,7 @@ pub fn time_stops<N: Name, J: Errand, R: Wait + Clock>(
     for turn in 0..plan.turns.saturating_add(WARM_UP) {
         let took = asker.ask(plan.kind)?;
         if turn >= WARM_UP {
-            times.push(nanoseconds(took)).map_err(|_| AllocError)?;
+            keep(&mut times, nanoseconds(took))?;
         }
         if start.elapsed(rt)? >= Duration::from_secs(LONGEST) {
             break;

@@ -1,12 +1,13 @@
 //! The threads beside the main thread.
 use crate::calls::publishing_pairs;
+use crate::lists::keep;
 use crate::plan::{Kind, Plan};
 use crate::signals::Signals;
 use crate::stops::nanoseconds;
 use crate::wrong::Wrong;
 use bodies::Name;
 use operations::job::Errand;
-use std::alloc::{AllocError, Global};
+use std::alloc::Global;
 use std::sync::Wait;
 use std::thread::{JoinHandle, Scope, Threads};
 use std::time::{Clock, Instant};
@@ -31,7 +32,7 @@ pub fn start_all<'s, 'a: 's, N: Name + Send, J: Errand + Send, R: Threads + Wait
     for index in 0..plan.threads {
         let method = (index % METHODS) as u32;
         match scope.spawn(move || live(rt, alloc, plan, shared, signals, method)) {
-            Ok(handle) => handles.push(handle).map_err(|_| AllocError)?,
+            Ok(handle) => keep(handles, handle)?,
             Err(_) => return Err(Wrong::NoThread),
         }
     }

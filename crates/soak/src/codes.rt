@@ -1,4 +1,5 @@
 //! The codes of a run, as the main thread, which alone changes them, knows them.
+use crate::lists::keep;
 use operations::Ask;
 use std::alloc::{AllocError, Global};
 
@@ -18,7 +19,7 @@ impl Codes {
     pub fn new(alloc: Global, methods: u32, slots: u32) -> Result<Codes, AllocError> {
         let mut in_use = Vec::new(alloc);
         for _ in 0..methods {
-            in_use.push(None).map_err(|_| AllocError)?;
+            keep(&mut in_use, None)?;
         }
         Ok(Codes {
             in_use,
@@ -76,7 +77,7 @@ impl Codes {
 
     /// A code was installed in a slot, of the next serial.
     pub fn note_installed(&mut self, method: u32, slot: u32) -> Result<(), AllocError> {
-        self.freed.push(false).map_err(|_| AllocError)?;
+        keep(&mut self.freed, false)?;
         let serial = self.freed.len() as u64;
         if let Some(current) = self.in_use.get_mut(method as usize) {
             *current = Some(serial);
@@ -92,7 +93,7 @@ impl Codes {
         if let Some(current) = self.in_use.get_mut(method as usize) {
             *current = None;
         }
-        self.left.push(serial).map_err(|_| AllocError)
+        keep(&mut self.left, serial)
     }
 
     /// A code that was left is freed.

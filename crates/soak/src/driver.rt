@@ -3,7 +3,7 @@ ghost use Rattle.std.specs.Prelude.{◌≡◌};
 ghost use Rattle.poll.specs.Rows.{full_armer};
 
 use crate::codes::Codes;
-use crate::requests::targets_of;
+use crate::requests::{Asked, Gone};
 use crate::rng::Choices;
 use crate::signals::Signals;
 use crate::tally::Tally;
@@ -13,7 +13,6 @@ use bodies::Name;
 use coordinator::{Coordinator, NotReclaimed, ReclaimFault, Reclaimed};
 use desk::CodeFault;
 use method_table::table::{InstallFault, InvalidateFault};
-use operations::Ask;
 use operations::job::Errand;
 use poll::Armer;
 use std::alloc::{AllocError, Global};
@@ -41,9 +40,31 @@ pub struct Driver<'a, N: Name, J: Errand, R> {
     pub(crate) words: Words<'a, N, J>,
     /// Lists of a job for each name, from 1 on.
     pub(crate) jobs: Vec<Vec<J>>,
-    /// What each operation asks, by its number from 1 on; None for a census.
-    pub(crate) asks: Vec<Option<Ask>>,
+    /// All that was asked, by its number from 1 on.
+    pub(crate) asked: Vec<Asked>,
+    /// What the last census counted.
+    pub(crate) counted: Vec<(u64, u32)>,
     pub(crate) tally: Tally,
+}
+
+/// What a call to reclaim came to.
+#[derive(Clone, Copy, Drop)]
+enum Came {
+    Freed,
+    Used(u64),
+    Late(usize),
+    /// Refused, since some request is open or waits.
+    Open,
+    Wrong,
+}
+
+impl Came {
+    fn of_refused<J: Errand>(refused: NotReclaimed<J>) -> Came {
+        match refused.fault {
+            ReclaimFault::AlreadyOpen => Came::Open,
+            _ => Came::Wrong,
+        }
+    }
 }
 
 /// How large a run's system is.
@@ -83,7 +104,8 @@ impl<'a, N: Name, J: Errand, R: Wait> Driver<'a, N, J, R> {
             codes,
             words: Words::new(shared, sizes.slots),
             jobs,
-            asks: Vec::new(alloc),
+            asked: Vec::new(alloc),
+            counted: Vec::new(alloc),
             tally: Tally::new(),
         })
     }
@@ -166,7 +188,7 @@ impl<'a, N: Name, J: Errand, R: Wait> Driver<'a, N, J, R> {
         let Some(serial) = self.codes.current(method) else {
             return self.invalidate_in_vain();
         };
-        if self.shared.invalidate(self.rt, serial).is_err() {
+        if self.refusal_to_invalidate(serial).is_some() {
             return Err(Wrong::Answer(Step::Invalidate));
         }
         self.signals.note_invalidated(method, serial);
@@ -174,83 +196,81 @@ impl<'a, N: Name, J: Errand, R: Wait> Driver<'a, N, J, R> {
         Ok(())
     }
 
-    fn invalidate_in_vain(&mut self) -> Result<(), Wrong> {
-        let from = self.choices.below(64) as usize;
-        if let Some(serial) = self.codes.left(from) {
-            return match self.shared.invalidate(self.rt, serial) {
-                Err(InvalidateFault::NotInUse) => Ok(()),
-                _ => Err(Wrong::Answer(Step::Invalidate)),
-            };
+    fn refusal_to_invalidate(&self, serial: u64) -> Option<InvalidateFault> {
+        match self.shared.invalidate(self.rt, serial) {
+            Ok(_receipt) => None,
+            Err(fault) => Some(fault),
         }
-        match self
-            .shared
-            .invalidate(self.rt, self.codes.last().saturating_add(1))
-        {
-            Err(InvalidateFault::Unknown) => Ok(()),
+    }
+
+    fn invalidate_in_vain(&mut self) -> Result<(), Wrong> {
+        let left = self.pick_left();
+        let serial = left.unwrap_or(self.codes.last().saturating_add(1));
+        match self.refusal_to_invalidate(serial) {
+            Some(InvalidateFault::NotInUse) if left.is_some() => Ok(()),
+            Some(InvalidateFault::Unknown) if left.is_none() => Ok(()),
             _ => Err(Wrong::Answer(Step::Invalidate)),
         }
     }
 
+    // A code that is invalidated and not freed. None without one.
+    fn pick_left(&mut self) -> Option<u64> {
+        let from = self.choices.below(64) as usize;
+        self.codes.left(from)
+    }
+
     // Reclaims a code that is invalidated, without jobs.
     fn reclaim(&mut self) -> Result<(), Wrong> {
-        let from = self.choices.below(64) as usize;
-        let Some(serial) = self.codes.left(from) else {
+        let Some(serial) = self.pick_left() else {
             return Ok(());
         };
-        match self
-            .coordinator
-            .reclaim(self.rt, serial, Vec::new(self.alloc))
-        {
-            Ok(said) => self.note_reclaimed(serial, said),
-            Err(_) => Err(Wrong::Answer(Step::Reclaim)),
-        }
+        let came = self.try_reclaim(serial, Vec::new(self.alloc));
+        self.note_reclaimed(serial, came)
     }
 
     // The same with a handshake of all live threads.
     fn reclaim_with_jobs(&mut self) -> Result<(), Wrong> {
-        let from = self.choices.below(64) as usize;
-        let Some(serial) = self.codes.left(from) else {
+        let Some(serial) = self.pick_left() else {
             return Ok(());
         };
         let jobs = self.jobs_for_live()?;
-        let targets = targets_of(self.alloc, jobs.as_slice())?;
-        let ask = match jobs.as_slice().split_first() {
-            Some((first, _)) => Some(first.ask_of()),
-            None => None,
-        };
-        let said = match self.coordinator.reclaim(self.rt, serial, jobs) {
-            Ok(said) => said,
-            Err(_) => return Err(Wrong::Answer(Step::Reclaim)),
-        };
-        // The replies are of stacks on which the code may have stood before it was freed.
-        if ask.is_some() {
-            let op = (self.asks.len() as u64).saturating_add(1);
-            let asked = self.note_asked(op, ask, targets)?;
-            self.check_handshake(&asked)?;
+        let asked = Asked::of(self.alloc, jobs.as_slice())?;
+        let came = self.try_reclaim(serial, jobs);
+        if let Came::Open | Came::Wrong = came {
+            return Err(Wrong::Answer(Step::Reclaim));
         }
-        self.note_reclaimed(serial, said)
+        // The replies are of stacks on which the code may have stood before it was freed.
+        if asked.ask.is_some() {
+            let op = self.note_asked(asked)?;
+            self.check_handshake(op)?;
+        }
+        self.note_reclaimed(serial, came)
     }
 
-    fn note_reclaimed(&mut self, serial: u64, said: Reclaimed<N>) -> Result<(), Wrong> {
-        match said {
-            Reclaimed::Freed(_receipt) => {
+    fn try_reclaim(&mut self, serial: u64, jobs: Vec<J>) -> Came {
+        match self.coordinator.reclaim(self.rt, serial, jobs) {
+            Ok(Reclaimed::Freed(_receipt)) => Came::Freed,
+            Ok(Reclaimed::Used(count)) => Came::Used(count),
+            Ok(Reclaimed::Late(place)) => Came::Late(place),
+            Err(refused) => Came::of_refused(refused),
+        }
+    }
+
+    fn note_reclaimed(&mut self, serial: u64, came: Came) -> Result<(), Wrong> {
+        let may_be = match came {
+            Came::Freed => {
                 self.codes.note_freed(serial);
                 self.tally.freed = self.tally.freed.saturating_add(1);
-                Ok(())
+                true
             }
-            Reclaimed::Used(count) => {
-                if count == 0 {
-                    return Err(Wrong::Answer(Step::Reclaim));
-                }
-                Ok(())
-            }
-            Reclaimed::Late(place) => {
-                if place >= self.places {
-                    return Err(Wrong::Answer(Step::Reclaim));
-                }
-                Ok(())
-            }
+            Came::Used(count) => count != 0,
+            Came::Late(place) => place < self.places,
+            Came::Open | Came::Wrong => false,
+        };
+        if may_be {
+            return Ok(());
         }
+        Err(Wrong::Answer(Step::Reclaim))
     }
 
     /// While a request waits no code is reclaimed.
@@ -258,16 +278,8 @@ impl<'a, N: Name, J: Errand, R: Wait> Driver<'a, N, J, R> {
         let Some(serial) = self.codes.left(0) else {
             return Ok(());
         };
-        match self
-            .coordinator
-            .reclaim(self.rt, serial, Vec::new(self.alloc))
-        {
-            Err(
-                NotReclaimed {
-                    fault: ReclaimFault::AlreadyOpen,
-                    ..
-                },
-            ) => Ok(()),
+        match self.try_reclaim(serial, Vec::new(self.alloc)) {
+            Came::Open => Ok(()),
             _ => Err(Wrong::Answer(Step::Reclaim)),
         }
     }
@@ -276,8 +288,9 @@ impl<'a, N: Name, J: Errand, R: Wait> Driver<'a, N, J, R> {
     pub fn close_all(&mut self) {
         let rt = self.rt;
         for _ in rt.forever() {
-            if self.coordinator.drive(rt).is_err() {
-                return;
+            match self.drive_next() {
+                Gone::Handshake(_) | Gone::Census(_) => {}
+                Gone::Empty | Gone::NoMemory => return,
             }
         }
     }
@@ -307,13 +320,11 @@ impl<'a, N: Name, J: Errand, R: Wait> Driver<'a, N, J, R> {
 
     // A code on which no thread can stand is freed.
     fn reclaim_last(&mut self, serial: u64) -> Result<(), Wrong> {
-        match self
-            .coordinator
-            .reclaim(self.rt, serial, Vec::new(self.alloc))
-        {
-            Ok(Reclaimed::Freed(receipt)) => self.note_reclaimed(serial, Reclaimed::Freed(receipt)),
-            Ok(_) => Err(Wrong::Unfreed(serial)),
-            Err(_) => Err(Wrong::Answer(Step::Reclaim)),
+        let came = self.try_reclaim(serial, Vec::new(self.alloc));
+        match came {
+            Came::Freed => self.note_reclaimed(serial, came),
+            Came::Used(_) | Came::Late(_) => Err(Wrong::Unfreed(serial)),
+            Came::Open | Came::Wrong => Err(Wrong::Answer(Step::Reclaim)),
         }
     }
 }

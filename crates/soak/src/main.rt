@@ -8,6 +8,7 @@ ghost use Rattle.operations.specs.Asks.{reply};
 
 mod codes;
 mod driver;
+mod lists;
 mod player;
 mod requests;
 mod rng;
@@ -21,6 +22,7 @@ mod wrong;
 
 use driver::Sizes;
 use frames::image::Image;
+use lists::keep;
 use operations::Ask;
 use operations::job::{Call, Job};
 use running::{Plan, run};
@@ -128,10 +130,9 @@ fn make_run<R: Threads + Wait + Sync>(
                 { ask.reply_on(image) },
             )
             .map_err(|_| AllocError)?;
-            list.push(Job::new(name.saturating_add(1), ask, call))
-                .map_err(|_| AllocError)?;
+            keep(&mut list, Job::new(name.saturating_add(1), ask, call))?;
         }
-        jobs.push(list).map_err(|_| AllocError)?;
+        keep(&mut jobs, list)?;
     }
     let plan = Plan {
         sizes,

@@ -1,5 +1,6 @@
 //! What the main thread asks of the others: handshakes and censuses, driven or made step by step.
 use crate::driver::Driver;
+use crate::lists::keep;
 use crate::verdict::{check_census, check_names, check_replies};
 use crate::wrong::{Step, Wrong};
 use bodies::Name;
@@ -17,12 +18,40 @@ const BATCH: u64 = 3;
 // The same where they are worked on at once: some stay for a second time.
 const FOUR: u64 = 6;
 
-/// A request that waits, or is worked on: what it asks of which names, None for a census.
+/// What was asked of which names, None for a census.
 #[derive(Drop)]
 pub struct Asked {
-    op: u64,
-    ask: Option<Ask>,
-    targets: Vec<u64>,
+    pub ask: Option<Ask>,
+    pub targets: Vec<u64>,
+}
+
+/// What the oldest request came to that was worked on to its Close. A census has its list with the driver.
+#[derive(Clone, Copy, Drop)]
+pub enum Gone {
+    Handshake(u64),
+    Census(u64),
+    Empty,
+    NoMemory,
+}
+
+// What a try to close a request came to.
+#[derive(Clone, Copy, Drop)]
+enum Closed {
+    Of(u64),
+    NotDone,
+    Wrong,
+}
+
+// What a try to hold a thread came to.
+#[derive(Clone, Copy, Drop)]
+enum Held {
+    Now,
+    // Nobody is there, or it isn't safe yet.
+    Not,
+    // No open handshake is of it any more.
+    NotFor,
+    Already,
+    Wrong,
 }
 
 /// The jobs that are for live threads.
@@ -32,54 +61,69 @@ pub fn of_live<J: Errand>(jobs: Vec<J>, live: &[u64]) -> Vec<J> {
     jobs
 }
 
-/// The names that the jobs are for, in their order.
-pub fn targets_of<J: Errand>(alloc: Global, jobs: &[J]) -> Result<Vec<u64>, AllocError> {
+// The names that the jobs are for, in their order.
+fn targets_of<J: Errand>(alloc: Global, jobs: &[J]) -> Result<Vec<u64>, AllocError> {
     let mut names = Vec::new(alloc);
     for job in jobs {
-        names.push(job.target_of()).map_err(|_| AllocError)?;
+        keep(&mut names, job.target_of())?;
     }
     Ok(names)
+}
+
+impl Asked {
+    /// What a handshake with these jobs asks; a census without jobs.
+    pub fn of<J: Errand>(alloc: Global, jobs: &[J]) -> Result<Asked, AllocError> {
+        let ask = match jobs.first() {
+            Some(first) => Some(first.ask_of()),
+            None => None,
+        };
+        let targets = targets_of(alloc, jobs)?;
+        Ok(Asked { ask, targets })
+    }
 }
 
 impl<'a, N: Name, J: Errand, R: Wait> Driver<'a, N, J, R> {
     /// Some requests wait, and are driven one after the other. No code is reclaimed while one waits.
     pub fn ask_and_drive(&mut self) -> Result<(), Wrong> {
-        let mut waiting = Vec::new(self.alloc);
         let count = self.choices.below(BATCH) + 1;
-        for _ in 0..count {
-            let asked = self.submit()?;
-            waiting.push(asked).map_err(|_| AllocError)?;
-        }
+        let last = self.submit_some(count)?;
         self.reclaim_in_vain()?;
-        for asked in waiting {
-            self.drive(asked)?;
+        for before in 0..count {
+            let op = last.saturating_sub(count).saturating_add(before);
+            self.drive(op.saturating_add(1))?;
         }
-        match self.coordinator.drive(self.rt) {
-            Err(DriveFault::QueueEmpty) => Ok(()),
+        match self.drive_next() {
+            Gone::Empty => Ok(()),
             _ => Err(Wrong::Answer(Step::Drive)),
         }
     }
 
     /// Some requests wait, and are worked on up to four at once, or a census alone, until none is left.
     pub fn ask_and_drive_four(&mut self) -> Result<(), Wrong> {
-        let mut waiting = Vec::new(self.alloc);
         let count = self.choices.below(FOUR) + 1;
-        for _ in 0..count {
-            let asked = self.submit()?;
-            waiting.push(asked).map_err(|_| AllocError)?;
-        }
+        let last = self.submit_some(count)?;
         let closed = self.drive_all()?;
         if closed != count {
             return Err(Wrong::Answer(Step::Drive));
         }
-        for asked in waiting {
-            if asked.ask.is_some() {
-                self.check_handshake(&asked)?;
-            } else {
+        for before in 0..count {
+            let op = last.saturating_sub(before);
+            if self.is_census(op) {
                 self.tally.censuses = self.tally.censuses.saturating_add(1);
+            } else {
+                self.check_handshake(op)?;
             }
         }
         Ok(())
+    }
+
+    // Some requests wait. Answers the number of the last.
+    fn submit_some(&mut self, count: u64) -> Result<u64, Wrong> {
+        let mut last = 0;
+        for _ in 0..count {
+            last = self.submit()?;
+        }
+        Ok(last)
     }
 
     // Works on all that waits, up to four at once. Answers how many requests were closed.
@@ -97,55 +141,60 @@ impl<'a, N: Name, J: Errand, R: Wait> Driver<'a, N, J, R> {
     }
 
     // A handshake of all live threads waits, or a census.
-    fn submit(&mut self) -> Result<Asked, Wrong> {
+    fn submit(&mut self) -> Result<u64, Wrong> {
         if self.choices.one_in(3) {
             return self.submit_census();
         }
         match self.submit_handshake()? {
-            Some(asked) => Ok(asked),
+            Some(op) => Ok(op),
             None => self.submit_census(),
         }
     }
 
     // A handshake of all live threads waits. None where no jobs are left.
-    fn submit_handshake(&mut self) -> Result<Option<Asked>, Wrong> {
+    fn submit_handshake(&mut self) -> Result<Option<u64>, Wrong> {
         let jobs = self.jobs_for_live()?;
-        let Some((first, _)) = jobs.as_slice().split_first() else {
+        let Some(first) = jobs.as_slice().first() else {
             return Ok(None);
         };
         let ask = first.ask_of();
-        let targets = targets_of(self.alloc, jobs.as_slice())?;
-        let copy = targets_of(self.alloc, jobs.as_slice())?;
-        let request = Request::Handshake {
-            targets: Targets::from_vec(copy),
-            ask,
-        };
+        let targets = Targets::from_vec(targets_of(self.alloc, jobs.as_slice())?);
+        let asked = Asked::of(self.alloc, jobs.as_slice())?;
+        self.ask(Request::Handshake { targets, ask }, jobs)?;
+        Ok(Some(self.note_asked(asked)?))
+    }
+
+    fn submit_census(&mut self) -> Result<u64, Wrong> {
+        self.ask(Request::Census, Vec::new(self.alloc))?;
+        let targets = Vec::new(self.alloc);
+        self.note_asked(Asked { ask: None, targets })
+    }
+
+    // The request waits under the next number.
+    fn ask(&self, request: Request, jobs: Vec<J>) -> Result<(), Wrong> {
+        let next = (self.asked.len() as u64).saturating_add(1);
         match self.shared.submit(self.rt, request, jobs) {
-            Ok((op, _receipt)) => Ok(Some(self.note_asked(op, Some(ask), targets)?)),
-            Err(_) => Err(Wrong::Answer(Step::Submit)),
+            Ok((op, _receipt)) if op == next => Ok(()),
+            _ => Err(Wrong::Answer(Step::Submit)),
         }
     }
 
-    fn submit_census(&mut self) -> Result<Asked, Wrong> {
-        let jobs = Vec::new(self.alloc);
-        match self.shared.submit(self.rt, Request::Census, jobs) {
-            Ok((op, _receipt)) => self.note_asked(op, None, Vec::new(self.alloc)),
-            Err(_) => Err(Wrong::Answer(Step::Submit)),
+    /// A request was asked. Answers its number.
+    pub fn note_asked(&mut self, asked: Asked) -> Result<u64, Wrong> {
+        keep(&mut self.asked, asked)?;
+        Ok(self.asked.len() as u64)
+    }
+
+    // What the operation asks.
+    fn ask_of(&self, op: u64) -> Option<Ask> {
+        match self.asked.get(op.wrapping_sub(1) as usize) {
+            Some(asked) => asked.ask,
+            None => None,
         }
     }
 
-    /// A request waits under this number, which is the next.
-    pub fn note_asked(
-        &mut self,
-        op: u64,
-        ask: Option<Ask>,
-        targets: Vec<u64>,
-    ) -> Result<Asked, Wrong> {
-        self.asks.push(ask).map_err(|_| AllocError)?;
-        if op != self.asks.len() as u64 {
-            return Err(Wrong::Answer(Step::Submit));
-        }
-        Ok(Asked { op, ask, targets })
+    fn is_census(&self, op: u64) -> bool {
+        self.ask_of(op).is_none()
     }
 
     /// A list of jobs, as far as they are for live threads. Empty where no list is left.
@@ -157,58 +206,63 @@ impl<'a, N: Name, J: Errand, R: Wait> Driver<'a, N, J, R> {
         }
     }
 
-    // The oldest request is worked on to its Close.
-    fn drive(&mut self, asked: Asked) -> Result<(), Wrong> {
+    /// The oldest request is worked on to its Close.
+    pub fn drive_next(&mut self) -> Gone {
         let driven = match self.coordinator.drive(self.rt) {
             Ok((driven, _receipt)) => driven,
-            Err(DriveFault::NoMemory) => return Err(Wrong::NoMemory),
-            Err(DriveFault::QueueEmpty) => return Err(Wrong::Answer(Step::Drive)),
+            Err(DriveFault::NoMemory) => return Gone::NoMemory,
+            Err(DriveFault::QueueEmpty) => return Gone::Empty,
         };
         match driven {
-            Driven::Handshake(op) => {
-                if op != asked.op {
-                    return Err(Wrong::Answer(Step::Drive));
-                }
-                self.check_handshake(&asked)
-            }
+            Driven::Handshake(op) => Gone::Handshake(op),
             Driven::Census(op, list) => {
-                if op != asked.op || asked.ask.is_some() {
-                    return Err(Wrong::Answer(Step::Drive));
-                }
-                self.tally.censuses = self.tally.censuses.saturating_add(1);
-                check_census(op, list.as_slice(), &self.codes)
+                self.counted = list;
+                Gone::Census(op)
             }
         }
     }
 
+    // The same, which is to be this one.
+    fn drive(&mut self, op: u64) -> Result<(), Wrong> {
+        match self.drive_next() {
+            Gone::Handshake(driven) if driven == op => self.check_handshake(op),
+            Gone::Census(driven) if driven == op && self.is_census(op) => self.check_counted(op),
+            Gone::NoMemory => Err(Wrong::NoMemory),
+            _ => Err(Wrong::Answer(Step::Drive)),
+        }
+    }
+
+    // The list of a census that was just closed.
+    fn check_counted(&mut self, op: u64) -> Result<(), Wrong> {
+        self.tally.censuses = self.tally.censuses.saturating_add(1);
+        check_census(op, self.counted.as_slice(), &self.codes)
+    }
+
     /// The replies of a handshake that was just closed.
-    pub fn check_handshake(&mut self, asked: &Asked) -> Result<(), Wrong> {
+    pub fn check_handshake(&mut self, op: u64) -> Result<(), Wrong> {
+        let replies = self.shared.replies(self.rt, op)?;
+        self.tally.handshakes = self.tally.handshakes.saturating_add(1);
+        self.tally.replies = self.tally.replies.saturating_add(replies.len() as u64);
+        self.check_replies_of(op, replies.as_slice())
+    }
+
+    fn check_replies_of(&self, op: u64, replies: &[(u64, u64)]) -> Result<(), Wrong> {
+        let live = self.shared.live(self.rt)?;
+        let Some(asked) = self.asked.get(op.wrapping_sub(1) as usize) else {
+            return Err(Wrong::Answer(Step::Drive));
+        };
         let Some(ask) = asked.ask else {
             return Err(Wrong::Answer(Step::Drive));
         };
-        let live = self.shared.live(self.rt)?;
-        let replies = self.shared.replies(self.rt, asked.op)?;
-        self.tally.handshakes = self.tally.handshakes.saturating_add(1);
-        self.tally.replies = self.tally.replies.saturating_add(replies.len() as u64);
-        check_names(
-            asked.op,
-            asked.targets.as_slice(),
-            live.as_slice(),
-            replies.as_slice(),
-        )?;
-        check_replies(asked.op, ask, &self.codes, replies.as_slice())
+        check_names(op, asked.targets.as_slice(), live.as_slice(), replies)?;
+        check_replies(op, ask, &self.codes, replies)
     }
 
     // Opens the oldest request that waits.
     fn open(&mut self, op: u64) -> Result<(), Wrong> {
         match self.coordinator.open(self.rt) {
-            Ok((opened, _receipt)) => {
-                if opened == op {
-                    return Ok(());
-                }
-                Err(Wrong::Answer(Step::Open))
-            }
-            Err(_) => Err(Wrong::Answer(Step::Open)),
+            Ok((opened, _receipt)) if opened == op => Ok(()),
+            _ => Err(Wrong::Answer(Step::Open)),
         }
     }
 
@@ -221,136 +275,196 @@ impl<'a, N: Name, J: Errand, R: Wait> Driver<'a, N, J, R> {
         Ok(())
     }
 
+    fn tell_live(&mut self) -> Result<(), Wrong> {
+        let live = self.shared.live(self.rt)?;
+        self.tell_all(live.as_slice())
+    }
+
+    // The targets of the handshake are told.
+    fn tell_targets(&mut self, op: u64) -> Result<(), Wrong> {
+        let Some(asked) = self.asked.get(op.wrapping_sub(1) as usize) else {
+            return Err(Wrong::Answer(Step::Tell));
+        };
+        let targets = Vec::from_slice(self.alloc, asked.targets.as_slice())?;
+        self.tell_all(targets.as_slice())
+    }
+
     /// A census step by step. While all are held each count word has what it counted of the code there.
     pub fn count_by_hand(&mut self) -> Result<(), Wrong> {
-        let asked = self.submit_census()?;
-        self.open(asked.op)?;
-        let live = self.shared.live(self.rt)?;
-        self.tell_all(live.as_slice())?;
-        let list = self.operate()?;
-        let are_counted = self.words.are(list.as_slice(), &self.codes);
+        let op = self.submit_census()?;
+        self.open(op)?;
+        self.tell_live()?;
+        self.operate()?;
+        let are_counted = self.words.are(self.counted.as_slice(), &self.codes);
         for place in 0..self.places {
-            let _ = self.coordinator.release(self.rt, place);
+            self.is_released(place);
         }
-        match self.coordinator.close(self.rt) {
-            Ok((op, _receipt)) => {
-                if op != asked.op {
-                    return Err(Wrong::Answer(Step::Close));
-                }
-            }
-            Err(_) => return Err(Wrong::Answer(Step::Close)),
+        match self.try_close() {
+            Closed::Of(closed) if closed == op => {}
+            _ => return Err(Wrong::Answer(Step::Close)),
         }
-        self.tally.censuses = self.tally.censuses.saturating_add(1);
         if !are_counted {
-            return Err(Wrong::Counts(asked.op));
+            return Err(Wrong::Counts(op));
         }
-        check_census(asked.op, list.as_slice(), &self.codes)
+        self.check_counted(op)
+    }
+
+    fn is_released(&mut self, place: usize) -> bool {
+        self.coordinator.release(self.rt, place).is_ok()
+    }
+
+    fn try_close(&mut self) -> Closed {
+        match self.coordinator.close(self.rt) {
+            Ok((op, _receipt)) => Closed::Of(op),
+            Err(CloseFault::NotDone) => Closed::NotDone,
+            Err(_) => Closed::Wrong,
+        }
+    }
+
+    fn try_hold(&mut self, place: usize) -> Held {
+        match self.coordinator.hold(self.rt, place) {
+            Ok(_) => Held::Now,
+            Err(HoldFault::Held) => Held::Already,
+            Err(HoldFault::Vacant | HoldFault::NotSafe) => Held::Not,
+            Err(HoldFault::NotOf | HoldFault::AlreadyDone) => Held::NotFor,
+            Err(_) => Held::Wrong,
+        }
     }
 
     // Holds threads until all are held, and operates the open census over them.
-    fn operate(&mut self) -> Result<Vec<(u64, u32)>, Wrong> {
+    fn operate(&mut self) -> Result<(), Wrong> {
         let rt = self.rt;
         for _ in rt.forever() {
             for place in 0..self.places {
-                match self.coordinator.hold(rt, place) {
-                    Ok(_) | Err(HoldFault::Held | HoldFault::Vacant | HoldFault::NotSafe) => {}
-                    Err(_) => return Err(Wrong::Answer(Step::Hold)),
+                if let Held::NotFor | Held::Wrong = self.try_hold(place) {
+                    return Err(Wrong::Answer(Step::Hold));
                 }
             }
-            match self.coordinator.operate(rt) {
-                Ok((_, list, _receipt)) => return Ok(list),
-                Err(OperateFault::NoMemory) => return Err(Wrong::NoMemory),
-                Err(OperateFault::Refused(desk::OperateFault::NotAllHeld)) => {}
-                Err(OperateFault::Refused(_)) => return Err(Wrong::Answer(Step::Operate)),
+            if self.is_operated()? {
+                return Ok(());
             }
             thread::yield_now();
         }
         unreachable!()
     }
 
+    // Whether the open census is operated, for which all must be held.
+    fn is_operated(&mut self) -> Result<bool, Wrong> {
+        match self.coordinator.operate(self.rt) {
+            Ok((_, list, _receipt)) => {
+                self.counted = list;
+                Ok(true)
+            }
+            Err(OperateFault::NoMemory) => Err(Wrong::NoMemory),
+            Err(OperateFault::Refused(desk::OperateFault::NotAllHeld)) => Ok(false),
+            Err(OperateFault::Refused(_)) => Err(Wrong::Answer(Step::Operate)),
+        }
+    }
+
     /// A handshake step by step: each thread serves itself, or is held and served.
     pub fn shake_by_hand(&mut self) -> Result<(), Wrong> {
-        let asked = self.submit()?;
-        if asked.ask.is_none() {
-            return self.drive(asked);
+        let op = self.submit()?;
+        if self.is_census(op) {
+            return self.drive(op);
         }
-        self.open(asked.op)?;
-        self.tell_all(asked.targets.as_slice())?;
+        self.open(op)?;
+        self.tell_targets(op)?;
+        self.serve_to_close()?;
+        self.check_handshake(op)
+    }
+
+    fn serve_to_close(&mut self) -> Result<(), Wrong> {
         let rt = self.rt;
         for _ in rt.forever() {
             self.serve_held()?;
-            match self.coordinator.close(rt) {
-                Ok(_) => break,
-                Err(CloseFault::NotDone) => thread::yield_now(),
-                Err(_) => return Err(Wrong::Answer(Step::Close)),
+            match self.try_close() {
+                Closed::Of(_) => return Ok(()),
+                Closed::NotDone => thread::yield_now(),
+                Closed::Wrong => return Err(Wrong::Answer(Step::Close)),
             }
         }
-        self.check_handshake(&asked)
+        unreachable!()
     }
 
     /// Up to four handshakes at once, step by step, closed in any order.
     pub fn shake_four_by_hand(&mut self) -> Result<(), Wrong> {
         let mut left = Vec::new(self.alloc);
+        self.submit_four(&mut left)?;
+        self.close_each(&mut left)
+    }
+
+    // They are submitted, opened and told.
+    fn submit_four(&mut self, left: &mut Vec<u64>) -> Result<(), Wrong> {
         for _ in 0..4 {
-            if let Some(asked) = self.submit_handshake()? {
-                left.push(asked).map_err(|_| AllocError)?;
+            if let Some(op) = self.submit_handshake()? {
+                keep(left, op)?;
             }
         }
-        for asked in &left {
-            self.open(asked.op)?;
+        for op in left.as_slice() {
+            self.open(*op)?;
         }
-        for asked in &left {
-            self.tell_all(asked.targets.as_slice())?;
+        for op in left.as_slice() {
+            self.tell_targets(*op)?;
         }
+        Ok(())
+    }
+
+    fn close_each(&mut self, left: &mut Vec<u64>) -> Result<(), Wrong> {
         let rt = self.rt;
         for _ in rt.forever() {
             if left.is_empty() {
                 return Ok(());
             }
             self.serve_held()?;
-            left = self.close_some(left)?;
+            self.close_some(left)?;
             thread::yield_now();
         }
         unreachable!()
     }
 
-    // Closes those that can be closed. Answers the others, the other way round.
-    fn close_some(&mut self, asked: Vec<Asked>) -> Result<Vec<Asked>, Wrong> {
-        let mut left = Vec::new(self.alloc);
-        let mut rest = asked;
-        while let Some(asked) = rest.pop() {
-            match self.coordinator.close_of(self.rt, asked.op) {
-                Ok(_) => self.check_handshake(&asked)?,
-                Err(CloseFault::NotDone) => left.push(asked).map_err(|_| AllocError)?,
-                Err(_) => return Err(Wrong::Answer(Step::Close)),
-            }
-        }
-        Ok(left)
-    }
-
-    // Holds each thread that can be held, serves all that it was told and lets it go.
-    fn serve_held(&mut self) -> Result<(), Wrong> {
-        let rt = self.rt;
-        for place in 0..self.places {
-            match self.coordinator.hold(rt, place) {
-                Ok(_) => {}
-                Err(
-                    HoldFault::Vacant
-                    | HoldFault::NotOf
-                    | HoldFault::AlreadyDone
-                    | HoldFault::NotSafe,
-                ) => continue,
-                Err(_) => return Err(Wrong::Answer(Step::Hold)),
-            }
-            self.serve_told(place)?;
-            if self.coordinator.release(rt, place).is_err() {
-                return Err(Wrong::Answer(Step::Release));
+    // Closes those that can be closed. The others are left, the other way round.
+    fn close_some(&mut self, left: &mut Vec<u64>) -> Result<(), Wrong> {
+        let mut rest = std::mem::replace(left, Vec::new(self.alloc));
+        while let Some(op) = rest.pop() {
+            if self.is_closed(op)? {
+                self.check_handshake(op)?;
+            } else {
+                keep(left, op)?;
             }
         }
         Ok(())
     }
 
-    // Serves a held thread until it is done with all that it was told.
+    // Whether the handshake of the number could be closed.
+    fn is_closed(&mut self, op: u64) -> Result<bool, Wrong> {
+        match self.coordinator.close_of(self.rt, op) {
+            Ok(_) => Ok(true),
+            Err(CloseFault::NotDone) => Ok(false),
+            Err(_) => Err(Wrong::Answer(Step::Close)),
+        }
+    }
+
+    // Holds each thread that can be held, serves all that it was told and lets it go.
+    fn serve_held(&mut self) -> Result<(), Wrong> {
+        for place in 0..self.places {
+            match self.try_hold(place) {
+                Held::Now => self.serve_and_release(place)?,
+                Held::Not | Held::NotFor => {}
+                Held::Already | Held::Wrong => return Err(Wrong::Answer(Step::Hold)),
+            }
+        }
+        Ok(())
+    }
+
+    // Serves a held thread until it is done with all that it was told, and lets it go.
+    fn serve_and_release(&mut self, place: usize) -> Result<(), Wrong> {
+        self.serve_told(place)?;
+        if self.is_released(place) {
+            return Ok(());
+        }
+        Err(Wrong::Answer(Step::Release))
+    }
+
     fn serve_told(&mut self, place: usize) -> Result<(), Wrong> {
         let rt = self.rt;
         for _ in rt.forever() {

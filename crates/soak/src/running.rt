@@ -115,7 +115,7 @@ fn judge<N: Name, J: Errand, R: Wait>(
     driver.finish()?;
     let mut tally = driver.tally;
     for report in reports {
-        check_report(rt, shared, driver.asks.as_slice(), report)?;
+        check_report(rt, shared, driver.asked.as_slice(), report)?;
         tally.add(report);
     }
     Ok(tally)

@@ -1,4 +1,5 @@
 //! What the threads of a run tell each other, in plain words beside what the product shares.
+use crate::lists::keep;
 use std::alloc::{AllocError, Global};
 use std::sync::atomic::{AtomicU64, Ordering};
 
@@ -16,7 +17,7 @@ impl Signals {
     pub fn new(alloc: Global, methods: u32) -> Result<Signals, AllocError> {
         let mut invalidated = Vec::new(alloc);
         for _ in 0..methods {
-            invalidated.push(AtomicU64::new(0)).map_err(|_| AllocError)?;
+            keep(&mut invalidated, AtomicU64::new(0))?;
         }
         Ok(Signals {
             over: AtomicU64::new(0),

@@ -1,4 +1,5 @@
 //! What a run has done, in numbers.
+use crate::lists::keep;
 use crate::wrong::Wrong;
 use operations::Ask;
 use std::alloc::{AllocError, Global};
@@ -50,7 +51,7 @@ fn add_frame(frames: &mut Vec<(u64, u64)>, serial: u64) -> Result<(), AllocError
             return Ok(());
         }
     }
-    frames.push((serial, 1)).map_err(|_| AllocError)
+    keep(frames, (serial, 1))
 }
 
 // How many frames the code has.

@@ -1,11 +1,12 @@
 //! The threads of a run.
+use crate::lists::keep;
 use crate::player::play;
 use crate::signals::Signals;
 use crate::tally::Report;
 use crate::wrong::{Wrong, note};
 use bodies::Name;
 use operations::job::Errand;
-use std::alloc::{AllocError, Global};
+use std::alloc::Global;
 use std::sync::Wait;
 use std::thread::{JoinHandle, Scope, Threads};
 use thread_list::Shared;
@@ -27,7 +28,7 @@ pub fn start_all<'s, 'a: 's, N: Name + Send, J: Errand + Send, R: Threads + Wait
             .wrapping_add(place as u64)
             .wrapping_add(1);
         match scope.spawn(move || play(rt, alloc, shared, signals, seed)) {
-            Ok(handle) => handles.push(handle).map_err(|_| AllocError)?,
+            Ok(handle) => keep(handles, handle)?,
             Err(_) => return Err(Wrong::NoThread),
         }
     }

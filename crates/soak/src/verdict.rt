@@ -1,5 +1,6 @@
 //! Whether what a run answered can be right.
 use crate::codes::Codes;
+use crate::requests::Asked;
 use crate::tally::{Report, Seen};
 use crate::wrong::Wrong;
 use bodies::Name;
@@ -80,25 +81,33 @@ pub fn count_of(list: &[(u64, u32)], serial: u64) -> u64 {
     0
 }
 
-/// Each thread that stopped for a handshake has a reply of it, by the stack that it had then. The list has what each operation asked, by
-/// its number from 1 on, None for a census.
+/// Each thread that stopped for a handshake has a reply of it, by the stack that it had then. The list has what was asked, by its number
+/// from 1 on.
 pub fn check_report<N: Name, J: Errand, R: Wait>(
     rt: &R,
     shared: &Shared<N, J>,
-    asks: &[Option<Ask>],
+    all: &[Asked],
     report: &Report,
 ) -> Result<(), Wrong> {
     for seen in &report.seen {
-        match asks.get(seen.op.wrapping_sub(1) as usize) {
-            Some(Some(ask)) => {
-                let replies = shared.replies(rt, seen.op)?;
-                check_seen(seen, *ask, replies.as_slice())?;
-            }
-            Some(None) => {}
-            None => return Err(Wrong::NotOf(seen.op)),
+        let Some(asked) = all.get(seen.op.wrapping_sub(1) as usize) else {
+            return Err(Wrong::NotOf(seen.op));
+        };
+        if let Some(ask) = asked.ask {
+            check_reply(rt, shared, seen, ask)?;
         }
     }
     Ok(())
+}
+
+fn check_reply<N: Name, J: Errand, R: Wait>(
+    rt: &R,
+    shared: &Shared<N, J>,
+    seen: &Seen,
+    ask: Ask,
+) -> Result<(), Wrong> {
+    let replies = shared.replies(rt, seen.op)?;
+    check_seen(seen, ask, replies.as_slice())
 }
 
 // The reply of a thread is by the stack that it saw where it stopped.

@@ -2,7 +2,7 @@ use Rattle.std.proofs.Common.{◌≡◌, ◌<◌, ◌≤◌, ◌∙◌, Some, �
 use Rattle.desk.specs.Fields.{at}
 use Rattle.desk.specs.Refusals.{AreSettled, MayOperate, operate_said, operate_refused}
 use Rattle.bodies.specs.Census.{IsCensus}
-use Rattle.coordinator.proofs.Each.{published_settled, published_census, not_refused}
+use Rattle.coordinator.proofs.Published.{published_settled, published_census, not_refused}
 use Rattle.coordinator.proofs.censuses.operate_over.Goals as goal
 
 pub operate-requires : goal.operate-requires

@@ -1,3 +1,0 @@
-//! A whole run, and one with memory refused.
-mod memory;
-mod row;

@@ -1,4 +1,0 @@
-//! Handshakes beside running threads.
-mod four;
-mod many;
-mod meeting;

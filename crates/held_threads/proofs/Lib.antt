@@ -1,0 +1,2 @@
+mod Apart
+pub mod Each

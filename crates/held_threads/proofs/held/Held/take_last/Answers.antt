@@ -1,0 +1,16 @@
+use Rattle.std.proofs.Common.{◌≡◌, ◌++◌, ◌∷◌, [], subst, rules}
+use Rattle.held_threads.specs.Held.{AreHeld}
+use Rattle.held_threads.proofs.Apart.{front, last}
+use Rattle.held_threads.proofs.held.Held.take_last.Goals as goal
+
+pub invariant_of-result : goal.invariant_of-result
+invariant_of-result g c =
+    let i = c.self.inside in
+    let whole : i.bodies.items ≡ c.pop.new.self.items ++ c.in_ok-body.body ∷ [] = search rules in
+    last _ _ _ (subst (AreHeld i.places) whole c.self.invariant.3)
+
+pub invariant_of-self-2 : goal.invariant_of-self-2
+invariant_of-self-2 g c =
+    let i = c.self.inside in let m = c.self.invariant in
+    let whole : i.bodies.items ≡ c.pop.new.self.items ++ c.in_ok-body.body ∷ [] = search rules in
+    (m.0, m.1, search rules, front _ _ _ (subst (AreHeld i.places) whole m.3))

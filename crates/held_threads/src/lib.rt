@@ -1,0 +1,13 @@
+//! The bodies of threads that a coordinator holds, the serving of them, and the arming of places.
+//!
+//! `Held` lets a body go only into its berth. `Teller` arms a place only once what the thread finds there is in the place's berth.
+//! Each takes the lock of one berth or of the desk at a time, and none while it holds another.
+#![tactic(auto)]
+
+mod held;
+mod serving;
+mod teller;
+
+pub use held::{Held, Loose};
+pub use serving::{bring_back, serve_body, told_job};
+pub use teller::Teller;

@@ -1,4 +1,0 @@
-//! Threads that go on meanwhile.
-mod census;
-mod invalidated;
-mod leaving;
