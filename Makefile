@@ -7,7 +7,7 @@
 # `make soak` runs threads at random over what they share, with one seed after the other, for MINUTES.
 # `make side SEEDS=1000 FIRST=22` plays as many random schedules, from that seed on, on the running layer and on the core beside it.
 # `make pictures` draws the pictures of PICTURES, which are in examples, again.
-# `make edits` tries the wrong bodies of also-fail, which the gate leaves out: all of them, or those of CRATES.
+# `make edits` tries the wrong bodies alone, all of them or those of CRATES, over what the gate keeps of its last run on this machine.
 .PHONY: run test examples embed bench hostile runs soak side edits pictures
 
 MINUTES ?= 10

@@ -1,10 +1,11 @@
 #!/usr/bin/env bash
-# All tests: the gate, and then, from outside, the programs that it built and the library that C links, which is built here. The last line
-# counts them all; the status is 0 where none failed.
+# All tests: the gate, the wrong bodies that it must refuse, and then, from outside, the programs that it built and the library that C links,
+# which is built here. The last line counts them all; the status is 0 where none failed.
 set -uo pipefail
 cd "$(dirname "$0")/.."
-said=$(mktemp)
-trap 'rm -f "$said"' EXIT
+. tests/gate.sh
+said=$aside/said
+refused=$aside/refused
 
 # The counts of a last line 'N passed, M failed'.
 counts() {
@@ -23,11 +24,16 @@ embed() {
     tests/archive.py && tests/embed.py crates/model/out/libmodel.a
 }
 
-PYTHONUNBUFFERED=1 rt ci | tee "$said" || exit
+gate | tee "$said" || exit
 read -r passed _ < <(counts)
 failed=0 status=0
+# (beside what runs one program after the other)
+tests/edits.py > "$refused" &
+edits=$!
 count tests/program.py crates/monitor/out/monitor crates/monitor/out/monitor.by-rattle
 count tests/pictures.py crates/timeline/out/timeline crates/timeline/out/timeline.by-rattle
 count embed
+wait "$edits" || status=1
+count cat "$refused"
 echo "$passed passed, $failed failed"
 exit "$status"

@@ -93,8 +93,14 @@ impl Call {
     /// The handshake whose jobs the call takes where it isn't refused.
     pub(crate) fn takes_jobs(self) -> Option<Handshake> {
         match self {
-            Call::Request(RequestCall::Submit(handshake)) => Some(handshake),
-            Call::Code(CodeCall::Reclaim(_, handshake)) => handshake,
+            Call::Request(request) => match request {
+                RequestCall::Submit(handshake) => Some(handshake),
+                _ => None,
+            },
+            Call::Code(code) => match code {
+                CodeCall::Reclaim(_, handshake) => handshake,
+                _ => None,
+            },
             _ => None,
         }
     }

@@ -4,7 +4,7 @@ ghost use Rattle.operations.specs.Asks.{reply};
 
 use bodies::Name;
 use coordinator::{Coordinator, Told};
-use coordinator_testing::{TURNS, started, wait_for};
+use coordinator_testing::{TURNS, are_replies, started, wait_for};
 use frames::image::Image;
 use operations::job::{Call, Errand, Job};
 use operations::{Ask, Request, Targets};
@@ -94,17 +94,17 @@ fn close<N: Name, J: Errand, R: Wait>(rt: &R, coordinator: &mut Coordinator<'_, 
 }
 
 // Whether the handshake of a name has one reply where its thread was told, and none where it was gone.
-fn are_replies<N: Name, J: Errand, R: Wait>(
+fn is_answered<N: Name, J: Errand, R: Wait>(
     rt: &R,
     shared: &Shared<N, J>,
     name: u64,
     was_told: bool,
 ) -> Result<bool, AllocError> {
-    let replies = shared.replies(rt, name)?;
-    if !was_told {
-        return Ok(replies.is_empty());
+    if was_told {
+        are_replies(rt, shared, name, [(name, 0)].as_slice())
+    } else {
+        Ok(shared.replies(rt, name)?.is_empty())
     }
-    Ok(replies.len() == 1 && replies[0] == (name, 0))
 }
 
 // Tells the thread of this name, which exits meanwhile. Answers whether it was told, and not gone; None where a call went wrong.
@@ -123,7 +123,7 @@ fn tell<N: Name, J: Errand, R: Wait>(
         return Ok(None);
     };
     let was_told = matches!(told, Told::Told(_));
-    if close(rt, coordinator) && are_replies(rt, shared, name, was_told)? {
+    if close(rt, coordinator) && is_answered(rt, shared, name, was_told)? {
         return Ok(Some(was_told));
     }
     Ok(None)
@@ -165,7 +165,7 @@ fn are_as_before<N: Name, J: Errand, R: Wait>(
     told: &[bool],
 ) -> Result<bool, AllocError> {
     for before in 0..told.len() {
-        if !are_replies(rt, shared, before as u64 + 1, told[before])? {
+        if !is_answered(rt, shared, before as u64 + 1, told[before])? {
             return Ok(false);
         }
     }

@@ -18,30 +18,42 @@ use std::thread;
 use std::thread::{Threads, join};
 use thread_list::{Mutator, Parts, Poll, Shared};
 
-// Waits until both jobs have begun; where they never have, notes that.
-fn wait_for_other(begun: &AtomicU64, missed: &AtomicBool) {
-    if !wait_for(2, begun) {
-        missed.store(true, Ordering::SeqCst);
+// What two jobs tell one another.
+#[derive(Drop)]
+struct Signals {
+    begun: AtomicU64,
+    ended: AtomicU64,
+    missed: AtomicBool,
+}
+
+impl Signals {
+    fn new() -> Signals {
+        Signals {
+            begun: AtomicU64::new(0),
+            ended: AtomicU64::new(0),
+            missed: AtomicBool::new(false),
+        }
+    }
+
+    // Whether both jobs ran, and neither missed the other.
+    fn are_well(&self) -> bool {
+        self.begun.load(Ordering::SeqCst) == 2
+            && self.ended.load(Ordering::SeqCst) == 2
+            && !self.missed.load(Ordering::SeqCst)
     }
 }
 
-// The part of one job: tells the other that it has begun, and may wait for the other. Where both wait, neither ends before both have
-// begun: one that begins when the other is over notes that.
-fn run_beside(
-    waits: bool,
-    both_wait: bool,
-    begun: &AtomicU64,
-    ended: &AtomicU64,
-    missed: &AtomicBool,
-) {
-    if both_wait && ended.load(Ordering::SeqCst) != 0 {
-        missed.store(true, Ordering::SeqCst);
+// The part of one job: tells the other that it has begun, and may wait until both have; where they never have, it notes that. Where both
+// wait, neither ends before both have begun: one that begins when the other is over notes that.
+fn run_beside(waits: bool, both_wait: bool, signals: &Signals) {
+    if both_wait && signals.ended.load(Ordering::SeqCst) != 0 {
+        signals.missed.store(true, Ordering::SeqCst);
     }
-    begun.fetch_add(1, Ordering::SeqCst);
-    if waits {
-        wait_for_other(begun, missed);
+    signals.begun.fetch_add(1, Ordering::SeqCst);
+    if waits && !wait_for(2, &signals.begun) {
+        signals.missed.store(true, Ordering::SeqCst);
     }
-    ended.fetch_add(1, Ordering::SeqCst);
+    signals.ended.fetch_add(1, Ordering::SeqCst);
 }
 
 // Makes back edges, and stops where it is told to, until all is done; counts the jobs that it served itself, and not another on its
@@ -179,36 +191,39 @@ fn meet<N: Name + Send + Sync, J: Errand + Send, R: Threads + Wait + Sync + Abor
 
 // The job of the name waits, or both where it is 0. Then one thread alone can't have run both: it would wait in the first for good, or until
 // it gives up and notes that; so at least one was served by its own thread.
+fn meet_once<R: Threads + Wait + Sync + Abort>(
+    rt: &R,
+    alloc: Global,
+    waiting: u64,
+) -> Result<(), Fail> {
+    let both_wait = waiting == 0;
+    let signals = Arc::new(alloc, Signals::new())?;
+    let mut jobs = Vec::new(alloc);
+    for name in 1..3 {
+        let told = Arc::try_clone(&signals)?;
+        let call: Call = Box::new(
+            alloc,
+            move |image: &Image| -> u64
+                ensures { result ≡ reply Ask.Depth image.now.frames }
+            {
+                run_beside(both_wait || name == waiting, both_wait, &told);
+                image.depth() as u64
+            },
+        )?;
+        jobs.push(Job::new(name, Ask::Depth, call))
+            .map_err(|_| AllocError)?;
+    }
+    let parts = Parts::new(alloc, 2, 4, 2).map_err(|_| AllocError)?;
+    let own = meet::<Brand, Job, R>(rt, alloc, parts, jobs)?;
+    assert!(rt; own <= 2 && (own >= 1 || !both_wait));
+    assert!(rt; signals.are_well());
+    Ok(())
+}
+
 #[test]
 fn one_job_waits_for_the_other(rt: HostRuntime) -> Result<(), Fail> {
     for waiting in 0..3 {
-        let both_wait = waiting == 0;
-        let parts = Parts::new(rt.alloc(), 2, 4, 2).map_err(|_| AllocError)?;
-        let begun = Arc::new(rt.alloc(), AtomicU64::new(0))?;
-        let ended = Arc::new(rt.alloc(), AtomicU64::new(0))?;
-        let missed = Arc::new(rt.alloc(), AtomicBool::new(false))?;
-        let mut jobs = Vec::new(rt.alloc());
-        for name in 1..3 {
-            let there = Arc::try_clone(&begun)?;
-            let over = Arc::try_clone(&ended)?;
-            let late = Arc::try_clone(&missed)?;
-            let call: Call = Box::new(
-                rt.alloc(),
-                move |image: &Image| -> u64
-                    ensures { result ≡ reply Ask.Depth image.now.frames }
-                {
-                    let waits = both_wait || name == waiting;
-                    run_beside(waits, both_wait, &there, &over, &late);
-                    image.depth() as u64
-                },
-            )?;
-            jobs.push(Job::new(name, Ask::Depth, call))
-                .map_err(|_| AllocError)?;
-        }
-        let own = meet::<Brand, Job, HostRuntime>(&rt, rt.alloc(), parts, jobs)?;
-        assert!(rt; own <= 2 && (own >= 1 || !both_wait));
-        assert!(rt; begun.load(Ordering::SeqCst) == 2 && ended.load(Ordering::SeqCst) == 2);
-        assert!(rt; !missed.load(Ordering::SeqCst));
+        meet_once(&rt, rt.alloc(), waiting)?;
     }
     Ok(())
 }

@@ -30,6 +30,11 @@ pub fn gone_away<'a, N: Name, J: Errand, R: Wait + Abort>(
     Ok(thread)
 }
 
+// Whether this code alone was counted, so often.
+fn is_one(list: &[(u64, u32)], count: (u64, u32)) -> bool {
+    list.len() == 1 && list[0] == count
+}
+
 // A census counts three frames of code 1.
 fn drive_census<N: Name, J: Errand, R: Wait + Abort>(
     rt: &R,
@@ -43,7 +48,7 @@ fn drive_census<N: Name, J: Errand, R: Wait + Abort>(
     };
     match driven {
         Driven::Census(number, list) => {
-            assert!(rt; number == 1 && list.len() == 1 && list[0].0 == 1 && list[0].1 == 3);
+            assert!(rt; number == 1 && is_one(list.as_slice(), (1, 3)));
         }
         Driven::Handshake(_) => panic!(rt; "a handshake"),
     }

@@ -1,7 +1,7 @@
 use Rattle.std.proofs.Common.{refl, rules}
 use Rattle.operations.proofs.Boxed.{answered}
-use Rattle.running_tests.proofs.tests.meeting.one_job_waits_for_the_other.OwnLists as own
-use Rattle.running_tests.proofs.tests.meeting.one_job_waits_for_the_other.Goals as goal
+use Rattle.running_tests.proofs.tests.meeting.meet_once.OwnLists as own
+use Rattle.running_tests.proofs.tests.meeting.meet_once.Goals as goal
 
 pub new-requires-in-loop-name-2-clause-answers : goal.new-requires-in-loop-name-2-clause-answers
 new-requires-in-loop-name-2-clause-answers g c = λ i r s w.

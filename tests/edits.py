@@ -1,0 +1,187 @@
+#!/usr/bin/env python3
+"""Tries the wrong bodies, of all crates or of those named: edits.py [--all | CRATE ..]
+
+A crate's folder must-fail holds edits, each of which gives one of its functions a wrong body; that function's contract must refuse it. An edit
+has the lines `file:`, `old:` and `new:`. One that changes a constant has the line `of:` too, after `file:`, with the function whose contract
+must refuse it. One with which tests of the gate fail has a line `caught by:`, which names them; those are tried only where their crate is
+named, or with --all. An edit of a folder must-pass means the same as before, and must be proved: it shows that not all there is is refused.
+
+`rt ci` tries each edit in a check of its own, which costs 15 seconds or more, most of them spent on reading what the crate stands on. A check
+tells of each function by itself whether it is proved, and a function's proof rests on other functions' contracts and never on their bodies;
+so here one check has all edits of a crate. Of those that change one function the first stands in its place, and the others in copies of it,
+under other names with its contract and its proof (`wrong_bodies.py`). An edit of a constant, and one of a function that can't be copied, is
+tried in a check beside it.
+
+An edit counts as refused where a goal of the function that has it is not proved, said of a line of that function or of its own proof; that
+something which it calls is not proved counts for nothing. A function that no edit changes must be proved beside them. What isn't settled so
+(a check that doesn't end, a function that is proved all the same) is tried by itself, in a check of the whole crate.
+
+The libraries are those that `rt ci` left (tests/gate.sh). The status is 0 where each edit was refused, and each of must-pass proved.
+"""
+import concurrent.futures
+import os
+import pathlib
+import re
+import shutil
+import subprocess
+import sys
+import tempfile
+import threading
+
+from toolchain import ROOT, is_of_the_gate, toolchain
+from wrong_bodies import PARTS, Bad, Edit, Trial, cycle_mates, grouped, types_of, write
+
+# A line that says where something is not proved, and what it says.
+TOLD = re.compile(r"(?:note: (?=\S+ it is not proved that )|(?=\S+ error: ))(?:\./)?((?:src|proofs)/\S+?):(\d+):\d+: (.*)")
+# What is said where a text names something that an edit took away or that is itself not proved, which shows little of a contract.
+NAMES = re.compile(r"is not in scope|has no field|has no `|is no name|was not admitted")
+
+
+class Verdicts:
+    """What a check says of each function: whether it is proved, and where something of it is not."""
+
+    def __init__(self, said):
+        self.words, self.told = {}, []
+        for line in said.split("\n"):
+            told = TOLD.match(line)
+            if told:
+                self.told.append((told[1], int(told[2]), told[3]))
+            elif line.startswith("fn "):
+                path, _, words = line[3:].partition(": ")
+                self.words[path.partition("::")[2]] = words
+        self.is_whole = re.search(r"(?m)^only=\d", said) is not None
+
+    def refusal(self, function):
+        """What is said of a goal of this function that is not proved, or None."""
+        if not self.words.get(function.path, "").startswith(("no proof", "not proved")):
+            return None
+        own, cycle = f"proofs/{function.path.replace('::', '/')}/", f"/+{function.cycle}/"
+        is_own = lambda file, at: file.startswith(own) or cycle in file or file == function.file and function.first <= at <= function.last
+        return telling(said for file, at, said in self.told if is_own(file, at))
+
+    def stray(self, paths):
+        """Whether a function beside these is not proved, for another reason than that something which it calls is not."""
+        return any(path not in paths and not is_well(words) for path, words in self.words.items())
+
+
+def telling(told):
+    """The first of these texts that speaks of a goal, or else of a name that is gone, which is said with it; None where there is none."""
+    told = list(told)
+    named = next((f"(only since a proof names what the edit took away) {it}" for it in told), None)
+    return next((it for it in told if not NAMES.search(it)), named)
+
+
+def is_well(words):
+    """Whether a function is proved, or only lacks the proof of something that it calls."""
+    reasons = [it for it in re.split(r"[:;] ", words)[1:] if not re.match(r"it (calls|passes|waits)|in `", it)]
+    return words.startswith("proved") or not reasons and re.search(r"it (calls|passes|waits)|a call of", words) is not None
+
+
+class Bench:
+    """A crate, copies of which are checked with its edits."""
+
+    def __init__(self, rtlib, crate, room):
+        self.rtlib, self.crate, self.room = rtlib, crate, room
+        self.folder = pathlib.Path(crate.folder)
+        self.types = types_of(self.folder)
+
+    def check(self, trials, *words):
+        """Checks the crate with these trials in it; returns how that ended, and the functions of the changed files."""
+        with tempfile.TemporaryDirectory(dir=self.room) as room:
+            copy = pathlib.Path(room)
+            for part in PARTS:
+                if (self.folder / part).is_dir():
+                    shutil.copytree(self.folder / part, copy / part)
+            functions = write(copy, trials, self.types)
+            command = [self.rtlib.RATTLE, "check", *self.crate.words(["--jobs", "1"], keeps=False), *words]
+            how = {"stdin": subprocess.DEVNULL, "stdout": subprocess.PIPE, "stderr": subprocess.STDOUT, "errors": "replace"}
+            return subprocess.run([*self.rtlib.guarded(), *command], cwd=copy, **how), functions
+
+    def together(self, trials, beside):
+        """Tries edits in one check, with others in the crate whose verdict an earlier check kept; notes what is said of those that it refuses."""
+        paths = {it for trial in trials for it in trial.paths}
+        only = [word for path in sorted(paths) for word in ("--only", path)]
+        ran, functions = self.check([*beside, *trials], "--incremental", f"{self.room}/kept", *only)
+        verdicts = Verdicts(ran.stdout)
+        wrong = {it for trial in [*beside, *trials] for it in trial.paths}
+        is_stray = not trials[0].edit.reaches_far and verdicts.stray(wrong | cycle_mates(wrong, functions.values()))
+        if not verdicts.is_whole or is_stray:
+            if len(trials) > 1:
+                self.together(trials[: len(trials) // 2], [])
+                self.together(trials[len(trials) // 2 :], [])
+            return
+        for trial in trials:
+            trial.edit.said = next(filter(None, (verdicts.refusal(functions[it]) for it in sorted(trial.paths & functions.keys()))), None)
+            trial.edit.is_proved = all(verdicts.words.get(it) == "proved" for it in trial.paths)
+
+    def alone(self, edit):
+        """Tries an edit by itself; returns whether it is refused, and what to say."""
+        ran, _ = self.check([Trial(edit)])
+        lines = ran.stdout.rstrip("\n").split("\n")
+        told = telling(said for _, _, said in Verdicts(ran.stdout).told)
+        if ran.returncode == 0:
+            return False, "NOT REFUSED: the crate is still proved with this edit"
+        if ran.returncode == 1 and lines[-1].startswith("logic=not-proved") and told:
+            edit.said = told
+            return True, ""
+        return False, "\n".join([f"NOT TRIED: its check ended with status {ran.returncode}", *lines[:6]])
+
+
+def tried(rtlib, crate, room, with_caught):
+    """Tries a crate's edits, also those that tests catch or not; returns, for each, its name, whether it is refused, and what to say."""
+    bench, edits, results = Bench(rtlib, crate, room), [], []
+    for path in sorted(pathlib.Path(crate.folder).glob("must-*/*.edit")):
+        try:
+            edits.append(Edit(path, bench.folder, bench.types))
+        except Bad as why:
+            results.append((path.name, False, f"BAD EDIT: {why}"))
+    edits = [it for it in edits if with_caught or not it.is_caught]
+    pending = edits
+    while pending:
+        beside = []
+        for group in grouped(pending, bench.folder):
+            bench.together(group, [it for it in beside if it.is_apart(group)])
+            beside = beside or group
+        left = [it for it in pending if not it.said and not it.is_proved]
+        pending = left if len(left) < len(pending) else []
+    return sorted([*results, *((it.name, *verdict(bench, it)) for it in edits)])
+
+
+def verdict(bench, edit):
+    """Whether an edit came to what it must, and what to say."""
+    if edit.is_control:
+        return edit.is_proved, "proved, as it must be" if edit.is_proved else "NOT PROVED, though it changes no meaning"
+    is_refused, why = (True, "") if edit.said else bench.alone(edit)
+    return is_refused, why or f"refused, as it must be: {edit.said[:160]}"
+
+
+def main(words):
+    names = [it for it in words if it != "--all"]
+    rtlib, _ = toolchain()
+    known = {}
+    folders = sorted(ROOT.glob("crates/*/must-fail"), key=lambda it: -sum(f.stat().st_size for f in it.parent.glob("src/**/*.rt")))
+    crates = [rtlib.Crate(str(it.parent), str(ROOT), known) for it in folders if not names or it.parent.name in names]
+    rtlib.guarded()  # its first call sets a handler of signals, which the main thread alone may
+    if not all(is_of_the_gate(dep) for it in crates for dep in it.below()):
+        print("edits.py: no libraries that rt ci left: run it by make edits")
+        return 1
+    passed = failed = 0
+    printing = threading.Lock()
+
+    def one(crate):
+        with tempfile.TemporaryDirectory(prefix="edits-") as room:
+            results = tried(rtlib, crate, room, bool(words))
+        with printing:
+            for name, _, text in results:
+                print(f"must-fail {crate.name}/{name}: {text}", flush=True)
+        return [is_refused for _, is_refused, _ in results]
+
+    with concurrent.futures.ThreadPoolExecutor(len(os.sched_getaffinity(0))) as pool:
+        for results in pool.map(one, crates):
+            passed, failed = passed + sum(results), failed + len(results) - sum(results)
+    print(f"{passed} passed, {failed} failed")
+    return 1 if failed or not passed else 0
+
+
+if __name__ == "__main__":
+    sys.exit(main(sys.argv[1:]))

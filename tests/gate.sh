@@ -1,0 +1,27 @@
+# For the scripts beside it, which read it: goes to a copy of the repository, in which `gate` runs `rt ci`.
+#
+# While it runs no crate of the copy has its must-fail, whose edits it would try one by one, each in a check of its own; tests/edits.py tries
+# them afterwards, all of a crate at once, over the libraries that `rt ci` left.
+
+home=$PWD
+copy=$(mktemp -d)
+aside=$(mktemp -d)
+trap 'rm -rf "$copy" "$aside"' EXIT
+
+# What git knows of, or would add.
+git ls-files -zco --exclude-standard |
+    xargs -0 sh -c 'for file; do [ ! -e "$file" ] || cp --parents -t "$0" "$file"; done' "$copy"
+cd "$copy"
+
+# Runs `rt ci`, and gives the repository the programs and tests that it built. The status is that of `rt ci`.
+gate() {
+    local folder status=0
+    for folder in crates/*/must-fail; do
+        mkdir -p "$aside/${folder%/*}"
+        mv "$folder" "$aside/$folder"
+    done
+    PYTHONUNBUFFERED=1 rt ci || status=$?
+    cp -r "$aside/crates" .
+    find crates/*/out -maxdepth 1 -type f -exec cp --parents -t "$home" {} +
+    return $status
+}
