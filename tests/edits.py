@@ -112,7 +112,7 @@ class Bench:
             return
         for trial in trials:
             trial.edit.said = next(filter(None, (verdicts.refusal(functions[it]) for it in sorted(trial.paths & functions.keys()))), None)
-            trial.edit.is_proved = all(verdicts.words.get(it) == "proved" for it in trial.paths)
+            trial.edit.is_proved = all(verdicts.words.get(it, "").startswith("proved") for it in trial.paths)
 
     def alone(self, edit):
         """Tries an edit by itself; returns whether it is refused, and what to say."""
