@@ -124,15 +124,15 @@ class Copies:
 
     def can_be(self, edit):
         """Whether all that the edit changes is one function, and that one is neither a trait's nor in a cycle of calls, has no closure with a
-        proof of its own, and is of no lemma's own making: no other file speaks of its modules."""
+        proof of its own, and has no lemma made for it: no other file speaks of its modules."""
         if len(edit.functions) != 1 or edit.reaches_far:
             return False
         (function,) = edit.functions
-        module, *rest = function.path.split("::")
-        own = self.crate / "proofs" / function.path.replace("::", "/")
+        proofs, parts = self.crate / "proofs", function.path.split("::")
+        own = proofs.joinpath(*parts)
         named = re.compile(rf"\bproofs\.{re.escape(function.path.replace('::', '.'))}\b")
         is_told = any(named.search(text) for file, text in self.proofs.items() if own not in file.parents)
-        has_closures = (self.crate / "proofs" / module / "fn" / "/".join(rest)).exists()
+        has_closures = any(proofs.joinpath(*parts[:at], "fn", *parts[at:]).exists() for at in range(len(parts)))
         is_whole = all(file == function.file and function.first <= line <= function.last for file, line, _, _ in edit.changes)
         return is_whole and not (function.is_trait or function.cycle or has_closures or is_told)
 
