@@ -55,13 +55,23 @@ class Verdicts:
         """What is said of a goal of this function that is not proved, or None."""
         if not self.words.get(function.path, "").startswith(("no proof", "not proved")):
             return None
-        own, cycle = f"proofs/{function.path.replace('::', '/')}/", f"/+{function.cycle}/"
-        is_own = lambda file, at: file.startswith(own) or cycle in file or file == function.file and function.first <= at <= function.last
-        return telling(said for file, at, said in self.told if is_own(file, at))
+        is_here = lambda file, at: file == function.file and function.first <= at <= function.last
+        return telling(said for file, at, said in self.told if is_here(file, at) or is_proof_of(file, function))
 
     def stray(self, paths):
         """Whether a function beside these is not proved, for another reason than that something which it calls is not."""
-        return any(path not in paths and not is_well(words) for path, words in self.words.items())
+        return any(not is_well(words) and not any(is_in(path, it) for it in paths) for path, words in self.words.items())
+
+
+def is_in(path, function):
+    """Whether a path is that of a function, or of a closure in it, as `module::fn::function::closure`."""
+    return f"::{path}::".replace("::fn::", "::", 1).startswith(f"::{function}::")
+
+
+def is_proof_of(file, function):
+    """Whether a file is of the written proof of a function, of a closure in it, or of its cycle of calls."""
+    folder = pathlib.PurePath(file).parent
+    return is_in("::".join(folder.parts[1:]), function.path) or function.cycle is not None and folder.name == f"+{function.cycle}"
 
 
 def telling(told):
