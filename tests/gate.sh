@@ -8,9 +8,9 @@ copy=$(mktemp -d)
 aside=$(mktemp -d)
 trap 'rm -rf "$copy" "$aside"' EXIT
 
-# What git knows of, or would add.
-git ls-files -zco --exclude-standard |
-    xargs -0 sh -c 'for file; do [ ! -e "$file" ] || cp --parents -t "$0" "$file"; done' "$copy"
+# All but what is built.
+find . \( -name .git -o -name out -o -name target -o -name __pycache__ \) -prune -o -type f -print0 |
+    xargs -0 cp --parents -t "$copy"
 cd "$copy"
 
 # Runs `rt ci`, and gives the repository the programs and tests that it built. The status is that of `rt ci`.
