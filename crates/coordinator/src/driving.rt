@@ -36,16 +36,16 @@ struct Attended<N: Name> {
 #[derive(Drop)]
 pub struct QueueEmpty;
 
-// Whether the oldest open request is a census. Where nothing is open the oldest that waits is opened, and None says to look again.
+// Whether the oldest open request is a census. Where nothing is open the oldest that waits is opened first; None says to look again.
 fn open_or_go_on<N: Name, J: Errand>(desk: &mut Desk<N, J>) -> Result<Option<bool>, QueueEmpty>
-    ensures open { IfOk result (λ r. IfSome r (λ kind. (desk.new ≡ desk.old) × (open_kind (at desk.old) ≡ Some kind))) }
+    ensures open { IfOk result (λ r. IfSome r (λ kind. open_kind (at desk.new) ≡ Some kind)) }
     ensures empty { OnErr result ((desk.new ≡ desk.old) × ((at desk.old).opened ≡ []) × ((at desk.old).waiting ≡ [])) }
 {
     if let Some(kind) = desk.open_kind() {
         return Ok(Some(kind));
     }
     match desk.open() {
-        Ok(_) => Ok(None),
+        Ok(_) => Ok(desk.open_kind()),
         Err(_) => Err(QueueEmpty),
     }
 }
@@ -169,27 +169,24 @@ impl<'a, N: Name, J: Errand> Coordinator<'a, N, J> {
         awaited_of(&desk, name)
     }
 
-    // Serves the targets, one at a time, until the oldest open handshake is closed.
+    // Serves the targets, one at a time, until the oldest open handshake is closed: first those that telling listed.
     fn drive_handshake<R: Wait>(&mut self, rt: &R) -> (Driven, Receipt<N>)
         ensures closed { result.1.entry ≡ Entry.Close (number_of result.0) }
         ensures listed { IsListed result.0 }
         ensures free { (self.new.held ≡ []) × (self.new.operated ≡ false) }
     {
         self.release_all(rt);
-        let mut spins = SPINS;
-        let mut to_the_end = false;
+        let mut spins = self.serve_listed(rt, SPINS, false);
         for _ in rt.forever() {
-            spins = self.serve_all(rt, spins, to_the_end);
             if let Ok((number, receipt)) = self.close(rt) {
                 return (Driven::Handshake(number), receipt);
             }
-            to_the_end = true;
+            spins = self.serve_all(rt, spins, true);
         }
         unreachable!()
     }
 
-    // Serves each target that is due for an open request, or to the end for the oldest, in the order of their names. Answers how many
-    // spins are left.
+    // Lists each target that is due for an open request, or for the oldest alone, and serves them. Answers how many spins are left.
     pub(crate) fn serve_all<R: Wait>(&mut self, rt: &R, spins: u32, to_the_end: bool) -> u32
         ensures { self.new ≡ self.old }
     {
@@ -197,7 +194,8 @@ impl<'a, N: Name, J: Errand> Coordinator<'a, N, J> {
         self.serve_listed(rt, spins, to_the_end)
     }
 
-    fn serve_listed<R: Wait>(&self, rt: &R, spins: u32, to_the_end: bool) -> u32 {
+    // Serves each target that was listed, in the order of their names, or to the end. Answers how many spins are left.
+    pub(crate) fn serve_listed<R: Wait>(&self, rt: &R, spins: u32, to_the_end: bool) -> u32 {
         let mut left = spins;
         for who in self.due.as_slice() {
             left = self.serve_due(rt, *who, left, to_the_end);

@@ -42,21 +42,19 @@ impl<'a, N: Name, J: Errand> Coordinator<'a, N, J> {
         }
     }
 
-    // Serves the targets, one at a time, until nothing is open. Answers how many were closed.
+    // Serves the targets, one at a time, until nothing is open: first those that telling listed. Answers how many were closed.
     fn drive_handshakes<R: Wait>(&mut self, rt: &R) -> u32
         ensures { (self.new.held ≡ []) × (self.new.operated ≡ false) }
     {
         self.release_all(rt);
         self.operated = false;
         let mut closed: u32 = 0;
-        let mut spins = SPINS;
-        let mut to_the_end = false;
+        let mut spins = self.serve_listed(rt, SPINS, false);
         for _ in rt.forever() {
-            spins = self.serve_all(rt, spins, to_the_end);
             match self.close(rt) {
                 Ok(_) => closed = closed.saturating_add(1),
                 Err(CloseFault::NothingOpen) => return closed,
-                Err(_) => to_the_end = true,
+                Err(_) => spins = self.serve_all(rt, spins, true),
             }
         }
         unreachable!()

@@ -99,11 +99,12 @@ fn untold_of<N: Name, J: Errand>(
     ))
 }
 
-// Lists each thread that is due with what it is to be told next, as far as there is room. Answers whether any is to be told more.
+// Lists each thread that is due, and what it is to be told next, as far as there is room. Answers whether any is to be told more.
 fn list_untold<N: Name, J: Errand>(
     desk: &mut Desk<N, J>,
     armer: &Teller,
     places: usize,
+    due: &mut Vec<Live>,
     list: &mut Vec<Untold<J>>,
 ) -> bool
     requires places { places ≡ length armer.now.seen.armed }
@@ -115,9 +116,10 @@ fn list_untold<N: Name, J: Errand>(
             return has_more;
         };
         above = who.name;
-        if list.len() >= list.capacity() {
+        if due.len() >= due.capacity() || list.len() >= list.capacity() {
             return true;
         }
+        due.push_reserved(who);
         if let Some((untold, more)) = untold_of(desk, armer, places, who) {
             list.push_reserved(untold);
             has_more = has_more || more;
@@ -196,13 +198,20 @@ impl<'a, N: Name, J: Errand> Coordinator<'a, N, J> {
         }
     }
 
-    // Lists each thread that is due with what it is to be told next, under one hold of the desk's lock, the least name last. Answers
-    // whether any is to be told more.
+    // Lists each thread that is due, and what it is to be told next, under one hold of the desk's lock, the least name last of the
+    // second. Answers whether any is to be told more.
     fn list_untold<R: Wait>(&mut self, rt: &R) -> bool
         ensures { self.new ≡ self.old }
     {
+        self.due.clear();
         let mut desk = self.shared.desk().lock(rt);
-        let has_more = list_untold(&mut desk, &self.armer, self.places, &mut self.untold);
+        let has_more = list_untold(
+            &mut desk,
+            &self.armer,
+            self.places,
+            &mut self.due,
+            &mut self.untold,
+        );
         drop(desk);
         self.untold.reverse();
         has_more
