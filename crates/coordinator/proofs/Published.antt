@@ -1,11 +1,11 @@
 -- What a census and the desk say of bodies, and of the same bodies published or cleared.
 use Rattle.std.proofs.Common.{◌≡◌, ◌+◌, ℕ, zero, suc, Bool, true, false, List, [], ◌∷◌, Some, None, length, refl, sym, ap, ◌∙◌, subst}
-use Rattle.std.specs.Prelude.{◌==◌, ◌||◌, ◌&&◌, slice_get}
-use Rattle.std.specs.List.{list_any, list_all}
+use Rattle.std.specs.Prelude.{◌==◌, ◌||◌, ◌&&◌}
+use Rattle.std.specs.List.{list_all}
 use Rattle.frames.specs.ImageView.{ImageView, IsSettled}
 use Rattle.frames.specs.Stack.{serial_count}
 use Rattle.bodies.specs.Bodies.{BodyView, IsPublished}
-use Rattle.bodies.specs.Census.{total_count, count_of, IsCensus}
+use Rattle.bodies.specs.Census.{total_count, IsCensus}
 use Rattle.desk.specs.declared.entries.Live.{Live}
 use Rattle.desk.specs.declared.faults.OperateFault.{OperateFault}
 use Rattle.desk.specs.declared.faults.OperateFault.TheVariants.{NothingOpen, NotOf, AlreadyDone, NotAllHeld}

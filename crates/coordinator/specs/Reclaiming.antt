@@ -1,5 +1,5 @@
 -- What reclaiming answers.
-use Rattle.std.specs.Prelude.{◌≡◌, ◌≢◌, ℕ, zero, suc, List, Some}
+use Rattle.std.specs.Prelude.{◌≡◌, ℕ, zero, suc, List, Some}
 use Rattle.frames.specs.declared.CodeId.{CodeId}
 use Rattle.frames.specs.declared.board_rule.KeeperView.{KeeperView}
 use Rattle.frames.specs.BoardViews.{looked_at}

@@ -1,5 +1,5 @@
 -- What the calls of a coordinator answer: each refusal where its own test holds, and those before it don't.
-use Rattle.std.specs.Prelude.{◌≡◌, ◌≢◌, ◌⊎◌, ◌<◌, ◌≤◌, ◌++◌, ℕ, Bool, true, false, List, [], ◌∷◌, Option, Some, None, Result, Ok, Err, nat_lt, if◌then◌else◌, slice_get, slice_set, slice_index}
+use Rattle.std.specs.Prelude.{◌≡◌, ◌≢◌, ◌⊎◌, ◌<◌, ◌≤◌, ◌++◌, ℕ, Bool, true, false, List, [], ◌∷◌, Option, Some, None, Result, Ok, Err, if◌then◌else◌, slice_get, slice_set, slice_index}
 use Rattle.thread_state.specs.declared.poll_rule.Arming.{Arming}
 use Rattle.thread_state.specs.PollRule.{armed_with}
 use Rattle.bodies.specs.Bodies.{BodyView}

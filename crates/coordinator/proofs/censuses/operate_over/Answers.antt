@@ -1,6 +1,6 @@
-use Rattle.std.proofs.Common.{◌≡◌, ◌<◌, ◌≤◌, ◌∙◌, Some, ℕ, refl, sym, ap, subst, rules, length}
+use Rattle.std.proofs.Common.{sym, subst, rules}
 use Rattle.desk.specs.Fields.{at}
-use Rattle.desk.specs.Refusals.{AreSettled, MayOperate, operate_said, operate_refused}
+use Rattle.desk.specs.Refusals.{AreSettled, MayOperate, operate_refused}
 use Rattle.bodies.specs.Census.{IsCensus}
 use Rattle.coordinator.proofs.Published.{published_settled, published_census, not_refused}
 use Rattle.coordinator.proofs.censuses.operate_over.Goals as goal

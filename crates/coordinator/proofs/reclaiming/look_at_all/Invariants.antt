@@ -1,4 +1,3 @@
-use Rattle.std.proofs.Common.{◌≡◌}
 use Rattle.coordinator.specs.Reclaiming.{LooksAtAll}
 use Rattle.coordinator.proofs.reclaiming.look_at_all.Given as goal
 

@@ -1,4 +1,4 @@
-use Rattle.std.proofs.Common.{◌≡◌, Bool, subst, rules}
+use Rattle.std.proofs.Common.{Bool, subst, rules}
 use Rattle.operations.specs.declared.Request.{Request}
 use Rattle.desk.specs.Fields.{at}
 use Rattle.desk.specs.JobsFit.{jobs_fit, request_of}

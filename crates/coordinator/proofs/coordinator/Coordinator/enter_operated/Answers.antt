@@ -1,4 +1,4 @@
-use Rattle.std.proofs.Common.{◌≡◌, ◌∙◌, ap, subst}
+use Rattle.std.proofs.Common.{◌∙◌, ap, subst}
 use Rattle.desk.specs.Fields.{at}
 use Rattle.coordinator.specs.Holding.{Holding}
 use Rattle.coordinator.specs.Refused.{census_refused}

@@ -1,4 +1,4 @@
-use Rattle.std.proofs.Common.{◌≡◌, sym, subst}
+use Rattle.std.proofs.Common.{sym, subst}
 use Rattle.bodies.specs.Bodies.{IsPublished}
 use Rattle.bodies.specs.Census.{IsCensus}
 use Rattle.thread_list.specs.Moves.{IsCleared}
