@@ -14,7 +14,7 @@ use Rattle.method_table.specs.TableView.{TableView, IsTable, install_fault, inva
 use Rattle.operations.specs.declared.Request.{Request}
 use Rattle.operations.specs.declared.Request.TheVariants.{Handshake, Census}
 use Rattle.operations.specs.declared.queue.Waiting.{Waiting}
-use Rattle.operations.specs.Names.{among}
+use Rattle.operations.specs.Names.{among, is_distinct}
 use Rattle.operations.specs.Requests.{is_census}
 use Rattle.desk.specs.CodeBoard.{with_codes}
 use Rattle.desk.specs.declared.entries.Entry.{Entry}
@@ -22,11 +22,12 @@ use Rattle.desk.specs.declared.entries.Entry.TheVariants.{Start, Exit, Ask, Open
 use Rattle.desk.specs.declared.entries.Live.{Live}
 use Rattle.desk.specs.declared.entries.Carried.{Carried}
 use Rattle.desk.specs.declared.entries.Opened.{Opened}
-use Rattle.desk.specs.Machine.{State, step, lawful, start, after_from, legal_from, after, is_legal, needs, is_taken, is_live, without, Asked, Current, needs_of_asked, needs_of_opened, needs_of_codes, states_left, may_open_more, is_least, is_first, live_of, open_next, opened_of, rest_of, finished, as_operated, Book, has_census, passes, is_due, may_operate, may_close, at_number, without_number, steps_of, is_free_slot, Stands, stands}
-use Rattle.desk.specs.Fields.{IsKept, AreFit, state_of, asked_of, current_of, due_of, IsIndex, IsCarried, AreCarried, DeskSeen, Enters, EntersInstall, install_entries, kept_before, at}
+use Rattle.desk.specs.Machine.{State, step, lawful, start, after_from, legal_from, after, is_legal, needs, is_taken, is_live, without, Asked, Current, needs_of_asked, needs_of_opened, needs_of_codes, states_left, may_open_more, is_least, is_first, live_of, open_next, opened_of, rest_of, finished, as_operated, Book, has_census, passes, is_due, may_operate, may_close, at_number, without_number, steps_of, is_free_slot, targets_of, Stands, stands}
+use Rattle.desk.specs.Fields.{IsKept, AreFit, AreDistinct, state_of, asked_of, current_of, due_of, IsIndex, IsCarried, AreCarried, DeskSeen, Enters, EntersInstall, install_entries, kept_before, at}
 use Rattle.desk.proofs.Fewer.{filter_le, filter_less}
+use Rattle.desk.proofs.Distinct.{distinct_part}
 use Rattle.desk.proofs.CodeEntries.{unfreed_parts}
-use Rattle.desk.proofs.OpenLists.{open_at, none_at, set_at, removed_at, needs_at, needs_without, fit_of, fit_at, fit_push, fit_without, needs_push}
+use Rattle.desk.proofs.OpenLists.{open_at, none_at, set_at, removed_at, needs_at, needs_without, fit_of, fit_at, fit_push, fit_without, needs_push, distinct_of, distinct_at, distinct_push, distinct_without}
 
 after_from-push : (s : State) (h : List Entry) (e : Entry) → after_from s (h ++ e ∷ []) ≡ step (after_from s h) e
 after_from-push s [] e = refl
@@ -50,18 +51,19 @@ legal-push slots methods h e legal may = legal_from-push (start slots methods) h
 
 -- what is kept stays so with one entry more
 pub keeps : (slots methods : ℕ) (b b' : Book) (e : Entry) (s s' : State) → is_legal slots methods b.history ≡ true → after slots methods b.history ≡ s → b'.history ≡ b.history ++ e ∷ [] → lawful s e ≡ true → step s e ≡ s'
-    → needs s' ≤ b'.reserved → AreFit s'.opened → IsKept slots methods b' s'
-keeps slots methods b b' e s s' legal at is may next needed fit =
+    → needs s' ≤ b'.reserved → AreFit s'.opened → AreDistinct s'.opened → IsKept slots methods b' s'
+keeps slots methods b b' e s s' legal at is may next needed fit distinct =
     record {
       legal = ap (is_legal slots methods) is ∙ legal-push slots methods b.history e legal (ap (λ (t : State). lawful t e) at ∙ may);
       state = ap (after slots methods) is ∙ after-push slots methods b.history e ∙ ap (λ (t : State). step t e) at ∙ next;
       needed = needed;
       fit = fit;
+      distinct = distinct;
     }
 
 pub empty : (slots methods : ℕ) (b : Book) → b.history ≡ [] → IsKept slots methods b (start slots methods)
 unfolding after is_legal
-empty slots methods b none = record { legal = ap (is_legal slots methods) none; state = ap (after slots methods) none; needed = omega arith; fit = tt }
+empty slots methods b none = record { legal = ap (is_legal slots methods) none; state = ap (after slots methods) none; needed = omega arith; fit = tt; distinct = tt }
 
 pub start_keeps : {J : Type 0} (slots methods : ℕ) (b b' : Book) (nn place num : ℕ) (live live' : List Live) (q : List (Waiting (Carried J))) (os : List (Opened J)) (t : TableView)
     → IsKept slots methods b (state_of nn live num q os t) → is_taken place live ≡ false → has_census (map current_of os) ≡ false → live' ≡ live ++ record { name = nn; place = place } ∷ []
@@ -71,7 +73,7 @@ start_keeps slots methods b b' nn place num live live' q os t k free none is the
     keeps slots methods b b' (Start nn place) _ _ k.legal k.state there
     (both_true _ _ (eq-eqb nn nn refl) (both_true _ _ (ap not free) (ap not none)))
     (ap (λ (l : List Live). state_of (nn + 1) l num q os t) (sym is))
-    (let m = k.needed in omega arith) k.fit
+    (let m = k.needed in omega arith) k.fit k.distinct
 
 pub exit_keeps : {J : Type 0} (slots methods : ℕ) (b b' : Book) (nn name num : ℕ) (live live' : List Live) (q : List (Waiting (Carried J))) (os : List (Opened J)) (t : TableView)
     → IsKept slots methods b (state_of nn live num q os t) → is_live name live ≡ true → live' ≡ without name live
@@ -81,7 +83,7 @@ exit_keeps slots methods b b' nn name num live live' q os t k here is there kept
     let n : length live' + 1 ≤ length live = omega (arith, ap length is) in
     keeps slots methods b b' (Exit name) _ _ k.legal k.state there here
     (ap (λ (l : List Live). state_of nn l num q os t) (sym is))
-    (let m = k.needed in omega arith) k.fit
+    (let m = k.needed in omega arith) k.fit k.distinct
 
 needs_of_asked-push : (xs : List Asked) (a : Asked) → needs_of_asked (xs ++ a ∷ []) ≡ needs_of_asked xs + (2 + steps_of a.request)
 needs_of_asked-push [] a = omega arith
@@ -98,7 +100,7 @@ ask_keeps slots methods b b' nn num live q q' w os t k same is there kept =
     keeps slots methods b b' (Ask num w.request) _ _ k.legal k.state there
     (eq-eqb num num refl)
     (let F : List Asked → State = λ l. record { next_name = nn; live = live; next_number = num + 1; waiting = l; opened = map current_of os; table = t } in ap F (sym asked))
-    (let m = k.needed in omega arith) k.fit
+    (let m = k.needed in omega arith) k.fit k.distinct
 
 pub carried_push : {J : Type 0} (whom : J → ℕ) (q : List (Waiting (Carried J))) (w : Waiting (Carried J)) → AreCarried whom q → IsCarried whom w → AreCarried whom (q ++ w ∷ [])
 carried_push whom [] w are new = (new, tt)
@@ -127,7 +129,8 @@ open_keeps whom slots methods b b' nn num live q q' w os os' o t k are none is t
           (let F : List Asked → State = λ l. record { next_name = nn; live = live; next_number = num; waiting = rest_of l; opened = open_next nn live l (map current_of os); table = t } in
           ap F asked ∙ ap (λ (cs : List Current). record { next_name = nn; live = live; next_number = num; waiting = map asked_of q'; opened = cs; table = t }) (sym os_is))
           (let z = k.needed in omega arith)
-          (subst AreFit (sym os_is) (fit_push (map current_of os) (opened_of nn live (asked_of w)) k.fit carried.0.number (due_opened nn live (asked_of w)))),
+          (subst AreFit (sym os_is) (fit_push (map current_of os) (opened_of nn live (asked_of w)) k.fit carried.0.number (due_opened nn live (asked_of w))))
+          (subst AreDistinct (sym os_is) (distinct_push (map current_of os) (opened_of nn live (asked_of w)) k.distinct (distinct_part (λ (name : ℕ). is_live name live) (targets_of w.request) carried.0.distinct))),
       carried.1,
     )
 
@@ -135,9 +138,9 @@ open_keeps whom slots methods b b' nn num live q q' w os os' o t k are none is t
 changes : {J : Type 0} (slots methods : ℕ) (b b' : Book) (e : Entry) (f : Current → Current) (nn num n i : ℕ) (live : List Live) (q : List (Waiting (Carried J))) (os os' : List (Opened J)) (o o' : Opened J) (t : TableView)
     → IsKept slots methods b (state_of nn live num q os t) → IsIndex n os (Some i) → slice_get os i ≡ Some o → os' ≡ slice_set os i o' → current_of o' ≡ f (current_of o)
     → lawful (state_of nn live num q os t) e ≡ true → step (state_of nn live num q os t) e ≡ record { next_name = nn; live = live; next_number = num; waiting = map asked_of q; opened = at_number f n (map current_of os); table = t }
-    → (f (current_of o)).number ≡ o.number → (f (current_of o)).left + 1 ≡ o.left → due_of (f (current_of o)) ≤ (f (current_of o)).left
+    → (f (current_of o)).number ≡ o.number → (f (current_of o)).left + 1 ≡ o.left → due_of (f (current_of o)) ≤ (f (current_of o)).left → (is_distinct o.due.items ≡ true → is_distinct (f (current_of o)).due ≡ true)
     → b'.history ≡ b.history ++ e ∷ [] → b'.reserved + 1 ≡ b.reserved → IsKept slots methods b' (state_of nn live num q os' t)
-changes slots methods b b' e f nn num n i live q os os' o o' t k at here is new may next same_number less fit there kept =
+changes slots methods b b' e f nn num n i live q os os' o o' t k at here is new may next same_number less fit distinct there kept =
     let found = open_at n i os o at here in
     let os_is : map current_of os' ≡ at_number f n (map current_of os) = ap (map current_of) is ∙ set_at f n i os o o' at here new in
     let m = needs_at f n (map current_of os) (current_of o) found in
@@ -146,6 +149,12 @@ changes slots methods b b' e f nn num n i live q os os' o o' t k at here is new 
     (next ∙ ap (λ (cs : List Current). record { next_name = nn; live = live; next_number = num; waiting = map asked_of q; opened = cs; table = t }) (sym os_is))
     (let z = k.needed in omega arith)
     (subst AreFit (sym os_is) (fit_at f n (map current_of os) (current_of o) k.fit found fit same_number))
+    (subst AreDistinct (sym os_is) (distinct_at f n (map current_of os) (current_of o) k.distinct found (distinct (distinct_of n (map current_of os) (current_of o) k.distinct found))))
+
+-- no name is due of an open request twice
+pub due_once : {J : Type 0} (slots methods : ℕ) (b : Book) (nn num n i : ℕ) (live : List Live) (q : List (Waiting (Carried J))) (os : List (Opened J)) (o : Opened J) (t : TableView)
+    → IsKept slots methods b (state_of nn live num q os t) → IsIndex n os (Some i) → slice_get os i ≡ Some o → is_distinct o.due.items ≡ true
+due_once slots methods b nn num n i live q os o t k at here = distinct_of n (map current_of os) (current_of o) k.distinct (open_at n i os o at here)
 
 -- there is room for the entries of an open request
 pub open_room : {J : Type 0} (slots methods : ℕ) (b : Book) (nn num n i : ℕ) (live : List Live) (q : List (Waiting (Carried J))) (os : List (Opened J)) (o : Opened J) (t : TableView)
@@ -171,7 +180,7 @@ finish_keeps slots methods b b' nn num n name reply i live q os os' o o' t k at 
     let found = open_at n i os o at here in
     let d = due_left name (current_of o) due (fit_of n (map current_of os) (current_of o) k.fit found).1 in
     changes slots methods b b' (Finish n name reply) (finished name) nn num n i live q os os' o o' t k at here is new
-    (both_true _ _ (both_true _ _ (ap (passes (is_due name)) found ∙ due) lives) least) refl refl d.0 d.1 there kept
+    (both_true _ _ (both_true _ _ (ap (passes (is_due name)) found ∙ due) lives) least) refl refl d.0 d.1 (distinct_part (λ (t : ℕ). not (t == name)) o.due.items) there kept
 
 operate_left : (c : Current) → may_operate c ≡ true → due_of c ≤ c.left → ((as_operated c).left + 1 ≡ c.left) × (due_of (as_operated c) ≤ (as_operated c).left)
 operate_left c h fit =
@@ -191,7 +200,7 @@ operate_keeps slots methods b b' nn num n i live q os os' o o' t k at here is ne
     let found = open_at n i os o at here in
     let d = operate_left (current_of o) may (fit_of n (map current_of os) (current_of o) k.fit found).1 in
     changes slots methods b b' (Operate n) as_operated nn num n i live q os os' o o' t k at here is new
-    (ap (passes may_operate) found ∙ may) refl refl d.0 d.1 there kept
+    (ap (passes may_operate) found ∙ may) refl refl d.0 d.1 (λ once. once) there kept
 
 pub close_keeps : {J : Type 0} (slots methods : ℕ) (b b' : Book) (nn num i : ℕ) (live : List Live) (q : List (Waiting (Carried J))) (os os' : List (Opened J)) (o : Opened J) (t : TableView)
     → IsKept slots methods b (state_of nn live num q os t) → IsIndex o.number os (Some i) → slice_get os i ≡ Some o → os' ≡ remove os i → may_close live (current_of o) ≡ true
@@ -206,6 +215,7 @@ close_keeps slots methods b b' nn num i live q os os' o t k at here is may there
     (ap (λ (cs : List Current). record { next_name = nn; live = live; next_number = num; waiting = map asked_of q; opened = cs; table = t }) (sym gone))
     (let z = k.needed in omega arith)
     (subst AreFit (sym gone) (fit_without o.number (map current_of os) k.fit))
+    (subst AreDistinct (sym gone) (distinct_without o.number (map current_of os) k.distinct))
 
 -- the Close of one that may be closed is lawful
 pub close_is : {J : Type 0} (nn num i : ℕ) (live : List Live) (q : List (Waiting (Carried J))) (os : List (Opened J)) (o : Opened J) (t : TableView)
@@ -268,7 +278,7 @@ install_keeps b b' nn num method live q os t t' id k free serial none may is the
     (may_install nn num method live q os t id free serial none may)
     refl
     (let z = k.needed in let m = needs_of_codes-push t.codes (record { serial = next_serial t.codes; slot = id.slot; method = method; state = state.InUse }) in omega arith)
-    k.fit)
+    k.fit k.distinct)
 
 -- there is room for the entries of a code
 pub code_room : {J : Type 0} (b : Book) (nn num serial : ℕ) (live : List Live) (q : List (Waiting (Carried J))) (os : List (Opened J)) (t : TableView) (code : Code)
@@ -287,7 +297,7 @@ code_keeps b b' e nn num serial live q os t t' code st k table found is may next
     let u = unfreed_parts t.codes serial code found in
     let m = needs_changed 1 u.0 serial st t.codes code table.serials u.1 u.2 in
     subst (λ (v : TableView). IsKept v.slots v.methods b' (state_of nn live num q os v)) (sym is)
-    (keeps t.slots t.methods b b' e _ _ k.legal k.state there may next (let z = k.needed in omega arith) k.fit)
+    (keeps t.slots t.methods b b' e _ _ k.legal k.state there may next (let z = k.needed in omega arith) k.fit k.distinct)
 
 pub left_invalidate : (c : Code) → invalidate_fault (Some c) ≡ None → states_left c.state ≡ 3
 left_invalidate c h = by c.state h

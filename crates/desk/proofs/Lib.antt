@@ -11,3 +11,4 @@ pub mod RoomKept
 pub mod RoomSteps
 pub mod JobsLeft
 pub mod Listed
+pub mod Distinct

@@ -6,13 +6,14 @@ use Rattle.std.proofs.lemmas.Bool.{eq-eqb, ne_eqb, and_parts}
 use Rattle.std.proofs.lemmas.Bool.Decides.{nat_tests}
 use Rattle.std.proofs.lemmas.List.{length-map}
 use Rattle.operations.specs.declared.queue.Waiting.{Waiting}
+use Rattle.operations.specs.Names.{is_distinct}
 use Rattle.operations.specs.Requests.{is_census}
 use Rattle.desk.specs.declared.entries.Carried.{Carried}
 use Rattle.desk.specs.declared.entries.Opened.{Opened}
 use Rattle.desk.specs.Machine.{Current, awaits_census, may_open_more, is_open, open_of, at_number, without_number, needs_of_opened}
 use Rattle.desk.specs.Refusals.{oldest_of, chosen}
 use Rattle.desk.proofs.Newest.{same_at}
-use Rattle.desk.specs.Fields.{asked_of, current_of, IsIndex, AreFit, due_of}
+use Rattle.desk.specs.Fields.{asked_of, current_of, IsIndex, AreFit, AreDistinct, due_of}
 
 pub any_map : {A B : Type 0} (p : B → Bool) (f : A → B) (xs : List A) → list_any p (map f xs) ≡ list_any (λ x. p (f x)) xs
 any_map p f [] = refl
@@ -173,3 +174,32 @@ fit_without n (x ∷ cs) fit = by (x.number == n) (fit_without n cs fit.2)
     by : (b : Bool) → AreFit (without_number n cs) → AreFit (cond b cs (x ∷ without_number n cs))
     by true rest = fit.2
     by false rest = (fit.0, fit.1, rest)
+
+-- what is due of each stays distinct
+pub distinct_of : (n : ℕ) (cs : List Current) (c : Current) → AreDistinct cs → open_of n cs ≡ Some c → is_distinct c.due ≡ true
+distinct_of n [] c all h = cc
+distinct_of n (x ∷ cs) c all h = by (x.number == n) h (distinct_of n cs c all.1)
+  where
+    by : (b : Bool) → cond b (Some x) (open_of n cs) ≡ Some c → (open_of n cs ≡ Some c → is_distinct c.due ≡ true) → is_distinct c.due ≡ true
+    by true h rest = let same : x ≡ c = cc in subst (λ (z : Current). is_distinct z.due ≡ true) same all.0
+    by false h rest = rest h
+
+pub distinct_at : (f : Current → Current) (n : ℕ) (cs : List Current) (c : Current) → AreDistinct cs → open_of n cs ≡ Some c → is_distinct (f c).due ≡ true → AreDistinct (at_number f n cs)
+distinct_at f n [] c all h new = tt
+distinct_at f n (x ∷ cs) c all h new = by (x.number == n) h (λ k. distinct_at f n cs c all.1 k new)
+  where
+    by : (b : Bool) → cond b (Some x) (open_of n cs) ≡ Some c → (open_of n cs ≡ Some c → AreDistinct (at_number f n cs)) → AreDistinct (cond b (f x ∷ cs) (x ∷ at_number f n cs))
+    by true h rest = let same : x ≡ c = cc in (subst (λ (z : Current). is_distinct (f z).due ≡ true) (sym same) new, all.1)
+    by false h rest = (all.0, rest h)
+
+pub distinct_push : (cs : List Current) (c : Current) → AreDistinct cs → is_distinct c.due ≡ true → AreDistinct (cs ++ c ∷ [])
+distinct_push [] c all new = (new, tt)
+distinct_push (x ∷ cs) c all new = (all.0, distinct_push cs c all.1 new)
+
+pub distinct_without : (n : ℕ) (cs : List Current) → AreDistinct cs → AreDistinct (without_number n cs)
+distinct_without n [] all = tt
+distinct_without n (x ∷ cs) all = by (x.number == n) (distinct_without n cs all.1)
+  where
+    by : (b : Bool) → AreDistinct (without_number n cs) → AreDistinct (cond b cs (x ∷ without_number n cs))
+    by true rest = all.1
+    by false rest = (all.0, rest)

@@ -4,6 +4,7 @@ use Rattle.frames.specs.declared.board_rule.KeeperView.{KeeperView}
 use Rattle.method_table.specs.TableView.{TableView}
 use Rattle.operations.specs.declared.queue.Waiting.{Waiting}
 use Rattle.frames.specs.declared.CodeId.{CodeId}
+use Rattle.operations.specs.Names.{is_distinct}
 use Rattle.desk.specs.declared.entries.Entry.{Entry}
 use Rattle.desk.specs.declared.entries.Entry.TheVariants.{Install, Invalidate}
 use Rattle.desk.specs.declared.entries.Live.{Live}
@@ -22,10 +23,11 @@ abbrev pub state_of : {J : Type 0} → ℕ → List Live → ℕ → List (Waiti
 state_of next_name live next_number waiting opened table =
     record { next_name = next_name; live = live; next_number = next_number; waiting = map asked_of waiting; opened = map current_of opened; table = table }
 
--- a waiting request has a number, and carries a list of its targets and a job for each of them
+-- a waiting request has a number, and carries a list of its targets, of which none stands there twice, and a job for each of them
 pub record IsCarried {J : Type 0} (whom : J → ℕ) (w : Waiting (Carried J)) : Type 0 where
   pub number : 0 < w.number
   pub due : w.load.due.items ≡ targets_of w.request
+  pub distinct : is_distinct (targets_of w.request) ≡ true
   pub jobs : map whom w.load.jobs.items ≡ targets_of w.request
 
 abbrev pub AreCarried : {J : Type 0} → (J → ℕ) → List (Waiting (Carried J)) → Type 0
@@ -48,12 +50,19 @@ abbrev pub AreFit : List Current → Type 0
 AreFit [] = Unit {0}
 AreFit (c ∷ cs) = (0 < c.number) × (due_of c ≤ c.left) × AreFit cs
 
--- a history is legal, the fields are the state after it, and there is room for all that can still come
+-- no name stands twice in what is due of an open request
+abbrev pub AreDistinct : List Current → Type 0
+AreDistinct [] = Unit {0}
+AreDistinct (c ∷ cs) = (is_distinct c.due ≡ true) × AreDistinct cs
+
+-- a history is legal, the fields are the state after it, there is room for all that can still come, and no name is due of an open
+-- request twice
 pub record IsKept (slots methods : ℕ) (book : Book) (fields : State) : Type 0 where
   pub legal : is_legal slots methods book.history ≡ true
   pub state : after slots methods book.history ≡ fields
   pub needed : needs fields ≤ book.reserved
   pub fit : AreFit fields.opened
+  pub distinct : AreDistinct fields.opened
 
 -- what contracts see of a desk: its history with the room that is kept in it, the sizes, the keeper's view, and for each open request
 -- the names whose jobs weren't taken

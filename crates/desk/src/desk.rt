@@ -366,6 +366,7 @@ impl<N: Name, J: Errand> Desk<N, J> {
     /// Enters what a job gave on a settled body, or hands it back where it isn't lawful: the operation is open and the body's thread a
     /// live target that has no Finish, and has one for each open operation with a lesser number of which it is a live target. A job that
     /// asked for something else than the operation is handed back too.
+    #[inline(always)]
     pub fn finish(&mut self, body: &Body<N>, done: Done) -> Result<Receipt<N>, Done>
         requires name { body.now.name ≡ done.target }
         requires settled { IsSettled body.now.image }
@@ -383,6 +384,7 @@ impl<N: Name, J: Errand> Desk<N, J> {
     }
 
     // Whether the open request of the number asks this.
+    #[inline(always)]
     fn asks(&self, number: u64, ask: Ask) -> bool
         ensures { result ≡ is_asked_by number ask (at self.now).opened }
     {
@@ -391,6 +393,7 @@ impl<N: Name, J: Errand> Desk<N, J> {
     }
 
     // Enters what a job gave, where that is lawful.
+    #[inline(always)]
     fn enter_done(&mut self, body: &Body<N>, done: Done) -> Result<Receipt<N>, Done>
         requires name { body.now.name ≡ done.target }
         ensures ok { IfOk result (λ r. Enters self.old self.new (Entry.Finish done.op done.target done.reply) r) }
@@ -668,6 +671,7 @@ impl<N: Name, J: Errand> Desk<N, J> {
 
     /// The number of the oldest open request that is of a live thread and wasn't told to it, where `last` is the last number that it
     /// was told.
+    #[inline(always)]
     pub fn untold(&self, name: u64, last: u64) -> Option<u64>
         ensures value { result ≡ untold (at self.now) name last }
         ensures later { IfSome result (λ number. last < number) }
@@ -686,6 +690,7 @@ impl<N: Name, J: Errand> Desk<N, J> {
 
     /// The least name above this one, with its place, whose thread was live at the Open of an open request, is live, and has no Finish
     /// for it, or whose census isn't operated.
+    #[inline(always)]
     pub fn next_due(&self, name: u64) -> Option<Live>
         ensures { result ≡ next_due (at self.now) name }
     {
@@ -694,6 +699,7 @@ impl<N: Name, J: Errand> Desk<N, J> {
     }
 
     /// The same for the oldest open request.
+    #[inline(always)]
     pub fn next_awaited(&self, name: u64) -> Option<Live>
         ensures { result ≡ next_awaited (at self.now) name }
     {
@@ -710,6 +716,7 @@ impl<N: Name, J: Errand> Desk<N, J> {
     }
 
     /// Whether the oldest open request is a census; None where nothing is open.
+    #[inline(always)]
     pub fn open_kind(&self) -> Option<bool>
         ensures { result ≡ open_kind (at self.now) }
     {

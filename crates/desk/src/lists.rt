@@ -1,5 +1,5 @@
 // Steps on the desk's lists.
-ghost use Rattle.std.specs.Prelude.{◌≡◌, ◌&&◌, ◌==◌, ◌<◌, ◌≤◌, ◌+◌, ℕ, length, true, false, not, map, Some, None, IfOk, vec_capacity, vec_len, IfSome, IfNone, OnSome, slice_get, slice_set};
+ghost use Rattle.std.specs.Prelude.{◌≡◌, ◌&&◌, ◌==◌, ◌<◌, ◌≤◌, ◌+◌, ℕ, length, true, false, not, map, Some, None, IfOk, vec_capacity, vec_len, IfSome, IfNone, OnSome, slice_get, slice_index, slice_set};
 ghost use Rattle.std.specs.List.{list_any, list_all};
 ghost use Rattle.operations.specs.Names.{among, is_distinct};
 ghost use Rattle.operations.specs.Requests.{is_census, are_targets};
@@ -24,6 +24,7 @@ pub const OPEN: usize = 4;
 
 /// Where a name is live: first tried as far behind the first as it is greater, where it stands while no thread between has left, and
 /// then looked for by halves. None is missed, since live names rise.
+#[inline(always)]
 pub fn found_at(live: &[Live], name: u64) -> Option<usize>
     ensures { IfSome result (λ i. (l : LiveOf) × (slice_get live.now i ≡ Some l) × (l.name ≡ name)) }
 {
@@ -41,6 +42,7 @@ pub fn found_at(live: &[Live], name: u64) -> Option<usize>
 }
 
 /// Whether a name is live.
+#[inline(always)]
 pub fn lives(live: &[Live], name: u64) -> bool
     ensures { result ≡ is_live name live.now }
 {
@@ -57,20 +59,47 @@ pub fn taken(live: &[Live], place: usize) -> bool
     live.iter().any(|l| l.place == place)
 }
 
-/// Whether a name is among these: first tried as far behind the first as it is greater, where it stands in a list of threads that
-/// started one after another, then looked for by halves, since most lists of names rise, and then one by one.
-#[tactic(auto, using(operations::proofs::Names::listed_at))]
-pub fn is_among(names: &[u64], name: u64) -> bool
-    ensures { result ≡ among name names.now }
+// Where a name stands among these, looked for one by one.
+#[tactic(auto, using(crate::proofs::Distinct::none_among))]
+fn first_place(names: &[u64], name: u64) -> Option<usize>
+    ensures some { IfSome result (λ i. (i < length names.now) × (slice_index names.now i ≡ name)) }
+    ensures none { IfNone result (among name names.now ≡ false) }
+{
+    for place in 0..names.len() {
+        if names[place] == name {
+            return Some(place);
+        }
+    }
+    None
+}
+
+// Where a name stands among these: first tried as far behind the first as it is greater, where it stands in a list of threads that
+// started one after another, then looked for by halves, since most lists of names rise, and then one by one.
+#[inline(always)]
+fn place_among(names: &[u64], name: u64) -> Option<usize>
+    ensures some { IfSome result (λ i. (i < length names.now) × (slice_index names.now i ≡ name)) }
+    ensures none { IfNone result (among name names.now ≡ false) }
 {
     if names.is_empty() {
-        return false;
+        return None;
     }
     let behind = name.saturating_sub(names[0]);
     if behind < names.len() as u64 && names[behind as usize] == name {
-        return true;
+        return Some(behind as usize);
     }
-    names.binary_search(&name).is_ok() || names.iter().any(|x| *x == name)
+    match names.binary_search(&name) {
+        Ok(place) if names[place] == name => Some(place),
+        _ => first_place(names, name),
+    }
+}
+
+/// Whether a name is among these.
+#[tactic(auto, using(operations::proofs::Names::listed_at))]
+#[inline(always)]
+pub fn is_among(names: &[u64], name: u64) -> bool
+    ensures { result ≡ among name names.now }
+{
+    place_among(names, name).is_some()
 }
 
 /// Whether there is memory for one name more, where there is for its image.
@@ -89,11 +118,14 @@ pub fn leave(live: &mut Vec<Live>, name: u64)
     live.retain(|l| l.name != name);
 }
 
-/// Takes a name off the targets.
+/// Takes a name off the targets. No name stands there twice, so at most one goes, and those behind it move in one step.
 pub fn answered(names: &mut Vec<u64>, name: u64)
+    requires { is_distinct names.old.items ≡ true }
     ensures { names.new.items ≡ others name names.old.items }
 {
-    names.retain(|x| *x != name);
+    if let Some(place) = place_among(names.as_slice(), name) {
+        names.remove(place);
+    }
 }
 
 /// Keeps the live targets.
@@ -125,6 +157,7 @@ pub fn least_free(live: &[Live], places: usize) -> Option<usize>
 }
 
 /// Whether the request is a census.
+#[inline(always)]
 pub fn is_census(request: &Request) -> bool
     ensures { result ≡ is_census request.now }
 {
@@ -186,6 +219,7 @@ pub fn may_open_more<J>(queue: &Queue<Carried<J>>, opened: &[Opened<J>]) -> bool
 }
 
 /// Where the open request of the number stands.
+#[inline(always)]
 pub fn index_of<J>(opened: &[Opened<J>], number: u64) -> Option<usize>
     ensures { IsIndex number opened.now result }
 {
@@ -209,6 +243,7 @@ pub fn may_close<J>(request: &Opened<J>, live: &[Live]) -> bool
 }
 
 /// Whether a target of an open request is live and has no Finish.
+#[inline(always)]
 pub fn may_finish<J>(request: &Opened<J>, live: &[Live], name: u64) -> bool
     ensures { result ≡ (is_due name (current_of request.now) && is_live name live.now) }
 {
@@ -216,6 +251,7 @@ pub fn may_finish<J>(request: &Opened<J>, live: &[Live], name: u64) -> bool
 }
 
 /// Whether no open request with a lesser number is due for the name.
+#[inline(always)]
 pub fn is_least<J>(opened: &[Opened<J>], number: u64, name: u64) -> bool
     ensures { result ≡ is_least number name (map current_of opened.now) }
 {
@@ -249,7 +285,8 @@ pub fn holds_target<N: Name>(request: &Request, bodies: &[Body<N>]) -> bool
 }
 
 fn finish<J>(request: &mut Opened<J>, name: u64)
-    requires { 0 < request.old.left }
+    requires left { 0 < request.old.left }
+    requires due { is_distinct request.old.due.items ≡ true }
     ensures step { current_of request.new ≡ finished name (current_of request.old) }
     ensures jobs { request.new.jobs ≡ request.old.jobs }
 {
@@ -268,7 +305,7 @@ fn operate<J>(request: &mut Opened<J>)
 
 /// A Finish of the name.
 pub fn finish_at<J>(opened: &mut Vec<Opened<J>>, place: usize, name: u64)
-    requires { (place < length opened.old.items) × ((o : OpenedOf J) → slice_get opened.old.items place ≡ Some o → 0 < o.left) }
+    requires { (place < length opened.old.items) × ((o : OpenedOf J) → slice_get opened.old.items place ≡ Some o → (0 < o.left) × (is_distinct o.due.items ≡ true)) }
     ensures step { (o : OpenedOf J) → slice_get opened.old.items place ≡ Some o → (after : OpenedOf J) × (current_of after ≡ finished name (current_of o)) × (opened.new.items ≡ slice_set opened.old.items place after) × (after.jobs ≡ o.jobs) }
     ensures capacity { (vec_capacity opened.new ≡ vec_capacity opened.old) × (length opened.new.items ≡ length opened.old.items) }
 {
@@ -345,8 +382,8 @@ pub fn names_of(live: &[Live], alloc: Global) -> Result<Vec<u64>, AllocError>
     Ok(names)
 }
 
-// Takes a job out of the list.
-fn take_of<J: Errand>(jobs: &mut VecDeque<J>, name: u64) -> Option<J>
+// Takes the first job for the name out of the list, looked for one by one.
+fn take_first<J: Errand>(jobs: &mut VecDeque<J>, name: u64) -> Option<J>
     ensures job { IfSome result (λ j. J.whom j ≡ name) }
     ensures some { OnSome result (among name (map J.whom jobs.old.items) ≡ true) }
     ensures none { IfNone result (among name (map J.whom jobs.old.items) ≡ false) }
@@ -363,6 +400,20 @@ fn take_of<J: Errand>(jobs: &mut VecDeque<J>, name: u64) -> Option<J>
     None
 }
 
+// The same, where the front is looked at before the list is searched: jobs are mostly taken in the order in which they stand, and
+// the first is taken without moving another.
+fn take_of<J: Errand>(jobs: &mut VecDeque<J>, name: u64) -> Option<J>
+    ensures job { IfSome result (λ j. J.whom j ≡ name) }
+    ensures some { OnSome result (among name (map J.whom jobs.old.items) ≡ true) }
+    ensures none { IfNone result (among name (map J.whom jobs.old.items) ≡ false) }
+    ensures left { map J.whom jobs.new.items ≡ without_first name (map J.whom jobs.old.items) }
+{
+    if !jobs.is_empty() && jobs[0].target_of() == name {
+        return jobs.pop_front();
+    }
+    take_first(jobs, name)
+}
+
 fn job_in<J: Errand>(request: &mut Opened<J>, name: u64) -> Option<J>
     ensures job { IfSome result (λ j. (J.whom j ≡ name) × (J.number j ≡ request.old.number)) }
     ensures some { OnSome result (among name (names_left J.whom request.old) ≡ true) }
@@ -377,6 +428,7 @@ fn job_in<J: Errand>(request: &mut Opened<J>, name: u64) -> Option<J>
 }
 
 // Whether two asks are the same.
+#[inline(always)]
 fn same_ask(one: Ask, other: Ask) -> bool
     ensures { result ≡ same_ask one other }
 {
@@ -391,6 +443,7 @@ fn same_ask(one: Ask, other: Ask) -> bool
 }
 
 // Whether the request is a handshake that asks this.
+#[inline(always)]
 fn asks_it(request: &Request, ask: Ask) -> bool
     ensures { result ≡ asks_it ask request.now }
 {
@@ -401,6 +454,7 @@ fn asks_it(request: &Request, ask: Ask) -> bool
 }
 
 /// Whether the open request of the number asks this.
+#[inline(always)]
 pub fn asks<J>(opened: &[Opened<J>], number: u64, ask: Ask) -> bool
     ensures { result ≡ is_asked_by number ask (map current_of opened.now) }
 {

@@ -76,6 +76,7 @@ fn fits(len: usize, reserved: usize, more: usize) -> bool
 }
 
 // Puts an entry to the end.
+#[inline(always)]
 fn append<N: Name>(entries: &mut Vec<Entry>, entry: Entry) -> Receipt<N>
     requires { vec_len entries.old < vec_capacity entries.old }
     ensures items { entries.new.items ≡ entries.old.items ++ entry ∷ [] }
@@ -161,6 +162,7 @@ impl<N: Name> Log<N> {
     }
 
     /// Puts an entry that has no reply to the end, in room that was kept.
+    #[inline(always)]
     pub fn enter(&mut self, entry: Entry) -> Receipt<N>
         requires reserved { 0 < self.old.book.reserved }
         requires no_reply { (n : ℕ) → reply_in n entry ≡ None }
@@ -203,6 +205,7 @@ impl<N: Name> Log<N> {
     }
 
     /// Puts a Finish to the end, and its reply to those of its operation, in room that was kept.
+    #[inline(always)]
     pub fn enter_finish(&mut self, op: u64, name: u64, reply: u64) -> Receipt<N>
         requires reserved { 0 < self.old.book.reserved }
         requires room { 0 < (of_number op self.old.lists).room }

@@ -30,6 +30,7 @@ impl ReplyList {
     }
 
     /// Puts a reply last, in room that was kept.
+    #[inline(always)]
     pub fn push(&mut self, name: u64, reply: u64)
         requires { 0 < self.old.room }
         ensures said { self.new.said ≡ self.old.said ++ (name, reply) ∷ [] }

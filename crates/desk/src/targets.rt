@@ -30,6 +30,7 @@ pub fn place_of(live: &[Live], name: u64) -> Option<usize>
 }
 
 // The live names behind this one, or all where it isn't live.
+#[inline(always)]
 fn behind(live: &[Live], name: u64) -> &[Live]
     requires rising { AreRising 0 (names_of live.now) }
     ensures { (cs : List Current) → due_after name cs result.now ≡ due_after name cs live.now }
@@ -65,6 +66,7 @@ fn is_asked(request: &Request, next: u64, name: u64) -> bool
 }
 
 // Whether a Finish of the name, or the Operate, is still to come.
+#[inline(always)]
 fn is_owed<J>(request: &Opened<J>, name: u64) -> bool
     ensures { result ≡ is_owed name (current_of request.now) }
 {
@@ -198,12 +200,14 @@ pub fn progress_in<J>(opened: &[Opened<J>], next: u64, name: u64, last: u64) -> 
 }
 
 // Whether the thread was live at the Open and is owed.
+#[inline(always)]
 fn is_due_target<J>(thread: Live, request: &Opened<J>) -> bool
     ensures { result ≡ is_due_target thread (current_of request.now) }
 {
     thread.name < request.before && is_owed(request, thread.name)
 }
 
+#[inline(always)]
 fn is_due<J>(thread: Live, opened: &[Opened<J>]) -> bool
     ensures { result ≡ list_any (is_due_target thread) (map current_of opened.now) }
 {

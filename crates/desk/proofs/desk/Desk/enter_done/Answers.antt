@@ -2,13 +2,14 @@ use Rattle.std.proofs.Common.{map, ◌<◌, sym, ◌≡◌, ◌∙◌, ap, subst
 use Rattle.std.specs.Prelude.{◌&&◌, slice_get}
 use Rattle.std.proofs.lemmas.Option.{slice_get_read}
 use Rattle.std.proofs.lemmas.Bool.{and_parts}
+use Rattle.operations.specs.Names.{is_distinct}
 use Rattle.desk.specs.declared.entries.Entry.TheVariants as entry
 use Rattle.desk.specs.Machine.{State, Current, lawful, is_least, is_due, is_live, finished}
 use Rattle.desk.specs.Fields.{DeskSeen, current_of, jobs_left, IsIndex, at, Enters}
 use Rattle.desk.specs.declared.entries.Opened.{Opened}
 use Rattle.desk.proofs.Newest.{same_at}
 use Rattle.desk.proofs.JobsLeft.{set_left}
-use Rattle.desk.proofs.Keeping.{finish_keeps, enters_by, finish_is, finish_not, open_room, due_entry}
+use Rattle.desk.proofs.Keeping.{finish_keeps, enters_by, finish_is, finish_not, open_room, due_entry, due_once}
 use Rattle.desk.specs.Replies.{of_number, HasLess}
 use Rattle.desk.proofs.RoomSteps.{due_has_room, finish_has_room}
 use Rattle.desk.proofs.desk.Desk.enter_done.Goals as goal
@@ -46,7 +47,8 @@ finish_at-requires g c =
     let both = and_parts (is_due c.args.done.target (current_of o)) (is_live c.args.done.target i.live.items) due in
     let room = open_room _ _ i.log.book i.next_name i.next_number c.args.done.op c.in-Some.place i.live.items i.queue i.opened.items o i.codes.table m.0 where_is here in
     let low : 0 < o.left = due_entry c.args.done.target (current_of o) both.0 room.0 in
-    (where_is.0, λ x there. subst (λ (y : Opened g.row.J.Denot). 0 < y.left) (same_at i.opened.items c.in-Some.place o x here there) low)
+    let once : is_distinct o.due.items ≡ true = due_once _ _ i.log.book i.next_name i.next_number c.args.done.op c.in-Some.place i.live.items i.queue i.opened.items o i.codes.table m.0 where_is here in
+    (where_is.0, λ x there. subst (λ (y : Opened g.row.J.Denot). (0 < y.left) × (is_distinct y.due.items ≡ true)) (same_at i.opened.items c.in-Some.place o x here there) (low, once))
 
 pub invariant_of-self : goal.invariant_of-self
 invariant_of-self g c =

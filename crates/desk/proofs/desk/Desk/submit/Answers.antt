@@ -3,6 +3,7 @@ use Rattle.operations.specs.declared.queue.Waiting.{Waiting}
 use Rattle.desk.specs.declared.entries.Carried.{Carried}
 use Rattle.desk.specs.Fields.{IsCarried, AreCarried}
 use Rattle.desk.specs.JobsFit.{jobs_fit}
+use Rattle.desk.proofs.Distinct.{targets_distinct}
 use Rattle.desk.proofs.JobsLeft.{fitting}
 use Rattle.desk.specs.Machine.{targets_of}
 use Rattle.desk.proofs.Keeping.{ask_keeps, carried_push}
@@ -17,7 +18,7 @@ invariant_of-self-2 g c =
     let low : 0 < i.next_number = (let n = m.6.count in omega arith) in
     let fit : jobs_fit g.J.Errand.whom g.J.Errand.asks c.args.request c.args.jobs.items ≡ true = search rules in
     let w : Waiting (Carried g.row.J.Denot) = record { number = i.next_number; request = c.args.request; load = record { due = c.in-Ok-targets_of.due; jobs = c.args.jobs } } in
-    let carried : IsCarried g.J.Errand.whom w = record { number = low; due = search rules; jobs = fitting g.J.Errand.whom g.J.Errand.asks c.args.request c.args.jobs.items fit } in (
+    let carried : IsCarried g.J.Errand.whom w = record { number = low; due = search rules; distinct = targets_distinct c.args.request (search rules); jobs = fitting g.J.Errand.whom g.J.Errand.asks c.args.request c.args.jobs.items fit } in (
       ask_keeps _ _ i.log.book c.enter_ask.new.self.book i.next_name i.next_number i.live.items i.queue c.push.new.self w i.opened.items i.codes.table m.0 refl c.in_default-push.ensures.ok (search rules) (search rules),
       subst (AreCarried g.J.Errand.whom) (sym c.in_default-push.ensures.ok) (carried_push g.J.Errand.whom i.queue w m.1 carried),
       m.2,

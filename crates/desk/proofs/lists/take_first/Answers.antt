@@ -4,7 +4,7 @@ use Rattle.std.proofs.lemmas.Option.{slice_get_read}
 use Rattle.operations.specs.Names.{among}
 use Rattle.desk.specs.JobsFit.{without_first}
 use Rattle.desk.proofs.JobsLeft.{first_taken, next_not, none_taken}
-use Rattle.desk.proofs.lists.take_of.Goals as goal
+use Rattle.desk.proofs.lists.take_first.Goals as goal
 
 pub returns-in-Some-clause-some : goal.returns-in-Some-clause-some
 returns-in-Some-clause-some g c =

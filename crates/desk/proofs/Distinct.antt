@@ -1,0 +1,72 @@
+-- Lists in which no name stands twice.
+use Rattle.std.proofs.Common.{◌≡◌, ◌≢◌, ℕ, zero, suc, ◌<◌, Bool, true, false, not, cond, List, [], ◌∷◌, length, get_or, refl, sym, ap, ◌∙◌, arith}
+use Rattle.std.specs.Prelude.{◌&&◌, ◌||◌, ◌==◌, filter}
+use Rattle.std.specs.List.{remove}
+use Rattle.std.proofs.lemmas.Bool.{and_parts, eq-eqb, ne_eqb}
+use Rattle.operations.specs.declared.Request.{Request}
+use Rattle.operations.specs.declared.Request.TheVariants.{Handshake, Census}
+use Rattle.operations.specs.Names.{among, is_distinct}
+use Rattle.operations.specs.Requests.{are_targets}
+use Rattle.operations.proofs.Names.{listed_at}
+use Rattle.desk.specs.Machine.{others, targets_of}
+
+or_none : (a b : Bool) → (a || b) ≡ false → (a ≡ false) × (b ≡ false)
+or_none false b h = (refl, h)
+or_none true b h = cc
+
+is_not : (b : Bool) → not b ≡ true → b ≡ false
+is_not false h = refl
+is_not true h = cc
+
+-- a name that isn't among them isn't among a part of them
+not_in_part : (p : ℕ → Bool) (n : ℕ) (ns : List ℕ) → among n ns ≡ false → among n (filter p ns) ≡ false
+not_in_part p n [] h = refl
+not_in_part p n (x ∷ xs) h = let parts = or_none (x == n) (among n xs) h in by (p x) parts.0 (not_in_part p n xs parts.1)
+  where
+    by : (b : Bool) → (x == n) ≡ false → among n (filter p xs) ≡ false → among n (cond b (x ∷ filter p xs) (filter p xs)) ≡ false
+    by true here rest = ap (λ b. b || among n (filter p xs)) here ∙ rest
+    by false here rest = rest
+
+pub distinct_part : (p : ℕ → Bool) (ns : List ℕ) → is_distinct ns ≡ true → is_distinct (filter p ns) ≡ true
+distinct_part p [] h = refl
+distinct_part p (x ∷ xs) h =
+    let parts = and_parts (not (among x xs)) (is_distinct xs) h in
+    by (p x) (not_in_part p x xs (is_not (among x xs) parts.0)) (distinct_part p xs parts.1)
+  where
+    by : (b : Bool) → among x (filter p xs) ≡ false → is_distinct (filter p xs) ≡ true → is_distinct (cond b (x ∷ filter p xs) (filter p xs)) ≡ true
+    by true here rest = ap (λ b. not b && is_distinct (filter p xs)) here ∙ rest
+    by false here rest = rest
+
+-- one that isn't among them takes nothing off
+pub none_off : (name : ℕ) (ns : List ℕ) → among name ns ≡ false → ns ≡ others name ns
+none_off name [] h = refl
+none_off name (x ∷ xs) h =
+    let parts = or_none (x == name) (among name xs) h in
+    ap (λ l. x ∷ l) (none_off name xs parts.1) ∙ sym (ap (λ b. cond (not b) (x ∷ others name xs) (others name xs)) parts.0)
+
+-- without the one at its place, the others are left
+pub one_off : (name i : ℕ) (ns : List ℕ) → is_distinct ns ≡ true → i < length ns → get_or ns i 0 ≡ name → remove ns i ≡ others name ns
+one_off name i [] h low here = absurd (omega arith)
+one_off name zero (x ∷ xs) h low here =
+    let parts = and_parts (not (among x xs)) (is_distinct xs) h in
+    let none : among name xs ≡ false = ap (λ n. among n xs) (sym here) ∙ is_not (among x xs) parts.0 in
+    none_off name xs none ∙ sym (ap (λ b. cond (not b) (x ∷ others name xs) (others name xs)) (eq-eqb x name here))
+one_off name (suc i) (x ∷ xs) h low here =
+    let parts = and_parts (not (among x xs)) (is_distinct xs) h in
+    let below : i < length xs = omega arith in
+    let there : among name xs ≡ true = listed_at name xs i 0 below (eq-eqb (get_or xs i 0) name here) in
+    let none : among x xs ≡ false = is_not (among x xs) parts.0 in
+    let ne : x ≢ name = λ e. (let k : among name xs ≡ false = ap (λ n. among n xs) (sym e) ∙ none in cc) in
+    ap (λ l. x ∷ l) (one_off name i xs parts.1 below here)
+    ∙ sym (ap (λ b. cond (not b) (x ∷ others name xs) (others name xs)) (ne_eqb x name ne))
+
+-- none of them is the name
+pub none_among : (name : ℕ) (ns : List ℕ) → ((k : ℕ) → k < length ns → get_or ns k 0 ≢ name) → among name ns ≡ false
+none_among name [] none = refl
+none_among name (x ∷ xs) none =
+    ap (λ b. b || among name xs) (ne_eqb x name (none 0 (omega arith))) ∙ none_among name xs (λ k low. none (suc k) (omega arith))
+
+-- good targets stand once each
+pub targets_distinct : (r : Request) → are_targets r ≡ true → is_distinct (targets_of r) ≡ true
+targets_distinct Census h = refl
+targets_distinct (Handshake targets ask) h = (and_parts _ (is_distinct targets) h).1
