@@ -6,9 +6,11 @@ ghost use Rattle.operations.specs.Asks.{reply};
 use crate::Ask;
 pub use errands::Errand;
 use frames::image::Image;
+pub use queries::Query;
 pub use runs::Done;
 
 pub mod errands;
+pub mod queries;
 pub mod runs;
 
 /// A boxed callback.

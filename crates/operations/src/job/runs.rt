@@ -58,6 +58,17 @@ fn called(mut call: Call, image: &Image) -> u64
 }
 
 impl Done {
+    pub(super) fn of(op: u64, target: u64, ask: Ask, reply: u64) -> Done
+        ensures { result ≡ record { op = op; target = target; ask = ask; reply = reply } }
+    {
+        Done {
+            op,
+            target,
+            ask,
+            reply,
+        }
+    }
+
     pub fn op(&self) -> u64
         ensures { result ≡ self.now.op }
     {
