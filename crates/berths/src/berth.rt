@@ -14,6 +14,9 @@ use std::thread;
 
 /// A room under a lock, and a bell that rings for those that wait for a change of it. Each call takes this lock, and no other, and
 /// answers the receipt of what it did there, or what came out. Contracts see the place that it was made for.
+///
+/// `give`, `release`, `bring` and `resume` try once in line, and only their further tries are a call: the first nearly always
+/// succeeds, and what a call of the loop answers would go through memory.
 #[derive(Drop)]
 pub struct Berth<N: Name, J: Errand> {
     place: usize,
@@ -42,18 +45,21 @@ impl<N: Name, J: Errand> Berth<N, J> {
     }
 
     /// The room under its lock.
+    #[inline(always)]
     pub fn room(&self) -> &Mutex<Room<N, J>> {
         let _ = &self.bell;
         &self.room
     }
 
     // Wakes those that wait for a change, where there are any.
+    #[inline(always)]
     fn ring(&self, wanted: bool) {
         if wanted {
             self.bell.notify_all();
         }
     }
 
+    #[inline(always)]
     fn try_give<R: Wait>(&self, rt: &R, body: Body<N>) -> Result<BodyReceipt<N>, Body<N>>
         requires body { (body.seat.stored ≢ 0) × (0 < body.name) }
         ensures ok { IfOk result (λ r. r ≡ moved body BodyAct.Given) }
@@ -68,17 +74,30 @@ impl<N: Name, J: Errand> Berth<N, J> {
     }
 
     /// The body goes in.
+    #[inline(always)]
     pub fn give<R: Wait>(&self, rt: &R, body: Body<N>) -> BodyReceipt<N>
+        requires body { (body.seat.stored ≢ 0) × (0 < body.name) }
+        ensures { result ≡ moved body BodyAct.Given }
+    {
+        match self.try_give(rt, body) {
+            Ok(receipt) => receipt,
+            Err(back) => self.give_again(rt, back),
+        }
+    }
+
+    // The same after a try that failed: other threads run before each further one.
+    #[inline(never)]
+    fn give_again<R: Wait>(&self, rt: &R, body: Body<N>) -> BodyReceipt<N>
         requires body { (body.seat.stored ≢ 0) × (0 < body.name) }
         ensures { result ≡ moved body BodyAct.Given }
     {
         let mut body = body;
         for _ in rt.forever() {
+            thread::yield_now();
             match self.try_give(rt, body) {
                 Ok(receipt) => return receipt,
                 Err(back) => body = back,
             }
-            thread::yield_now();
         }
         unreachable!()
     }
@@ -112,6 +131,7 @@ impl<N: Name, J: Errand> Berth<N, J> {
         unreachable!()
     }
 
+    #[inline(always)]
     fn try_release<R: Wait>(
         &self,
         rt: &R,
@@ -131,21 +151,35 @@ impl<N: Name, J: Errand> Berth<N, J> {
     }
 
     /// A held body goes back. Where a census was operated over it, nothing keeps the thread any more.
+    #[inline(always)]
     pub fn release<R: Wait>(&self, rt: &R, body: Body<N>, operated: bool) -> BodyReceipt<N>
+        requires body { (body.seat.stored ≢ 0) × (0 < body.name) }
+        ensures { result ≡ moved body (BodyAct.Released operated) }
+    {
+        match self.try_release(rt, body, operated) {
+            Ok(receipt) => receipt,
+            Err(back) => self.release_again(rt, back, operated),
+        }
+    }
+
+    // The same after a try that failed: other threads run before each further one.
+    #[inline(never)]
+    fn release_again<R: Wait>(&self, rt: &R, body: Body<N>, operated: bool) -> BodyReceipt<N>
         requires body { (body.seat.stored ≢ 0) × (0 < body.name) }
         ensures { result ≡ moved body (BodyAct.Released operated) }
     {
         let mut body = body;
         for _ in rt.forever() {
+            thread::yield_now();
             match self.try_release(rt, body, operated) {
                 Ok(receipt) => return receipt,
                 Err(back) => body = back,
             }
-            thread::yield_now();
         }
         unreachable!()
     }
 
+    #[inline(always)]
     fn try_bring<R: Wait>(
         &self,
         rt: &R,
@@ -173,13 +207,35 @@ impl<N: Name, J: Errand> Berth<N, J> {
 
     /// A body that was taken out to serve goes back. Where its thread was told more meanwhile it doesn't, and comes back with the oldest
     /// job.
+    #[inline(always)]
     pub fn bring<R: Wait>(&self, rt: &R, body: Body<N>) -> Result<BodyReceipt<N>, (Body<N>, Due<J>)>
+        requires body { (body.seat.stored ≢ 0) × (0 < body.name) }
+        ensures ok { IfOk result (λ r. r ≡ moved body (BodyAct.Released false)) }
+        ensures told { IfErr result (λ r. (r.0 ≡ body) × (J.whom r.1 ≡ body.name) × (0 < J.number r.1)) }
+    {
+        match self.try_bring(rt, body) {
+            Ok(receipt) => Ok(receipt),
+            Err((back, told)) => match told {
+                Some(job) => Err((back, job)),
+                None => self.bring_again(rt, back),
+            },
+        }
+    }
+
+    // The same after a try that failed: other threads run before each further one.
+    #[inline(never)]
+    fn bring_again<R: Wait>(
+        &self,
+        rt: &R,
+        body: Body<N>,
+    ) -> Result<BodyReceipt<N>, (Body<N>, Due<J>)>
         requires body { (body.seat.stored ≢ 0) × (0 < body.name) }
         ensures ok { IfOk result (λ r. r ≡ moved body (BodyAct.Released false)) }
         ensures told { IfErr result (λ r. (r.0 ≡ body) × (J.whom r.1 ≡ body.name) × (0 < J.number r.1)) }
     {
         let mut body = body;
         for _ in rt.forever() {
+            thread::yield_now();
             match self.try_bring(rt, body) {
                 Ok(receipt) => return Ok(receipt),
                 Err((back, told)) => match told {
@@ -187,7 +243,6 @@ impl<N: Name, J: Errand> Berth<N, J> {
                     None => body = back,
                 },
             }
-            thread::yield_now();
         }
         unreachable!()
     }
@@ -225,6 +280,7 @@ impl<N: Name, J: Errand> Berth<N, J> {
 
     /// Takes the body of the name to serve it, with its oldest job, or the receipt that there was none, where the body is here; the
     /// error is the receipt that it wasn't.
+    #[inline(always)]
     pub fn take_told<R: Wait>(
         &self,
         rt: &R,
@@ -260,8 +316,35 @@ impl<N: Name, J: Errand> Berth<N, J> {
         unreachable!()
     }
 
+    #[inline(always)]
+    fn try_resume<R: Wait>(
+        &self,
+        rt: &R,
+        name: u64,
+        place: usize,
+    ) -> Option<(Body<N>, BodyReceipt<N>)>
+        ensures body { IfSome result (λ r. (r.0.name ≡ name) × (0 < r.0.name) × (r.0.seat.place ≡ place) × (r.0.seat.stored ≢ 0)) }
+        ensures resumed { IfSome result (λ r. r.1 ≡ moved r.0 BodyAct.Resumed) }
+    {
+        self.room.lock(rt).resume(name, place)
+    }
+
     /// Takes the body of the name out for its thread to go on, once it is here and nobody holds it. What was told to it stays.
+    #[inline(always)]
     pub fn resume<R: Wait>(&self, rt: &R, name: u64, place: usize) -> (Body<N>, BodyReceipt<N>)
+        ensures body { (result.0.name ≡ name) × (0 < result.0.name) × (result.0.seat.place ≡ place) × (result.0.seat.stored ≢ 0) }
+        ensures resumed { result.1 ≡ moved result.0 BodyAct.Resumed }
+    {
+        match self.try_resume(rt, name, place) {
+            Some(resumed) => resumed,
+            None => self.await_resume(rt, name, place),
+        }
+    }
+
+    // The same after a try that failed: it sleeps until the bell rings. It looks once more under the lock under which it notes itself, so
+    // that a change since that try isn't missed.
+    #[inline(never)]
+    fn await_resume<R: Wait>(&self, rt: &R, name: u64, place: usize) -> (Body<N>, BodyReceipt<N>)
         ensures body { (result.0.name ≡ name) × (0 < result.0.name) × (result.0.seat.place ≡ place) × (result.0.seat.stored ≢ 0) }
         ensures resumed { result.1 ≡ moved result.0 BodyAct.Resumed }
     {

@@ -87,6 +87,7 @@ impl<N: Name> Outing<N> {
     }
 }
 
+#[inline(always)]
 fn moved_by<N: Name>(body: &Body<N>, act: BodyAct) -> BodyReceipt<N>
     ensures { result ≡ moved body.now act }
 {
@@ -128,6 +129,7 @@ impl<N: Name> Model for BerthReceipt<N> {
     ghost view = { λ r. record { place = r.place; name = r.name; act = r.act } };
 }
 
+#[inline(always)]
 fn receipt_of<N: Name>(place: usize, name: u64, act: BerthAct) -> BerthReceipt<N>
     ensures { result ≡ acted place name act }
 {
@@ -205,6 +207,7 @@ impl<N: Name, J: Errand> Room<N, J> {
     }
 
     /// Whether a thread waits for a change.
+    #[inline(always)]
     pub fn has_sleepers(&self) -> bool
         ensures { result ≡ not (self.now.sleepers == 0) }
     {
@@ -235,6 +238,7 @@ impl<N: Name, J: Errand> Room<N, J> {
     }
 
     /// Whether the body of the name is here.
+    #[inline(always)]
     pub fn has_body(&self, name: u64) -> bool
         ensures yes { result ≡ true → (b : _) × (self.now.holder ≡ IsAtHome b) × (b.name ≡ name) }
         ensures no { result ≡ false → (b : _) → self.now.holder ≡ IsAtHome b → b.name ≢ name }
@@ -279,6 +283,7 @@ impl<N: Name, J: Errand> Room<N, J> {
     }
 
     /// The body goes in. It comes back where the berth bears another name, or has a body.
+    #[inline(always)]
     pub fn give(&mut self, body: Body<N>) -> Result<BodyReceipt<N>, Body<N>>
         requires body { (body.seat.stored ≢ 0) × (0 < body.name) }
         ensures receipt { IfOk result (λ r. r ≡ moved body BodyAct.Given) }
@@ -297,6 +302,7 @@ impl<N: Name, J: Errand> Room<N, J> {
     }
 
     /// The body of the name comes out to be held, where it is here and this is the place; the error is the receipt that it isn't here.
+    #[inline(always)]
     pub fn take(
         &mut self,
         name: u64,
@@ -318,6 +324,7 @@ impl<N: Name, J: Errand> Room<N, J> {
     }
 
     /// The body of the name comes out for its thread to go on, where it is here and this is the place. What was told to it stays.
+    #[inline(always)]
     pub fn resume(&mut self, name: u64, place: usize) -> Option<(Body<N>, BodyReceipt<N>)>
         ensures receipt { IfSome result (λ r. r.1 ≡ moved r.0 BodyAct.Resumed) }
         ensures some { IfSome result (λ r. (self.old.holder ≡ IsAtHome r.0) × (r.0.name ≡ name) × (self.old.place ≡ place) × (self.new ≡ record self.old { holder = IsOut name })) }
@@ -330,6 +337,7 @@ impl<N: Name, J: Errand> Room<N, J> {
     }
 
     // The body of the name comes out, where it is here and this is the place.
+    #[inline(always)]
     fn take_here(&mut self, name: u64, place: usize) -> Option<Body<N>>
         ensures some { IfSome result (λ b. (self.old.holder ≡ IsAtHome b) × (b.name ≡ name) × (self.old.place ≡ place) × (self.new ≡ record self.old { holder = IsOut name })) }
         ensures body { IfSome result (λ b. (b.seat.place ≡ place) × (0 < b.name) × (b.seat.stored ≢ 0)) }
@@ -342,6 +350,7 @@ impl<N: Name, J: Errand> Room<N, J> {
     }
 
     // The body of the name comes out, where it is here.
+    #[inline(always)]
     fn take_out(&mut self, name: u64) -> Option<Body<N>>
         ensures some { IfSome result (λ b. (self.old.holder ≡ IsAtHome b) × (b.name ≡ name) × (self.new ≡ record self.old { holder = IsOut name })) }
         ensures body { IfSome result (λ b. (b.seat.place ≡ self.old.place) × (0 < b.name) × (b.seat.stored ≢ 0)) }
@@ -385,6 +394,7 @@ impl<N: Name, J: Errand> Room<N, J> {
     }
 
     /// The oldest job of the name, whose body is out.
+    #[inline(always)]
     pub fn job(&mut self, name: u64) -> Result<Due<J>, BerthReceipt<N>>
         ensures ok { IfOk result (λ j. (J.whom j ≡ name) × (0 < J.number j) × (self.old.jobs ≡ told_of J.number J.whom j ∷ self.new.jobs)) }
         ensures same { self.new ≡ record self.old { jobs = self.new.jobs } }
@@ -418,6 +428,7 @@ impl<N: Name, J: Errand> Room<N, J> {
         Ok(receipt)
     }
 
+    #[inline(always)]
     pub fn place(&self) -> usize
         ensures { result ≡ self.now.place }
     {
@@ -426,6 +437,7 @@ impl<N: Name, J: Errand> Room<N, J> {
     }
 
     /// The name that it bears, 0 for none.
+    #[inline(always)]
     pub fn name(&self) -> u64
         ensures { result ≡ name_of self.now.holder }
     {
@@ -451,6 +463,7 @@ impl<N: Name, J: Errand> Room<N, J> {
     }
 
     /// The body that was held goes in, and the mark of an operated census goes.
+    #[inline(always)]
     pub fn release(&mut self, body: Body<N>, operated: bool) -> Result<BodyReceipt<N>, Body<N>>
         requires body { (body.seat.stored ≢ 0) × (0 < body.name) }
         ensures receipt { IfOk result (λ r. r ≡ moved body (BodyAct.Released operated)) }

@@ -1,5 +1,5 @@
 use Rattle.std.proofs.Common.{◌≡◌}
-use Rattle.berths.proofs.berth.Berth.release.Given as goal
+use Rattle.berths.proofs.berth.Berth.release_again.Given as goal
 
 abbrev pub invariant-loop : goal.invariant-loop
 invariant-loop g l =
