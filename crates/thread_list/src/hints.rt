@@ -42,6 +42,7 @@ impl Hints {
     }
 
     /// How many methods there are.
+    #[inline(always)]
     pub fn methods(&self) -> u32
         ensures { result ≡ self.now.methods }
     {
@@ -58,6 +59,7 @@ impl Hints {
     }
 
     /// The code that was set last for the method; None without one, and where its slot isn't one of the board's.
+    #[inline(always)]
     pub fn of(&self, method: u32) -> Option<CodeId>
         ensures { IfSome result (λ c. c.slot < self.now.slots) }
     {

@@ -148,6 +148,7 @@ impl<'a, N: Name, J: Errand> Mutator<'a, N, J> {
 
     /// Publishes the stack: one load of the moment, a step for each code whose counts differ, and a store of the moment that was
     /// loaded. A thread that doesn't own itself is refused with its state.
+    #[inline(always)]
     pub fn publish(&mut self) -> Result<(), State>
         ensures published { OnOk result ((old : BodyView) × (new : BodyView) × (self.old.body ≡ Some old) × (self.new.body ≡ Some new) × IsPublished old new) }
         ensures lawful { OnOk result (is_running self.old.state ≡ true) }
@@ -211,6 +212,7 @@ impl<'a, N: Name, J: Errand> Mutator<'a, N, J> {
 }
 
 /// Whether a thread in this state runs its own code, in Java or in the VM.
+#[inline(always)]
 pub fn is_running(state: State) -> bool
     ensures { result ≡ is_running state }
 {

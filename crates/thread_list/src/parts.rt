@@ -18,6 +18,7 @@ use operations::job::Errand;
 use poll::{Armer, PollRow, Poller};
 use std::alloc::{AllocError, Global};
 use std::marker::Model;
+use std::sync::atomic::AtomicU64;
 use std::sync::{Condvar, Mutex};
 
 /// The most places, slots and methods that a system has.
@@ -191,6 +192,7 @@ impl<N: Name, J: Errand> Shared<N, J> {
                         berths,
                         desk: Mutex::new(desk),
                         hints,
+                        waiters: AtomicU64::new(0),
                         finished: Condvar::new(),
                     },
                     armer,

@@ -25,6 +25,7 @@ use operations::job::{Done, Errand};
 use poll::PollRow;
 use std::alloc::AllocError;
 use std::marker::Model;
+use std::sync::atomic::{AtomicU64, Ordering};
 use std::sync::{Condvar, Mutex, Wait};
 use std::thread;
 
@@ -37,7 +38,9 @@ pub struct Shared<N: Name, J: Errand> {
     pub(crate) berths: Vec<Berth<N, J>>,
     pub(crate) desk: Mutex<Desk<N, J>>,
     pub(crate) hints: Hints,
-    /// Rings where a thread is answered for, or exits.
+    /// How many threads wait for `finished`. Each counts itself and takes itself off under the desk's lock.
+    pub(crate) waiters: AtomicU64,
+    /// Rings where a thread is answered for, or exits, and somebody waits for it.
     pub(crate) finished: Condvar,
 }
 
@@ -190,6 +193,18 @@ impl<N: Name, J: Errand> Shared<N, J> {
         Ok(list)
     }
 
+    // Wakes those that wait until a thread is answered for or gone, where there are any; called once the desk's lock was let go after
+    // such an entry. No wake-up is lost: who waits has counted itself under the lock under which it looked, and keeps the lock until it
+    // sleeps. Where it looked before the entry it is counted here, or has woken already and looks again; where it looks afterwards it
+    // finds the entry, and doesn't wait.
+    #[inline(always)]
+    fn ring(&self) {
+        if self.waiters.load(Ordering::SeqCst) != 0 {
+            self.finished.notify_all();
+        }
+    }
+
+    #[inline(always)]
     fn try_finish<R: Wait>(
         &self,
         rt: &R,
@@ -210,8 +225,26 @@ impl<N: Name, J: Errand> Shared<N, J> {
     }
 
     /// Enters what a job answered on a settled body. Answers also whether a thread with a greater name has still to be answered for: the
-    /// first such is found without a look at all that are done.
+    /// first such is found without a look at all that are done. The first try is in line: it nearly always succeeds, and what a call of
+    /// the loop answers would go through memory.
+    #[inline(always)]
     pub fn finish<R: Wait>(&self, rt: &R, body: &Body<N>, done: Done) -> (Receipt<N>, bool)
+        requires name { body.now.name ≡ done.target }
+        requires settled { IsSettled body.now.image }
+        requires reply { done.reply ≡ reply done.ask body.now.image.frames }
+        ensures { result.0.entry ≡ Entry.Finish done.op done.target done.reply }
+    {
+        let finished = match self.try_finish(rt, body, done) {
+            Ok(finished) => finished,
+            Err(back) => self.finish_again(rt, body, back),
+        };
+        self.ring();
+        finished
+    }
+
+    // Enters it after a try that failed: other threads run before each further one.
+    #[inline(never)]
+    fn finish_again<R: Wait>(&self, rt: &R, body: &Body<N>, done: Done) -> (Receipt<N>, bool)
         requires name { body.now.name ≡ done.target }
         requires settled { IsSettled body.now.image }
         requires reply { done.reply ≡ reply done.ask body.now.image.frames }
@@ -219,14 +252,11 @@ impl<N: Name, J: Errand> Shared<N, J> {
     {
         let mut done = done;
         for _ in rt.forever() {
+            thread::yield_now();
             match self.try_finish(rt, body, done) {
-                Ok(finished) => {
-                    self.finished.notify_all();
-                    return finished;
-                }
+                Ok(finished) => return finished,
                 Err(back) => done = back,
             }
-            thread::yield_now();
         }
         unreachable!()
     }
@@ -246,7 +276,7 @@ impl<N: Name, J: Errand> Shared<N, J> {
         for _ in rt.forever() {
             let gone = self.desk.lock(rt).exit(name);
             if let Ok(exit) = gone {
-                self.finished.notify_all();
+                self.ring();
                 return Exited {
                     served,
                     vacated,
@@ -265,7 +295,9 @@ impl<N: Name, J: Errand> Shared<N, J> {
             if !is_due(&desk, name) {
                 return;
             }
+            self.waiters.fetch_add(1, Ordering::SeqCst);
             let _desk = self.finished.wait(rt, desk);
+            self.waiters.fetch_sub(1, Ordering::SeqCst);
         }
     }
 }

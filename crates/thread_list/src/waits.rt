@@ -32,6 +32,7 @@ pub enum ExitFault {
 }
 
 // The state that a way back names.
+#[inline(always)]
 fn state_of(back: Back) -> State
     ensures { result ≡ table.state_of back }
 {
@@ -44,6 +45,7 @@ fn state_of(back: Back) -> State
 impl<'a, N: Name, J: Errand> Mutator<'a, N, J> {
     /// From Java or the VM into native code, without a poll: the body goes into its berth, where it may be held. A thread that is
     /// in neither is refused with its state.
+    #[inline(always)]
     pub fn to_native<R: Wait>(&mut self, rt: &R) -> Result<(), State>
         ensures ok { OnOk result (table.step self.old.state movement.ToNative ≡ Some self.new.state) }
         ensures given { OnOk result (Gives self.old self.new) }
@@ -61,6 +63,7 @@ impl<'a, N: Name, J: Errand> Mutator<'a, N, J> {
 
     /// Back from native code: the body comes out of its berth once nobody holds it, without what was told to it, and the thread
     /// polls. A thread that isn't in native code is refused with its state.
+    #[inline(always)]
     pub fn from_native<R: Wait>(&mut self, rt: &R) -> Result<Poll, State>
         ensures ok { IfOk result (λ said. (back : WayBack) × (self.old.state ≡ IsInNative back) × ComesBack self.new.crossed.body self.new (IsNativeTrans back) said) }
         ensures resumed { OnOk result (IsResumed self.new) }
@@ -123,6 +126,7 @@ impl<'a, N: Name, J: Errand> Mutator<'a, N, J> {
     }
 
     // The body goes into its berth, and the thread is in this state, in which it doesn't own itself.
+    #[inline(always)]
     fn give<R: Wait>(&mut self, rt: &R, to: State)
         requires running { is_running self.old.state ≡ true }
         requires safe { table.is_safe to ≡ true }
@@ -140,6 +144,7 @@ impl<'a, N: Name, J: Errand> Mutator<'a, N, J> {
     }
 
     // The body comes out of its berth, and the thread polls: it goes on where the way back leads, or stops there.
+    #[inline(always)]
     fn come_back<R: Wait>(&mut self, rt: &R, back: Back) -> Poll
         ensures polled { GoesBack self.new.crossed.body self.new back result }
         ensures resumed { IsResumed self.new }

@@ -1,4 +1,4 @@
-use Rattle.std.proofs.Common.{◌≡◌, ◌<◌, ◌∙◌, Some, ap, rules}
+use Rattle.std.proofs.Common.{◌≡◌, ◌<◌, ◌∙◌, ap, rules}
 use Rattle.berths.specs.Berths.{moved, number_of}
 use Rattle.berths.specs.declared.room.BodyAct.TheVariants.{Served}
 use Rattle.thread_list.proofs.Turned.{turned}
