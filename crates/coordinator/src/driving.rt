@@ -23,6 +23,17 @@ use thread_list::Shared;
 /// How often a `drive` looks at poll words without a lock before it sleeps: about as long as a thread takes to its next poll.
 pub const SPINS: u32 = 500;
 
+// How often a census looks into berths for bodies that aren't there, with a pause after each look, before it sleeps.
+const LOOKS: u32 = 64;
+
+const PAUSE: u32 = 8;
+
+fn pause() {
+    for _ in 0..PAUSE {
+        hint::spin_loop();
+    }
+}
+
 // The receipts of a target that was served where its body was: that its body came out, of what its oldest job answered, or that it had
 // none, and that its body went back.
 #[derive(Drop)]
@@ -312,23 +323,34 @@ impl<'a, N: Name, J: Errand> Coordinator<'a, N, J> {
     {
         self.list_due(rt, false);
         self.due.reverse();
+        let mut looks = LOOKS;
         for _ in rt.forever() {
             let Some(due) = self.due.pop() else {
                 return;
             };
-            self.hold_at(rt, due);
+            looks = self.hold_at(rt, due, looks);
         }
     }
 
-    // Takes the body of a thread out of its berth, where it isn't held.
-    fn hold_at<R: Wait>(&mut self, rt: &R, due: Live)
+    // Takes the body of a thread out of its berth, where it isn't held: looks for it there as often as looks are left, and then waits
+    // asleep. Answers how many are left.
+    fn hold_at<R: Wait>(&mut self, rt: &R, due: Live, looks: u32) -> u32
         ensures { HoldsOn self.old self.new }
     {
         if due.place >= self.places || self.bodies.has(due.place) {
-            return;
+            return looks;
         }
-        let (body, taken) = self.shared.berth(due.place).hold(rt, due.name, due.place);
+        let berth = self.shared.berth(due.place);
+        for made in 0..looks {
+            if let Ok((body, taken)) = berth.take(rt, due.name, due.place) {
+                self.keep(body, taken);
+                return looks - made;
+            }
+            pause();
+        }
+        let (body, taken) = berth.hold(rt, due.name, due.place);
         self.keep(body, taken);
+        0
     }
 
     // Brings all held bodies back.
