@@ -9,3 +9,4 @@ pub mod Fewer
 pub mod Uncounted
 pub mod Settling
 pub mod Totals
+pub mod Cells

@@ -1,11 +1,11 @@
--- Nets in the order in which their codes moved first: what they come to, and what keeps or settles them.
-use Rattle.std.proofs.Common.{◌≡◌, ◌≢◌, ℕ, zero, suc, ◌+◌, ◌<◌, ◌≤◌, ◌∙◌, sym, Bool, true, false, not, eqb, List, [], ◌∷◌, ◌++◌, length, drop, set, get_or, Option, Some, None, refl, ap, ap₂, subst, cond, arith, ℤ, pos, negsuc, ◌+ℤ◌}
+-- Nets in any order: what they come to, and what keeps or settles them.
+use Rattle.std.proofs.Common.{◌≡◌, ℕ, zero, suc, ◌+◌, ◌<◌, ◌≤◌, ◌∙◌, sym, Bool, true, false, not, eqb, List, [], ◌∷◌, ◌++◌, length, drop, set, get_or, Option, Some, None, refl, ap, ap₂, subst, cond, arith, ℤ, pos, negsuc, ◌+ℤ◌}
 use Rattle.std.proofs.lemmas.Int.{ints}
 use Rattle.std.proofs.lemmas.Bool.Decides.{nat_tests}
 use Rattle.std.proofs.lemmas.List.Sums.{sum_by-cons}
 use Rattle.std.proofs.lemmas.List.Sorted.{sum_by-IsPermutation, IsPermutation-map, All-permutation}
 use Rattle.std.proofs.lemmas.List.Elements.{All-cons}
-use Rattle.std.proofs.lemmas.List.{get_or-set_same, get_or-set_other, length-set}
+use Rattle.std.proofs.lemmas.List.{length-set}
 use Rattle.std.specs.Prelude.{filter}
 use Rattle.std.specs.List.{sum_by, All}
 use Rattle.std.specs.Ordering.{is_lt, nat_cmp, ordering_then}
@@ -14,7 +14,7 @@ use Rattle.frames.specs.declared.CodeId.{CodeId}
 use Rattle.frames.specs.declared.Change.{Change}
 use Rattle.frames.specs.Stack.{same_code, code_lt, times}
 use Rattle.frames.specs.Kept.{upto}
-use Rattle.frames.specs.Nets.{net_in, is_zero, nat_of, net_of, with_net, add, moved, settled, by_code, total, codes_in, mark_of, IsRising, IsWithin, IsAt, IsPut, AreOnce, AreKept, AreSmall, net_sum}
+use Rattle.frames.specs.Nets.{net_in, is_zero, nat_of, net_of, with_net, add, moved, settled, by_code, total, codes_in, IsRising, IsWithin, IsAt, IsPut, AreOnce, AreSmall, net_sum}
 use Rattle.frames.proofs.Bags.{same_code-equal, same_code-refl, times-cons}
 use Rattle.frames.proofs.Moves.{net_below, net_here, net_other, zero_not, zero_is, rising_add}
 use Rattle.frames.proofs.Settling.{one_more, nets_by, none_behind, itself, times_codes, same_length, length-codes_in}
@@ -125,14 +125,14 @@ total_set (e ∷ es) (suc i) d y lt c = step (total (set es i y) c) (total es c)
     step : (s t x y e : ℤ) → s +ℤ x ≡ t +ℤ y → s +ℤ e +ℤ x ≡ t +ℤ e +ℤ y
     step s t x y e h = omega (arith, ints, h)
 
-total_push : (es : List Change) (y : Change) (c : CodeId) → total (es ++ y ∷ []) c ≡ total es c +ℤ by_code y.code y.by c
+pub total_push : (es : List Change) (y : Change) (c : CodeId) → total (es ++ y ∷ []) c ≡ total es c +ℤ by_code y.code y.by c
 total_push [] y c = refl
 total_push (e ∷ es) y c = step (total (es ++ y ∷ []) c) (total es c) (by_code y.code y.by c) (by_code e.code e.by c) (total_push es y c)
   where
     step : (s t y e : ℤ) → s ≡ t +ℤ y → s +ℤ e ≡ t +ℤ e +ℤ y
     step s t y e h = omega (arith, ints, h)
 
-times_set : (es : List Change) (i : ℕ) (d y : Change) → i < length es → (c : CodeId) → times c (codes_in (set es i y)) + times c ((get_or es i d).code ∷ []) ≡ times c (codes_in es) + times c (y.code ∷ [])
+pub times_set : (es : List Change) (i : ℕ) (d y : Change) → i < length es → (c : CodeId) → times c (codes_in (set es i y)) + times c ((get_or es i d).code ∷ []) ≡ times c (codes_in es) + times c (y.code ∷ [])
 times_set [] i d y lt c = absurd (omega arith)
 times_set (e ∷ es) zero d y lt c =
     let a = times-cons c y.code (codes_in es) in
@@ -146,7 +146,7 @@ times_set (e ∷ es) (suc i) d y lt c =
     let rest = times_set es i d y (omega arith) c in
     omega (arith, a, b, rest)
 
-times_push : (es : List Change) (y : Change) (c : CodeId) → times c (codes_in (es ++ y ∷ [])) ≡ times c (codes_in es) + times c (y.code ∷ [])
+pub times_push : (es : List Change) (y : Change) (c : CodeId) → times c (codes_in (es ++ y ∷ [])) ≡ times c (codes_in es) + times c (y.code ∷ [])
 times_push [] y c = omega arith
 times_push (e ∷ es) y c =
     let a = times-cons c e.code (codes_in (es ++ y ∷ [])) in
@@ -155,7 +155,7 @@ times_push (e ∷ es) y c =
     omega (arith, a, b, rest)
 
 -- the net of a code that stands once
-no_total : (es : List Change) (c : CodeId) → times c (codes_in es) ≡ 0 → total es c ≡ pos 0
+pub no_total : (es : List Change) (c : CodeId) → times c (codes_in es) ≡ 0 → total es c ≡ pos 0
 no_total [] c h = refl
 no_total (e ∷ es) c h = by_case (no_total es c) (same_code e.code c) (sym (times-cons c e.code (codes_in es)) ∙ h)
   where
@@ -168,7 +168,7 @@ there [] i d lt = absurd (omega arith)
 there (e ∷ es) zero d lt = rw times-cons (rw same_code-refl (omega arith))
 there (e ∷ es) (suc i) d lt = let a = times-cons (get_or es i d).code e.code (codes_in es) in let rest = there es i d (omega arith) in omega (arith, a, rest)
 
-within_add : (es : List Change) (code : CodeId) (by : ℤ) → IsRising None es → ((c : CodeId) → IsWithin (net_in es c) 256) → IsWithin (net_in es code +ℤ by) 256 → (c : CodeId) → IsWithin (net_in (add es code by) c) 256
+pub within_add : (es : List Change) (code : CodeId) (by : ℤ) → IsRising None es → ((c : CodeId) → IsWithin (net_in es c) 256) → IsWithin (net_in es code +ℤ by) 256 → (c : CodeId) → IsWithin (net_in (add es code by) c) 256
 within_add es code by r w h c = by_case (same_code code c) refl
   where
     by_case : (b : Bool) → same_code code c ≡ b → IsWithin (net_in (add es code by) c) 256
@@ -226,93 +226,6 @@ set_put es i d net fits lt none = record {
     plain true x e h = omega (arith, ints, e, h)
     plain false x e h = omega (arith, ints, h)
 
--- the code moves where it stands
-pub record Added (es ys : List Change) (n : ℕ) (marks : List ℕ) (code : CodeId) (by : ℤ) : Type 0 where
-  pub same : settled ys ≡ add (settled es) code by
-  pub kept : AreKept ys n marks false
-
-pub added : (es : List Change) (n : ℕ) (marks : List ℕ) (code : CodeId) (by z : ℤ) (place : ℕ) (d : Change) → AreKept es n marks false → IsAt es code place → z ≡ (get_or es place d).by +ℤ by
-    → is_zero by ≡ false → IsWithin (net_in (settled es) code +ℤ by) 256 → length (add (settled es) code by) ≤ 512 → Added es (set es place (net_of code z)) n marks code by
-added es n marks code by z place d k at_ is some w few =
-    let ys : List Change = set es place (net_of code z) in
-    let same = moved_settled es ys code by some (λ c. moves c) in
-    let codes : (c : CodeId) → times c (codes_in ys) ≡ times c (codes_in es) = λ c. (let all = times_set es place d (net_of code z) at_.within c in let one = ap (λ x. times c (x ∷ [])) (at_.is d) in omega arith) in
-    record {
-      same = same;
-      kept = record {
-        room = k.room;
-        fits = (let long = length-set es place (net_of code z) in let fits = k.fits in omega arith);
-        marks_are = k.marks_are;
-        once = λ c. (let all = codes c in let one = k.once c in omega arith);
-        marked = λ open_ c none. codes c ∙ k.marked open_ c none;
-        small = rw same (within_add (settled es) code by (settled_rising es) k.small w);
-        few = rw same few;
-        rising = λ no. cc;
-      };
-    }
-  where
-    moves : (c : CodeId) → total (set es place (net_of code z)) c ≡ total es c +ℤ by_code code by c
-    moves c =
-        let all = total_set es place d (net_of code z) at_.within c in
-        by_case (same_code code c) (rw (at_.is d) at all)
-      where
-        by_case : (b : Bool) → total (set es place (net_of code z)) c +ℤ cond b (get_or es place d).by (pos 0) ≡ total es c +ℤ cond b z (pos 0) → total (set es place (net_of code z)) c ≡ total es c +ℤ cond b by (pos 0)
-        by_case true h = omega (arith, ints, h, is)
-        by_case false h = omega (arith, ints, h)
-
--- the same of what an index gave
-pub added_at : (es : List Change) (n : ℕ) (marks : List ℕ) (code : CodeId) (by z : ℤ) (place : ℕ) (x : Change) → AreKept es n marks false → IsAt es code place → x ≡ get_or es place x → z ≡ x.by +ℤ by
-    → is_zero by ≡ false → IsWithin (net_in (settled es) code +ℤ by) 256 → length (add (settled es) code by) ≤ 512 → Added es (set es place (net_of x.code z)) n marks code by
-added_at es n marks code by z place x k at_ here is some w few =
-    let same : x.code ≡ code = ap (λ (e : Change). e.code) here ∙ at_.is x in
-    subst (λ q. Added es (set es place (net_of q z)) n marks code by) (sym same) (added es n marks code by z place x k at_ (is ∙ ap (λ (e : Change). e.by +ℤ by) here) some w few)
-
-mark_bound : (code : CodeId) → mark_of code < 1024
-mark_bound code = omega arith
-
--- a code that has none takes a net and its mark
-pub added_new : (es ys : List Change) (n m : ℕ) (marks : List ℕ) (code : CodeId) (by : ℤ) (v : ℕ) → AreKept es n marks false → times code (codes_in es) ≡ 0 → IsPut (net_of code by) es ys → v ≢ 0 → 1024 ≤ m
-    → is_zero by ≡ false → IsWithin (net_in (settled es) code +ℤ by) 256 → length (add (settled es) code by) ≤ 512 → Added es ys m (set marks (mark_of code) v) code by
-added_new es ys n m marks code by v k none put some_mark room some w few =
-    let same = moved_settled es ys code by some put.totals in
-    record {
-      same = same;
-      kept = record {
-        room = room;
-        fits = put.fits;
-        marks_are = length-set marks (mark_of code) v ∙ k.marks_are;
-        once = λ c. one c (same_code code c) refl (bound c);
-        marked = λ open_ c gone. found c (eqb (mark_of c) (mark_of code)) refl gone;
-        small = rw same (within_add (settled es) code by (settled_rising es) k.small w);
-        few = rw same few;
-        rising = λ no. cc;
-      };
-    }
-  where
-    bound : (c : CodeId) → times c (codes_in ys) ≤ times c (codes_in es) + cond (same_code code c) 1 0
-    bound c = let all = put.codes c in omega (arith, all)
-
-    one : (c : CodeId) (b : Bool) → same_code code c ≡ b → times c (codes_in ys) ≤ times c (codes_in es) + cond b 1 0 → times c (codes_in ys) ≤ 1
-    one c true e all =
-        let gone : times c (codes_in es) ≡ 0 = subst (λ x. times x (codes_in es) ≡ 0) (same_code-equal code c e) none in
-        omega (arith, all, gone)
-    one c false e all = let was = k.once c in omega (arith, all, was)
-
-    apart_marks : (c : CodeId) (b : Bool) → same_code code c ≡ b → mark_of c ≢ mark_of code → b ≡ false
-    apart_marks c true e ne = absurd (ne (sym (ap mark_of (same_code-equal code c e))))
-    apart_marks c false e ne = refl
-
-    found : (c : CodeId) (b : Bool) → eqb (mark_of c) (mark_of code) ≡ b → get_or (set marks (mark_of code) v) (mark_of c) 0 ≡ 0 → times c (codes_in ys) ≡ 0
-    found c true e gone =
-        let here : mark_of c ≡ mark_of code = grind (arith, nat_tests) in
-        let is : get_or (set marks (mark_of code) v) (mark_of c) 0 ≡ v = ap (λ i. get_or (set marks (mark_of code) v) i 0) here ∙ get_or-set_same marks (mark_of code) v 0 (rw k.marks_are (mark_bound code)) in
-        absurd (some_mark (sym is ∙ gone))
-    found c false e gone =
-        let ne : mark_of c ≢ mark_of code = λ same. (let no : eqb (mark_of c) (mark_of code) ≡ true = grind (arith, nat_tests) in cc) in
-        let before = k.marked refl c (sym (get_or-set_other marks (mark_of code) (mark_of c) v 0 ne) ∙ gone) in
-        let all = rw (apart_marks c (same_code code c) refl ne) at (bound c) in
-        omega (arith, all, before)
-
 -- sorting
 abbrev up : CodeId → Change → ℕ
 up c e = cond (same_code e.code c) (nat_of e.by) 0
@@ -351,7 +264,7 @@ total_permutation xs ys c h =
 times_permutation : (xs ys : List Change) (c : CodeId) → IsPermutation xs ys → times c (codes_in ys) ≡ times c (codes_in xs)
 times_permutation xs ys c h = sum_by-IsPermutation (λ other. cond (same_code other c) 1 0) (codes_in xs) (codes_in ys) (IsPermutation-map (λ (e : Change). e.code) xs ys h)
 
-total_filter : (es : List Change) (c : CodeId) → total (filter (λ e. not (is_zero e.by)) es) c ≡ total es c
+pub total_filter : (es : List Change) (c : CodeId) → total (filter (λ e. not (is_zero e.by)) es) c ≡ total es c
 total_filter [] c = refl
 total_filter (e ∷ es) c = by_case (is_zero e.by) refl (total_filter es c)
   where
@@ -426,7 +339,7 @@ sorted_settled es ys once moved_ sorted =
 plus_none : (z : ℤ) → z +ℤ pos 0 ≡ z
 plus_none z = omega (arith, ints)
 
-none_plus : (t z : ℤ) → t ≡ pos 0 → t +ℤ z ≡ z
+pub none_plus : (t z : ℤ) → t ≡ pos 0 → t +ℤ z ≡ z
 none_plus t z h = omega (arith, ints, h)
 
 -- how many nets there are
@@ -461,37 +374,6 @@ length_settled es once =
     let a = length-codes_in (filter (λ e. not (is_zero e.by)) es) in
     let b = length-codes_in (settled es) in
     omega (arith, same, a, b)
-
--- what is kept of none, and of what is settled
-pub none_kept : (n : ℕ) (marks : List ℕ) → 1024 ≤ n → length marks ≡ 1024 → AreKept [] n marks false
-none_kept n marks room long = record {
-  room = room;
-  fits = omega arith;
-  marks_are = long;
-  once = λ c. omega arith;
-  marked = λ open_ c none. refl;
-  small = λ c. record { low = omega (arith, ints); high = omega (arith, ints) };
-  few = omega arith;
-  rising = λ no. cc;
-}
-
-pub flushed_kept : (es : List Change) (n m : ℕ) (marks more : List ℕ) (flushed : Bool) → AreKept es n marks flushed → m ≡ n → length more ≡ 1024 → AreKept (settled es) m more true
-flushed_kept es n m marks more flushed k same long =
-    let again = rising_settled (settled es) (settled_rising es) in
-    record {
-      room = (let room = k.room in omega arith);
-      fits = (let few = k.few in omega arith);
-      marks_are = long;
-      once = λ c. one (is_zero (net_in (settled es) c)) (times_codes (settled es) None c (settled_rising es));
-      marked = λ no. cc;
-      small = rw again k.small;
-      few = rw again k.few;
-      rising = λ _. settled_rising es;
-    }
-  where
-    one : {n : ℕ} (b : Bool) → n ≡ cond b 0 1 → n ≤ 1
-    one true h = omega (arith, h)
-    one false h = omega (arith, h)
 
 -- the sum of a serial's nets
 abbrev share : Bool → ℤ → ℤ
@@ -575,3 +457,29 @@ pub small_drop : (n : ℕ) (es : List Change) → AreSmall es → AreSmall (drop
 small_drop zero es h = h
 small_drop (suc n) [] h = tt
 small_drop (suc n) (e ∷ es) h = small_drop n es h.1
+
+pub more_left : (n : ℕ) → eqb (suc n) 0 ≡ false
+more_left n = grind (arith, nat_tests)
+
+-- what one net settles to, and what zeros do
+pub settled_none : (es : List Change) (b : Bool) → AreOnce es → b ≡ eqb (length (filter (λ e. not (is_zero e.by)) es)) 0 → b ≡ true → [] ≡ settled es
+settled_none es b once test h = none (settled es) (b) (test ∙ ap (λ n. eqb n 0) (length_settled es once)) h
+  where
+    none : (xs : List Change) (b : Bool) → b ≡ eqb (length xs) 0 → b ≡ true → [] ≡ xs
+    none [] b k h = refl
+    none (x ∷ xs) b k h = absurd (two (sym h ∙ (k ∙ more_left (length xs))))
+      where
+        two : true ≡ false → ⊥
+        two e = cc
+
+pub settled_one : (es : List Change) (b : Bool) → length es ≤ 1 → b ≡ eqb (length (filter (λ e. not (is_zero e.by)) es)) 0 → b ≡ false → es ≡ settled es
+settled_one [] b few test h = refl
+settled_one (e ∷ es) b few test h = by_case es (omega arith) (sym test ∙ h)
+  where
+    by_case : (es : List Change) → length es ≤ 0 → eqb (length (filter (λ e. not (is_zero e.by)) (e ∷ es))) 0 ≡ false → e ∷ es ≡ settled (e ∷ es)
+    by_case [] few some = one (is_zero e.by) some
+      where
+        one : (z : Bool) → eqb (length (cond (not z) (e ∷ []) [])) 0 ≡ false → e ∷ [] ≡ cond z [] (net_of e.code e.by ∷ [])
+        one true some = cc
+        one false some = refl
+    by_case (x ∷ es) few some = absurd (omega arith)

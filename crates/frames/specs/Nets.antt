@@ -1,5 +1,6 @@
 -- Nets: codes with how many frames each has more than are counted, rising by serial and then by slot.
 use Rattle.std.specs.Prelude.{◌≡◌, ℕ, zero, suc, ℤ, pos, negsuc, ◌+ℤ◌, ◌-ℤ◌, ◌≤ℤ◌, ◌≤◌, ◌==◌, ◌+◌, ◌<◌, ◌%◌, slice_index_or, length, Bool, true, false, not, List, [], ◌∷◌, ◌++◌, map, filter, replicate, Option, Some, None, if◌then◌else◌}
+use Rattle.std.specs.List.{All, list_any}
 use Rattle.frames.specs.declared.CodeId.{CodeId}
 use Rattle.frames.specs.declared.Frame.{Frame}
 use Rattle.frames.specs.declared.Change.{Change}
@@ -109,17 +110,43 @@ pub record IsPut (net : Change) (old new : List Change) : Type 0 where
   pub totals : (code : CodeId) → total new code ≡ total old code +ℤ by_code net.code net.by code
   pub codes : (code : CodeId) → times code (codes_in new) ≤ times code (codes_in old) + times code (net.code ∷ [])
 
--- which mark is that of the code's slot
-abbrev pub mark_of : CodeId → ℕ
-mark_of code = code.slot % 1024
+-- which cell is that of the code's slot
+abbrev pub cell_of : CodeId → ℕ
+cell_of code = code.slot % 1024
 
--- what is true of a list with its marks
-pub record AreKept (es : List Change) (capacity : ℕ) (marks : List ℕ) (flushed : Bool) : Type 0 where
-  pub room : 1024 ≤ capacity
-  pub fits : length es ≤ 1024
-  pub marks_are : length marks ≡ 1024
-  pub once : AreOnce es
-  pub marked : flushed ≡ false → (code : CodeId) → slice_index_or marks (mark_of code) 0 ≡ 0 → times code (codes_in es) ≡ 0
-  pub small : (code : CodeId) → IsWithin (net_in (settled es) code) 256
-  pub few : length (settled es) ≤ 512
-  pub rising : flushed ≡ true → IsRising None es
+-- what an empty cell has: a code of another cell
+abbrev pub nothing_at : ℕ → Change
+nothing_at place = record { code = record { slot = if place == 0 then 1 else 0; serial = 0 }; by = pos 0 }
+
+-- the number is one of these
+abbrev pub is_in : ℕ → List ℕ → Bool
+is_in k ks = list_any (λ i. i == k) ks
+
+-- each cell that has a code of its own is one of these
+abbrev pub AreAmong : List Change → List ℕ → Type 0
+AreAmong cells places = (k : ℕ) (d : Change) → k < 1024 → cell_of (slice_index_or cells k d).code ≡ k → is_in k places ≡ true
+
+-- the list of the cells that may have codes
+pub record AreTouched (cells : List Change) (touched : List ℕ) : Type 0 where
+  pub among : AreAmong cells touched
+  pub places : All (λ k. k < 1024) touched
+  pub few : length touched ≤ 1024
+
+-- a net is where its code's cell is, or in the list, and no code is in both
+pub record AreCells (cells list : List Change) : Type 0 where
+  pub long : length cells ≡ 1024
+  pub home : (k : ℕ) (d : Change) → k < 1024 → is_zero (slice_index_or cells k d).by ≡ false → cell_of (slice_index_or cells k d).code ≡ k
+  pub once : AreOnce list
+  pub apart : (code : CodeId) (d : Change) → same_code (slice_index_or cells (cell_of code) d).code code ≡ true → times code (codes_in list) ≡ 0
+
+-- what is true of the cells, the touched ones and the list
+pub record AreKept (cells : List Change) (touched : List ℕ) (places : ℕ) (list : List Change) (room : ℕ) (flushed : Bool) : Type 0 where
+  pub cells_are : AreCells cells list
+  pub touched_are : AreTouched cells touched
+  pub has_places : 1024 ≤ places
+  pub has_room : 2048 ≤ room
+  pub fits : length list ≤ 1024
+  pub small : (code : CodeId) → IsWithin (net_in (settled (cells ++ list)) code) 256
+  pub few : length (settled (cells ++ list)) ≤ 512
+  pub rising : flushed ≡ true → IsRising None list
+  pub untouched : flushed ≡ true → touched ≡ []

@@ -116,15 +116,11 @@ impl Image {
         if self.publishing {
             return Err(PushFault::Publishing);
         }
-        match self.frames.push(frame) {
-            Ok(()) => {
-                if let Some(code) = frame.code {
-                    self.nets.add(code, 1);
-                }
-                Ok(())
-            }
-            Err(_) => unreachable!(),
+        self.frames.push_reserved(frame);
+        if let Some(code) = frame.code {
+            self.nets.add(code, 1);
         }
+        Ok(())
     }
 
     /// Takes the top frame.
@@ -231,6 +227,15 @@ impl Image {
         ensures { IsTrue result ↔ IsSettled self.now }
     {
         !self.publishing && self.nets.is_empty()
+    }
+
+    /// Whether no code has moved since the last publication: then each is counted as often as it has frames, and none is open. Where
+    /// codes moved and moved back the answer may be `false` though the image is settled.
+    #[inline(always)]
+    pub fn is_unmoved(&self) -> bool
+        ensures { result ≡ true → IsSettled self.now }
+    {
+        !self.publishing && self.nets.is_unmoved()
     }
 
     /// How many codes have other numbers of frames than are counted.

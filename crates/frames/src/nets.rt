@@ -1,46 +1,54 @@
 // Codes with their nets: how many frames each has more than are counted.
-ghost use Rattle.std.specs.Prelude.{None, ◌≡◌, ◌≢◌, ℕ, ◌+◌, ◌<◌, ◌≤◌, ◌==◌, List, [], length, false, true, drop, pos, ◌+ℤ◌, ◌≤ℤ◌, vec_capacity, slice_get, slice_index_or, slice_set, IfOk, IfSome, IfNone, filter, not, count_by};
+ghost use Rattle.std.specs.Prelude.{None, ◌≡◌, ◌≢◌, ℕ, ◌+◌, ◌<◌, ◌≤◌, ◌==◌, List, [], ◌∷◌, ◌++◌, length, false, true, drop, pos, ◌+ℤ◌, ◌≤ℤ◌, vec_capacity, slice_get, slice_index_or, IfOk, IfSome, IfNone, filter, not, count_by};
+ghost use Rattle.std.specs.List.{All};
+ghost use Rattle.frames.specs.declared.CodeId.{CodeId};
+ghost use Rattle.frames.specs.declared.Change.{Change};
 ghost use Rattle.frames.specs.Stack.{same_code, times};
-ghost use Rattle.frames.specs.Nets.{NetsView, net_in, add, settled, codes_in, mark_of, is_zero, IsAt, IsPut, IsWithin, AreOnce, net_sum, AreSmall};
+ghost use Rattle.frames.specs.Nets.{NetsView, net_in, add, settled, total, codes_in, cell_of, nothing_at, is_zero, is_in, IsAt, IsPut, IsWithin, AreAmong, AreOnce, AreCells, AreTouched, AreKept, net_sum, AreSmall};
 
 use crate::{Change, CodeId};
 use std::alloc::{AllocError, Global};
 use std::marker::Model;
 
-/// How many codes can have moved since the last publication before one that moved back gives way.
-/// At most 512 have a net: 256 have frames, and 256 are counted without a frame.
+/// How many codes the list can have before one that moved back gives way. At most 512 have a net:
+/// 256 have frames, and 256 are counted without a frame.
 pub(crate) const MOVED: usize = 1024;
 
-/// How many slots have a mark of their own.
-const MARKS: usize = 1024;
+/// How many cells there are: one for each value of a slot's last bits.
+const CELLS: usize = 1024;
+
+/// The list's room: a publication moves the nets of all cells there.
+const ROOM: usize = MOVED + CELLS;
 
 /// Nets by code, as contracts see them rising by serial and then by slot, none of them 0. It
 /// reserves its room once.
 ///
-/// Calls and returns only note them: the list has the codes in the order in which they moved first,
-/// those that moved back to 0 too, and a code is found by the mark of its slot, so that a move
-/// neither searches the list nor shifts any of it. A publication first flushes, which sorts them.
+/// Calls and returns only note them: the cell of a code's slot has the code with its net, so that
+/// a move looks at that cell alone, and neither searches nor shifts any list. A publication first
+/// flushes, which lists and sorts them.
 #[derive(Drop)]
 pub(crate) struct Nets {
+    // By the last bits of a slot: a code with its net. One with other last bits stands for none.
+    cells: Vec<Change>,
+    // Where there are codes in the cells, so that a flush goes over no others.
+    touched: Vec<u16>,
+    // The nets of codes whose cell had another code with a net. Flushed, it has all nets, sorted.
     list: Vec<Change>,
-    // By the last bits of a slot: 0 where no code of the list has them, else one more than the place
-    // of one that has, unless another code has since taken that place.
-    marks: Vec<u16>,
     flushed: bool,
 }
 
 impl Model for Nets {
-    ghost use Rattle.std.specs.Prelude.{vec_capacity};
+    ghost use Rattle.std.specs.Prelude.{vec_capacity, ◌++◌};
     ghost use Rattle.frames.specs.Nets.{NetsView, AreKept, settled};
 
     ghost Value = { NetsView };
 
     ghost view = { λ n. record {
-      entries = settled n.list.items;
+      entries = settled (n.cells.items ++ n.list.items);
       flushed = n.flushed;
     } };
 
-    ghost invariant = { λ n. AreKept n.list.items (vec_capacity n.list) n.marks.items n.flushed };
+    ghost invariant = { λ n. AreKept n.cells.items n.touched.items (vec_capacity n.touched) n.list.items (vec_capacity n.list) n.flushed };
 }
 
 impl Nets {
@@ -52,8 +60,9 @@ impl Nets {
         ensures { IfOk result (λ nets. nets ≡ record { entries = []; flushed = false }) }
     {
         Ok(Nets {
-            list: Vec::with_capacity(alloc, MOVED)?,
-            marks: no_marks(alloc)?,
+            cells: no_codes(alloc)?,
+            touched: Vec::with_capacity(alloc, CELLS)?,
+            list: Vec::with_capacity(alloc, ROOM)?,
             flushed: false,
         })
     }
@@ -68,9 +77,18 @@ impl Nets {
         requires room { length (add self.old.entries code by) ≤ 512 }
         ensures { self.new ≡ record { entries = add self.old.entries code by; flushed = false } }
     {
-        match place_of(&self.list, &self.marks, code) {
-            Some(place) => self.list[place].by += by,
-            None => note(&mut self.list, &mut self.marks, Change { code, by }),
+        let place = cell_of(code);
+        if same_code(self.cells[place].code, code) {
+            self.cells[place].by += by;
+        } else {
+            note(
+                &mut self.cells,
+                &mut self.touched,
+                &mut self.list,
+                code.slot,
+                code.serial,
+                by,
+            );
         }
     }
 
@@ -78,7 +96,8 @@ impl Nets {
     pub(crate) fn flush(&mut self)
         ensures { self.new ≡ record { entries = self.old.entries; flushed = true } }
     {
-        unmark(&mut self.marks, &self.list);
+        drain(&mut self.cells, &self.touched, &mut self.list);
+        self.touched.clear();
         settle(&mut self.list);
         self.flushed = true;
     }
@@ -98,15 +117,23 @@ impl Nets {
         if self.flushed {
             self.list.len()
         } else {
-            nonzero(&self.list)
+            nonzero(&self.cells) + nonzero(&self.list)
         }
+    }
+
+    /// Whether no code has moved since all were dropped; then there are none.
+    #[inline(always)]
+    pub(crate) fn is_unmoved(&self) -> bool
+        ensures { result ≡ true → self.now.entries ≡ [] }
+    {
+        self.touched.is_empty() && self.list.is_empty()
     }
 
     /// Whether there are none.
     pub(crate) fn is_empty(&self) -> bool
         ensures { result ≡ (length self.now.entries == 0) }
     {
-        are_zero(&self.list)
+        are_back(&self.cells, &self.touched) && are_zero(&self.list)
     }
 
     /// The sum of the nets of the serial's codes, from the place on.
@@ -115,13 +142,20 @@ impl Nets {
         requires flushed { from ≢ 0 → self.now.flushed ≡ true }
         ensures { result ≡ net_sum serial (drop from self.now.entries) }
     {
-        net_sum(&self.list[from..], serial)
+        let listed = net_sum(&self.list[from..], serial);
+        if self.flushed {
+            listed
+        } else {
+            listed + net_sum(&self.cells, serial)
+        }
     }
 
     /// Drops all nets.
     pub(crate) fn clear(&mut self)
         ensures { self.new ≡ record { entries = []; flushed = false } }
     {
+        drain(&mut self.cells, &self.touched, &mut self.list);
+        self.touched.clear();
         self.list.clear();
         self.flushed = false;
     }
@@ -133,11 +167,26 @@ fn net_at(nets: &[Change], place: usize) -> Option<Change>
     nets.get(place).copied()
 }
 
-// No slot is marked.
-fn no_marks(alloc: Global) -> Result<Vec<u16>, AllocError>
-    ensures { IfOk result (λ marks. length marks.items ≡ 1024) }
+// What an empty cell has: a code that isn't of this cell, so that no code is found there.
+#[inline(always)]
+fn nothing_at(place: usize) -> Change
+    ensures { result ≡ nothing_at place }
 {
-    vec![in alloc; 0u16; MARKS]
+    let slot = if place == 0 { 1 } else { 0 };
+    Change {
+        code: CodeId { slot, serial: 0 },
+        by: 0,
+    }
+}
+
+// Empty cells.
+fn no_codes(alloc: Global) -> Result<Vec<Change>, AllocError>
+    ensures cells { IfOk result (λ cells. AreCells cells.items []) }
+    ensures none { IfOk result (λ cells. AreAmong cells.items []) }
+{
+    let mut cells = vec![in alloc; nothing_at(1); CELLS]?;
+    cells[0] = nothing_at(0);
+    Ok(cells)
 }
 
 #[inline(always)]
@@ -147,40 +196,17 @@ fn same_code(one: CodeId, other: CodeId) -> bool
     one.serial == other.serial && one.slot == other.slot
 }
 
-// Where the mark of the code's slot is.
+// Which cell is that of the code's slot.
 #[inline(always)]
-fn mark_of(code: CodeId) -> usize
-    ensures value { result ≡ mark_of code }
+fn cell_of(code: CodeId) -> usize
+    ensures value { result ≡ cell_of code }
     ensures bound { result < 1024 }
 {
-    code.slot as usize % MARKS
+    code.slot as usize % CELLS
 }
 
+// The place of a code whose cell has another. The list is empty but where slots shared a cell.
 #[inline(always)]
-fn stands_at(nets: &[Change], code: CodeId, place: usize) -> bool
-    ensures { result ≡ true → IsAt nets.now code place }
-{
-    place < nets.len() && same_code(nets[place].code, code)
-}
-
-// The place of the code. Only where slots share a mark it is looked for one by one.
-#[inline(always)]
-fn place_of(nets: &[Change], marks: &[u16], code: CodeId) -> Option<usize>
-    requires marks { length marks.now ≡ 1024 }
-    requires marked { slice_index_or marks.now (mark_of code) 0 ≡ 0 → times code (codes_in nets.now) ≡ 0 }
-    ensures some { IfSome result (λ place. IsAt nets.now code place) }
-    ensures none { IfNone result (times code (codes_in nets.now) ≡ 0) }
-{
-    let mark = marks[mark_of(code)] as usize;
-    if mark == 0 {
-        return None;
-    }
-    if stands_at(nets, code, mark - 1) {
-        return Some(mark - 1);
-    }
-    searched(nets, code)
-}
-
 fn searched(nets: &[Change], code: CodeId) -> Option<usize>
     ensures some { IfSome result (λ place. IsAt nets.now code place) }
     ensures none { IfNone result (times code (codes_in nets.now) ≡ 0) }
@@ -193,6 +219,7 @@ fn searched(nets: &[Change], code: CodeId) -> Option<usize>
     None
 }
 
+#[inline(always)]
 fn has_net(net: &Change) -> bool
     ensures { result ≡ not (is_zero net.now.by) }
 {
@@ -212,54 +239,116 @@ fn zero_place(nets: &[Change]) -> Option<usize>
     None
 }
 
-// Puts in the net of a code that has none, and gives its place.
-fn put(nets: &mut Vec<Change>, net: Change) -> usize
+// Puts in the net of a code that has none.
+#[inline(always)]
+fn put(nets: &mut Vec<Change>, net: Change)
     requires room { 1024 ≤ vec_capacity nets.old }
     requires fits { length nets.old.items ≤ 1024 }
     requires once { AreOnce nets.old.items }
     requires few { length (settled nets.old.items) ≤ 512 }
     ensures put { IsPut net nets.old.items nets.new.items }
-    ensures room { 1024 ≤ vec_capacity nets.new }
-    ensures bound { result < 1024 }
+    ensures capacity { vec_capacity nets.new ≡ vec_capacity nets.old }
 {
-    let place = nets.len();
-    if place < MOVED {
-        match nets.push(net) {
-            Ok(()) => return place,
-            Err(_) => unreachable!(),
-        }
+    if nets.len() < MOVED {
+        nets.push_reserved(net);
+        return;
     }
     match zero_place(nets) {
-        Some(place) => {
-            nets[place] = net;
-            place
-        }
+        Some(place) => nets[place] = net,
         None => unreachable!(),
     }
 }
 
-// The same with its mark. Apart from `add`, which is shorter for a code that has one.
-#[inline(never)]
-fn note(nets: &mut Vec<Change>, marks: &mut Vec<u16>, net: Change)
-    requires marks { length marks.old.items ≡ 1024 }
-    requires room { 1024 ≤ vec_capacity nets.old }
-    requires fits { length nets.old.items ≤ 1024 }
-    requires once { AreOnce nets.old.items }
-    requires few { length (settled nets.old.items) ≤ 512 }
-    ensures put { IsPut net nets.old.items nets.new.items }
-    ensures room { 1024 ≤ vec_capacity nets.new }
-    ensures mark { (mark : ℕ) × (mark ≢ 0) × (marks.new.items ≡ slice_set marks.old.items (mark_of net.code) mark) }
+// Whether the cell can take a code: it is among the touched then.
+#[inline(always)]
+fn touch(touched: &mut Vec<u16>, cells: &[Change], place: usize) -> bool
+    requires place { place < 1024 }
+    requires long { length cells.now ≡ 1024 }
+    requires touched { AreTouched cells.now touched.old.items }
+    requires room { 1024 ≤ vec_capacity touched.old }
+    ensures touched { AreTouched cells.now touched.new.items }
+    ensures is { result ≡ true → is_in place touched.new.items ≡ true }
+    ensures capacity { vec_capacity touched.new ≡ vec_capacity touched.old }
 {
-    let place = put(nets, net);
-    marks[mark_of(net.code)] = place as u16 + 1;
+    if cell_of(cells[place].code) == place {
+        return true;
+    }
+    // It always is: no cell is pushed twice.
+    if touched.len() < CELLS {
+        touched.push_reserved(place as u16);
+        return true;
+    }
+    false
 }
 
-fn unmark(marks: &mut Vec<u16>, nets: &[Change])
-    requires { length marks.old.items ≡ 1024 }
-    ensures { length marks.new.items ≡ 1024 }
+// Moves the net of a code that its cell doesn't have. Apart from `add`, which is shorter for one
+// that it has; plain numbers come in registers.
+#[cold]
+#[inline(never)]
+fn note(
+    cells: &mut Vec<Change>,
+    touched: &mut Vec<u16>,
+    list: &mut Vec<Change>,
+    slot: u32,
+    serial: u64,
+    by: i32,
+)
+    requires kept { AreKept cells.old.items touched.old.items (vec_capacity touched.old) list.old.items (vec_capacity list.old) false }
+    requires new { (d : Change) → same_code (slice_index_or cells.old.items (cell_of (record { slot = slot; serial = serial })) d).code (record { slot = slot; serial = serial }) ≡ false }
+    requires one { (pos 0 ≤ℤ (by +ℤ pos 1)) × (by ≤ℤ pos 1) }
+    requires some { is_zero by ≡ false }
+    requires within { IsWithin (net_in (settled (cells.old.items ++ list.old.items)) (record { slot = slot; serial = serial }) +ℤ by) 256 }
+    requires room { length (add (settled (cells.old.items ++ list.old.items)) (record { slot = slot; serial = serial }) by) ≤ 512 }
+    ensures kept { AreKept cells.new.items touched.new.items (vec_capacity touched.new) list.new.items (vec_capacity list.new) false }
+    ensures moved { settled (cells.new.items ++ list.new.items) ≡ add (settled (cells.old.items ++ list.old.items)) (record { slot = slot; serial = serial }) by }
 {
-    for net in nets {
-        marks[mark_of(net.code)] = 0;
+    let code = CodeId { slot, serial };
+    if let Some(place) = searched(list, code) {
+        list[place].by += by;
+        return;
+    }
+    let place = cell_of(code);
+    if !has_net(&cells[place]) {
+        if touch(touched, cells, place) {
+            cells[place] = Change { code, by };
+            return;
+        }
+    }
+    put(list, Change { code, by });
+}
+
+// Moves the net of the cell to the list, and leaves the cell empty.
+#[inline(always)]
+fn empty(cells: &mut Vec<Change>, list: &mut Vec<Change>, place: usize)
+    requires cells { AreCells cells.old.items list.old.items }
+    requires place { place < 1024 }
+    requires room { length list.old.items < vec_capacity list.old }
+    ensures cells { AreCells cells.new.items list.new.items }
+    ensures totals { (code : CodeId) → total (cells.new.items ++ list.new.items) code ≡ total (cells.old.items ++ list.old.items) code }
+    ensures among { (places : List ℕ) → AreAmong cells.old.items (place ∷ places) → AreAmong cells.new.items places }
+    ensures fits { length list.new.items ≤ length list.old.items + 1 }
+    ensures capacity { vec_capacity list.new ≡ vec_capacity list.old }
+{
+    let net = cells[place];
+    if has_net(&net) {
+        list.push_reserved(net);
+    }
+    cells[place] = nothing_at(place);
+}
+
+// The same of all cells that have codes.
+fn drain(cells: &mut Vec<Change>, touched: &[u16], list: &mut Vec<Change>)
+    requires cells { AreCells cells.old.items list.old.items }
+    requires touched { AreTouched cells.old.items touched.now }
+    requires fits { length list.old.items ≤ 1024 }
+    requires room { 2048 ≤ vec_capacity list.old }
+    ensures cells { AreCells cells.new.items list.new.items }
+    ensures totals { (code : CodeId) → total (cells.new.items ++ list.new.items) code ≡ total (cells.old.items ++ list.old.items) code }
+    ensures none { AreAmong cells.new.items [] }
+    ensures capacity { vec_capacity list.new ≡ vec_capacity list.old }
+{
+    for place in touched {
+        empty(cells, list, *place as usize);
     }
 }
 
@@ -269,8 +358,12 @@ fn settle(nets: &mut Vec<Change>)
     ensures items { nets.new.items ≡ settled nets.old.items }
     ensures capacity { vec_capacity nets.new ≡ vec_capacity nets.old }
 {
-    nets.retain(|net| has_net(net));
-    nets.sort_unstable_by_key(|net| (net.code.serial, net.code.slot));
+    if nets.len() > 1 {
+        nets.retain(|net| has_net(net));
+        nets.sort_unstable_by_key(|net| (net.code.serial, net.code.slot));
+    } else if are_zero(nets) {
+        nets.clear();
+    }
 }
 
 fn are_zero(nets: &[Change]) -> bool
@@ -278,6 +371,21 @@ fn are_zero(nets: &[Change]) -> bool
 {
     for net in nets {
         if has_net(net) {
+            return false;
+        }
+    }
+    true
+}
+
+// Whether no cell has a net. Those that aren't touched have none.
+fn are_back(cells: &[Change], touched: &[u16]) -> bool
+    requires long { length cells.now ≡ 1024 }
+    requires nets { (k : ℕ) (d : Change) → k < 1024 → is_zero (slice_index_or cells.now k d).by ≡ false → is_in k touched.now ≡ true }
+    requires places { All (λ k. k < 1024) touched.now }
+    ensures { result ≡ (length (filter (λ net. not (is_zero net.by)) cells.now) == 0) }
+{
+    for place in touched {
+        if has_net(&cells[*place as usize]) {
             return false;
         }
     }

@@ -2,11 +2,11 @@ use Rattle.std.proofs.Common.{arith}
 use Rattle.frames.proofs.Totals.{pushed_put, set_put, length_settled}
 use Rattle.frames.proofs.nets.put.Goals as goal
 
-pub returns-in-Ok-clause-put : goal.returns-in-Ok-clause-put
-returns-in-Ok-clause-put c = rw c.in-Ok.ensures.items (pushed_put c.args.nets.now.items c.args.net (omega arith))
+pub returns-then-len-lt-MOVED-clause-put : goal.returns-then-len-lt-MOVED-clause-put
+returns-then-len-lt-MOVED-clause-put c = rw c.push_reserved.ensures.items (pushed_put c.args.nets.now.items c.args.net (omega arith))
 
-pub unreachable-requires-in-None : goal.unreachable-requires-in-None
-unreachable-requires-in-None c =
+pub unreachable-requires : goal.unreachable-requires
+unreachable-requires c =
     let all = rw c.deref.ensures.value at c.in-None.ensures.none in
     let few = c.requires.few in
     let same = length_settled c.args.nets.now.items c.requires.once in

@@ -30,7 +30,7 @@ invariant_of-self c =
     let was : length frames < 256 = search rules in
     let grown = length_pushed frames c.args.frame in
     let m = moves frames (frames ++ c.args.frame ∷ []) nets c.in-Some.code (pos 1) (pushed frames c.args.frame c.in-Some.code c.in-Some.is) (omega arith) refl c.self.invariant.5 (from_front frames nets c.self.inside.given none c.self.invariant.6) (c.self.invariant.7 c.if-self.false) in
-    rw (c.add.ensures, c.in-Ok.ensures.items, none, c.if-self.false) (
+    rw (c.add.ensures, c.push_reserved.ensures.items, none, c.if-self.false) (
       search rules,
       search rules,
       refl,
@@ -50,22 +50,22 @@ returns-in-Some-clause-ok c =
     let was : length frames < 256 = search rules in
     let grown = length_pushed frames c.args.frame in
     let m = moves frames (frames ++ c.args.frame ∷ []) nets c.in-Some.code (pos 1) (pushed frames c.args.frame c.in-Some.code c.in-Some.is) (omega arith) refl c.self.invariant.5 (from_front frames nets c.self.inside.given none c.self.invariant.6) (c.self.invariant.7 c.if-self.false) in
-    rw (← c.self.view_is, c.add.ensures, c.in-Ok.ensures.items, none) (record {
+    rw (← c.self.view_is, c.add.ensures, c.push_reserved.ensures.items, none) (record {
       frames_are = refl;
       counted_stay = m.kept.same;
       changed_stay = refl;
       publishing_stays = refl;
     })
 
-pub invariant_of-self-in-Ok : goal.invariant_of-self-in-Ok
-invariant_of-self-in-Ok c =
+pub invariant_of-self-in_default : goal.invariant_of-self-in_default
+invariant_of-self-in_default c =
     let none = c.self.invariant.4 c.if-self.false in
     let frames = c.self.inside.frames.items in
     let nets = c.self.inside.nets.entries in
     let interpreted : c.args.frame.code ≡ None = c.in_default.is in
     let a = after frames (frames ++ c.args.frame ∷ []) nets nets (λ _. pos 0) (pushed_none frames c.args.frame interpreted) (still nets)
     (from_front frames nets c.self.inside.given none c.self.invariant.6) (c.self.invariant.7 c.if-self.false) in
-    rw (c.in-Ok.ensures.items, none) (
+    rw (c.push_reserved.ensures.items, none) (
       search rules,
       search rules,
       c.self.invariant.2,
@@ -85,7 +85,7 @@ returns-in_default-clause-ok c =
     let interpreted : c.args.frame.code ≡ None = c.in_default.is in
     let a = after frames (frames ++ c.args.frame ∷ []) nets nets (λ _. pos 0) (pushed_none frames c.args.frame interpreted) (still nets)
     (from_front frames nets c.self.inside.given none c.self.invariant.6) (c.self.invariant.7 c.if-self.false) in
-    rw (← c.self.view_is, c.in-Ok.ensures.items, none) (record {
+    rw (← c.self.view_is, c.push_reserved.ensures.items, none) (record {
       frames_are = refl;
       counted_stay = a.same;
       changed_stay = refl;

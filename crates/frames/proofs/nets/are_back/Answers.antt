@@ -1,0 +1,18 @@
+use Rattle.std.proofs.Common.{◌≡◌, true, drop, get_or, [], List, ℕ, subst, pos, arith}
+use Rattle.std.proofs.lemmas.List.{drop_all}
+use Rattle.frames.specs.declared.Change.{Change}
+use Rattle.frames.specs.Nets.{is_zero, is_in}
+use Rattle.frames.proofs.Cells.{tested, some_live, none_live, left_zero}
+use Rattle.frames.proofs.nets.are_back.Goals as goal
+
+pub returns-then-has_net : goal.returns-then-has_net
+returns-then-has_net c =
+    let d : Change = record { code = record { slot = 0; serial = 0 }; by = pos 0 } in
+    let place = c.requires.places c.loop-place.place-index 0 c.loop-place-test.true in
+    let k : ℕ = get_or c.args.touched.now c.loop-place.place-index 0 in
+    some_live c.args.cells.now k d (omega arith) (tested c.has_net.result (is_zero (get_or c.args.cells.now k d).by) c.has_net.ensures c.if-has_net.true)
+
+pub returns : goal.returns
+returns c =
+    let none : drop c.loop-place.place-index c.args.touched.now ≡ [] = drop_all c.loop-place.place-index c.args.touched.now (omega arith) in
+    none_live c.args.cells.now (λ k d lt. left_zero (is_zero (get_or c.args.cells.now k d).by) (λ some. subst (λ (ks : List ℕ). is_in k ks ≡ true) none (c.loop-place.invariant k d (omega arith) some)))
