@@ -11,22 +11,41 @@ use Rattle.frames.specs.declared.Frame.{Frame}
 use Rattle.frames.specs.declared.Change.{Change}
 use Rattle.frames.specs.declared.board_rule.SeatView.{SeatView}
 use Rattle.frames.specs.Stack.{same_code, is_of, act, times}
-use Rattle.frames.specs.ImageView.{ImageView, HasFrames, Counts, IsCounted, Differs, IsSettled, is_uncounted, next_code}
+use Rattle.frames.specs.ImageView.{ImageView, HasFrames, Counts, IsCounted, Differs, IsSettled, is_uncounted}
 use Rattle.frames.specs.declared.board_rule.EntryState.TheVariants.{InUse}
 use Rattle.frames.specs.BoardWords.{pack}
 use Rattle.frames.specs.BoardRule.{SeatState, IsStanding, IsHeldBy}
-use Rattle.frames.specs.BoardViews.{how_often, has_code, with_code, entered, moment_read, stored_as, count_changed, IsHeld}
+use Rattle.frames.specs.BoardViews.{how_often, has_code, with_code, entered, moment_read, stored_as, count_changed, IsHeld, IsStandingWord}
 use Rattle.frames.proofs.Bags.{same_code-equal, same_code-refl, act-cons, times-cons}
-use Rattle.frames.proofs.Uncounted.{none_next}
 use Rattle.thread_state.specs.declared.poll_rule.Watching.{Watching}
-use Rattle.bodies.specs.declared.body.Called.{Called}
-use Rattle.bodies.specs.Bodies.{IsFit, IsSpare, BodyView, IsTried, IsCalled, called_in, AreMade, IsPublished, AreStanding, all_changed, changed, code_if, frame}
+use Rattle.board.specs.Boards.{BoardId, SeatSeen}
+use Rattle.atomic_table.specs.Seated.{TableId}
+use Rattle.poll.specs.Rows.{PollerSeen}
+use Rattle.bodies.specs.Bodies.{image_of, IsPaired, IsFit, IsKept, IsSpare, IsTried, AreMade, IsPublished, AreStanding, all_changed, changed, code_if, frame}
 
 act-append : (c : CodeId) (xs : List Frame) (f : Frame) → act c (xs ++ f ∷ []) ≡ act c xs + cond (is_of c f) 1 0
 act-append c xs f = sum_by-append (λ g. cond {A = ℕ} (is_of c g) 1 0) xs (f ∷ []) ∙ ap (λ n. act c xs + n) (act-cons c f [] ∙ omega arith)
 
 pub act_at_most : (c : CodeId) (xs : List Frame) → act c xs ≤ length xs
 act_at_most c xs = count_by-le-length (is_of c) xs
+
+pub kept_fits : (slots : ℕ) (image : Option ImageView) (seat : SeatView) → IsKept slots image seat → IsFit slots (image_of image) seat
+kept_fits slots None seat kept = absurd kept
+kept_fits slots (Some image) seat kept = kept.0
+
+-- a step of the seat keeps the pair
+pub stays_paired : (board : BoardId) (row : TableId) (seat seat' : SeatSeen) (poller : PollerSeen) → IsPaired board row seat poller → seat'.board ≡ seat.board → seat'.seen.place ≡ seat.seen.place → IsPaired board row seat' poller
+stays_paired board row seat seat' poller paired same place = (same ∙ paired.0, paired.1, paired.2 ∙ sym place)
+
+-- an empty stack, nothing counted
+pub new_fits : (slots : ℕ) (image : ImageView) (seat : SeatView) → image.frames ≡ [] → ((c : CodeId) → times c image.counted ≡ 0) → IsSpare seat → IsFit slots image seat
+new_fits slots image seat none bag spare = record {
+  few = omega (arith, ap length none);
+  counted_is = λ c. bag c ∙ sym (spare.1 c);
+  more_is_fresh = λ c h. absurd (let a : act c image.frames ≡ 0 = ap (act c) none in omega arith);
+  frame_slots = λ c h. absurd (let a : act c image.frames ≡ 0 = ap (act c) none in omega arith);
+  counted_slots = λ c h. absurd (let a = bag c in omega arith);
+}
 
 -- a frame is pushed: of a fresh code of the board, or interpreted
 pub pushed_fits : (slots : ℕ) (image image' : ImageView) (seat seat' : SeatView) (f : Frame) → IsFit slots image seat → HasFrames image image' (image.frames ++ f ∷ []) → length image.frames < 256
@@ -62,16 +81,6 @@ popped_fits slots image image' seat f fit is has =
       frame_slots = λ c h. fit.frame_slots c (let a = fewer c in omega arith);
       counted_slots = λ c h. fit.counted_slots c (subst (λ n. 0 < n) (has.counted_stay c) h);
     }
-
--- the frames and the bags stay, and no less is fresh
-pub same_fits : (slots : ℕ) (image image' : ImageView) (seat seat' : SeatView) → IsFit slots image seat → image'.frames ≡ image.frames → image'.counted ≡ image.counted → seat'.counted ≡ seat.counted → seat'.fresh ≡ seat.fresh → IsFit slots image' seat'
-same_fits slots image image' seat seat' fit frames bag counted fresh = record {
-  few = subst (λ fs. length fs ≤ 256) (sym frames) fit.few;
-  counted_is = λ c. ap (times c) bag ∙ (fit.counted_is c ∙ ap (λ xs. how_often xs c) (sym counted));
-  more_is_fresh = λ c h. ap (λ xs. has_code xs c) fresh ∙ fit.more_is_fresh c (let a = ap (act c) frames in let b = ap (times c) bag in omega arith);
-  frame_slots = λ c h. fit.frame_slots c (subst (λ fs. 0 < act c fs) frames h);
-  counted_slots = λ c h. fit.counted_slots c (subst (λ xs. 0 < times c xs) bag h);
-}
 
 -- every frame is counted: nothing need be fresh
 pub counted_fits : (slots : ℕ) (image image' : ImageView) (seat seat' : SeatView) → IsFit slots image seat → image'.frames ≡ image.frames → IsCounted image → IsCounted image' → seat'.counted ≡ seat.counted → IsFit slots image' seat'
@@ -117,7 +126,7 @@ entered_fresh t c found e = with_or (eqb found (pack c.serial InUse)) c c t.fres
     and_true false b x y = absurd (false≢true x)
 
 -- a frame is pushed of the code that a call entered
-pub called_fits : (slots : ℕ) (image image' : ImageView) (seat seat' : SeatView) (m : ℕ) (hint code : Option CodeId) → IsFit slots image seat → IsTried seat seat' hint code → IfSome hint (λ c. c.slot < slots)
+called_fits : (slots : ℕ) (image image' : ImageView) (seat seat' : SeatView) (m : ℕ) (hint code : Option CodeId) → IsFit slots image seat → IsTried seat seat' hint code → IfSome hint (λ c. c.slot < slots)
     → HasFrames image image' (image.frames ++ frame m code ∷ []) → length image.frames < 256 → IsFit slots image' seat'
 called_fits slots image image' seat seat' m None code fit tried low has room =
     interpreted_fits slots image image' seat seat' m fit (subst (λ (o : Option CodeId). HasFrames image image' (image.frames ++ frame m o ∷ [])) tried.0 has) room
@@ -135,23 +144,19 @@ called_fits slots image image' seat seat' m (Some c) code fit tried low has room
     by true e h = compiled_fits slots image image' seat seat' m c fit h room counted fresh (subst (λ (t : SeatView). has_code t.fresh c ≡ true) (sym tried.1) (entered_fresh seat c tried.0 e)) low
     by false e h = interpreted_fits slots image image' seat seat' m fit h room counted fresh
 
--- the place stays where a call tries a code
-pub tried_place : (seat seat' : SeatView) (hint code : Option CodeId) → IsTried seat seat' hint code → seat'.place ≡ seat.place
-tried_place seat seat' None code tried = ap (λ (t : SeatView). t.place) tried.1
-tried_place seat seat' (Some c) code tried = ap (λ (t : SeatView). t.place) tried.1
+-- a call keeps what a body keeps
+pub called_keeps : (slots : ℕ) (image image' : ImageView) (seat seat' : SeatView) (m : ℕ) (hint code : Option CodeId) → IsKept slots (Some image) seat → IsTried seat seat' hint code → IfSome hint (λ c. c.slot < slots)
+    → HasFrames image image' (image.frames ++ frame m code ∷ []) → length image.frames < 256 → IsKept slots (Some image') seat'
+called_keeps slots image image' seat seat' m hint code kept tried low has room = (called_fits slots image image' seat seat' m hint code kept.0 tried low has room, has.publishing_stays ∙ kept.1)
 
--- an empty stack, nothing counted
-pub new_fits : (slots : ℕ) (image : ImageView) (seat : SeatView) → image.frames ≡ [] → ((c : CodeId) → times c image.counted ≡ 0) → IsSpare seat → IsFit slots image seat
-new_fits slots image seat none bag spare = record {
-  few = omega (arith, ap length none);
-  counted_is = λ c. bag c ∙ sym (spare.1 c);
-  more_is_fresh = λ c h. absurd (let a : act c image.frames ≡ 0 = ap (act c) none in omega arith);
-  frame_slots = λ c h. absurd (let a : act c image.frames ≡ 0 = ap (act c) none in omega arith);
-  counted_slots = λ c h. absurd (let a = bag c in omega arith);
-}
+-- a load of a code's entry tells which code a call enters
+pub entered_tried : (old new : SeatView) (c : CodeId) (result : Bool) → (found : ℕ) × (new ≡ entered old c found) × (result ≡ eqb found (pack c.serial InUse)) × (IsHeld old c → IsStandingWord c found) → (has_code old.gone c ≡ true → result ≡ false)
+    → IsTried old new (Some c) (code_if c result)
+entered_tried old new c result step gone = (step.0, step.1, ap (code_if c) step.2, (step.3, λ h. sym step.2 ∙ gone h))
 
-pub none_counted : (slots : ℕ) (image : ImageView) (seat : SeatView) → IsFit slots image seat → image.frames ≡ [] → IsCounted image → (c : CodeId) → how_often seat.counted c ≡ 0
-none_counted slots image seat fit none all c = sym (fit.counted_is c) ∙ (sym (all c) ∙ ap (act c) none)
+-- with an empty stack, every frame counted, the seat counts nothing
+pub none_counted : (slots : ℕ) (image : Option ImageView) (seat : SeatView) → IsKept slots image seat → (image_of image).frames ≡ [] → IsCounted (image_of image) → (c : CodeId) → how_often seat.counted c ≡ 0
+none_counted slots image seat kept none all c = sym ((kept_fits slots image seat kept).counted_is c) ∙ (sym (all c) ∙ ap (act c) none)
 
 -- how often a code is counted after a change
 changed_here : (t : SeatView) (c : CodeId) (by : ℤ) (found m : ℕ) → pos (how_often t.counted c) +ℤ by ≡ pos m → how_often (count_changed t c by found).counted c ≡ m
@@ -224,10 +229,6 @@ change_fits slots image image' seat seat' change found fit counts is = subst (Is
     slot c true e h = fit.frame_slots c (let m : times c image'.counted ≡ act c image.frames = subst (λ d. times d image'.counted ≡ act d image.frames) (sym (same_code-equal c change.code e)) counts.moved in omega arith)
     slot c false e h = fit.counted_slots c (let m = counts.others c e in omega arith)
 
--- nothing is made yet
-pub none_made : (old image : ImageView) (start : SeatView) → image ≡ old → AreMade old image start start []
-none_made old image start e = subst (λ i. AreMade old i start start []) (sym e) (record { frames_stay = refl; publishing_stays = refl; seat_is = refl; each = λ c. omega arith })
-
 -- one more is made
 pub one_made : (old image image' : ImageView) (start seat seat' : SeatView) (made : List (Change × ℕ)) (change : Change) (found : ℕ) → AreMade old image start seat made → Differs image change.code → Counts image image' change
     → seat' ≡ count_changed seat change.code change.by found → AreMade old image' start seat' ((change, found) ∷ made)
@@ -267,10 +268,10 @@ pub all_steps : (t : SeatView) (made : List (Change × ℕ)) → (all_changed t 
 all_steps t [] = omega arith
 all_steps t (x ∷ xs) = let rec = all_steps t xs in let one = changed_steps (all_changed t xs) x.0.code x.0.by x.1 in omega arith
 
--- each code that was uncounted was changed once, where none is left
-pub all_made : (old image : ImageView) (start seat : SeatView) (made : List (Change × ℕ)) → AreMade old image start seat made → next_code image ≡ None → (c : CodeId) → times c (changed made) ≡ cond {A = ℕ} (is_uncounted old.frames old.counted c) 1 0
-all_made old image start seat made are none c =
-    let same : act c image.frames ≡ times c image.counted = none_next image none c in
+-- each code that was uncounted was changed once, where every frame is counted
+pub all_made : (old image : ImageView) (start seat : SeatView) (made : List (Change × ℕ)) → AreMade old image start seat made → IsCounted image → (c : CodeId) → times c (changed made) ≡ cond {A = ℕ} (is_uncounted old.frames old.counted c) 1 0
+all_made old image start seat made are all c =
+    let same : act c image.frames ≡ times c image.counted = all c in
     let zero : cond {A = ℕ} (is_uncounted image.frames image.counted c) 1 0 ≡ 0 = equal (act c image.frames) (times c image.counted) same in
     let was = are.each c in omega arith
   where
@@ -291,23 +292,38 @@ counted_moment old image t0 t1 t2 made read are =
     let w = all_moment t1 made in
     (ap (λ (t : SeatView). t.moment) are.seat_is ∙ w.0, ap (λ (t : SeatView). t.place) are.seat_is ∙ (w.1 ∙ ap (λ (t : SeatView). t.place) read))
 
-pub published : (name : ℕ) (poller : Watching) (image0 image1 image2 image3 : ImageView) (t0 t1 t2 t3 : SeatView) (made : List (Change × ℕ))
-    → image1 ≡ record { frames = image0.frames; counted = image0.counted; changed = image0.changed; publishing = true } → t1 ≡ moment_read t0 t1.moment → 0 < t1.moment → AreMade image1 image2 t1 t2 made → next_code image2 ≡ None
-    → image3.frames ≡ image2.frames → IsSettled image3 → t3 ≡ stored_as t2 t2.moment
-    → IsPublished (record { name = name; image = image0; seat = t0; poller = poller }) (record { name = name; image = image3; seat = t3; poller = poller })
-published name poller image0 image1 image2 image3 t0 t1 t2 t3 made begun read some are none frames settled end =
+-- the changes that were made while a publication was open were made of the image before it
+pub closed_made : (old begun image image' : ImageView) (start seat : SeatView) (made : List (Change × ℕ)) → begun ≡ record { frames = old.frames; counted = old.counted; changed = old.changed; publishing = true } → AreMade begun image start seat made
+    → old.publishing ≡ false → image'.frames ≡ image.frames → IsCounted image → IsSettled image' → AreMade old image' start seat made
+closed_made old begun image image' start seat made begin are closed frames all settled = record {
+  frames_stay = frames ∙ (are.frames_stay ∙ ap (λ (v : ImageView). v.frames) begin);
+  publishing_stays = settled.0 ∙ sym closed;
+  seat_is = are.seat_is;
+  each = λ c.
+      let was : cond {A = ℕ} (is_uncounted begun.frames begun.counted c) 1 0 ≡ cond (is_uncounted old.frames old.counted c) 1 0 = ap (λ (v : ImageView). cond {A = ℕ} (is_uncounted v.frames v.counted c) 1 0) begin in
+      let none : cond {A = ℕ} (is_uncounted image'.frames image'.counted c) 1 0 ≡ 0 = equal (act c image'.frames) (times c image'.counted) (settled.1 c) in
+      let once = all_made begun image start seat made are all c in omega arith;
+}
+  where
+    equal : (m n : ℕ) → m ≡ n → cond {A = ℕ} (not (eqb m n)) 1 0 ≡ 0
+    equal m n e = grind (arith, nat_tests)
+
+pub published : (name : ℕ) (poller : Watching) (image image' : ImageView) (t0 t1 t2 t3 : SeatView) (made : List (Change × ℕ))
+    → t1 ≡ moment_read t0 t1.moment → 0 < t1.moment → AreMade image image' t1 t2 made → IsSettled image' → t3 ≡ stored_as t2 t2.moment
+    → IsPublished (record { name = name; image = image; seat = t0; poller = poller }) (record { name = name; image = image'; seat = t3; poller = poller })
+published name poller image image' t0 t1 t2 t3 made read some are settled end =
     let m : ℕ = t1.moment in
     let counted : t2 ≡ all_changed (moment_read t0 m) made = are.seat_is ∙ ap (λ t. all_changed t made) read in
-    let moment_is : t2.moment ≡ m = (counted_moment image1 image2 t0 t1 t2 made read are).0 in
+    let moment_is : t2.moment ≡ m = (counted_moment image image' t0 t1 t2 made read are).0 in
     let whole : t3 ≡ stored_as (all_changed (moment_read t0 m) made) m = end ∙ (λ i. stored_as (counted i) (moment_is i)) in record {
       moment = m;
       made = made;
-      each_once = λ c. all_made image1 image2 t1 t2 made are none c ∙ ap (λ (v : ImageView). cond {A = ℕ} (is_uncounted v.frames v.counted c) 1 0) begun;
+      each_once = all_made image image' t1 t2 made are settled.1;
       seat_is = whole;
       steps_are = let a : t3.steps ≡ (all_changed (moment_read t0 m) made).steps + 1 = ap (λ (t : SeatView). t.steps) whole in let b : (all_changed (moment_read t0 m) made).steps ≡ (t0.steps + 1) + length made = all_steps (moment_read t0 m) made in omega arith;
       some_moment = some;
       stored_is = ap (λ (t : SeatView). t.stored) whole;
-      frames_stay = frames ∙ (are.frames_stay ∙ ap (λ (v : ImageView). v.frames) begun);
+      frames_stay = are.frames_stay;
       settled = settled;
       name_stays = refl;
       place_stays = ap (λ (t : SeatView). t.place) whole ∙ (all_moment (moment_read t0 m) made).1;
@@ -331,18 +347,3 @@ all_stand slots image seat fit n places b kept low is c some =
     (λ e. inl (word ∙ (λ i. pack (stands.1 i) (e i))))
     (λ e. inr (word ∙ (λ i. pack (stands.1 i) (e i))))
     stands.2
-
--- what a call did, from what it tried
-pub called : (slots : ℕ) (old new : BodyView) (m : ℕ) (hint code : Option CodeId) (said : Called) → IsFit slots old.image old.seat → IsTried old.seat new.seat hint code
-    → HasFrames old.image new.image (old.image.frames ++ frame m code ∷ []) → said ≡ called_in code → IsCalled old new m hint said
-called slots old new m None code said fit tried has is =
-    (is ∙ ap called_in tried.0, tried.1, subst (λ (o : Option CodeId). HasFrames old.image new.image (old.image.frames ++ frame m o ∷ [])) tried.0 has)
-called slots old new m (Some c) code said fit tried has is =
-    let is_code : code ≡ code_if c (eqb tried.0 (pack c.serial InUse)) = tried.2 in (
-      tried.0,
-      tried.1,
-      is ∙ ap called_in is_code,
-      subst (λ (o : Option CodeId). HasFrames old.image new.image (old.image.frames ++ frame m o ∷ [])) is_code has,
-      λ some. tried.3.0 (framed_held slots old.image old.seat c fit some),
-      λ gone. is ∙ ap called_in (is_code ∙ ap (code_if c) (tried.3.1 gone)),
-    )

@@ -11,6 +11,9 @@ use Rattle.frames.specs.BoardWords.{pack, entry_of}
 use Rattle.frames.specs.BoardRule.{BoardState, IsBoardKept}
 use Rattle.frames.specs.BoardViews.{entered, moment_read, stored_as, how_often, has_code, count_changed, IsHeld, IsStandingWord, seat_state}
 use Rattle.thread_state.specs.declared.poll_rule.Watching.{Watching}
+use Rattle.board.specs.Boards.{BoardId, SeatSeen}
+use Rattle.poll.specs.Rows.{PollerSeen}
+use Rattle.atomic_table.specs.Seated.{TableId}
 use Rattle.bodies.specs.declared.body.Called.{Called}
 use Rattle.bodies.specs.declared.body.Called.TheVariants.{Compiled, Interpreted}
 
@@ -25,6 +28,16 @@ pub record BodyView : Type 0 where
 pub record SpareView : Type 0 where
   pub seat : SeatView
   pub poller : Watching
+
+-- what contracts see of the seat and the poller of a place in their box
+pub record SeatsView : Type 0 where
+  pub seat : SeatSeen
+  pub poller : PollerSeen
+
+-- the image in a box, that of an empty stack where there is none
+abbrev pub image_of : Option ImageView → ImageView
+image_of None = record { frames = []; counted = []; changed = []; publishing = false }
+image_of (Some image) = image
 
 -- what a body keeps of its image and its seat
 pub record IsFit (slots : ℕ) (image : ImageView) (seat : SeatView) : Type 0 where
@@ -41,6 +54,15 @@ pub record IsFit (slots : ℕ) (image : ImageView) (seat : SeatView) : Type 0 wh
 -- what a seat without a body keeps
 abbrev pub IsSpare : SeatView → Type 0
 IsSpare seat = (seat.stored ≡ 0) × ((c : CodeId) → how_often seat.counted c ≡ 0)
+
+-- the seats of a place are of the board and the poll row, and of one place
+abbrev pub IsPaired : BoardId → TableId → SeatSeen → PollerSeen → Type 0
+IsPaired board row seat poller = (seat.board ≡ board) × (poller.table ≡ row) × (poller.seen.place ≡ seat.seen.place)
+
+-- what a body keeps: it has its image, which fits its seat, and no publication is open
+abbrev pub IsKept : ℕ → Option ImageView → SeatView → Type 0
+IsKept slots None seat = ⊥
+IsKept slots (Some image) seat = IsFit slots image seat × (image.publishing ≡ false)
 
 abbrev pub frame : ℕ → Option CodeId → Frame
 frame m code = record { method = m; code = code }
@@ -87,6 +109,14 @@ pub record AreMade (old image : ImageView) (start seat : SeatView) (made : List 
   pub publishing_stays : image.publishing ≡ old.publishing
   pub seat_is : seat ≡ all_changed start made
   pub each : (c : CodeId) → times c (changed made) + cond (is_uncounted image.frames image.counted c) 1 0 ≡ cond {A = ℕ} (is_uncounted old.frames old.counted c) 1 0
+
+-- a publication's changes, each made: every frame is counted, and the image and the seat fit as before
+pub record AreCounted (old image : ImageView) (start seat : SeatSeen) : Type 0 where
+  pub board_stays : seat.board ≡ start.board
+  pub fit : IsFit start.board.slots image seat.seen
+  pub changes : List (Change × ℕ)
+  pub made : AreMade old image start.seen seat.seen changes
+  pub settled : IsSettled image
 
 -- a publication: a load of the moment, one step for each code whose counts differ, and a store of the moment that was loaded
 pub record IsPublished (old new : BodyView) : Type 0 where

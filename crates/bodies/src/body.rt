@@ -1,13 +1,13 @@
 //! A thread's body, and the seats of a place that no thread has.
-ghost use Rattle.std.specs.Prelude.{◌≡◌, ◌≢◌, ◌⊎◌, ℕ, true, false, ◌+◌, ◌<◌, ◌≤◌, ◌==◌, List, [], ◌∷◌, ◌++◌, length, Option, Some, None, IfSome, IsTrue, ◌↔◌};
+ghost use Rattle.std.specs.Prelude.{◌≡◌, ◌≢◌, ◌⊎◌, ℕ, true, false, ◌+◌, ◌<◌, ◌≤◌, ◌==◌, List, [], ◌∷◌, ◌++◌, length, None, IfSome, IfOk, IsTrue, ◌↔◌};
 ghost use Rattle.thread_state.specs.PollRule.{polled, exchanged};
 ghost use Rattle.frames.specs.declared.CodeId.{CodeId as Code};
 ghost use Rattle.frames.specs.declared.Change.{Change as ChangeOf};
-ghost use Rattle.frames.specs.Stack.{act, times};
-ghost use Rattle.frames.specs.BoardViews.{how_often, has_code, stored_as};
+ghost use Rattle.frames.specs.Stack.{times};
+ghost use Rattle.frames.specs.BoardViews.{stored_as};
 ghost use Rattle.operations.specs.Asks.{reply};
 ghost use Rattle.frames.specs.ImageView.{HasFrames, IsSettled, IsCounted, push_fault, next_code};
-ghost use Rattle.bodies.specs.Bodies.{IsFit, IsTried, IsCalled, called_in, AreMade, IsPublished, AreStanding, BodyView};
+ghost use Rattle.bodies.specs.Bodies.{IsFit, IsCalled, AreMade, AreCounted, IsPublished, AreStanding};
 
 use crate::name::Name;
 use board::{Board, ThreadSeat};
@@ -15,6 +15,7 @@ use frames::image::Image;
 use frames::{CodeId, Frame};
 use operations::job::{Done, Errand};
 use poll::{PollRow, Poller};
+use std::alloc::{AllocError, Global};
 use std::marker::{Model, PhantomData};
 
 /// How a call of a method runs.
@@ -26,36 +27,77 @@ pub enum Called {
     Interpreted,
 }
 
+// What a place keeps for the threads that have it in turn. The image is there while a thread has the place.
+#[derive(Drop)]
+struct Parts {
+    name: u64,
+    image: Option<Image>,
+    seat: ThreadSeat,
+    poller: Poller,
+}
+
+/// The seat and the poller of one place, in a box with room for the name and the image of the thread that has the place: bodies are
+/// moved as that box.
+///
+/// The box is made with the place and not by its threads, so that the boxes of all places lie beside one another.
+#[derive(Drop)]
+pub struct Seats {
+    parts: Box<Parts>,
+}
+
+impl Model for Seats {
+    ghost use Rattle.bodies.specs.Bodies.{SeatsView};
+
+    ghost Value = { SeatsView };
+
+    ghost view = { λ s. record { seat = s.parts.value.seat; poller = s.parts.value.poller } };
+}
+
+impl Seats {
+    /// The error is that memory was refused.
+    pub fn new(alloc: Global, seat: ThreadSeat, poller: Poller) -> Result<Seats, AllocError>
+        ensures { IfOk result (λ s. (s.seat ≡ seat) × (s.poller ≡ poller)) }
+    {
+        let parts = Parts {
+            name: 0,
+            image: None,
+            seat,
+            poller,
+        };
+        let parts = Box::new(alloc, parts)?;
+        Ok(Seats { parts })
+    }
+}
+
 /// The seat and the poller of one place, while no thread has the place: nothing is stored or counted there.
 #[derive(Drop)]
 pub struct SpareSeat<N: Name> {
-    seat: ThreadSeat,
-    poller: Poller,
+    parts: Box<Parts>,
     of: PhantomData<N>,
 }
 
 impl<N: Name> Model for SpareSeat<N> {
     ghost use Rattle.std.specs.Prelude.{◌≡◌};
-    ghost use Rattle.bodies.specs.Bodies.{SpareView, IsSpare};
+    ghost use Rattle.bodies.specs.Bodies.{SpareView, IsPaired, IsSpare};
 
     ghost Value = { SpareView };
 
-    ghost view = { λ p. record { seat = p.seat.seen; poller = p.poller.seen } };
+    ghost view = { λ p. record { seat = p.parts.value.seat.seen; poller = p.parts.value.poller.seen } };
 
-    ghost invariant = { λ p. (p.seat.board ≡ N.board) × (p.poller.table ≡ N.poll_row) × (p.poller.seen.place ≡ p.seat.seen.place) × IsSpare p.seat.seen };
+    ghost invariant = { λ p. IsPaired N.board N.poll_row p.parts.value.seat p.parts.value.poller × IsSpare p.parts.value.seat.seen };
 }
 
 impl<N: Name> SpareSeat<N> {
     /// The seats of a place that no thread has had.
-    pub fn new(seat: ThreadSeat, poller: Poller) -> SpareSeat<N>
-        requires tables { (seat.board ≡ N.board) × (poller.table ≡ N.poll_row) }
-        requires place { poller.seen.place ≡ seat.seen.place }
-        requires unused { (seat.seen.stored ≡ 0) × (seat.seen.counted ≡ []) }
-        ensures { (result.seat ≡ seat.seen) × (result.poller ≡ poller.seen) }
+    pub fn new(seats: Seats) -> SpareSeat<N>
+        requires tables { (seats.seat.board ≡ N.board) × (seats.poller.table ≡ N.poll_row) }
+        requires place { seats.poller.seen.place ≡ seats.seat.seen.place }
+        requires unused { (seats.seat.seen.stored ≡ 0) × (seats.seat.seen.counted ≡ []) }
+        ensures { (result.seat ≡ seats.seat.seen) × (result.poller ≡ seats.poller.seen) }
     {
+        let Seats { parts } = seats;
         SpareSeat {
-            seat,
-            poller,
+            parts,
             of: PhantomData,
         }
     }
@@ -66,8 +108,7 @@ impl<N: Name> SpareSeat<N> {
         ensures value { result ≡ self.now.seat.place }
         ensures bound { result < N.board.places }
     {
-        let _ = &self.poller;
-        self.seat.place()
+        self.parts.seat.place()
     }
 }
 
@@ -75,25 +116,22 @@ impl<N: Name> SpareSeat<N> {
 ///
 /// The type keeps that the image counts a code as often as the seat has counted it on the board, that a code with more frames than
 /// are counted was entered since the last publication, and that no publication is open.
+///
+/// It is the box of its place, since bodies are moved into their berths and out again: a move is of one pointer.
 #[derive(Drop)]
 pub struct Body<N: Name> {
-    name: u64,
-    // Boxed, since bodies are moved into their berths and out again.
-    image: Box<Image>,
-    seat: ThreadSeat,
-    poller: Poller,
+    parts: Box<Parts>,
     of: PhantomData<N>,
 }
 
 impl<N: Name> Model for Body<N> {
-    ghost use Rattle.std.specs.Prelude.{◌≡◌, false};
-    ghost use Rattle.bodies.specs.Bodies.{BodyView, IsFit};
+    ghost use Rattle.bodies.specs.Bodies.{BodyView, image_of, IsPaired, IsKept};
 
     ghost Value = { BodyView };
 
-    ghost view = { λ b. record { name = b.name; image = b.image.value; seat = b.seat.seen; poller = b.poller.seen } };
+    ghost view = { λ b. record { name = b.parts.value.name; image = image_of b.parts.value.image; seat = b.parts.value.seat.seen; poller = b.parts.value.poller.seen } };
 
-    ghost invariant = { λ b. (b.seat.board ≡ N.board) × (b.poller.table ≡ N.poll_row) × (b.poller.seen.place ≡ b.seat.seen.place) × IsFit N.board.slots b.image.value b.seat.seen × (b.image.value.publishing ≡ false) };
+    ghost invariant = { λ b. IsPaired N.board N.poll_row b.parts.value.seat b.parts.value.poller × IsKept N.board.slots b.parts.value.image b.parts.value.seat.seen };
 }
 
 // Pushes a frame where there is room.
@@ -105,33 +143,6 @@ fn push(image: &mut Image, frame: Frame)
     match image.push(frame) {
         Ok(()) => {}
         Err(_) => unreachable!(),
-    }
-}
-
-// The code of the hint, where the one load of its entry finds it in use.
-#[inline(always)]
-fn enter_code(seat: &mut ThreadSeat, board: &Board, hint: Option<CodeId>) -> Option<CodeId>
-    requires board { seat.old.board ≡ board.now }
-    requires slot { IfSome hint (λ c. c.slot < seat.old.board.slots) }
-    requires published { seat.old.seen.stored ≢ 0 }
-    ensures board { seat.new.board ≡ seat.old.board }
-    ensures tried { IsTried seat.old.seen seat.new.seen hint result }
-{
-    let code = hint?;
-    if seat.enter(board, code) {
-        Some(code)
-    } else {
-        None
-    }
-}
-
-#[inline(always)]
-fn called_in(code: Option<CodeId>) -> Called
-    ensures { result ≡ called_in code }
-{
-    match code {
-        Some(code) => Called::Compiled(code.serial),
-        None => Called::Interpreted,
     }
 }
 
@@ -151,24 +162,54 @@ fn count_changes(image: &mut Image, seat: &mut ThreadSeat, board: &Board)
     }
 }
 
+// Opens a publication, counts the codes that moved, and ends it. It stands apart, since in most publications no code moved.
+#[inline(never)]
+fn publish_changes(image: &mut Image, seat: &mut ThreadSeat, board: &Board)
+    requires board { seat.old.board ≡ board.now }
+    requires fit { IsFit seat.old.board.slots image.old seat.old.seen }
+    requires closed { image.old.publishing ≡ false }
+    requires begun { seat.old.seen.moment ≢ 0 }
+    ensures { AreCounted image.old image.new seat.old seat.new }
+{
+    match image.begin() {
+        Ok(()) => {}
+        Err(_) => unreachable!(),
+    }
+    count_changes(image, seat, board);
+    match image.end() {
+        Ok(()) => {}
+        Err(_) => unreachable!(),
+    }
+}
+
+// Counts the codes that moved, if any did.
+#[inline(always)]
+fn count_moved(image: &mut Image, seat: &mut ThreadSeat, board: &Board)
+    requires board { seat.old.board ≡ board.now }
+    requires fit { IsFit seat.old.board.slots image.old seat.old.seen }
+    requires closed { image.old.publishing ≡ false }
+    requires begun { seat.old.seen.moment ≢ 0 }
+    ensures { AreCounted image.old image.new seat.old seat.new }
+{
+    if !image.is_unmoved() {
+        publish_changes(image, seat, board);
+    }
+}
+
 impl<N: Name> Body<N> {
-    /// The body of a thread that starts: its stack is empty and nothing of it is counted.
-    pub fn new(name: u64, image: Box<Image>, pair: SpareSeat<N>) -> Body<N>
-        requires empty { (image.value.frames ≡ []) × (image.value.publishing ≡ false) × ((c : Code) → times c image.value.counted ≡ 0) }
+    /// The body of a thread that starts, in the box of the place that it takes: its stack is empty and nothing of it is counted.
+    pub fn new(name: u64, image: Image, pair: SpareSeat<N>) -> Body<N>
+        requires empty { (image.frames ≡ []) × (image.publishing ≡ false) × ((c : Code) → times c image.counted ≡ 0) }
         ensures name { result.name ≡ name }
-        ensures image { result.image ≡ image.value }
+        ensures image { result.image ≡ image }
         ensures seats { (result.seat ≡ pair.seat) × (result.poller ≡ pair.poller) }
     {
-        let SpareSeat {
-            seat,
-            poller,
-            of: _,
-        } = pair;
+        let SpareSeat { mut parts, of: _ } = pair;
+        let taken = &mut *parts;
+        taken.name = name;
+        taken.image = Some(image);
         Body {
-            name,
-            image,
-            seat,
-            poller,
+            parts,
             of: PhantomData,
         }
     }
@@ -178,17 +219,17 @@ impl<N: Name> Body<N> {
     pub fn name(&self) -> u64
         ensures { result ≡ self.now.name }
     {
-        self.name
+        self.parts.name
     }
 
     /// The place of both seats.
+    #[inline(always)]
     pub fn place(&self) -> usize
         ensures value { result ≡ self.now.seat.place }
         ensures poller { result ≡ self.now.poller.place }
         ensures bound { result < N.board.places }
     {
-        let _ = &self.image;
-        self.seat.place()
+        self.parts.seat.place()
     }
 
     /// Runs a job on its own image, which must be settled.
@@ -198,7 +239,10 @@ impl<N: Name> Body<N> {
         ensures reply { result.reply ≡ reply (J.asks job) self.now.image.frames }
         ensures called { J.may_answer job self.now.image result.reply }
     {
-        job.run_on(&*self.image)
+        match &self.parts.image {
+            Some(image) => job.run_on(image),
+            None => unreachable!(),
+        }
     }
 
     /// The frames, the top last.
@@ -206,9 +250,11 @@ impl<N: Name> Body<N> {
         ensures value { result.now ≡ self.now.image.frames }
         ensures few { length result.now ≤ 256 }
     {
-        let _ = &self.seat;
-        let _ = self.image.depth();
-        self.image.frames()
+        let Some(image) = &self.parts.image else {
+            unreachable!()
+        };
+        let _ = image.depth();
+        image.frames()
     }
 
     /// How many frames the stack has.
@@ -216,14 +262,20 @@ impl<N: Name> Body<N> {
     pub fn depth(&self) -> usize
         ensures { result ≡ length self.now.image.frames }
     {
-        self.image.depth()
+        match &self.parts.image {
+            Some(image) => image.depth(),
+            None => unreachable!(),
+        }
     }
 
     /// Whether each code is counted as often as it has frames.
     pub fn is_settled(&self) -> bool
         ensures { IsTrue result ↔ IsSettled self.now.image }
     {
-        self.image.is_settled()
+        match &self.parts.image {
+            Some(image) => image.is_settled(),
+            None => unreachable!(),
+        }
     }
 
     /// Enters a method: in the code of the hint, where the one load of its entry finds it in use, and else interpreted.
@@ -238,9 +290,24 @@ impl<N: Name> Body<N> {
         ensures step { IsCalled self.old self.new method hint result }
         ensures others { (self.new.name ≡ self.old.name) × (self.new.poller ≡ self.old.poller) }
     {
-        let code = enter_code(&mut self.seat, board, hint);
-        push(&mut *self.image, Frame { method, code });
-        called_in(code)
+        let parts = &mut *self.parts;
+        let Some(image) = &mut parts.image else {
+            unreachable!()
+        };
+        if let Some(code) = hint {
+            if parts.seat.enter(board, code) {
+                push(
+                    image,
+                    Frame {
+                        method,
+                        code: Some(code),
+                    },
+                );
+                return Called::Compiled(code.serial);
+            }
+        }
+        push(image, Frame { method, code: None });
+        Called::Interpreted
     }
 
     /// Leaves the method of the top frame, and gives that frame.
@@ -250,28 +317,29 @@ impl<N: Name> Body<N> {
         ensures popped { (self.old.image.frames ≡ self.new.image.frames ++ result ∷ []) × HasFrames self.old.image self.new.image self.new.image.frames }
         ensures others { (self.new.name ≡ self.old.name) × (self.new.seat ≡ self.old.seat) × (self.new.poller ≡ self.old.poller) }
     {
-        match self.image.pop() {
+        let parts = &mut *self.parts;
+        let Some(image) = &mut parts.image else {
+            unreachable!()
+        };
+        match image.pop() {
             Ok(frame) => frame,
             Err(_) => unreachable!(),
         }
     }
 
     /// Publishes the stack: one load of the moment, a step for each code whose counts differ, and a store of the moment that was loaded.
+    #[inline(always)]
     pub fn publish(&mut self, board: &Board)
         requires board { board.now ≡ N.board }
         ensures { IsPublished self.old self.new }
     {
-        self.seat.read_moment(board);
-        match self.image.begin() {
-            Ok(()) => {}
-            Err(_) => unreachable!(),
-        }
-        count_changes(&mut *self.image, &mut self.seat, board);
-        match self.image.end() {
-            Ok(()) => {}
-            Err(_) => unreachable!(),
-        }
-        self.seat.end_publication(board);
+        let parts = &mut *self.parts;
+        let Some(image) = &mut parts.image else {
+            unreachable!()
+        };
+        parts.seat.read_moment(board);
+        count_moved(image, &mut parts.seat, board);
+        parts.seat.end_publication(board);
     }
 
     /// The number that the place is armed with, 0 where it isn't: one load.
@@ -282,17 +350,20 @@ impl<N: Name> Body<N> {
         ensures later { (result ≡ 0) ⊎ (self.old.poller.cleared < result) }
         ensures others { (self.new.name ≡ self.old.name) × (self.new.image ≡ self.old.image) × (self.new.seat ≡ self.old.seat) }
     {
-        self.poller.poll(row)
+        let parts = &mut *self.parts;
+        parts.poller.poll(row)
     }
 
     /// Clears the place where it is armed with `n`, and says whether it did: one compare-exchange.
+    #[inline(always)]
     pub fn clear(&mut self, row: &PollRow, n: u64) -> bool
         requires row { row.now ≡ N.poll_row }
         requires number { n ≢ 0 }
         ensures step { (found : ℕ) × (self.new.poller ≡ exchanged self.old.poller n found) × (result ≡ (found == n)) }
         ensures others { (self.new.name ≡ self.old.name) × (self.new.image ≡ self.old.image) × (self.new.seat ≡ self.old.seat) }
     {
-        self.poller.clear(row, n)
+        let parts = &mut *self.parts;
+        parts.poller.clear(row, n)
     }
 
     /// Gives the place up, by one store of 0. The stack must be empty, and nothing counted.
@@ -302,18 +373,12 @@ impl<N: Name> Body<N> {
         requires counted { IsCounted self.image }
         ensures { (result.seat ≡ stored_as self.seat 0) × (result.poller ≡ self.poller) }
     {
-        let Body {
-            name: _,
-            image,
-            mut seat,
-            poller,
-            of: _,
-        } = self;
-        drop(image);
-        seat.vacate(board);
+        let Body { mut parts, of: _ } = self;
+        let left = &mut *parts;
+        left.image = None;
+        left.seat.vacate(board);
         SpareSeat {
-            seat,
-            poller,
+            parts,
             of: PhantomData,
         }
     }
@@ -324,6 +389,6 @@ impl<N: Name> Body<N> {
         ensures fit { IsFit N.board.slots self.now.image self.now.seat }
         ensures standing { AreStanding self.now.image self.now.seat }
     {
-        let _ = &self.image;
+        let _ = &self.parts;
     }
 }

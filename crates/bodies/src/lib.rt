@@ -1,14 +1,14 @@
 //! What a thread owns: its name, the image of its stack, and its seats at the code board and at the poll row; and the census of bodies.
 //!
 //! A body is changed by its own calls alone, and the type keeps that the image counts what the seat has counted on the board. None
-//! of the calls waits or takes memory but the census, so a thread runs them between two polls, and whoever holds a body by value is
-//! the only one that changes its stack.
+//! of the calls waits, and none takes memory but the census and [`Seats::new`], so a thread runs them between two polls, and
+//! whoever holds a body by value is the only one that changes its stack.
 #![tactic(auto)]
 
 mod body;
 mod census;
 mod name;
 
-pub use body::{Body, Called, SpareSeat};
+pub use body::{Body, Called, Seats, SpareSeat};
 pub use census::census_of;
 pub use name::Name;

@@ -1,4 +1,5 @@
 pub mod Popped
+pub mod Paired
 pub mod Turned
 pub mod Made
 pub mod Crosses

@@ -1,8 +1,9 @@
 -- The parts of a system, and which sizes it can have.
-use Rattle.std.specs.Prelude.{◌≡◌, ℕ, Bool, true, false, not, ◌&&◌, ◌==◌, nat_le, Some, List, slice_get}
+use Rattle.std.specs.Prelude.{◌≡◌, ℕ, Bool, true, false, not, ◌&&◌, ◌==◌, nat_le, Some, List, map, slice_get}
 use Rattle.frames.specs.BoardViews.{seat_view}
 use Rattle.board.specs.Boards.{BoardId, SeatSeen}
 use Rattle.poll.specs.Rows.{RowId, PollerSeen}
+use Rattle.bodies.specs.Bodies.{SeatsView}
 use Rattle.thread_list.specs.declared.parts.PartsFault.{PartsFault}
 use Rattle.thread_list.specs.declared.parts.PartsFault.TheVariants.{BadSize, NoMemory}
 
@@ -22,6 +23,13 @@ are_sizes places slots methods = fits places 64 && fits slots 1024 && fits metho
 abbrev pub parts_refused : ℕ → ℕ → ℕ → PartsFault → Type 0
 parts_refused places slots methods BadSize = are_sizes places slots methods ≡ false
 parts_refused places slots methods NoMemory = are_sizes places slots methods ≡ true
+
+-- the seats, and the pollers, of such pairs
+abbrev pub seats_in : List SeatsView → List SeatSeen
+seats_in both = map (λ b. b.seat) both
+
+abbrev pub pollers_in : List SeatsView → List PollerSeen
+pollers_in both = map (λ b. b.poller) both
 
 -- These are the seats of a board, and the pollers of a row, each of its place, as they are made.
 abbrev pub AreSeatsOf : BoardId → List SeatSeen → Type 0

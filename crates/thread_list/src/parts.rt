@@ -1,22 +1,22 @@
 //! What a system of running threads is made of.
 ghost use Rattle.std.specs.Prelude.{◌≡◌, ◌≤◌, ◌<◌, ℕ, [], ◌∷◌, Some, length, slice_get, vec_len, vec_capacity, All, IfOk, IfErr, OnOk};
-ghost use Rattle.frames.specs.BoardViews.{seat_view};
-ghost use Rattle.board.specs.Boards.{SeatSeen, first_keeper};
-ghost use Rattle.poll.specs.Rows.{PollerSeen, full_armer};
+ghost use Rattle.board.specs.Boards.{first_keeper};
+ghost use Rattle.poll.specs.Rows.{full_armer};
 ghost use Rattle.berths.specs.Berths.{IsRoom};
 ghost use Rattle.thread_list.specs.Sharing.{AreInOrder};
-ghost use Rattle.thread_list.specs.Sized.{parts_refused, AreSeatsOf, ArePollersOf};
+ghost use Rattle.thread_list.specs.Sized.{parts_refused, AreSeatsOf, ArePollersOf, seats_in, pollers_in};
 
 use crate::hints::Hints;
 use crate::shared::Shared;
 use berths::{Berth, JOBS, Room};
 use board::{Board, Keeper, ThreadSeat};
-use bodies::{Name, SpareSeat};
+use bodies::{Name, Seats, SpareSeat};
 use desk::Desk;
 use method_table::table::MethodTable;
 use operations::job::Errand;
 use poll::{Armer, PollRow, Poller};
 use std::alloc::{AllocError, Global};
+use std::collections::VecDeque;
 use std::marker::Model;
 use std::sync::atomic::AtomicU64;
 use std::sync::{Condvar, Mutex};
@@ -42,26 +42,24 @@ pub enum PartsFault {
 pub struct Parts {
     board: Board,
     keeper: Keeper,
-    seats: Vec<ThreadSeat>,
     row: PollRow,
     armer: Armer,
-    pollers: Vec<Poller>,
+    seats: Vec<Seats>,
     slots: u32,
     methods: u32,
 }
 
 impl Model for Parts {
-    ghost use Rattle.std.specs.Prelude.{◌≡◌, ℕ, Some, length, slice_get};
-    ghost use Rattle.frames.specs.BoardViews.{seat_view};
-    ghost use Rattle.board.specs.Boards.{SeatSeen, first_keeper};
-    ghost use Rattle.poll.specs.Rows.{PollerSeen, full_armer};
-    ghost use Rattle.thread_list.specs.Sized.{PartsSeen, AreSeatsOf, ArePollersOf};
+    ghost use Rattle.std.specs.Prelude.{◌≡◌, length};
+    ghost use Rattle.board.specs.Boards.{first_keeper};
+    ghost use Rattle.poll.specs.Rows.{full_armer};
+    ghost use Rattle.thread_list.specs.Sized.{PartsSeen, AreSeatsOf, ArePollersOf, seats_in, pollers_in};
 
     ghost Value = { PartsSeen };
 
     ghost view = { λ p. record { board = p.board; row = p.row; methods = p.methods } };
 
-    ghost invariant = { λ p. (p.keeper ≡ first_keeper p.board) × (p.armer ≡ full_armer p.row p.board.places) × AreSeatsOf p.board p.seats.items × ArePollersOf p.row p.pollers.items × (length p.seats.items ≡ p.board.places) × (length p.pollers.items ≡ p.board.places) × (p.slots ≡ p.board.slots) };
+    ghost invariant = { λ p. (p.keeper ≡ first_keeper p.board) × (p.armer ≡ full_armer p.row p.board.places) × AreSeatsOf p.board (seats_in p.seats.items) × ArePollersOf p.row (pollers_in p.seats.items) × (length p.seats.items ≡ p.board.places) × (p.slots ≡ p.board.slots) };
 }
 
 impl Parts {
@@ -84,13 +82,15 @@ impl Parts {
         let Ok((row, armer, pollers)) = PollRow::new(alloc, places) else {
             return Err(PartsFault::NoMemory);
         };
+        let Ok(seats) = seats_of(alloc, seats, pollers) else {
+            return Err(PartsFault::NoMemory);
+        };
         Ok(Parts {
             board,
             keeper,
-            seats,
             row,
             armer,
-            pollers,
+            seats,
             slots: slots as u32,
             methods: methods as u32,
         })
@@ -121,33 +121,51 @@ fn job_lists<N: Name, J: Errand>(
     Ok((lists, berths))
 }
 
-// A berth for each seat with its poller, without a name.
-fn berths_of<N: Name, J: Errand>(
+// Each seat with its poller, in order, in a box each: one after another, so that the boxes lie beside one another.
+fn seats_of(
+    alloc: Global,
     seats: Vec<ThreadSeat>,
     pollers: Vec<Poller>,
+) -> Result<Vec<Seats>, AllocError>
+    requires count { length seats.items ≡ length pollers.items }
+    ensures seats { IfOk result (λ v. seats_in v.items ≡ seats.items) }
+    ensures pollers { IfOk result (λ v. pollers_in v.items ≡ pollers.items) }
+{
+    let mut all = Vec::with_capacity(alloc, seats.len())?;
+    let mut seats = VecDeque::from_vec(seats);
+    let mut pollers = VecDeque::from_vec(pollers);
+    while let Some(seat) = seats.pop_front() {
+        let Some(poller) = pollers.pop_front() else {
+            unreachable!()
+        };
+        let both = Seats::new(alloc, seat, poller)?;
+        all.push(both).map_err(|_| AllocError)?;
+    }
+    Ok(all)
+}
+
+// A berth for each place's seats, without a name.
+fn berths_of<N: Name, J: Errand>(
+    seats: Vec<Seats>,
     lists: Vec<Vec<J>>,
     room: Vec<Berth<N, J>>,
 ) -> Vec<Berth<N, J>>
-    requires seats { AreSeatsOf N.board seats.items }
-    requires pollers { ArePollersOf N.poll_row pollers.items }
-    requires count { (length seats.items ≡ length pollers.items) × (length seats.items ≡ vec_len lists) }
+    requires seats { AreSeatsOf N.board (seats_in seats.items) }
+    requires pollers { ArePollersOf N.poll_row (pollers_in seats.items) }
+    requires count { length seats.items ≡ vec_len lists }
     requires lists { All IsRoom lists.items }
     requires room { (vec_len room ≡ 0) × (length seats.items ≤ vec_capacity room) }
     ensures count { length result.items ≡ length seats.items }
     ensures order { AreInOrder result.items }
 {
     let mut seats = seats;
-    let mut pollers = pollers;
     let mut lists = lists;
     let mut berths = room;
-    while let Some(seat) = seats.pop() {
-        let Some(poller) = pollers.pop() else {
-            unreachable!()
-        };
+    while let Some(both) = seats.pop() {
         let Some(jobs) = lists.pop() else {
             unreachable!()
         };
-        let pair = SpareSeat::new(seat, poller);
+        let pair = SpareSeat::new(both);
         berths.push_reserved(Berth::new(Room::new(pair.place(), pair, jobs)));
     }
     berths.reverse();
@@ -175,16 +193,15 @@ impl<N: Name, J: Errand> Shared<N, J> {
         let Parts {
             board,
             keeper,
-            seats,
             row,
             armer,
-            pollers,
+            seats,
             slots,
             methods,
         } = parts;
         match Desk::new(alloc, table, keeper, &board, places) {
             Ok(desk) => {
-                let berths = berths_of(seats, pollers, lists, room);
+                let berths = berths_of(seats, lists, room);
                 Ok((
                     Shared {
                         board,
@@ -201,10 +218,9 @@ impl<N: Name, J: Errand> Shared<N, J> {
             Err(keeper) => Err(Parts {
                 board,
                 keeper,
-                seats,
                 row,
                 armer,
-                pollers,
+                seats,
                 slots,
                 methods,
             }),

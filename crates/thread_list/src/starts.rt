@@ -15,7 +15,7 @@ use bodies::{Body, Name};
 use desk::{Receipt, StartFault};
 use frames::image::Image;
 use operations::job::Errand;
-use std::alloc::{AllocError, Global};
+use std::alloc::Global;
 use std::sync::Wait;
 use thread_state::State;
 
@@ -32,7 +32,7 @@ impl<N: Name, J: Errand> Shared<N, J> {
         ensures goes_on { IfOk result (λ r. (body : BodyView) × (r.0.body ≡ Some body) × IsStarted r.0 body) }
         ensures refused { IfErr result (λ e. (s : DeskState) × (book : Book) × start_refused s N.board.places book e) }
     {
-        let image = new_image(alloc);
+        let image = Image::new(alloc);
         let (name, place, receipt) = self.enter(rt, image.is_ok())?;
         let Ok(image) = image else { unreachable!() };
         let berth = self.berth(place);
@@ -80,16 +80,5 @@ impl<N: Name, J: Errand> Shared<N, J> {
         let mut desk = self.desk.lock(rt);
         let started = desk.start(has_image)?;
         Ok(started)
-    }
-}
-
-// The image of an empty stack, which stays where it is while its thread's body moves.
-fn new_image(alloc: Global) -> Result<Box<Image>, AllocError>
-    ensures { IfOk result (λ image. image.value ≡ record { frames = []; counted = []; changed = []; publishing = false }) }
-{
-    let image = Image::new(alloc)?;
-    match Box::new(alloc, image) {
-        Ok(image) => Ok(image),
-        Err(_) => Err(AllocError),
     }
 }

@@ -4,7 +4,7 @@ ghost use Rattle.frames.specs.ImageView.{IsSettled};
 
 use super::{Player, add, number_at, play, told};
 use frames::image::Image;
-use operations::job::{Call, Done, Errand, Job};
+use operations::job::{Call, Done, Errand, Job, Query};
 use operations::queue::{Queue, QueueFault, Unqueued, Waiting};
 use operations::{Ask, Kind, Request, Targets};
 use std::alloc::Global;
@@ -268,6 +268,16 @@ fn run_errand<J: Errand>(rt: &impl Abort, errand: J, image: &Image) -> Done
     assert!(rt; errand.target_of() == 9);
     assert!(rt; errand.ask_of() == Ask::Depth);
     errand.numbered(5).run_on(image)
+}
+
+#[test]
+fn a_query_answers_itself(rt: HostRuntime) {
+    let image = three_frames(&rt, rt.alloc());
+    let done = run_errand(&rt, Query::new(9, Ask::Depth), &image);
+    assert!(rt; done.op() == 5 && done.target() == 9);
+    assert!(rt; done.ask() == Ask::Depth && done.reply() == 3);
+    let counted = Query::new(9, Ask::CountOf(1)).run_on(&image);
+    assert!(rt; counted.op() == 0 && counted.reply() == 2);
 }
 
 #[test]

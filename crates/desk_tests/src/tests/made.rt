@@ -5,7 +5,7 @@ ghost use Rattle.poll.specs.Rows.{first_poller};
 ghost use Rattle.frames.specs.ImageView.{IsSettled};
 
 use board::{Board, Keeper, ThreadSeat};
-use bodies::{Body, Name, SpareSeat};
+use bodies::{Body, Name, Seats, SpareSeat};
 use desk::Desk;
 use frames::image::Image;
 use method_table::table::MethodTable;
@@ -70,17 +70,6 @@ pub fn small_desk<N: Name, J: Errand>(
     }
 }
 
-// An image without frames.
-fn first_image(alloc: Global) -> Result<Box<Image>, AllocError>
-    ensures { IfOk result (λ b. b.value ≡ record { frames = []; counted = []; changed = []; publishing = false }) }
-{
-    let image = Image::new(alloc)?;
-    match Box::new(alloc, image) {
-        Ok(image) => Ok(image),
-        Err(_) => Err(AllocError),
-    }
-}
-
 // The body of thread 1, which makes no call and publishes nothing, so its place stays vacant.
 pub fn first_body<N: Name>(
     alloc: Global,
@@ -92,8 +81,7 @@ pub fn first_body<N: Name>(
     ensures name { IfOk result (λ b. b.name ≡ 1) }
     ensures settled { IfOk result (λ b. IsSettled b.image) }
 {
-    match first_image(alloc) {
-        Ok(image) => Ok(Body::new(1, image, SpareSeat::new(seat, poller))),
-        Err(_) => Err(AllocError),
-    }
+    let seats = Seats::new(alloc, seat, poller)?;
+    let image = Image::new(alloc)?;
+    Ok(Body::new(1, image, SpareSeat::new(seats)))
 }

@@ -6,7 +6,7 @@ ghost use Rattle.operations.specs.Asks.{reply};
 
 use super::made::{one_poller, one_seat};
 use board::{Board, Keeper, ThreadSeat};
-use bodies::{Body, Called, Name, SpareSeat};
+use bodies::{Body, Called, Name, Seats, SpareSeat};
 use frames::CodeId;
 use frames::image::Image;
 use operations::Ask;
@@ -87,8 +87,8 @@ fn live<N: Name, J: Errand, R: Abort>(
 {
     let mut keeper = keeper;
     let mut armer = armer;
-    let spare: SpareSeat<N> = SpareSeat::new(seat, poller);
-    let mut body = Body::new(7, Box::new(alloc, Image::new(alloc)?)?, spare);
+    let spare: SpareSeat<N> = SpareSeat::new(Seats::new(alloc, seat, poller)?);
+    let mut body = Body::new(7, Image::new(alloc)?, spare);
     assert!(rt; calls(&board, &mut keeper, &mut body));
     assert!(rt; is_asked(&row, &mut armer, &mut body));
     body.publish(&board);

@@ -1,51 +1,51 @@
 use Rattle.std.proofs.Common.{◌≡◌, ◌∙◌, sym, ap, arith, rules, length, length-append, ◌+◌, ◌∷◌, subst, []}
 use Rattle.frames.specs.declared.board_rule.SeatView.{SeatView}
+use Rattle.bodies.specs.Bodies.{SeatsView}
 use Rattle.berths.specs.Berths.{IsRoom, Berthing}
 use Rattle.thread_list.specs.Sharing.{AreInOrder}
 use Rattle.thread_list.proofs.InOrder.{AreDownFrom, down_push, turned}
-use Rattle.thread_list.proofs.Popped.{all_last, last_at, rest_at, one_less}
+use Rattle.thread_list.proofs.Paired.{last_of, rest_of}
+use Rattle.thread_list.proofs.Popped.{all_last}
 use Rattle.thread_list.proofs.parts.berths_of.Goals as goal
 
 pub new-pair-requires-clause-tables : goal.new-pair-requires-clause-tables
 new-pair-requires-clause-tables g c =
-    let i = c.loop-seat.invariant in (
-      (i.seats (length c.pop.new.self.items) c.in-Some.seat (last_at c.loop-seat.seats.items c.pop.new.self.items c.in-Some.seat c.in-Some.ensures.items)).0,
-      (i.pollers (length c.pop-in-Some.new.self.items) c.in-Some-pop.poller (last_at c.loop-seat.pollers.items c.pop-in-Some.new.self.items c.in-Some-pop.poller c.in-Some-pop.ensures.items)).0,
+    let i = c.loop-both.invariant in (
+      (i.seats (length c.pop.new.self.items) c.in-Some.both.seat (last_of (λ (b : SeatsView). b.seat) c.loop-both.seats.items c.pop.new.self.items c.in-Some.both c.in-Some.ensures.items)).0,
+      (i.pollers (length c.pop.new.self.items) c.in-Some.both.poller (last_of (λ (b : SeatsView). b.poller) c.loop-both.seats.items c.pop.new.self.items c.in-Some.both c.in-Some.ensures.items)).0,
     )
 
 pub new-pair-requires-clause-place : goal.new-pair-requires-clause-place
 new-pair-requires-clause-place g c =
-    let i = c.loop-seat.invariant in
-    (i.pollers (length c.pop-in-Some.new.self.items) c.in-Some-pop.poller (last_at c.loop-seat.pollers.items c.pop-in-Some.new.self.items c.in-Some-pop.poller c.in-Some-pop.ensures.items)).1
-    ∙ (sym (one_less c.loop-seat.seats.items c.pop.new.self.items c.in-Some.seat c.loop-seat.pollers.items c.pop-in-Some.new.self.items c.in-Some-pop.poller c.in-Some.ensures.items c.in-Some-pop.ensures.items i.count)
-    ∙ sym (ap (λ (s : SeatView). s.place) (i.seats (length c.pop.new.self.items) c.in-Some.seat (last_at c.loop-seat.seats.items c.pop.new.self.items c.in-Some.seat c.in-Some.ensures.items)).1))
+    let i = c.loop-both.invariant in
+    (i.pollers (length c.pop.new.self.items) c.in-Some.both.poller (last_of (λ (b : SeatsView). b.poller) c.loop-both.seats.items c.pop.new.self.items c.in-Some.both c.in-Some.ensures.items)).1
+    ∙ sym (ap (λ (s : SeatView). s.place) (i.seats (length c.pop.new.self.items) c.in-Some.both.seat (last_of (λ (b : SeatsView). b.seat) c.loop-both.seats.items c.pop.new.self.items c.in-Some.both c.in-Some.ensures.items)).1)
 
 pub new-pair-requires-clause-unused : goal.new-pair-requires-clause-unused
 new-pair-requires-clause-unused g c =
-    let i = c.loop-seat.invariant in
-    let is = (i.seats (length c.pop.new.self.items) c.in-Some.seat (last_at c.loop-seat.seats.items c.pop.new.self.items c.in-Some.seat c.in-Some.ensures.items)).1 in
+    let i = c.loop-both.invariant in
+    let is = (i.seats (length c.pop.new.self.items) c.in-Some.both.seat (last_of (λ (b : SeatsView). b.seat) c.loop-both.seats.items c.pop.new.self.items c.in-Some.both c.in-Some.ensures.items)).1 in
     (ap (λ (s : SeatView). s.stored) is, ap (λ (s : SeatView). s.counted) is)
 
-pub loop-seat-preserved : goal.loop-seat-preserved
-loop-seat-preserved g c =
-    let i = c.loop-seat.invariant in
+pub loop-both-preserved : goal.loop-both-preserved
+loop-both-preserved g c =
+    let i = c.loop-both.invariant in
     let place : c.new-in-Some.result ≡ length c.pop.new.self.items =
     c.new-in-Some.ensures ∙ ap (λ (r : Berthing g.row.N.Denot). r.place) c.new.ensures ∙ c.place.ensures.value ∙ ap (λ (s : SeatView). s.place) c.new-pair.ensures.0
-    ∙ ap (λ (s : SeatView). s.place) (i.seats (length c.pop.new.self.items) c.in-Some.seat (last_at c.loop-seat.seats.items c.pop.new.self.items c.in-Some.seat c.in-Some.ensures.items)).1 in
-    let less = ap length c.in-Some.ensures.items ∙ length-append c.pop.new.self.items (c.in-Some.seat ∷ []) in
-    let many : length c.loop-seat.berths.items + length c.loop-seat.seats.items ≡ length c.args.seats.items = search rules in
-    let last : c.new-in-Some.result + length c.loop-seat.berths.items + 1 ≡ length c.args.seats.items = omega (arith, place, less, many) in record {
-      count = one_less c.loop-seat.seats.items c.pop.new.self.items c.in-Some.seat c.loop-seat.pollers.items c.pop-in-Some.new.self.items c.in-Some-pop.poller c.in-Some.ensures.items c.in-Some-pop.ensures.items i.count;
+    ∙ ap (λ (s : SeatView). s.place) (i.seats (length c.pop.new.self.items) c.in-Some.both.seat (last_of (λ (b : SeatsView). b.seat) c.loop-both.seats.items c.pop.new.self.items c.in-Some.both c.in-Some.ensures.items)).1 in
+    let less = ap length c.in-Some.ensures.items ∙ length-append c.pop.new.self.items (c.in-Some.both ∷ []) in
+    let many : length c.loop-both.berths.items + length c.loop-both.seats.items ≡ length c.args.seats.items = search rules in
+    let last : c.new-in-Some.result + length c.loop-both.berths.items + 1 ≡ length c.args.seats.items = omega (arith, place, less, many) in record {
       lists = search rules;
-      rooms = (all_last IsRoom c.loop-seat.lists.items c.pop-in-Some-2.new.self.items c.in-Some-pop-2.jobs (search rules) i.rooms).0;
-      down = subst (AreDownFrom (length c.args.seats.items)) (sym c.push_reserved.ensures.items) (down_push (length c.args.seats.items) c.new-in-Some.result c.loop-seat.berths.items i.down last);
+      rooms = (all_last IsRoom c.loop-both.lists.items c.pop-in-Some.new.self.items c.in-Some-pop.jobs (search rules) i.rooms).0;
+      down = subst (AreDownFrom (length c.args.seats.items)) (sym c.push_reserved.ensures.items) (down_push (length c.args.seats.items) c.new-in-Some.result c.loop-both.berths.items i.down last);
       many = search rules;
       room = search rules;
-      seats = λ k s h. i.seats k s (rest_at c.loop-seat.seats.items c.pop.new.self.items c.in-Some.seat k s c.in-Some.ensures.items h);
-      pollers = λ k p h. i.pollers k p (rest_at c.loop-seat.pollers.items c.pop-in-Some.new.self.items c.in-Some-pop.poller k p c.in-Some-pop.ensures.items h);
+      seats = λ k s h. i.seats k s (rest_of (λ (b : SeatsView). b.seat) c.loop-both.seats.items c.pop.new.self.items c.in-Some.both k s c.in-Some.ensures.items h);
+      pollers = λ k p h. i.pollers k p (rest_of (λ (b : SeatsView). b.poller) c.loop-both.seats.items c.pop.new.self.items c.in-Some.both k p c.in-Some.ensures.items h);
     }
 
 pub returns-clause-order : goal.returns-clause-order
 returns-clause-order g c =
-    let many : length c.loop-seat.berths.items ≡ length c.args.seats.items = search rules in
-    subst AreInOrder (sym c.reverse.ensures.items) (turned (length c.args.seats.items) c.loop-seat.berths.items c.loop-seat.invariant.down many)
+    let many : length c.loop-both.berths.items ≡ length c.args.seats.items = search rules in
+    subst AreInOrder (sym c.reverse.ensures.items) (turned (length c.args.seats.items) c.loop-both.berths.items c.loop-both.invariant.down many)

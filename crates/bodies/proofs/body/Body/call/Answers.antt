@@ -1,26 +1,43 @@
-use Rattle.std.proofs.Common.{◌<◌, length, sym, ◌∙◌, ap, subst}
+use Rattle.std.proofs.Common.{◌<◌, length, sym, ap, subst, refl, Option, Some, None, IfSome}
+use Rattle.frames.specs.declared.CodeId.{CodeId}
+use Rattle.frames.specs.declared.board_rule.SeatView.{SeatView}
 use Rattle.frames.specs.ImageView.{ImageView}
-use Rattle.bodies.specs.Bodies.{BodyView, IsCalled, IsFit}
-use Rattle.bodies.proofs.Keeping.{called, called_fits, tried_place}
+use Rattle.board.specs.Boards.{SeatSeen}
+use Rattle.bodies.specs.declared.body.Parts.{Parts}
+use Rattle.bodies.specs.Bodies.{BodyView, image_of, IsPaired, IsKept, IsTried, code_if}
+use Rattle.bodies.proofs.Keeping.{called_keeps, entered_tried, stays_paired}
+use Rattle.bodies.proofs.body.Body.call.Goals.{in-Some-hint+else-enter, in_default-hint}
 use Rattle.bodies.proofs.body.Body.call.Goals as goal
 
 pub invariant_of-self : goal.invariant_of-self
 invariant_of-self g c =
-    let m = c.self.invariant in let e = c.enter_code-code.ensures in let boxed = sym c.deref_mut.ensures.value in (
-      e.board ∙ m.0,
-      m.1,
-      m.2 ∙ sym (tried_place c.self.inside.seat.seen c.enter_code-code.new.seat.seen c.args.hint c.enter_code-code.result e.tried),
-      called_fits g.N.Name.board.slots c.deref_mut.result.now c.push.new.image c.self.inside.seat.seen c.enter_code-code.new.seat.seen c.args.method c.args.hint c.enter_code-code.result
-          (subst (λ (i : ImageView). IsFit g.N.Name.board.slots i c.self.inside.seat.seen) boxed m.3) e.tried c.requires.slot c.push.ensures
-          (subst (λ (i : ImageView). length i.frames < 256) boxed (subst (λ (p : BodyView). length p.image.frames < 256) (sym c.self.view_is) c.requires.depth)),
-      c.push.ensures.publishing_stays ∙ (sym (ap (λ (i : ImageView). i.publishing) boxed) ∙ m.4),
+    let e = c.enter.ensures in let code = c.in-Some-hint.code in let seat = c.enter.new.self in
+    let now = c.deref_mut-parts.result.now in let boxed = sym c.deref_mut-parts.ensures.value in
+    let paired = subst (λ (p : Parts). IsPaired g.N.Name.board g.N.Name.poll_row p.seat p.poller) boxed c.self.invariant.0 in
+    let kept = subst (λ (o : Option ImageView). IsKept g.N.Name.board.slots o now.seat.seen) c.in-Some.is (subst (λ (p : Parts). IsKept g.N.Name.board.slots p.image p.seat.seen) boxed c.self.invariant.1) in
+    let room = subst (λ (o : Option ImageView). length (image_of o).frames < 256) c.in-Some.is (subst (λ (p : Parts). length (image_of p.image).frames < 256) boxed (subst (λ (p : BodyView). length p.image.frames < 256) (sym c.self.view_is) c.requires.depth)) in
+    let tried = subst (λ b. IsTried now.seat.seen seat.seen (Some code) (code_if code b)) c.if-enter.true (entered_tried now.seat.seen seat.seen code c.enter.result e.step e.gone) in
+    let low = subst (λ (o : Option CodeId). IfSome o (λ d. d.slot < g.N.Name.board.slots)) c.in-Some-hint.is c.requires.slot in (
+      stays_paired g.N.Name.board g.N.Name.poll_row now.seat seat now.poller paired e.board (ap (λ (t : SeatView). t.place) e.step.1),
+      called_keeps g.N.Name.board.slots c.in-Some.image c.push.new.image now.seat.seen seat.seen c.args.method (Some code) (Some code) kept tried low c.push.ensures room,
     )
 
-pub returns-clause-step : goal.returns-clause-step
-returns-clause-step g c =
-    let e = c.enter_code-code.ensures in let boxed = sym c.deref_mut.ensures.value in
-    let body : ImageView → BodyView = λ i. record { name = c.self.inside.name; image = i; seat = c.self.inside.seat.seen; poller = c.self.inside.poller.seen } in
-    let new : BodyView = record { name = c.self.inside.name; image = c.push.new.image; seat = c.enter_code-code.new.seat.seen; poller = c.self.inside.poller.seen } in
-    subst (λ (p : BodyView). IsCalled p new c.args.method c.args.hint c.called_in.result) (ap body c.deref_mut.ensures.value ∙ c.self.view_is)
-    (called g.N.Name.board.slots (body c.deref_mut.result.now) new c.args.method c.args.hint c.enter_code-code.result c.called_in.result
-    (subst (λ (i : ImageView). IsFit g.N.Name.board.slots i c.self.inside.seat.seen) boxed c.self.invariant.3) e.tried c.push.ensures c.called_in.ensures)
+pub invariant_of-self-2 : goal.invariant_of-self-2
+invariant_of-self-2 g c =
+    let seat : SeatSeen = c.match-hint.parts.1.1.1.0 in
+    let now = c.deref_mut-parts.result.now in let boxed = sym c.deref_mut-parts.ensures.value in
+    let paired = subst (λ (p : Parts). IsPaired g.N.Name.board g.N.Name.poll_row p.seat p.poller) boxed c.self.invariant.0 in
+    let kept = subst (λ (o : Option ImageView). IsKept g.N.Name.board.slots o now.seat.seen) c.in-Some.is (subst (λ (p : Parts). IsKept g.N.Name.board.slots p.image p.seat.seen) boxed c.self.invariant.1) in
+    let room = subst (λ (o : Option ImageView). length (image_of o).frames < 256) c.in-Some.is (subst (λ (p : Parts). length (image_of p.image).frames < 256) boxed (subst (λ (p : BodyView). length p.image.frames < 256) (sym c.self.view_is) c.requires.depth)) in
+    let Met : SeatSeen → Type 0 = λ s. IsPaired g.N.Name.board g.N.Name.poll_row s now.poller × IsTried now.seat.seen s.seen c.args.hint None in
+    let met : Met seat = elim c.match-hint.branch [
+      | in-Some-hint+else-enter w ↦
+          let e = w.enter.ensures in let code = w.in-Some-hint.code in let tried = entered_tried now.seat.seen w.enter.new.self.seen code w.enter.result e.step e.gone in
+          subst Met (λ i. ((sym w.parts-is) i).1.1.1.0) (
+            stays_paired g.N.Name.board g.N.Name.poll_row now.seat w.enter.new.self now.poller paired e.board (ap (λ (t : SeatView). t.place) e.step.1),
+            subst (λ (o : Option CodeId). IsTried now.seat.seen w.enter.new.self.seen o None) (sym w.in-Some-hint.is)
+                (subst (λ b. IsTried now.seat.seen w.enter.new.self.seen (Some code) (code_if code b)) w.if-enter.false tried),
+          )
+      | in_default-hint w ↦ subst Met (λ i. ((sym w.parts-is) i).1.1.1.0) (paired, subst (λ (o : Option CodeId). IsTried now.seat.seen now.seat.seen o None) (sym w.in_default-hint.is) (refl, refl))
+    ] in
+    (met.0, called_keeps g.N.Name.board.slots c.in-Some.image c.push-2.new.image now.seat.seen seat.seen c.args.method c.args.hint None kept met.1 c.requires.slot c.push-2.ensures room)
