@@ -14,5 +14,5 @@ loop-preserved g c =
     let i = c.self-in-loop.inside in let l = c.loop in
     let v : Holding = record { held = i.bodies; armer = i.armer.seen; operated = i.operated } in
     let so = holds_then c.args.self.now l.self v l.invariant.2 (holds_same l.self v c.self-in-loop.view_is) in
-    let h = holds_then c.args.self.now v c.hold_at.new.self so c.hold_at.ensures in
+    let h = holds_then c.args.self.now v c.hold_at-looks.new.self so c.hold_at-looks.ensures in
     (tt, tt, h)

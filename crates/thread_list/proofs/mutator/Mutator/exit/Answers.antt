@@ -1,4 +1,5 @@
 use Rattle.std.proofs.Common.{◌≡◌, ◌∙◌, refl, sym, ap, subst, inr, rules, Some}
+use Rattle.desk.specs.declared.entries.Entry.TheVariants.{Exit}
 use Rattle.thread_list.specs.Moves.{Running, IsOf, IsKept}
 use Rattle.thread_list.specs.Refused.{HasNoFrame}
 use Rattle.thread_list.proofs.Turned.{vacated_of, kept_of, no_frame}
@@ -10,6 +11,15 @@ returns-in-Ok-clause-vacated g c =
     let mine : IsOf i.name i.place (Some body) = subst (IsOf i.name i.place) c.in-Some.is c.self.invariant.own in
     vacated_of c.args.self.place c.args.self.name body.seat.place body.name c.leave.result.vacated c.in-Ok.vacated
     (mine.1 ∙ ap (λ (v : Running). v.place) c.self.view_is) (mine.0 ∙ ap (λ (v : Running). v.name) c.self.view_is) c.leave.ensures.vacated.0 c.in-Ok.ensures.vacated
+
+pub returns-in-Ok-clause-exited : goal.returns-in-Ok-clause-exited
+returns-in-Ok-clause-exited g c =
+    let i = c.self.inside in let body = c.in-Some.body in
+    let mine : IsOf i.name i.place (Some body) = subst (IsOf i.name i.place) c.in-Some.is c.self.invariant.own in
+    let zero : c.depth.result ≡ 0 = search rules in
+    let here : c.args.self.body ≡ Some body = sym (ap (λ (v : Running). v.body) c.self.view_is) ∙ c.in-Some.is in
+    let bare : HasNoFrame c.args.self.body = no_frame c.args.self.body body c.depth.result here (c.depth.ensures.deep body here) zero in
+    (c.leave.ensures.exit ∙ ap Exit (c.in-Ok.ensures.vacated.0.1 ∙ mine.0 ∙ ap (λ (v : Running). v.name) c.self.view_is), search rules, bare)
 
 pub returns-clause-refused : goal.returns-clause-refused
 returns-clause-refused g c =

@@ -1,4 +1,4 @@
-use Rattle.std.proofs.Common.{ap, sym, ◌∙◌, ◌≡◌, rules, subst, length, arith}
+use Rattle.std.proofs.Common.{ap, sym, ◌∙◌, rules, subst, length}
 use Rattle.bodies.specs.Bodies.{SeatsView}
 use Rattle.poll.specs.Rows.{full_armer}
 use Rattle.thread_list.specs.Sized.{AreSeatsOf, ArePollersOf}
