@@ -48,7 +48,7 @@ fn turns_of<N: Name, J: Errand, R: Wait>(
         Kind::Deep => stacks(shared, thread, plan.turns, plan.arg),
         Kind::Publish => publications(shared, thread, plan.turns, plan.arg),
         Kind::Native => crossings(rt, thread, plan.turns),
-        Kind::Handshake | Kind::Census | Kind::Reclaim | Kind::Together => false,
+        _ => false,
     }
 }
 

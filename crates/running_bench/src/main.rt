@@ -4,9 +4,9 @@
 #![tactic(auto)]
 
 ghost use Rattle.std.specs.Prelude.{◌≡◌};
-ghost use Rattle.operations.specs.Asks.{reply};
 
 mod calls;
+mod grown;
 mod lists;
 mod plan;
 mod requests;
@@ -16,24 +16,17 @@ mod stops;
 mod threads;
 mod wrong;
 
-use frames::image::Image;
-use lists::keep;
-use operations::Ask;
-use operations::job::{Call, Job};
 use plan::{KINDS, Kind, Plan};
 use running::run;
-use std::alloc::{AllocError, Global};
+use std::alloc::Global;
 use std::marker::Brand;
 use std::process::ExitCode;
 use std::sync::Wait;
 use std::thread::Threads;
 use std::time::Clock;
 use std::{env, io};
-use stops::WARM_UP;
 use thread_list::Parts;
 use wrong::Wrong;
-
-const SLOTS: usize = 1024;
 
 const METHODS: usize = 256;
 
@@ -103,30 +96,13 @@ fn try_each<R: Threads + Wait + Clock + Sync>(rt: &R, alloc: Global) -> Result<V
     Ok(Vec::new(alloc))
 }
 
-// The threads have the names from 1 on, in the order in which they start.
 fn make_run<R: Threads + Wait + Clock + Sync>(
     rt: &R,
     alloc: Global,
     plan: Plan,
 ) -> Result<Vec<u64>, Wrong> {
-    let Ok(parts) = Parts::new(alloc, plan.places(), SLOTS, METHODS) else {
+    let Ok(parts) = Parts::new(alloc, plan.places(), plan.slots(), METHODS) else {
         return Err(Wrong::NoMemory);
     };
-    let mut jobs = Vec::new(alloc);
-    for _ in 0..plan.stops_with_jobs().saturating_add(WARM_UP) {
-        let mut list = Vec::with_capacity(alloc, plan.threads)?;
-        for thread in 0..plan.threads {
-            let call: Call = Box::new(
-                alloc,
-                |image: &Image| -> u64
-                    ensures { result ≡ reply Ask.Depth image.now.frames }
-                { image.depth() as u64 },
-            )
-            .map_err(|_| AllocError)?;
-            let name = (thread as u64).saturating_add(1);
-            keep(&mut list, Job::new(name, Ask::Depth, call))?;
-        }
-        keep(&mut jobs, list)?;
-    }
-    run::<Brand, Job, R>(rt, alloc, plan, parts, jobs)
+    run::<Brand, R>(rt, alloc, plan, parts)
 }

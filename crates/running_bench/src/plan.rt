@@ -24,10 +24,20 @@ pub enum Kind {
     Together,
     /// A call without a hint, and the return.
     Interpreted,
+    /// The replies of the first handshake, behind a history of so many entries.
+    Replies,
+    /// A code is installed, behind a history of so many entries.
+    InstallLate,
+    /// A code is invalidated and reclaimed, behind a history of so many entries.
+    ReclaimLate,
+    /// A code is installed in the last free slot of so many.
+    InstallAmong,
+    /// A code is invalidated and reclaimed where so many slots are taken.
+    ReclaimAmong,
 }
 
 /// All kinds.
-pub const KINDS: [Kind; 10] = [
+pub const KINDS: [Kind; 15] = [
     Kind::BackEdge,
     Kind::Call,
     Kind::Deep,
@@ -38,6 +48,11 @@ pub const KINDS: [Kind; 10] = [
     Kind::Reclaim,
     Kind::Together,
     Kind::Interpreted,
+    Kind::Replies,
+    Kind::InstallLate,
+    Kind::ReclaimLate,
+    Kind::InstallAmong,
+    Kind::ReclaimAmong,
 ];
 
 impl Kind {
@@ -54,6 +69,11 @@ impl Kind {
             8 => Some(Kind::Reclaim),
             9 => Some(Kind::Together),
             12 => Some(Kind::Interpreted),
+            20 => Some(Kind::Replies),
+            21 => Some(Kind::InstallLate),
+            22 => Some(Kind::ReclaimLate),
+            31 => Some(Kind::InstallAmong),
+            32 => Some(Kind::ReclaimAmong),
             _ => None,
         }
     }
@@ -63,6 +83,9 @@ const MOST_THREADS: u64 = 64;
 
 const DEEPEST: u64 = 256;
 
+/// How many slots there are, unless the kind says how many.
+pub const SLOTS: usize = 1024;
+
 /// What is measured, how often, and with how many threads.
 #[derive(Clone, Copy, Drop)]
 pub struct Plan {
@@ -70,7 +93,8 @@ pub struct Plan {
     pub threads: usize,
     pub turns: u64,
     /// The depth, for calls of methods in turn; how many codes change, for publications; of stops whether the threads make back edges (0)
-    /// or are in native code (1); of many threads after how many pairs each publishes, 0 for never.
+    /// or are in native code (1); of many threads after how many pairs each publishes, 0 for never; how many entries the history has, or
+    /// how many slots there are, of the kinds that say so.
     pub arg: u64,
 }
 
@@ -81,6 +105,11 @@ impl Plan {
             return None;
         }
         if matches!(kind, Kind::Deep | Kind::Publish) && arg > DEEPEST {
+            return None;
+        }
+        if matches!(kind, Kind::InstallAmong | Kind::ReclaimAmong)
+            && (arg < 2 || arg > SLOTS as u64)
+        {
             return None;
         }
         Some(Plan {
@@ -100,11 +129,39 @@ impl Plan {
         )
     }
 
-    /// How many stops need jobs, but for those that come before the measured ones.
-    pub fn stops_with_jobs(&self) -> u64 {
+    /// Whether its turns are measured behind a long history, or among many codes.
+    pub fn is_grown(&self) -> bool {
         let _ = &self.arg;
+        matches!(
+            self.kind,
+            Kind::Replies
+                | Kind::InstallLate
+                | Kind::ReclaimLate
+                | Kind::InstallAmong
+                | Kind::ReclaimAmong
+        )
+    }
+
+    /// How many entries the history has before its turns.
+    pub fn entries(&self) -> u64 {
         match self.kind {
-            Kind::Handshake | Kind::Reclaim => self.turns,
+            Kind::Replies | Kind::InstallLate | Kind::ReclaimLate => self.arg,
+            _ => 0,
+        }
+    }
+
+    /// How many slots there are.
+    pub fn slots(&self) -> usize {
+        match self.kind {
+            Kind::InstallAmong | Kind::ReclaimAmong => self.arg as usize,
+            _ => SLOTS,
+        }
+    }
+
+    /// How many of them are taken before its turns.
+    pub fn taken(&self) -> usize {
+        match self.kind {
+            Kind::InstallAmong | Kind::ReclaimAmong => self.slots().saturating_sub(1),
             _ => 0,
         }
     }
@@ -114,6 +171,7 @@ impl Plan {
         let _ = &self.arg;
         match self.kind {
             Kind::Handshake | Kind::Census | Kind::Reclaim => 1,
+            _ if self.is_grown() => 0,
             _ => 256,
         }
     }

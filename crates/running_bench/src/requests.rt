@@ -4,7 +4,7 @@ use crate::plan::Kind;
 use crate::wrong::Wrong;
 use bodies::Name;
 use coordinator::{Coordinator, Driven, Reclaimed};
-use operations::job::Errand;
+use operations::job::Query;
 use operations::{Ask, Request, Targets};
 use std::alloc::{AllocError, Global};
 use std::sync::Wait;
@@ -16,14 +16,13 @@ const METHOD: u32 = 1;
 
 /// The main thread's part of a run.
 #[derive(Drop)]
-pub struct Asker<'a, N: Name, J: Errand, R> {
+pub struct Asker<'a, N: Name, R> {
     rt: &'a R,
     alloc: Global,
-    shared: &'a Shared<N, J>,
-    coordinator: Coordinator<'a, N, J>,
-    // A job for each live thread, in the order of their names, for each stop that has jobs.
-    jobs: Vec<Vec<J>>,
-    threads: usize,
+    shared: &'a Shared<N, Query>,
+    coordinator: Coordinator<'a, N, Query>,
+    // Of the threads, which are live throughout: they have the names from 1 on, in the order in which they started.
+    names: Vec<u64>,
     // What the last census counted.
     counted: Vec<(u64, u32)>,
 }
@@ -36,34 +35,41 @@ enum Done {
     Nothing,
 }
 
-// The names that the jobs are for, in their order.
-fn names_of<J: Errand>(alloc: Global, jobs: &[J]) -> Result<Vec<u64>, AllocError> {
-    let mut names = Vec::with_capacity(alloc, jobs.len())?;
-    for job in jobs {
-        keep(&mut names, job.target_of())?;
+// The names from 1 to that of the last thread.
+fn names_of(alloc: Global, threads: usize) -> Result<Vec<u64>, AllocError> {
+    let mut names = Vec::with_capacity(alloc, threads)?;
+    for before in 0..threads {
+        keep(&mut names, (before as u64).saturating_add(1))?;
     }
     Ok(names)
 }
 
-impl<'a, N: Name, J: Errand, R: Wait + Clock> Asker<'a, N, J, R> {
-    /// It asks so many threads, with these lists of jobs, the last first.
+/// A query for each of the names, how deep its thread's stack is.
+pub fn queries_of(alloc: Global, names: &[u64]) -> Result<Vec<Query>, AllocError> {
+    let mut queries = Vec::with_capacity(alloc, names.len())?;
+    for name in names {
+        keep(&mut queries, Query::new(*name, Ask::Depth))?;
+    }
+    Ok(queries)
+}
+
+impl<'a, N: Name, R: Wait + Clock> Asker<'a, N, R> {
+    /// It asks so many threads.
     pub fn new(
         rt: &'a R,
         alloc: Global,
-        shared: &'a Shared<N, J>,
-        coordinator: Coordinator<'a, N, J>,
-        jobs: Vec<Vec<J>>,
+        shared: &'a Shared<N, Query>,
+        coordinator: Coordinator<'a, N, Query>,
         threads: usize,
-    ) -> Asker<'a, N, J, R> {
-        Asker {
+    ) -> Result<Asker<'a, N, R>, AllocError> {
+        Ok(Asker {
             rt,
             alloc,
             shared,
             coordinator,
-            jobs,
-            threads,
+            names: names_of(alloc, threads)?,
             counted: Vec::new(alloc),
-        }
+        })
     }
 
     /// Makes one stop of the kind. Answers the time that it took.
@@ -75,7 +81,7 @@ impl<'a, N: Name, J: Errand, R: Wait + Clock> Asker<'a, N, J, R> {
         }
     }
 
-    fn is_asked(&self, request: Request, jobs: Vec<J>) -> bool {
+    fn is_asked(&self, request: Request, jobs: Vec<Query>) -> bool {
         self.shared.submit(self.rt, request, jobs).is_ok()
     }
 
@@ -95,7 +101,7 @@ impl<'a, N: Name, J: Errand, R: Wait + Clock> Asker<'a, N, J, R> {
     }
 
     // The time of a request from its Ask to its Close, and what it was.
-    fn time(&mut self, request: Request, jobs: Vec<J>) -> Result<(Duration, Done), Wrong> {
+    fn time(&mut self, request: Request, jobs: Vec<Query>) -> Result<(Duration, Done), Wrong> {
         let start = Instant::now(self.rt);
         let is_asked = self.is_asked(request, jobs);
         let done = self.drive();
@@ -108,10 +114,8 @@ impl<'a, N: Name, J: Errand, R: Wait + Clock> Asker<'a, N, J, R> {
     }
 
     fn shake_hands(&mut self) -> Result<Duration, Wrong> {
-        let Some(jobs) = self.jobs.pop() else {
-            return Err(Wrong::Answer);
-        };
-        let names = names_of(self.alloc, jobs.as_slice())?;
+        let jobs = queries_of(self.alloc, self.names.as_slice())?;
+        let names = Vec::from_slice(self.alloc, self.names.as_slice())?;
         let request = Request::Handshake {
             targets: Targets::from_vec(names),
             ask: Ask::Depth,
@@ -134,7 +138,7 @@ impl<'a, N: Name, J: Errand, R: Wait + Clock> Asker<'a, N, J, R> {
     // Each thread has a frame of the one code.
     fn are_counted(&self) -> bool {
         match self.counted.as_slice() {
-            [(_, frames)] => *frames as usize == self.threads,
+            [(_, frames)] => *frames as usize == self.names.len(),
             _ => false,
         }
     }
@@ -150,7 +154,7 @@ impl<'a, N: Name, J: Errand, R: Wait + Clock> Asker<'a, N, J, R> {
         self.shared.invalidate(self.rt, serial).is_ok()
     }
 
-    fn is_freed(&mut self, serial: u64, jobs: Vec<J>) -> bool {
+    fn is_freed(&mut self, serial: u64, jobs: Vec<Query>) -> bool {
         matches!(
             self.coordinator.reclaim(self.rt, serial, jobs),
             Ok(Reclaimed::Freed(_))
@@ -159,15 +163,11 @@ impl<'a, N: Name, J: Errand, R: Wait + Clock> Asker<'a, N, J, R> {
 
     fn reclaim(&mut self) -> Result<Duration, Wrong> {
         let serial = self.install()?;
-        let Some(jobs) = self.jobs.pop() else {
-            return Err(Wrong::Answer);
-        };
-        // As before a handshake, the jobs are looked at before the time begins.
-        let _names = names_of(self.alloc, jobs.as_slice())?;
+        let jobs = queries_of(self.alloc, self.names.as_slice())?;
         self.time_reclaim(serial, jobs)
     }
 
-    fn time_reclaim(&mut self, serial: u64, jobs: Vec<J>) -> Result<Duration, Wrong> {
+    fn time_reclaim(&mut self, serial: u64, jobs: Vec<Query>) -> Result<Duration, Wrong> {
         let start = Instant::now(self.rt);
         let is_invalidated = self.is_invalidated(serial);
         let is_freed = self.is_freed(serial, jobs);

@@ -3,6 +3,7 @@ ghost use Rattle.std.specs.Prelude.{◌≡◌};
 ghost use Rattle.poll.specs.Rows.{full_armer};
 
 use crate::calls::time_calls;
+use crate::grown::time_grown;
 use crate::plan::{Kind, Plan};
 use crate::requests::Asker;
 use crate::signals::Signals;
@@ -11,7 +12,7 @@ use crate::threads::{join_all, start_all};
 use crate::wrong::Wrong;
 use bodies::Name;
 use coordinator::Coordinator;
-use operations::job::Errand;
+use operations::job::Query;
 use poll::Armer;
 use std::alloc::Global;
 use std::sync::Wait;
@@ -19,17 +20,16 @@ use std::thread::{self, JoinHandle, Scope, Threads};
 use std::time::Clock;
 use thread_list::{Parts, Shared};
 
-/// Runs the plan over a system that is made of the parts, with a job for each thread in each of the lists, and answers its times. No other thread runs any more when it returns.
-pub fn run<N: Name + Send, J: Errand + Send, R: Threads + Wait + Clock + Sync>(
+/// Runs the plan over a system that is made of the parts, and answers its times. No other thread runs any more when it returns.
+pub fn run<N: Name + Send, R: Threads + Wait + Clock + Sync>(
     rt: &R,
     alloc: Global,
     plan: Plan,
     parts: Parts,
-    jobs: Vec<Vec<J>>,
 ) -> Result<Vec<u64>, Wrong>
     requires tables { (parts.board ≡ N.board) × (parts.row ≡ N.poll_row) }
 {
-    let Ok((shared, armer)) = Shared::<N, J>::new(alloc, parts) else {
+    let Ok((shared, armer)) = Shared::<N, Query>::new(alloc, parts) else {
         return Err(Wrong::NoMemory);
     };
     for method in 0..plan.codes() {
@@ -38,7 +38,9 @@ pub fn run<N: Name + Send, J: Errand + Send, R: Threads + Wait + Clock + Sync>(
         }
     }
     let times = if plan.has_threads() {
-        run_threads(rt, alloc, plan, &shared, &Signals::new(), armer, jobs)
+        run_threads(rt, alloc, plan, &shared, &Signals::new(), armer)
+    } else if plan.is_grown() {
+        run_grown(rt, alloc, plan, &shared, armer)
     } else {
         run_alone(rt, alloc, plan, &shared)
     };
@@ -49,11 +51,11 @@ pub fn run<N: Name + Send, J: Errand + Send, R: Threads + Wait + Clock + Sync>(
     }
 }
 
-fn run_alone<N: Name, J: Errand, R: Wait + Clock>(
+fn run_alone<N: Name, R: Wait + Clock>(
     rt: &R,
     alloc: Global,
     plan: Plan,
-    shared: &Shared<N, J>,
+    shared: &Shared<N, Query>,
 ) -> Result<Vec<u64>, Wrong> {
     let time = time_calls(rt, alloc, plan, shared)?;
     let mut times = Vec::with_capacity(alloc, 1)?;
@@ -61,14 +63,28 @@ fn run_alone<N: Name, J: Errand, R: Wait + Clock>(
     Ok(times)
 }
 
-fn run_threads<'a, N: Name + Send, J: Errand + Send, R: Threads + Wait + Clock + Sync>(
+fn run_grown<'a, N: Name, R: Wait + Clock>(
     rt: &'a R,
     alloc: Global,
     plan: Plan,
-    shared: &'a Shared<N, J>,
+    shared: &'a Shared<N, Query>,
+    armer: Armer,
+) -> Result<Vec<u64>, Wrong>
+    requires armer { armer ≡ full_armer N.poll_row N.board.places }
+{
+    match Coordinator::new(shared, armer, alloc) {
+        Ok(coordinator) => time_grown(rt, alloc, plan, shared, coordinator),
+        Err(_) => Err(Wrong::NoMemory),
+    }
+}
+
+fn run_threads<'a, N: Name + Send, R: Threads + Wait + Clock + Sync>(
+    rt: &'a R,
+    alloc: Global,
+    plan: Plan,
+    shared: &'a Shared<N, Query>,
     signals: &'a Signals,
     armer: Armer,
-    jobs: Vec<Vec<J>>,
 ) -> Result<Vec<u64>, Wrong>
     requires armer { armer ≡ full_armer N.poll_row N.board.places }
 {
@@ -78,24 +94,23 @@ fn run_threads<'a, N: Name + Send, J: Errand + Send, R: Threads + Wait + Clock +
     thread::scope(
         thread::scope_env(),
         rt,
-        move |scope| run_in(scope, rt, alloc, plan, shared, signals, coordinator, jobs),
+        move |scope| run_in(scope, rt, alloc, plan, shared, signals, coordinator),
     )
 }
 
 // The same in a scope.
-fn run_in<'s, 'a: 's, N: Name + Send, J: Errand + Send, R: Threads + Wait + Clock + Sync, E>(
+fn run_in<'s, 'a: 's, N: Name + Send, R: Threads + Wait + Clock + Sync, E>(
     scope: &Scope<'s, E>,
     rt: &'a R,
     alloc: Global,
     plan: Plan,
-    shared: &'a Shared<N, J>,
+    shared: &'a Shared<N, Query>,
     signals: &'a Signals,
-    coordinator: Coordinator<'a, N, J>,
-    jobs: Vec<Vec<J>>,
+    coordinator: Coordinator<'a, N, Query>,
 ) -> Result<Vec<u64>, Wrong> {
     let mut handles = Vec::new(alloc);
     let asked = match start_all(scope, rt, alloc, plan, shared, signals, &mut handles) {
-        Ok(()) => ask_all(rt, alloc, plan, shared, signals, coordinator, jobs),
+        Ok(()) => ask_all(rt, alloc, plan, shared, signals, coordinator),
         Err(wrong) => Err(wrong),
     };
     signals.begin();
@@ -111,19 +126,18 @@ fn run_in<'s, 'a: 's, N: Name + Send, J: Errand + Send, R: Threads + Wait + Cloc
 }
 
 // The main thread's part, once all threads are ready.
-fn ask_all<'a, N: Name, J: Errand, R: Wait + Clock>(
+fn ask_all<'a, N: Name, R: Wait + Clock>(
     rt: &'a R,
     alloc: Global,
     plan: Plan,
-    shared: &'a Shared<N, J>,
+    shared: &'a Shared<N, Query>,
     signals: &Signals,
-    coordinator: Coordinator<'a, N, J>,
-    jobs: Vec<Vec<J>>,
+    coordinator: Coordinator<'a, N, Query>,
 ) -> Result<Vec<u64>, Wrong> {
     signals.wait_ready(rt, plan.threads);
     if plan.kind == Kind::Together {
         return Ok(Vec::new(alloc));
     }
-    let mut asker = Asker::new(rt, alloc, shared, coordinator, jobs, plan.threads);
+    let mut asker = Asker::new(rt, alloc, shared, coordinator, plan.threads)?;
     time_stops(rt, alloc, plan, &mut asker)
 }

@@ -4,7 +4,6 @@ use crate::plan::Plan;
 use crate::requests::Asker;
 use crate::wrong::Wrong;
 use bodies::Name;
-use operations::job::Errand;
 use std::alloc::Global;
 use std::sync::Wait;
 use std::time::{Clock, Duration, Instant};
@@ -16,11 +15,11 @@ pub const WARM_UP: u64 = 2;
 const LONGEST: u64 = 6;
 
 /// The time of each of the plan's stops.
-pub fn time_stops<N: Name, J: Errand, R: Wait + Clock>(
+pub fn time_stops<N: Name, R: Wait + Clock>(
     rt: &R,
     alloc: Global,
     plan: Plan,
-    asker: &mut Asker<'_, N, J, R>,
+    asker: &mut Asker<'_, N, R>,
 ) -> Result<Vec<u64>, Wrong> {
     let start = Instant::now(rt)?;
     let mut times = Vec::new(alloc);
