@@ -1,4 +1,5 @@
-//! The calls of one thread, in loops.
+//! The calls of one thread, in loops. Each loop is a function of its own, which the compiler gives registers of its own: in line, its
+//! counters would lie in memory.
 ghost use Rattle.std.specs.Prelude.{◌≡◌};
 
 use crate::plan::{Kind, Plan};
@@ -72,6 +73,7 @@ fn publish<N: Name, J: Errand>(thread: &mut Mutator<'_, N, J>) -> bool {
     thread.publish().is_ok()
 }
 
+#[inline(never)]
 fn back_edges<N: Name, J: Errand>(thread: &mut Mutator<'_, N, J>, turns: u64) -> bool {
     let mut all = true;
     for _ in 0..turns {
@@ -91,6 +93,7 @@ fn call<N: Name, J: Errand>(
 }
 
 /// Calls the method by its hint and returns, so many times.
+#[inline(never)]
 pub fn pairs<N: Name, J: Errand>(
     shared: &Shared<N, J>,
     thread: &mut Mutator<'_, N, J>,
@@ -105,6 +108,7 @@ pub fn pairs<N: Name, J: Errand>(
     all
 }
 
+#[inline(never)]
 fn interpreted_pairs<N: Name, J: Errand>(thread: &mut Mutator<'_, N, J>, turns: u64) -> bool {
     let mut all = true;
     for _ in 0..turns {
@@ -115,6 +119,7 @@ fn interpreted_pairs<N: Name, J: Errand>(thread: &mut Mutator<'_, N, J>, turns: 
 }
 
 // So many calls, of each method whose number is the step times that of the call.
+#[inline(always)]
 fn go_down<N: Name, J: Errand>(
     shared: &Shared<N, J>,
     thread: &mut Mutator<'_, N, J>,
@@ -129,6 +134,7 @@ fn go_down<N: Name, J: Errand>(
     all
 }
 
+#[inline(always)]
 fn go_up<N: Name, J: Errand>(thread: &mut Mutator<'_, N, J>, depth: u64) -> bool {
     let mut all = true;
     for _ in 0..depth {
@@ -138,6 +144,7 @@ fn go_up<N: Name, J: Errand>(thread: &mut Mutator<'_, N, J>, depth: u64) -> bool
 }
 
 // So many calls in all, a stack of this depth at a time.
+#[inline(never)]
 fn stacks<N: Name, J: Errand>(
     shared: &Shared<N, J>,
     thread: &mut Mutator<'_, N, J>,
@@ -152,6 +159,7 @@ fn stacks<N: Name, J: Errand>(
     all
 }
 
+#[inline(never)]
 fn publications<N: Name, J: Errand>(
     shared: &Shared<N, J>,
     thread: &mut Mutator<'_, N, J>,
@@ -168,6 +176,7 @@ fn publications<N: Name, J: Errand>(
     all
 }
 
+#[inline(never)]
 fn crossings<N: Name, J: Errand, R: Wait>(
     rt: &R,
     thread: &mut Mutator<'_, N, J>,
@@ -183,6 +192,7 @@ fn crossings<N: Name, J: Errand, R: Wait>(
 
 /// So many pairs by one of several threads, which publishes after as many pairs as are given with the code on its stack and without it;
 /// never for 0.
+#[inline(never)]
 pub fn publishing_pairs<N: Name, J: Errand>(
     shared: &Shared<N, J>,
     thread: &mut Mutator<'_, N, J>,
