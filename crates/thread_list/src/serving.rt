@@ -38,7 +38,7 @@ pub fn served<N: Name, J: Errand, R: Wait>(
 }
 
 /// Runs a job on a settled body, enters what it answered, and clears the operation. Answers the receipt of that entry, and whether
-/// others, those with a greater name, had still to be answered for then.
+/// others had still to be answered for then.
 pub fn serve<N: Name, J: Errand, R: Wait>(
     rt: &R,
     shared: &Shared<N, J>,

@@ -220,13 +220,13 @@ impl<N: Name, J: Errand> Shared<N, J> {
         let name = done.target();
         let mut desk = self.desk.lock(rt);
         let receipt = desk.finish(body, done)?;
-        let others = desk.next_due(name).is_some();
+        let others = desk.next_due(name).is_some() || desk.next_due(0).is_some();
         Ok((receipt, others))
     }
 
-    /// Enters what a job answered on a settled body. Answers also whether a thread with a greater name has still to be answered for: the
-    /// first such is found without a look at all that are done. The first try is in line: it nearly always succeeds, and what a call of
-    /// the loop answers would go through memory.
+    /// Enters what a job answered on a settled body. Answers also whether another thread has still to be answered for: one with a greater
+    /// name, where there is one, is found without a look at all that are done. The first try is in line: it nearly always succeeds, and
+    /// what a call of the loop answers would go through memory.
     #[inline(always)]
     pub fn finish<R: Wait>(&self, rt: &R, body: &Body<N>, done: Done) -> (Receipt<N>, bool)
         requires name { body.now.name ≡ done.target }
