@@ -134,18 +134,6 @@ impl<N: Name> Model for Body<N> {
     ghost invariant = { λ b. IsPaired N.board N.poll_row b.parts.value.seat b.parts.value.poller × IsKept N.board.slots b.parts.value.image b.parts.value.seat.seen };
 }
 
-// Pushes a frame where there is room.
-#[inline(always)]
-fn push(image: &mut Image, frame: Frame)
-    requires { push_fault image.old ≡ None }
-    ensures { HasFrames image.old image.new (image.old.frames ++ frame ∷ []) }
-{
-    match image.push(frame) {
-        Ok(()) => {}
-        Err(_) => unreachable!(),
-    }
-}
-
 // Makes each change that the image has left.
 fn count_changes(image: &mut Image, seat: &mut ThreadSeat, board: &Board)
     requires board { seat.old.board ≡ board.now }
@@ -296,17 +284,14 @@ impl<N: Name> Body<N> {
         };
         if let Some(code) = hint {
             if parts.seat.enter(board, code) {
-                push(
-                    image,
-                    Frame {
-                        method,
-                        code: Some(code),
-                    },
-                );
+                image.put(Frame {
+                    method,
+                    code: Some(code),
+                });
                 return Called::Compiled(code.serial);
             }
         }
-        push(image, Frame { method, code: None });
+        image.put(Frame { method, code: None });
         Called::Interpreted
     }
 
@@ -321,10 +306,7 @@ impl<N: Name> Body<N> {
         let Some(image) = &mut parts.image else {
             unreachable!()
         };
-        match image.pop() {
-            Ok(frame) => frame,
-            Err(_) => unreachable!(),
-        }
+        image.take_top()
     }
 
     /// Publishes the stack: one load of the moment, a step for each code whose counts differ, and a store of the moment that was loaded.

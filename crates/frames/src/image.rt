@@ -116,11 +116,21 @@ impl Image {
         if self.publishing {
             return Err(PushFault::Publishing);
         }
+        self.put(frame);
+        Ok(())
+    }
+
+    /// Puts the frame on top, as [`push`](Image::push) does where it refuses nothing, and so without its tests.
+    #[inline(always)]
+    pub fn put(&mut self, frame: Frame)
+        requires depth { length self.old.frames < 256 }
+        requires closed { self.old.publishing ≡ false }
+        ensures { HasFrames self.old self.new (self.old.frames ++ frame ∷ []) }
+    {
         self.frames.push_reserved(frame);
         if let Some(code) = frame.code {
             self.nets.add(code, 1);
         }
-        Ok(())
     }
 
     /// Takes the top frame.
@@ -141,15 +151,22 @@ impl Image {
         if self.publishing {
             return Err(PopFault::Publishing);
         }
-        match self.frames.pop() {
-            Some(frame) => {
-                if let Some(code) = frame.code {
-                    self.nets.add(code, -1);
-                }
-                Ok(frame)
-            }
-            None => unreachable!(),
+        Ok(self.take_top())
+    }
+
+    /// Takes the top frame, as [`pop`](Image::pop) does where it refuses nothing, and so without its tests.
+    #[inline(always)]
+    pub fn take_top(&mut self) -> Frame
+        requires some { 0 < length self.old.frames }
+        requires closed { self.old.publishing ≡ false }
+        ensures popped { self.old.frames ≡ self.new.frames ++ result ∷ [] }
+        ensures left { HasFrames self.old self.new self.new.frames }
+    {
+        let frame = self.frames.take_last();
+        if let Some(code) = frame.code {
+            self.nets.add(code, -1);
         }
+        frame
     }
 
     /// Opens a publication.

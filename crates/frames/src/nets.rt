@@ -268,6 +268,7 @@ fn touch(touched: &mut Vec<u16>, cells: &[Change], place: usize) -> bool
     requires room { 1024 ≤ vec_capacity touched.old }
     ensures touched { AreTouched cells.now touched.new.items }
     ensures is { result ≡ true → is_in place touched.new.items ≡ true }
+    ensures taken { length touched.old.items < 1024 → result ≡ true }
     ensures capacity { vec_capacity touched.new ≡ vec_capacity touched.old }
 {
     if cell_of(cells[place].code) == place {
@@ -282,10 +283,40 @@ fn touch(touched: &mut Vec<u16>, cells: &[Change], place: usize) -> bool
 }
 
 // Moves the net of a code that its cell doesn't have. Apart from `add`, which is shorter for one
-// that it has; plain numbers come in registers.
+// that it has; plain numbers come in registers. Where the list is empty, as it is but where slots
+// share a cell, nothing is searched, and nothing is called that would need registers saved.
 #[cold]
 #[inline(never)]
 fn note(
+    cells: &mut Vec<Change>,
+    touched: &mut Vec<u16>,
+    list: &mut Vec<Change>,
+    slot: u32,
+    serial: u64,
+    by: i32,
+)
+    requires kept { AreKept cells.old.items touched.old.items (vec_capacity touched.old) list.old.items (vec_capacity list.old) false }
+    requires new { (d : Change) → same_code (slice_index_or cells.old.items (cell_of (record { slot = slot; serial = serial })) d).code (record { slot = slot; serial = serial }) ≡ false }
+    requires one { (pos 0 ≤ℤ (by +ℤ pos 1)) × (by ≤ℤ pos 1) }
+    requires some { is_zero by ≡ false }
+    requires within { IsWithin (net_in (settled (cells.old.items ++ list.old.items)) (record { slot = slot; serial = serial }) +ℤ by) 256 }
+    requires room { length (add (settled (cells.old.items ++ list.old.items)) (record { slot = slot; serial = serial }) by) ≤ 512 }
+    ensures kept { AreKept cells.new.items touched.new.items (vec_capacity touched.new) list.new.items (vec_capacity list.new) false }
+    ensures moved { settled (cells.new.items ++ list.new.items) ≡ add (settled (cells.old.items ++ list.old.items)) (record { slot = slot; serial = serial }) by }
+{
+    let code = CodeId { slot, serial };
+    let place = cell_of(code);
+    if list.is_empty() && touched.len() < CELLS && !has_net(&cells[place]) {
+        touch(touched, cells, place);
+        cells[place] = Change { code, by };
+        return;
+    }
+    note_listed(cells, touched, list, slot, serial, by);
+}
+
+// The same, where the list may have the code, or the cell is another's.
+#[inline(never)]
+fn note_listed(
     cells: &mut Vec<Change>,
     touched: &mut Vec<u16>,
     list: &mut Vec<Change>,

@@ -3,3 +3,4 @@ pub mod Moves
 pub mod Refused
 pub mod Sized
 pub mod Sharing
+pub mod Standings

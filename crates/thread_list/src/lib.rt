@@ -16,6 +16,7 @@ mod parts;
 mod polls;
 mod serving;
 mod shared;
+mod standing;
 mod starts;
 mod turns;
 mod waits;

@@ -1,12 +1,14 @@
 //! A thread's own part: what it calls while it runs, and waits for nobody.
-ghost use Rattle.std.specs.Prelude.{◌≡◌, ◌≢◌, ◌<◌, ◌==◌, ◌++◌, ◌∷◌, [], ℕ, true, false, Some, None, IfOk, OnOk, OnErr, IfErr, IfSome, length};
-ghost use Rattle.thread_state.specs.declared.State.TheVariants.{InJava as IsInJava, InVm as IsInVm};
+ghost use Rattle.std.specs.Prelude.{◌≡◌, ◌≢◌, ◌<◌, ◌==◌, ◌++◌, ◌∷◌, [], ℕ, true, false, Some, None, IfOk, OnOk, OnErr, IfErr, IfSome, length, if◌then◌else◌};
+ghost use Rattle.thread_state.specs.declared.State.TheVariants.{InJava as IsInJava, InVm as IsInVm, AtPoll as IsAtPoll};
+ghost use Rattle.thread_state.specs.declared.Back.TheVariants.{Java as OfJava};
 ghost use Rattle.bodies.specs.Bodies.{BodyView, IsCalled, IsPublished};
 ghost use Rattle.thread_list.specs.Moves.{SameThread, Polls, Leaves, is_running};
 ghost use Rattle.thread_list.specs.Refused.{call_accepted, call_refused, return_refused};
 
 use crate::polls::{Poll, poll_of};
 use crate::shared::Shared;
+use crate::standing::Standing;
 use berths::BodyReceipt;
 use bodies::{Body, Called, Name};
 use frames::CodeId;
@@ -21,8 +23,7 @@ pub struct Mutator<'a, N: Name, J: Errand> {
     pub(crate) shared: &'a Shared<N, J>,
     pub(crate) name: u64,
     pub(crate) place: usize,
-    pub(crate) state: State,
-    pub(crate) body: Option<Body<N>>,
+    pub(crate) standing: Standing<N>,
     pub(crate) settled: BodyReceipt<N>,
     /// Of its last crossing at its berth: its body went in, or came out.
     pub(crate) crossed: BodyReceipt<N>,
@@ -30,12 +31,13 @@ pub struct Mutator<'a, N: Name, J: Errand> {
 
 impl<'a, N: Name, J: Errand> Model for Mutator<'a, N, J> {
     ghost use Rattle.thread_list.specs.Moves.{Running, IsRunning};
+    ghost use Rattle.thread_list.specs.Standings.{state_in, body_in};
 
     ghost Value = { Running };
 
-    ghost view = { λ m. record { name = m.name; place = m.place; methods = m.shared.now.methods; state = m.state; body = m.body; crossed = m.crossed } };
+    ghost view = { λ m. record { name = m.name; place = m.place; methods = m.shared.now.methods; state = state_in m.standing; body = body_in m.standing; crossed = m.crossed } };
 
-    ghost invariant = { λ m. IsRunning N.board.places m.name m.place m.state m.body m.settled m.crossed };
+    ghost invariant = { λ m. IsRunning N.board.places m.name m.place (state_in m.standing) (body_in m.standing) m.settled m.crossed };
 }
 
 /// Why a thread doesn't enter a method, in the order of the tests.
@@ -61,7 +63,7 @@ impl<'a, N: Name, J: Errand> Mutator<'a, N, J> {
     pub fn name(&self) -> u64
         ensures { result ≡ self.now.name }
     {
-        let _ = &self.body;
+        let _ = &self.standing;
         self.name
     }
 
@@ -70,7 +72,7 @@ impl<'a, N: Name, J: Errand> Mutator<'a, N, J> {
         ensures value { result ≡ self.now.place }
         ensures bound { result < N.board.places }
     {
-        let _ = &self.body;
+        let _ = &self.standing;
         self.place
     }
 
@@ -78,8 +80,7 @@ impl<'a, N: Name, J: Errand> Mutator<'a, N, J> {
     pub fn state(&self) -> State
         ensures { result ≡ self.now.state }
     {
-        let _ = &self.body;
-        self.state
+        self.standing.state()
     }
 
     /// Enters a method: by the code of the hint where its entry is found in use, by one load, and otherwise, or without a
@@ -93,15 +94,12 @@ impl<'a, N: Name, J: Errand> Mutator<'a, N, J> {
         ensures same { SameThread self.old self.new }
         ensures err { IfErr result (λ e. (self.new ≡ self.old) × call_refused self.old method e) }
     {
-        let State::InJava = self.state else {
-            return Err(CallFault::Illegal(self.state));
+        let Standing::InJava(body) = &mut self.standing else {
+            return Err(CallFault::Illegal(self.state()));
         };
         if method >= self.shared.methods() {
             return Err(CallFault::NoSuchMethod);
         }
-        let Some(body) = &mut self.body else {
-            unreachable!()
-        };
         if body.depth() >= 256 {
             return Err(CallFault::DepthFull);
         }
@@ -116,11 +114,8 @@ impl<'a, N: Name, J: Errand> Mutator<'a, N, J> {
         ensures same { SameThread self.old self.new }
         ensures err { IfErr result (λ e. (self.new ≡ self.old) × return_refused self.old e) }
     {
-        let State::InJava = self.state else {
-            return Err(ReturnFault::Illegal(self.state));
-        };
-        let Some(body) = &mut self.body else {
-            unreachable!()
+        let Standing::InJava(body) = &mut self.standing else {
+            return Err(ReturnFault::Illegal(self.state()));
         };
         if body.depth() == 0 {
             return Err(ReturnFault::EmptyStack);
@@ -128,7 +123,7 @@ impl<'a, N: Name, J: Errand> Mutator<'a, N, J> {
         body.ret();
         let found = body.poll(self.shared.row());
         if found != 0 {
-            self.state = State::AtPoll(Back::Java);
+            self.go_on(true);
         }
         Ok(poll_of(found))
     }
@@ -140,10 +135,14 @@ impl<'a, N: Name, J: Errand> Mutator<'a, N, J> {
         ensures same { SameThread self.old self.new }
         ensures err { IfErr result (λ s. (s ≡ self.old.state) × (s ≢ IsInJava) × (self.new ≡ self.old)) }
     {
-        let State::InJava = self.state else {
-            return Err(self.state);
+        let Standing::InJava(body) = &mut self.standing else {
+            return Err(self.state());
         };
-        Ok(self.poll_into_java())
+        let found = body.poll(self.shared.row());
+        if found != 0 {
+            self.go_on(true);
+        }
+        Ok(poll_of(found))
     }
 
     /// Publishes the stack: one load of the moment, a step for each code whose counts differ, and a store of the moment that was
@@ -156,13 +155,13 @@ impl<'a, N: Name, J: Errand> Mutator<'a, N, J> {
         ensures same { SameThread self.old self.new }
         ensures err { IfErr result (λ s. (s ≡ self.old.state) × (is_running s ≡ false) × (self.new ≡ self.old)) }
     {
-        if !is_running(self.state) {
-            return Err(self.state);
+        match &mut self.standing {
+            Standing::InJava(body) => body.publish(self.shared.board()),
+            Standing::InVm(body) => body.publish(self.shared.board()),
+            Standing::AtPoll(_, _) | Standing::InNative(_) | Standing::Blocked => {
+                return Err(self.state());
+            }
         }
-        let Some(body) = &mut self.body else {
-            unreachable!()
-        };
-        body.publish(self.shared.board());
         Ok(())
     }
 
@@ -171,10 +170,11 @@ impl<'a, N: Name, J: Errand> Mutator<'a, N, J> {
         ensures ok { OnOk result ((self.old.state ≡ IsInJava) × (self.new ≡ record self.old { state = IsInVm })) }
         ensures err { IfErr result (λ s. (s ≡ self.old.state) × (s ≢ IsInJava) × (self.new ≡ self.old)) }
     {
-        let State::InJava = self.state else {
-            return Err(self.state);
+        let Standing::InJava(_) = &self.standing else {
+            return Err(self.state());
         };
-        self.state = State::InVm;
+        let body = self.standing.take_body();
+        self.standing = Standing::InVm(body);
         Ok(())
     }
 
@@ -184,30 +184,28 @@ impl<'a, N: Name, J: Errand> Mutator<'a, N, J> {
         ensures same { SameThread self.old self.new }
         ensures err { IfErr result (λ s. (s ≡ self.old.state) × (s ≢ IsInVm) × (self.new ≡ self.old)) }
     {
-        let State::InVm = self.state else {
-            return Err(self.state);
-        };
-        Ok(self.poll_into_java())
-    }
-
-    // The poll of a thread that owns itself and goes on in Java: one load.
-    #[inline(always)]
-    fn poll_into_java(&mut self) -> Poll
-        requires running { is_running self.old.state ≡ true }
-        ensures polled { Polls self.old self.new self.old.state result }
-        ensures same { SameThread self.old self.new }
-    {
-        let Some(body) = &mut self.body else {
-            unreachable!()
+        let Standing::InVm(body) = &mut self.standing else {
+            return Err(self.state());
         };
         let found = body.poll(self.shared.row());
-        if found != 0 {
-            self.state = State::AtPoll(Back::Java);
-        } else if let State::InVm = self.state {
-            // Nothing is written where it is in Java already: the next back edge would wait for that store.
-            self.state = State::InJava;
-        }
-        poll_of(found)
+        self.go_on(found != 0);
+        Ok(poll_of(found))
+    }
+
+    // A thread that has polled on its way into Java goes on there, or stops. It stands apart, since a poll in Java that goes on writes
+    // nothing: the next back edge would wait for that store.
+    #[cold]
+    #[inline(never)]
+    fn go_on(&mut self, stops: bool)
+        requires running { is_running self.old.state ≡ true }
+        ensures { self.new ≡ record self.old { state = if stops then IsAtPoll OfJava else IsInJava } }
+    {
+        let body = self.standing.take_body();
+        self.standing = if stops {
+            Standing::AtPoll(Back::Java, body)
+        } else {
+            Standing::InJava(body)
+        };
     }
 }
 

@@ -10,6 +10,7 @@ ghost use Rattle.bodies.specs.Bodies.{BodyView};
 use crate::mutator::Mutator;
 use crate::serving::served;
 use crate::shared::Shared;
+use crate::standing::Standing;
 use berths::BodyReceipt;
 use bodies::{Body, Name};
 use desk::{Receipt, StartFault};
@@ -17,7 +18,6 @@ use frames::image::Image;
 use operations::job::Errand;
 use std::alloc::Global;
 use std::sync::Wait;
-use thread_state::State;
 
 impl<N: Name, J: Errand> Shared<N, J> {
     /// Starts a thread in the least vacant place: it makes its first publication and crosses into Java, after it has served what it
@@ -44,8 +44,7 @@ impl<N: Name, J: Errand> Shared<N, J> {
             shared: self,
             name,
             place,
-            state: State::InJava,
-            body: Some(body),
+            standing: Standing::InJava(body),
             settled,
             crossed,
         };

@@ -9,13 +9,15 @@ ghost use Rattle.thread_state.specs.declared.Move.TheVariants as movement;
 ghost use Rattle.thread_state.specs.States as table;
 ghost use Rattle.desk.specs.declared.entries.Entry.{Entry};
 ghost use Rattle.thread_list.specs.declared.polls.Poll.TheVariants.{Go as GoesOn};
-ghost use Rattle.thread_list.specs.Moves.{SameThread, SameBody, ComesBack, GoesBack, Gives, IsResumed, IsTurn, IsVacated, IsKept, IsGivenUp, IsGivenUpAfter, as_polled, first_of, is_running, owns};
+ghost use Rattle.thread_list.specs.Moves.{SameThread, SameBody, ComesBack, GoesBack, Gives, IsResumed, IsTurn, IsVacated, IsKept, IsGivenUp, IsGivenUpAfter, as_polled, first_of, is_running};
+ghost use Rattle.thread_list.specs.Standings.{state_in, body_in};
 ghost use Rattle.thread_list.specs.Refused.{exit_refused, HasNoFrame};
 
 use crate::mutator::{Mutator, is_running};
 use crate::polls::{Poll, poll_of};
 use crate::serving::served;
 use crate::shared::{Exited, Shared};
+use crate::standing::Standing;
 use crate::turns::Turn;
 use berths::{BodyAct, BodyReceipt};
 use bodies::{Body, Name};
@@ -31,14 +33,15 @@ pub enum ExitFault {
     StackNotEmpty,
 }
 
-// The state that a way back names.
+// A thread with this body goes on where its way back leads.
 #[inline(always)]
-fn state_of(back: Back) -> State
-    ensures { result ≡ table.state_of back }
+fn going_on<N: Name>(back: Back, body: Body<N>) -> Standing<N>
+    ensures state { state_in result ≡ table.state_of back }
+    ensures body { body_in result ≡ Some body }
 {
     match back {
-        Back::Java => State::InJava,
-        Back::Vm => State::InVm,
+        Back::Java => Standing::InJava(body),
+        Back::Vm => Standing::InVm(body),
     }
 }
 
@@ -52,12 +55,14 @@ impl<'a, N: Name, J: Errand> Mutator<'a, N, J> {
         ensures same { SameThread self.old self.new }
         ensures err { IfErr result (λ s. (s ≡ self.old.state) × (table.step s movement.ToNative ≡ None) × (self.new ≡ self.old)) }
     {
-        let back = match self.state {
-            State::InJava => Back::Java,
-            State::InVm => Back::Vm,
-            other => return Err(other),
+        let back = match &self.standing {
+            Standing::InJava(_) => Back::Java,
+            Standing::InVm(_) => Back::Vm,
+            Standing::AtPoll(_, _) | Standing::InNative(_) | Standing::Blocked => {
+                return Err(self.state());
+            }
         };
-        self.give(rt, State::InNative(back));
+        self.give(rt, Standing::InNative(back));
         Ok(())
     }
 
@@ -70,9 +75,10 @@ impl<'a, N: Name, J: Errand> Mutator<'a, N, J> {
         ensures same { SameThread self.old self.new }
         ensures err { IfErr result (λ s. (s ≡ self.old.state) × ((back : WayBack) → s ≢ IsInNative back) × (self.new ≡ self.old)) }
     {
-        let State::InNative(back) = self.state else {
-            return Err(self.state);
+        let Standing::InNative(back) = &self.standing else {
+            return Err(self.state());
         };
+        let back = *back;
         Ok(self.come_back(rt, back))
     }
 
@@ -84,10 +90,10 @@ impl<'a, N: Name, J: Errand> Mutator<'a, N, J> {
         ensures same { SameThread self.old self.new }
         ensures err { IfErr result (λ s. (s ≡ self.old.state) × (s ≢ IsInVm) × (self.new ≡ self.old)) }
     {
-        let State::InVm = self.state else {
-            return Err(self.state);
+        let Standing::InVm(_) = &self.standing else {
+            return Err(self.state());
         };
-        self.give(rt, State::Blocked);
+        self.give(rt, Standing::Blocked);
         Ok(())
     }
 
@@ -99,8 +105,8 @@ impl<'a, N: Name, J: Errand> Mutator<'a, N, J> {
         ensures same { SameThread self.old self.new }
         ensures err { IfErr result (λ s. (s ≡ self.old.state) × (s ≢ IsBlocked) × (self.new ≡ self.old)) }
     {
-        let State::Blocked = self.state else {
-            return Err(self.state);
+        let Standing::Blocked = &self.standing else {
+            return Err(self.state());
         };
         Ok(self.come_back(rt, Back::Vm))
     }
@@ -113,32 +119,28 @@ impl<'a, N: Name, J: Errand> Mutator<'a, N, J> {
         ensures same { SameThread self.old self.new }
         ensures err { IfErr result (λ s. (s ≡ self.old.state) × ((back : WayBack) → s ≢ IsAtPoll back) × (self.new ≡ self.old)) }
     {
-        let State::AtPoll(back) = self.state else {
-            return Err(self.state);
+        let Standing::AtPoll(back, _) = &self.standing else {
+            return Err(self.state());
         };
-        let Some(body) = self.body.take() else {
-            unreachable!()
-        };
+        let back = *back;
+        let body = self.standing.take_body();
         let (body, turn) = served(rt, self.shared, body);
-        self.body = Some(body);
-        self.state = state_of(back);
+        self.standing = going_on(back, body);
         Ok(turn)
     }
 
     // The body goes into its berth, and the thread is in this state, in which it doesn't own itself.
     #[inline(always)]
-    fn give<R: Wait>(&mut self, rt: &R, to: State)
+    fn give<R: Wait>(&mut self, rt: &R, to: Standing<N>)
         requires running { is_running self.old.state ≡ true }
-        requires safe { table.is_safe to ≡ true }
-        requires away { owns to ≡ false }
-        ensures state { self.new.state ≡ to }
+        requires safe { table.is_safe (state_in to) ≡ true }
+        requires away { body_in to ≡ None }
+        ensures state { self.new.state ≡ state_in to }
         ensures given { Gives self.old self.new }
         ensures same { SameThread self.old self.new }
     {
-        let Some(body) = self.body.take() else {
-            unreachable!()
-        };
-        self.state = to;
+        let body = self.standing.take_body();
+        self.standing = to;
         let berth = self.shared.berth_of(&body);
         self.crossed = berth.give(rt, body);
     }
@@ -154,11 +156,10 @@ impl<'a, N: Name, J: Errand> Mutator<'a, N, J> {
         let (mut body, resumed) = berth.resume(rt, self.name, self.place);
         let found = body.poll(self.shared.row());
         self.crossed = resumed;
-        self.body = Some(body);
-        self.state = if found == 0 {
-            state_of(back)
+        self.standing = if found == 0 {
+            going_on(back, body)
         } else {
-            State::AtPoll(back)
+            Standing::AtPoll(back, body)
         };
         poll_of(found)
     }
@@ -173,8 +174,9 @@ impl<'a, N: Name, J: Errand> Mutator<'a, N, J> {
         ensures after { IfOk result (λ r. IfSome r.served (λ turn. IsGivenUpAfter self.entry.place self.entry.name turn.last turn.finish r.vacated)) }
         ensures refused { IfErr result (λ e. ((e.1 ≡ self.entry) × exit_refused self.entry e.0) ⊎ ((is_running self.entry.state ≡ true) × HasNoFrame self.entry.body × (e.0 ≡ ExitFault.StackNotEmpty) × (e.1.state ≡ IsInJava) × SameThread self.entry e.1 × exit_refused e.1 e.0 × IsKept self.entry.place self.entry.name e.1.crossed e.1.body)) }
     {
-        if !is_running(self.state) {
-            return Err((ExitFault::Illegal(self.state), self));
+        let state = self.state();
+        if !is_running(state) {
+            return Err((ExitFault::Illegal(state), self));
         }
         if self.depth() != 0 {
             return Err((ExitFault::StackNotEmpty, self));
@@ -183,12 +185,11 @@ impl<'a, N: Name, J: Errand> Mutator<'a, N, J> {
             shared,
             name,
             place,
-            state: _,
-            body,
+            mut standing,
             settled,
             crossed: _,
         } = self;
-        let Some(body) = body else { unreachable!() };
+        let body = standing.take_body();
         match vacate(rt, shared, body) {
             Ok((vacated, served)) => Ok(shared.leave(rt, vacated, served)),
             Err((body, crossed)) => {
@@ -196,8 +197,7 @@ impl<'a, N: Name, J: Errand> Mutator<'a, N, J> {
                     shared,
                     name,
                     place,
-                    state: State::InJava,
-                    body: Some(body),
+                    standing: Standing::InJava(body),
                     settled,
                     crossed,
                 };
@@ -211,9 +211,11 @@ impl<'a, N: Name, J: Errand> Mutator<'a, N, J> {
         ensures deep { (b : _) → self.now.body ≡ Some b → result ≡ length b.image.frames }
     {
         let _ = &self.name;
-        match &self.body {
-            Some(body) => body.depth(),
-            None => 0,
+        match &self.standing {
+            Standing::InJava(body) => body.depth(),
+            Standing::InVm(body) => body.depth(),
+            Standing::AtPoll(_, body) => body.depth(),
+            Standing::InNative(_) | Standing::Blocked => 0,
         }
     }
 }

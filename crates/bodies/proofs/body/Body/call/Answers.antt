@@ -19,7 +19,7 @@ invariant_of-self g c =
     let tried = subst (λ b. IsTried now.seat.seen seat.seen (Some code) (code_if code b)) c.if-enter.true (entered_tried now.seat.seen seat.seen code c.enter.result e.step e.gone) in
     let low = subst (λ (o : Option CodeId). IfSome o (λ d. d.slot < g.N.Name.board.slots)) c.in-Some-hint.is c.requires.slot in (
       stays_paired g.N.Name.board g.N.Name.poll_row now.seat seat now.poller paired e.board (ap (λ (t : SeatView). t.place) e.step.1),
-      called_keeps g.N.Name.board.slots c.in-Some.image c.push.new.image now.seat.seen seat.seen c.args.method (Some code) (Some code) kept tried low c.push.ensures room,
+      called_keeps g.N.Name.board.slots c.in-Some.image c.put.new.self now.seat.seen seat.seen c.args.method (Some code) (Some code) kept tried low c.put.ensures room,
     )
 
 pub invariant_of-self-2 : goal.invariant_of-self-2
@@ -40,4 +40,4 @@ invariant_of-self-2 g c =
           )
       | in_default-hint w ↦ subst Met (λ i. ((sym w.parts-is) i).1.1.1.0) (paired, subst (λ (o : Option CodeId). IsTried now.seat.seen now.seat.seen o None) (sym w.in_default-hint.is) (refl, refl))
     ] in
-    (met.0, called_keeps g.N.Name.board.slots c.in-Some.image c.push-2.new.image now.seat.seen seat.seen c.args.method c.args.hint None kept met.1 c.requires.slot c.push-2.ensures room)
+    (met.0, called_keeps g.N.Name.board.slots c.in-Some.image c.put-2.new.self now.seat.seen seat.seen c.args.method c.args.hint None kept met.1 c.requires.slot c.put-2.ensures room)

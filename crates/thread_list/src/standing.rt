@@ -1,0 +1,48 @@
+//! Where a thread stands, with its body where it has that in hand.
+ghost use Rattle.std.specs.Prelude.{◌≡◌, ◌≢◌, true, Some, None};
+ghost use Rattle.thread_list.specs.Moves.{owns};
+ghost use Rattle.thread_list.specs.Standings.{state_in, body_in};
+
+use bodies::{Body, Name};
+use std::mem;
+use thread_state::{Back, State};
+
+/// The state of a thread between its calls. The body is part of it, so that a call which tests the state needs no other test whether
+/// the body is there.
+#[derive(Drop)]
+pub(crate) enum Standing<N: Name> {
+    InJava(Body<N>),
+    InVm(Body<N>),
+    AtPoll(Back, Body<N>),
+    /// In these the body is in its berth, or held.
+    InNative(Back),
+    Blocked,
+}
+
+impl<N: Name> Standing<N> {
+    pub(crate) fn state(&self) -> State
+        ensures { result ≡ state_in self.now }
+    {
+        match self {
+            Standing::InJava(_) => State::InJava,
+            Standing::InVm(_) => State::InVm,
+            Standing::AtPoll(back, _) => State::AtPoll(*back),
+            Standing::InNative(back) => State::InNative(*back),
+            Standing::Blocked => State::Blocked,
+        }
+    }
+
+    /// The body comes out, and what stays is written over.
+    #[inline(always)]
+    pub(crate) fn take_body(&mut self) -> Body<N>
+        requires { owns (state_in self.old) ≡ true }
+        ensures { body_in self.old ≡ Some result }
+    {
+        match mem::replace(self, Standing::Blocked) {
+            Standing::InJava(body) => body,
+            Standing::InVm(body) => body,
+            Standing::AtPoll(_, body) => body,
+            Standing::InNative(_) | Standing::Blocked => unreachable!(),
+        }
+    }
+}
