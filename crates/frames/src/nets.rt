@@ -1,6 +1,7 @@
 // Codes with their nets: how many frames each has more than are counted.
 ghost use Rattle.std.specs.Prelude.{None, ◌≡◌, ◌≢◌, ℕ, ◌+◌, ◌<◌, ◌≤◌, ◌==◌, List, [], ◌∷◌, ◌++◌, length, false, true, drop, pos, ◌+ℤ◌, ◌≤ℤ◌, vec_capacity, slice_get, slice_index_or, IfOk, IfSome, IfNone, filter, not, count_by};
 ghost use Rattle.std.specs.List.{All};
+ghost use Rattle.std.specs.List.Sorted.{IsPermutation};
 ghost use Rattle.frames.specs.declared.CodeId.{CodeId};
 ghost use Rattle.frames.specs.declared.Change.{Change};
 ghost use Rattle.frames.specs.Stack.{same_code, times};
@@ -390,10 +391,33 @@ fn settle(nets: &mut Vec<Change>)
     ensures capacity { vec_capacity nets.new ≡ vec_capacity nets.old }
 {
     if nets.len() > 1 {
-        nets.retain(|net| has_net(net));
-        nets.sort_unstable_by_key(|net| (net.code.serial, net.code.slot));
+        sort(nets);
     } else if are_zero(nets) {
         nets.clear();
+    }
+}
+
+// The same of more than one. Apart, since most publications change one code: what a sort needs of
+// registers would be saved by each.
+#[inline(never)]
+fn sort(nets: &mut Vec<Change>)
+    requires once { AreOnce nets.old.items }
+    ensures items { nets.new.items ≡ settled nets.old.items }
+    ensures capacity { vec_capacity nets.new ≡ vec_capacity nets.old }
+{
+    nets.retain(|net| has_net(net));
+    turn(nets);
+    nets.sort_unstable_by_key(|net| (net.code.serial, net.code.slot));
+}
+
+// Turns the list round where it begins falling. Codes come off a stack in the reverse order of
+// their calls: those that rose on the way down then fall, and a sort would move each past all others.
+fn turn(nets: &mut Vec<Change>)
+    ensures same { IsPermutation nets.old.items nets.new.items }
+    ensures capacity { vec_capacity nets.new ≡ vec_capacity nets.old }
+{
+    if nets.len() > 1 && nets[1].code.serial < nets[0].code.serial {
+        nets.reverse();
     }
 }
 

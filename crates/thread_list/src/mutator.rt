@@ -58,6 +58,16 @@ pub enum ReturnFault {
     EmptyStack,
 }
 
+// The fault of a call that is refused. A call of a cold function tells the compiler what is rare, so that the way of a call that is
+// accepted is laid out as one line.
+#[cold]
+#[inline(never)]
+fn refused<F>(fault: F) -> F
+    ensures { result ≡ fault }
+{
+    fault
+}
+
 impl<'a, N: Name, J: Errand> Mutator<'a, N, J> {
     /// The thread's name.
     pub fn name(&self) -> u64
@@ -95,13 +105,13 @@ impl<'a, N: Name, J: Errand> Mutator<'a, N, J> {
         ensures err { IfErr result (λ e. (self.new ≡ self.old) × call_refused self.old method e) }
     {
         let Standing::InJava(body) = &mut self.standing else {
-            return Err(CallFault::Illegal(self.state()));
+            return Err(refused(CallFault::Illegal(self.state())));
         };
         if method >= self.shared.methods() {
-            return Err(CallFault::NoSuchMethod);
+            return Err(refused(CallFault::NoSuchMethod));
         }
         if body.depth() >= 256 {
-            return Err(CallFault::DepthFull);
+            return Err(refused(CallFault::DepthFull));
         }
         Ok(body.call(self.shared.board(), method, hint))
     }
@@ -115,10 +125,10 @@ impl<'a, N: Name, J: Errand> Mutator<'a, N, J> {
         ensures err { IfErr result (λ e. (self.new ≡ self.old) × return_refused self.old e) }
     {
         let Standing::InJava(body) = &mut self.standing else {
-            return Err(ReturnFault::Illegal(self.state()));
+            return Err(refused(ReturnFault::Illegal(self.state())));
         };
         if body.depth() == 0 {
-            return Err(ReturnFault::EmptyStack);
+            return Err(refused(ReturnFault::EmptyStack));
         }
         body.ret();
         let found = body.poll(self.shared.row());
@@ -136,7 +146,7 @@ impl<'a, N: Name, J: Errand> Mutator<'a, N, J> {
         ensures err { IfErr result (λ s. (s ≡ self.old.state) × (s ≢ IsInJava) × (self.new ≡ self.old)) }
     {
         let Standing::InJava(body) = &mut self.standing else {
-            return Err(self.state());
+            return Err(refused(self.state()));
         };
         let found = body.poll(self.shared.row());
         if found != 0 {
@@ -159,7 +169,7 @@ impl<'a, N: Name, J: Errand> Mutator<'a, N, J> {
             Standing::InJava(body) => body.publish(self.shared.board()),
             Standing::InVm(body) => body.publish(self.shared.board()),
             Standing::AtPoll(_, _) | Standing::InNative(_) | Standing::Blocked => {
-                return Err(self.state());
+                return Err(refused(self.state()));
             }
         }
         Ok(())
