@@ -1,5 +1,5 @@
 -- What each step of a body keeps.
-use Rattle.std.proofs.Common.{◌≡◌, ◌≢◌, ℕ, ℤ, pos, negsuc, ◌+ℤ◌, ◌<ℤ◌, ◌≤ℤ◌, ◌+◌, ◌<◌, ◌≤◌, ◌∙◌, sym, Bool, true, false, not, eqb, ◌&&◌, ◌||◌, List, [], ◌∷◌, ◌++◌, length, Option, Some, None, IfSome, refl, ap, subst, cond, arith, inl, inr, ⊎_elim, length-append}
+use Rattle.std.proofs.Common.{◌≡◌, ◌≢◌, ℕ, ℤ, pos, negsuc, ◌+ℤ◌, ◌<ℤ◌, ◌≤ℤ◌, ◌+◌, ◌<◌, ◌≤◌, ◌∙◌, sym, Bool, true, false, not, eqb, ◌&&◌, ◌||◌, List, [], ◌∷◌, ◌++◌, length, slice_index_or, slice_set, vec_capacity, Option, Some, None, IfSome, refl, ap, subst, cond, arith, inl, inr, ⊎_elim, length-append}
 use Rattle.std.proofs.lemmas.Bool.Decides.{nat_tests}
 use Rattle.std.proofs.lemmas.Bool.{false≢true}
 use Rattle.std.proofs.lemmas.Int.{ints}
@@ -21,7 +21,15 @@ use Rattle.thread_state.specs.declared.poll_rule.Watching.{Watching}
 use Rattle.board.specs.Boards.{BoardId, SeatSeen}
 use Rattle.atomic_table.specs.Seated.{TableId}
 use Rattle.poll.specs.Rows.{PollerSeen}
-use Rattle.bodies.specs.Bodies.{image_of, IsPaired, IsFit, IsKept, IsSpare, IsTried, AreMade, IsPublished, AreStanding, all_changed, changed, code_if, frame}
+use Rattle.bodies.specs.declared.body.Parts.{Parts}
+use Rattle.bodies.specs.Bodies.{BodyView, image_of, IsPaired, IsFit, IsKept, IsSpare, IsTried, AreMade, IsPublished, AreStanding, all_changed, changed, code_if, frame}
+
+-- what the parts of a body show, and what they keep
+abbrev pub shown : Parts → BodyView
+shown p = record { name = p.name; image = image_of p.images.items; seat = p.seat.seen; poller = p.poller.seen }
+
+abbrev pub IsHeldBox : BoardId → TableId → Parts → Type 0
+IsHeldBox board row p = IsPaired board row p.seat p.poller × IsKept board.slots p.images.items p.seat.seen × (1 ≤ vec_capacity p.images)
 
 act-append : (c : CodeId) (xs : List Frame) (f : Frame) → act c (xs ++ f ∷ []) ≡ act c xs + cond (is_of c f) 1 0
 act-append c xs f = sum_by-append (λ g. cond {A = ℕ} (is_of c g) 1 0) xs (f ∷ []) ∙ ap (λ n. act c xs + n) (act-cons c f [] ∙ omega arith)
@@ -29,9 +37,29 @@ act-append c xs f = sum_by-append (λ g. cond {A = ℕ} (is_of c g) 1 0) xs (f �
 pub act_at_most : (c : CodeId) (xs : List Frame) → act c xs ≤ length xs
 act_at_most c xs = count_by-le-length (is_of c) xs
 
-pub kept_fits : (slots : ℕ) (image : Option ImageView) (seat : SeatView) → IsKept slots image seat → IsFit slots (image_of image) seat
-kept_fits slots None seat kept = absurd kept
-kept_fits slots (Some image) seat kept = kept.0
+-- the image at the head of a list of one
+pub only_image : (images : List ImageView) (image : ImageView) → length images ≡ 1 → image ≡ slice_index_or images 0 image → image_of images ≡ image
+only_image [] image one is = absurd (omega arith)
+only_image (x ∷ xs) image one is = sym is
+
+-- the image that an index of a body's list gives is that of the body's view
+pub index_is : (p q : Parts) (body : BodyView) (image : ImageView) → length p.images.items ≡ 1 → shown p ≡ body → q ≡ p → image ≡ slice_index_or q.images.items 0 image → image ≡ body.image
+index_is p q body image one view is at_ =
+    let from : image ≡ slice_index_or p.images.items 0 image = subst (λ (r : Parts). image ≡ slice_index_or r.images.items 0 image) is at_ in
+    sym (only_image p.images.items image one from) ∙ ap (λ (b : BodyView). b.image) view
+
+-- a list of one with another image
+pub only_set : (images : List ImageView) (image : ImageView) → length images ≡ 1 → (length (slice_set images 0 image) ≡ 1) × (image_of (slice_set images 0 image) ≡ image)
+only_set [] image one = absurd (omega arith)
+only_set (x ∷ xs) image one = (one, refl)
+
+-- what is kept of a list of one image, said of that image
+pub kept_image : (slots : ℕ) (images : List ImageView) (image : ImageView) (seat : SeatView) → IsKept slots images seat → image ≡ slice_index_or images 0 image → IsFit slots image seat × (image.publishing ≡ false)
+kept_image slots images image seat kept is = subst (λ i. IsFit slots i seat × (i.publishing ≡ false)) (only_image images image kept.0 is) (kept.1, kept.2)
+
+-- what is kept of an image, said of the list of one that has it now
+pub kept_set : (slots : ℕ) (images : List ImageView) (image : ImageView) (seat : SeatView) → length images ≡ 1 → IsFit slots image seat × (image.publishing ≡ false) → IsKept slots (slice_set images 0 image) seat
+kept_set slots images image seat one kept = let is = only_set images image one in (is.0, subst (λ i. IsFit slots i seat) (sym is.1) kept.0, ap (λ (i : ImageView). i.publishing) is.1 ∙ kept.1)
 
 -- a step of the seat keeps the pair
 pub stays_paired : (board : BoardId) (row : TableId) (seat seat' : SeatSeen) (poller : PollerSeen) → IsPaired board row seat poller → seat'.board ≡ seat.board → seat'.seen.place ≡ seat.seen.place → IsPaired board row seat' poller
@@ -145,8 +173,8 @@ called_fits slots image image' seat seat' m (Some c) code fit tried low has room
     by false e h = interpreted_fits slots image image' seat seat' m fit h room counted fresh
 
 -- a call keeps what a body keeps
-pub called_keeps : (slots : ℕ) (image image' : ImageView) (seat seat' : SeatView) (m : ℕ) (hint code : Option CodeId) → IsKept slots (Some image) seat → IsTried seat seat' hint code → IfSome hint (λ c. c.slot < slots)
-    → HasFrames image image' (image.frames ++ frame m code ∷ []) → length image.frames < 256 → IsKept slots (Some image') seat'
+pub called_keeps : (slots : ℕ) (image image' : ImageView) (seat seat' : SeatView) (m : ℕ) (hint code : Option CodeId) → IsFit slots image seat × (image.publishing ≡ false) → IsTried seat seat' hint code → IfSome hint (λ c. c.slot < slots)
+    → HasFrames image image' (image.frames ++ frame m code ∷ []) → length image.frames < 256 → IsFit slots image' seat' × (image'.publishing ≡ false)
 called_keeps slots image image' seat seat' m hint code kept tried low has room = (called_fits slots image image' seat seat' m hint code kept.0 tried low has room, has.publishing_stays ∙ kept.1)
 
 -- a load of a code's entry tells which code a call enters
@@ -155,8 +183,8 @@ pub entered_tried : (old new : SeatView) (c : CodeId) (result : Bool) → (found
 entered_tried old new c result step gone = (step.0, step.1, ap (code_if c) step.2, (step.3, λ h. sym step.2 ∙ gone h))
 
 -- with an empty stack, every frame counted, the seat counts nothing
-pub none_counted : (slots : ℕ) (image : Option ImageView) (seat : SeatView) → IsKept slots image seat → (image_of image).frames ≡ [] → IsCounted (image_of image) → (c : CodeId) → how_often seat.counted c ≡ 0
-none_counted slots image seat kept none all c = sym ((kept_fits slots image seat kept).counted_is c) ∙ (sym (all c) ∙ ap (act c) none)
+pub none_counted : (slots : ℕ) (image : ImageView) (seat : SeatView) → IsFit slots image seat → image.frames ≡ [] → IsCounted image → (c : CodeId) → how_often seat.counted c ≡ 0
+none_counted slots image seat fit none all c = sym (fit.counted_is c) ∙ (sym (all c) ∙ ap (act c) none)
 
 -- how often a code is counted after a change
 changed_here : (t : SeatView) (c : CodeId) (by : ℤ) (found m : ℕ) → pos (how_often t.counted c) +ℤ by ≡ pos m → how_often (count_changed t c by found).counted c ≡ m

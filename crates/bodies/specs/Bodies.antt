@@ -35,9 +35,13 @@ pub record SeatsView : Type 0 where
   pub poller : PollerSeen
 
 -- the image in a box, that of an empty stack where there is none
-abbrev pub image_of : Option ImageView → ImageView
-image_of None = record { frames = []; counted = []; changed = []; publishing = false }
-image_of (Some image) = image
+abbrev pub image_of : List ImageView → ImageView
+image_of [] = record { frames = []; counted = []; changed = []; publishing = false }
+image_of (image ∷ others) = image
+
+-- what a place that nobody has keeps: no image, and room for one
+abbrev pub IsVacant : List ImageView → ℕ → Type 0
+IsVacant images room = (images ≡ []) × (1 ≤ room)
 
 -- what a body keeps of its image and its seat
 pub record IsFit (slots : ℕ) (image : ImageView) (seat : SeatView) : Type 0 where
@@ -59,10 +63,9 @@ IsSpare seat = (seat.stored ≡ 0) × ((c : CodeId) → how_often seat.counted c
 abbrev pub IsPaired : BoardId → TableId → SeatSeen → PollerSeen → Type 0
 IsPaired board row seat poller = (seat.board ≡ board) × (poller.table ≡ row) × (poller.seen.place ≡ seat.seen.place)
 
--- what a body keeps: it has its image, which fits its seat, and no publication is open
-abbrev pub IsKept : ℕ → Option ImageView → SeatView → Type 0
-IsKept slots None seat = ⊥
-IsKept slots (Some image) seat = IsFit slots image seat × (image.publishing ≡ false)
+-- what a body keeps: it has one image, which fits its seat, and no publication is open
+abbrev pub IsKept : ℕ → List ImageView → SeatView → Type 0
+IsKept slots images seat = (length images ≡ 1) × IsFit slots (image_of images) seat × ((image_of images).publishing ≡ false)
 
 abbrev pub frame : ℕ → Option CodeId → Frame
 frame m code = record { method = m; code = code }

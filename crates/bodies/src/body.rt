@@ -27,11 +27,12 @@ pub enum Called {
     Interpreted,
 }
 
-// What a place keeps for the threads that have it in turn. The image is there while a thread has the place.
+// What a place keeps for the threads that have it in turn. `images` has one image while a thread has the place, and none while
+// nobody has it. It is a list since an index whose bound is proved makes no test, and a `match` of an `Option` makes one.
 #[derive(Drop)]
 struct Parts {
     name: u64,
-    image: Option<Image>,
+    images: Vec<Image>,
     seat: ThreadSeat,
     poller: Poller,
 }
@@ -39,18 +40,22 @@ struct Parts {
 /// The seat and the poller of one place, in a box with room for the name and the image of the thread that has the place: bodies are
 /// moved as that box.
 ///
-/// The box is made with the place and not by its threads, so that the boxes of all places lie beside one another.
+/// The box and the room for its image are made with the place and not by its threads, so that those of all places lie beside one
+/// another.
 #[derive(Drop)]
 pub struct Seats {
     parts: Box<Parts>,
 }
 
 impl Model for Seats {
-    ghost use Rattle.bodies.specs.Bodies.{SeatsView};
+    ghost use Rattle.std.specs.Prelude.{vec_capacity};
+    ghost use Rattle.bodies.specs.Bodies.{SeatsView, IsVacant};
 
     ghost Value = { SeatsView };
 
     ghost view = { λ s. record { seat = s.parts.value.seat; poller = s.parts.value.poller } };
+
+    ghost invariant = { λ s. IsVacant s.parts.value.images.items (vec_capacity s.parts.value.images) };
 }
 
 impl Seats {
@@ -58,9 +63,10 @@ impl Seats {
     pub fn new(alloc: Global, seat: ThreadSeat, poller: Poller) -> Result<Seats, AllocError>
         ensures { IfOk result (λ s. (s.seat ≡ seat) × (s.poller ≡ poller)) }
     {
+        let images = Vec::with_capacity(alloc, 1)?;
         let parts = Parts {
             name: 0,
-            image: None,
+            images,
             seat,
             poller,
         };
@@ -77,14 +83,15 @@ pub struct SpareSeat<N: Name> {
 }
 
 impl<N: Name> Model for SpareSeat<N> {
-    ghost use Rattle.std.specs.Prelude.{◌≡◌};
-    ghost use Rattle.bodies.specs.Bodies.{SpareView, IsPaired, IsSpare};
+    ghost use Rattle.std.specs.Prelude.{◌≡◌, vec_capacity};
+    ghost use Rattle.bodies.specs.Bodies.{SpareView, IsPaired, IsSpare, IsVacant};
 
     ghost Value = { SpareView };
 
     ghost view = { λ p. record { seat = p.parts.value.seat.seen; poller = p.parts.value.poller.seen } };
 
-    ghost invariant = { λ p. IsPaired N.board N.poll_row p.parts.value.seat p.parts.value.poller × IsSpare p.parts.value.seat.seen };
+    ghost invariant = { λ p. IsPaired N.board N.poll_row p.parts.value.seat p.parts.value.poller × IsSpare p.parts.value.seat.seen
+        × IsVacant p.parts.value.images.items (vec_capacity p.parts.value.images) };
 }
 
 impl<N: Name> SpareSeat<N> {
@@ -125,13 +132,15 @@ pub struct Body<N: Name> {
 }
 
 impl<N: Name> Model for Body<N> {
+    ghost use Rattle.std.specs.Prelude.{◌≤◌, vec_capacity};
     ghost use Rattle.bodies.specs.Bodies.{BodyView, image_of, IsPaired, IsKept};
 
     ghost Value = { BodyView };
 
-    ghost view = { λ b. record { name = b.parts.value.name; image = image_of b.parts.value.image; seat = b.parts.value.seat.seen; poller = b.parts.value.poller.seen } };
+    ghost view = { λ b. record { name = b.parts.value.name; image = image_of b.parts.value.images.items; seat = b.parts.value.seat.seen; poller = b.parts.value.poller.seen } };
 
-    ghost invariant = { λ b. IsPaired N.board N.poll_row b.parts.value.seat b.parts.value.poller × IsKept N.board.slots b.parts.value.image b.parts.value.seat.seen };
+    ghost invariant = { λ b. IsPaired N.board N.poll_row b.parts.value.seat b.parts.value.poller × IsKept N.board.slots b.parts.value.images.items b.parts.value.seat.seen
+        × (1 ≤ vec_capacity b.parts.value.images) };
 }
 
 // Makes each change that the image has left.
@@ -195,7 +204,7 @@ impl<N: Name> Body<N> {
         let SpareSeat { mut parts, of: _ } = pair;
         let taken = &mut *parts;
         taken.name = name;
-        taken.image = Some(image);
+        taken.images.push_reserved(image);
         Body {
             parts,
             of: PhantomData,
@@ -227,10 +236,7 @@ impl<N: Name> Body<N> {
         ensures reply { result.reply ≡ reply (J.asks job) self.now.image.frames }
         ensures called { J.may_answer job self.now.image result.reply }
     {
-        match &self.parts.image {
-            Some(image) => job.run_on(image),
-            None => unreachable!(),
-        }
+        job.run_on(&self.parts.images[0])
     }
 
     /// The frames, the top last.
@@ -238,9 +244,7 @@ impl<N: Name> Body<N> {
         ensures value { result.now ≡ self.now.image.frames }
         ensures few { length result.now ≤ 256 }
     {
-        let Some(image) = &self.parts.image else {
-            unreachable!()
-        };
+        let image = &self.parts.images[0];
         let _ = image.depth();
         image.frames()
     }
@@ -250,20 +254,14 @@ impl<N: Name> Body<N> {
     pub fn depth(&self) -> usize
         ensures { result ≡ length self.now.image.frames }
     {
-        match &self.parts.image {
-            Some(image) => image.depth(),
-            None => unreachable!(),
-        }
+        self.parts.images[0].depth()
     }
 
     /// Whether each code is counted as often as it has frames.
     pub fn is_settled(&self) -> bool
         ensures { IsTrue result ↔ IsSettled self.now.image }
     {
-        match &self.parts.image {
-            Some(image) => image.is_settled(),
-            None => unreachable!(),
-        }
+        self.parts.images[0].is_settled()
     }
 
     /// Enters a method: in the code of the hint, where the one load of its entry finds it in use, and else interpreted.
@@ -279,9 +277,7 @@ impl<N: Name> Body<N> {
         ensures others { (self.new.name ≡ self.old.name) × (self.new.poller ≡ self.old.poller) }
     {
         let parts = &mut *self.parts;
-        let Some(image) = &mut parts.image else {
-            unreachable!()
-        };
+        let image = &mut parts.images[0];
         if let Some(code) = hint {
             if parts.seat.enter(board, code) {
                 image.put(Frame {
@@ -303,9 +299,7 @@ impl<N: Name> Body<N> {
         ensures others { (self.new.name ≡ self.old.name) × (self.new.seat ≡ self.old.seat) × (self.new.poller ≡ self.old.poller) }
     {
         let parts = &mut *self.parts;
-        let Some(image) = &mut parts.image else {
-            unreachable!()
-        };
+        let image = &mut parts.images[0];
         image.take_top()
     }
 
@@ -316,9 +310,7 @@ impl<N: Name> Body<N> {
         ensures { IsPublished self.old self.new }
     {
         let parts = &mut *self.parts;
-        let Some(image) = &mut parts.image else {
-            unreachable!()
-        };
+        let image = &mut parts.images[0];
         parts.seat.read_moment(board);
         count_moved(image, &mut parts.seat, board);
         parts.seat.end_publication(board);
@@ -357,7 +349,7 @@ impl<N: Name> Body<N> {
     {
         let Body { mut parts, of: _ } = self;
         let left = &mut *parts;
-        left.image = None;
+        left.images.clear();
         left.seat.vacate(board);
         SpareSeat {
             parts,

@@ -1,10 +1,7 @@
-use Rattle.std.proofs.Common.{sym, subst, Option}
-use Rattle.frames.specs.ImageView.{ImageView, IsSettled}
-use Rattle.bodies.specs.declared.body.Parts.{Parts}
-use Rattle.bodies.specs.Bodies.{BodyView, image_of}
+use Rattle.std.proofs.Common.{sym, subst}
+use Rattle.frames.specs.ImageView.{IsSettled}
+use Rattle.bodies.proofs.Keeping.{index_is}
 use Rattle.bodies.proofs.body.Body.run.Goals as goal
 
 pub run_on-requires : goal.run_on-requires
-run_on-requires g c =
-    subst (λ (o : Option ImageView). IsSettled (image_of o)) c.in-Some.is
-    (subst (λ (p : Parts). IsSettled (image_of p.image)) (sym c.deref.ensures) (subst (λ (p : BodyView). IsSettled p.image) (sym c.self.view_is) c.requires))
+run_on-requires g c = subst IsSettled (sym (index_is c.self.inside.parts.value c.deref.result.now c.args.self.now c.index.result.now c.self.invariant.1.0 c.self.view_is c.deref.ensures c.index.ensures)) c.requires
