@@ -146,7 +146,7 @@ impl<'a, N: Name, J: Errand> Mutator<'a, N, J> {
         ensures err { IfErr result (λ s. (s ≡ self.old.state) × (s ≢ IsInJava) × (self.new ≡ self.old)) }
     {
         let Standing::InJava(body) = &mut self.standing else {
-            return Err(refused(self.state()));
+            return Err(self.state());
         };
         let found = body.poll(self.shared.row());
         if found != 0 {
