@@ -727,6 +727,15 @@ impl<N: Name, J: Errand> Desk<N, J> {
         Some(is_census(&self.opened[0].request))
     }
 
+    /// How many requests are open.
+    #[inline(always)]
+    pub fn open_count(&self) -> usize
+        ensures { result ≡ length (at self.now).opened }
+    {
+        let _ = &self.log;
+        self.opened.len()
+    }
+
     /// Why `operate` is refused over these bodies; None where it isn't.
     pub fn operate_fault(&self, bodies: &[Body<N>]) -> Option<OperateFault>
         ensures { operate_said (at self.now) bodies.now result }
