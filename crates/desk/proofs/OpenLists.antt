@@ -5,12 +5,14 @@ use Rattle.std.specs.List.{list_any, remove}
 use Rattle.std.proofs.lemmas.Bool.{eq-eqb, ne_eqb, and_parts}
 use Rattle.std.proofs.lemmas.Bool.Decides.{nat_tests}
 use Rattle.std.proofs.lemmas.List.{length-map}
+use Rattle.operations.specs.declared.Ask.{Ask}
 use Rattle.operations.specs.declared.queue.Waiting.{Waiting}
 use Rattle.operations.specs.Names.{is_distinct}
 use Rattle.operations.specs.Requests.{is_census}
 use Rattle.desk.specs.declared.entries.Carried.{Carried}
 use Rattle.desk.specs.declared.entries.Opened.{Opened}
-use Rattle.desk.specs.Machine.{Current, awaits_census, may_open_more, is_open, open_of, at_number, without_number, needs_of_opened}
+use Rattle.desk.specs.Machine.{Current, awaits_census, may_open_more, is_open, open_of, passes, at_number, without_number, needs_of_opened}
+use Rattle.desk.specs.JobsFit.{asks_it, is_asked_by}
 use Rattle.desk.specs.Refusals.{oldest_of, chosen}
 use Rattle.desk.proofs.Newest.{same_at}
 use Rattle.desk.specs.Fields.{asked_of, current_of, IsIndex, AreFit, AreDistinct, due_of}
@@ -39,6 +41,10 @@ open_at n zero (x ∷ os) o is h =
     here_is n (current_of x) _ (is.2 x refl) ∙ ap (λ (z : Opened _). Some (current_of z)) same
 open_at n (suc i) (x ∷ os) o is h =
     there_is n x.number (Some (current_of x)) (open_of n (map current_of os)) (is.1 0 x (omega arith) refl) ∙ open_at n i os o (later n i x os is) h
+
+-- what the open request of the number asks
+pub asked_at : {J : Type 0} (n i : ℕ) (ask : Ask) (os : List (Opened J)) (o : Opened J) → IsIndex n os (Some i) → slice_get os i ≡ Some o → is_asked_by n ask (map current_of os) ≡ asks_it ask o.request
+asked_at n i ask os o is h = ap (passes (λ c. asks_it ask c.request)) (open_at n i os o is h)
 
 pub none_at : {J : Type 0} (n : ℕ) (os : List (Opened J)) → IsIndex n os None → open_of n (map current_of os) ≡ None
 none_at n [] is = refl

@@ -24,7 +24,7 @@ use crate::faults::{
     Refused, StartFault, start_fault,
 };
 use crate::lists::{
-    OPEN, are_all, asks, finish_at, fit_their_request, holds_target, index_of, is_census,
+    OPEN, are_all, asks_it, finish_at, fit_their_request, holds_target, index_of, is_census,
     is_census_open, is_idle, is_least, job_of, jobs_fit, keep_live, least_free, leave, lives,
     make_room, may_close, may_finish, may_open_more, names_of, operate_at, place_chosen, steps_of,
     targets_of,
@@ -34,9 +34,9 @@ use crate::targets::{due_after, name_at, oldest, progress_in, standing_to, untol
 use board::{Board, Keeper, Spent, Weighed};
 use bodies::{Body, Name};
 use method_table::table::{FreeFault, Installed, InvalidateFault, MethodTable, RetireFault};
+use operations::Request;
 use operations::job::{Done, Errand};
 use operations::queue::{Queue, Unqueued, Waiting};
-use operations::{Ask, Request};
 use std::alloc::{AllocError, Global};
 use std::collections::VecDeque;
 use std::marker::{Model, PhantomData};
@@ -377,34 +377,12 @@ impl<N: Name, J: Errand> Desk<N, J> {
         ensures jobs { self.new.jobs ≡ self.old.jobs }
         ensures err { IfErr result (λ d. (d ≡ done) × ((lawful (at self.old) (Entry.Finish done.op done.target done.reply) ≡ false) ⊎ (is_asked_by done.op done.ask (at self.old).opened ≡ false)) × (self.new ≡ self.old)) }
     {
-        if !self.asks(done.op(), done.ask()) {
-            return Err(done);
-        }
-        self.enter_done(body, done)
-    }
-
-    // Whether the open request of the number asks this.
-    #[inline(always)]
-    fn asks(&self, number: u64, ask: Ask) -> bool
-        ensures { result ≡ is_asked_by number ask (at self.now).opened }
-    {
-        let _ = &self.log;
-        asks(self.opened.as_slice(), number, ask)
-    }
-
-    // Enters what a job gave, where that is lawful.
-    #[inline(always)]
-    fn enter_done(&mut self, body: &Body<N>, done: Done) -> Result<Receipt<N>, Done>
-        requires name { body.now.name ≡ done.target }
-        ensures ok { IfOk result (λ r. Enters self.old self.new (Entry.Finish done.op done.target done.reply) r) }
-        ensures reserved { OnOk result ((self.new.book.reserved + 1 ≡ self.old.book.reserved) × (self.new.keeper ≡ self.old.keeper)) }
-        ensures jobs { self.new.jobs ≡ self.old.jobs }
-        ensures err { IfErr result (λ d. (d ≡ done) × (lawful (at self.old) (Entry.Finish done.op done.target done.reply) ≡ false) × (self.new ≡ self.old)) }
-    {
-        let _ = body;
         let Some(place) = index_of(self.opened.as_slice(), done.op()) else {
             return Err(done);
         };
+        if !asks_it(&self.opened[place].request, done.ask()) {
+            return Err(done);
+        }
         if !may_finish(&self.opened[place], self.live.as_slice(), done.target()) {
             return Err(done);
         }

@@ -7,7 +7,7 @@ ghost use Rattle.desk.specs.declared.entries.Opened.{Opened as OpenedOf};
 ghost use Rattle.desk.specs.declared.entries.Live.{Live as LiveOf};
 ghost use Rattle.desk.specs.Machine.{names_of, is_live, is_taken, without, others, live_of, none_live, has_census, awaits_census, may_open_more, may_close, finished, as_operated, is_due, is_least, targets_of, steps_of};
 ghost use Rattle.desk.specs.Refusals.{has_body, are_all, chosen, holds_target};
-ghost use Rattle.desk.specs.JobsFit.{same_ask, asks_it, is_asked_by, are_for, jobs_fit, request_of, without_first};
+ghost use Rattle.desk.specs.JobsFit.{same_ask, asks_it, are_for, jobs_fit, request_of, without_first};
 ghost use Rattle.desk.specs.Fields.{asked_of, current_of, names_left, IsIndex};
 
 use crate::entries::{Carried, Live, Opened};
@@ -442,25 +442,14 @@ fn same_ask(one: Ask, other: Ask) -> bool
     }
 }
 
-// Whether the request is a handshake that asks this.
+/// Whether the request is a handshake that asks this.
 #[inline(always)]
-fn asks_it(request: &Request, ask: Ask) -> bool
+pub fn asks_it(request: &Request, ask: Ask) -> bool
     ensures { result ≡ asks_it ask request.now }
 {
     match request {
         Request::Census => false,
         Request::Handshake { ask: asked, .. } => same_ask(*asked, ask),
-    }
-}
-
-/// Whether the open request of the number asks this.
-#[inline(always)]
-pub fn asks<J>(opened: &[Opened<J>], number: u64, ask: Ask) -> bool
-    ensures { result ≡ is_asked_by number ask (map current_of opened.now) }
-{
-    match place_chosen(opened, Some(number)) {
-        Some(place) => asks_it(&opened[place].request, ask),
-        None => false,
     }
 }
 

@@ -1,4 +1,4 @@
-use Rattle.std.proofs.Common.{map, ◌<◌, sym, ◌≡◌, ◌∙◌, ap, subst, refl, Some, None, rules, true, false}
+use Rattle.std.proofs.Common.{map, ◌<◌, sym, ◌≡◌, ◌∙◌, ap, subst, refl, Some, None, rules, true, false, inl, inr}
 use Rattle.std.specs.Prelude.{◌&&◌, slice_get}
 use Rattle.std.proofs.lemmas.Option.{slice_get_read}
 use Rattle.std.proofs.lemmas.Bool.{and_parts}
@@ -7,42 +7,56 @@ use Rattle.desk.specs.declared.entries.Entry.TheVariants as entry
 use Rattle.desk.specs.Machine.{State, Current, lawful, is_least, is_due, is_live, finished}
 use Rattle.desk.specs.Fields.{DeskSeen, current_of, jobs_left, IsIndex, at, Enters}
 use Rattle.desk.specs.declared.entries.Opened.{Opened}
+use Rattle.desk.specs.JobsFit.{asks_it, is_asked_by}
 use Rattle.desk.proofs.Newest.{same_at}
+use Rattle.desk.proofs.OpenLists.{asked_at}
 use Rattle.desk.proofs.JobsLeft.{set_left}
 use Rattle.desk.proofs.Keeping.{finish_keeps, enters_by, finish_is, finish_not, open_room, due_entry, due_once}
 use Rattle.desk.specs.Replies.{of_number, HasLess}
 use Rattle.desk.proofs.RoomSteps.{due_has_room, finish_has_room}
-use Rattle.desk.proofs.desk.Desk.enter_done.Goals as goal
+use Rattle.desk.proofs.desk.Desk.finish.Goals as goal
 
 pub returns-in_default-clause-err : goal.returns-in_default-clause-err
 returns-in_default-clause-err g c =
     let i = c.self.inside in let m = c.self.invariant in
     let none : IsIndex {J = g.row.J.Denot} c.args.done.op i.opened.items None = search rules in (
       refl,
-      subst (λ (d : DeskSeen). lawful (at d) (entry.Finish c.args.done.op c.args.done.target c.args.done.reply) ≡ false) c.self.view_is
+      inl (subst (λ (d : DeskSeen). lawful (at d) (entry.Finish c.args.done.op c.args.done.target c.args.done.reply) ≡ false) c.self.view_is
           (ap (λ (s : State). lawful s (entry.Finish c.args.done.op c.args.done.target c.args.done.reply)) m.0.state
-          ∙ finish_not c.args.done.op c.args.done.target c.args.done.reply i.next_name i.next_number i.live.items i.queue i.opened.items i.codes.table none),
+          ∙ finish_not c.args.done.op c.args.done.target c.args.done.reply i.next_name i.next_number i.live.items i.queue i.opened.items i.codes.table none)),
+      refl,
+    )
+
+pub returns-then-not-asks_it-clause-err : goal.returns-then-not-asks_it-clause-err
+returns-then-not-asks_it-clause-err g c =
+    let i = c.self.inside in let m = c.self.invariant in let o = c.index.result.now in
+    let where_is : IsIndex {J = g.row.J.Denot} c.args.done.op i.opened.items (Some c.in-Some.place) = search rules in
+    let here : slice_get i.opened.items c.in-Some.place ≡ Some o = slice_get_read i.opened.items _ c.in-Some.place o refl where_is.0 c.index.ensures in
+    let other : asks_it c.args.done.ask o.request ≡ false = search rules in (
+      refl,
+      inr (subst (λ (d : DeskSeen). is_asked_by c.args.done.op c.args.done.ask (at d).opened ≡ false) c.self.view_is
+          (ap (λ (s : State). is_asked_by c.args.done.op c.args.done.ask s.opened) m.0.state ∙ asked_at c.args.done.op c.in-Some.place c.args.done.ask i.opened.items o where_is here ∙ other)),
       refl,
     )
 
 pub returns-then-not-may_finish-clause-err : goal.returns-then-not-may_finish-clause-err
 returns-then-not-may_finish-clause-err g c =
-    let i = c.self.inside in let m = c.self.invariant in let o = c.index.result.now in
+    let i = c.self.inside in let m = c.self.invariant in let o = c.index-2.result.now in
     let where_is : IsIndex {J = g.row.J.Denot} c.args.done.op i.opened.items (Some c.in-Some.place) = search rules in
-    let here : slice_get i.opened.items c.in-Some.place ≡ Some o = slice_get_read i.opened.items _ c.in-Some.place o refl where_is.0 c.index.ensures in
+    let here : slice_get i.opened.items c.in-Some.place ≡ Some o = slice_get_read i.opened.items _ c.in-Some.place o refl where_is.0 c.index-2.ensures in
     let not_due : false ≡ (is_due c.args.done.target (current_of o) && is_live c.args.done.target i.live.items) = search rules in (
       refl,
-      subst (λ (d : DeskSeen). lawful (at d) (entry.Finish c.args.done.op c.args.done.target c.args.done.reply) ≡ false) c.self.view_is
+      inl (subst (λ (d : DeskSeen). lawful (at d) (entry.Finish c.args.done.op c.args.done.target c.args.done.reply) ≡ false) c.self.view_is
           (ap (λ (s : State). lawful s (entry.Finish c.args.done.op c.args.done.target c.args.done.reply)) m.0.state
-          ∙ finish_is c.args.done.op c.args.done.target c.args.done.reply i.next_name i.next_number c.in-Some.place i.live.items i.queue i.opened.items o i.codes.table false _ where_is here not_due refl),
+          ∙ finish_is c.args.done.op c.args.done.target c.args.done.reply i.next_name i.next_number c.in-Some.place i.live.items i.queue i.opened.items o i.codes.table false _ where_is here not_due refl)),
       refl,
     )
 
 pub finish_at-requires : goal.finish_at-requires
 finish_at-requires g c =
-    let i = c.self.inside in let m = c.self.invariant in let o = c.index.result.now in
+    let i = c.self.inside in let m = c.self.invariant in let o = c.index-2.result.now in
     let where_is : IsIndex {J = g.row.J.Denot} c.args.done.op i.opened.items (Some c.in-Some.place) = search rules in
-    let here : slice_get i.opened.items c.in-Some.place ≡ Some o = slice_get_read i.opened.items _ c.in-Some.place o refl where_is.0 c.index.ensures in
+    let here : slice_get i.opened.items c.in-Some.place ≡ Some o = slice_get_read i.opened.items _ c.in-Some.place o refl where_is.0 c.index-2.ensures in
     let due : (is_due c.args.done.target (current_of o) && is_live c.args.done.target i.live.items) ≡ true = search rules in
     let both = and_parts (is_due c.args.done.target (current_of o)) (is_live c.args.done.target i.live.items) due in
     let room = open_room _ _ i.log.book i.next_name i.next_number c.args.done.op c.in-Some.place i.live.items i.queue i.opened.items o i.codes.table m.0 where_is here in
@@ -52,9 +66,9 @@ finish_at-requires g c =
 
 pub invariant_of-self : goal.invariant_of-self
 invariant_of-self g c =
-    let i = c.self.inside in let m = c.self.invariant in let o = c.index.result.now in
+    let i = c.self.inside in let m = c.self.invariant in let o = c.index-2.result.now in
     let where_is : IsIndex {J = g.row.J.Denot} c.args.done.op i.opened.items (Some c.in-Some.place) = search rules in
-    let here : slice_get i.opened.items c.in-Some.place ≡ Some o = slice_get_read i.opened.items _ c.in-Some.place o refl where_is.0 c.index.ensures in
+    let here : slice_get i.opened.items c.in-Some.place ≡ Some o = slice_get_read i.opened.items _ c.in-Some.place o refl where_is.0 c.index-2.ensures in
     let made = c.finish_at.ensures.step o here in
     let due : (is_due c.args.done.target (current_of o) && is_live c.args.done.target i.live.items) ≡ true = search rules in
     let least : is_least c.args.done.op c.args.done.target (map (current_of {J = g.row.J.Denot}) i.opened.items) ≡ true = search rules in
@@ -71,18 +85,18 @@ invariant_of-self g c =
 
 pub enter_finish-requires-clause-room : goal.enter_finish-requires-clause-room
 enter_finish-requires-clause-room g c =
-    let i = c.self.inside in let m = c.self.invariant in let o = c.index.result.now in
+    let i = c.self.inside in let m = c.self.invariant in let o = c.index-2.result.now in
     let where_is : IsIndex {J = g.row.J.Denot} c.args.done.op i.opened.items (Some c.in-Some.place) = search rules in
-    let here : slice_get i.opened.items c.in-Some.place ≡ Some o = slice_get_read i.opened.items _ c.in-Some.place o refl where_is.0 c.index.ensures in
+    let here : slice_get i.opened.items c.in-Some.place ≡ Some o = slice_get_read i.opened.items _ c.in-Some.place o refl where_is.0 c.index-2.ensures in
     let due : (is_due c.args.done.target (current_of o) && is_live c.args.done.target i.live.items) ≡ true = search rules in
     let both = and_parts (is_due c.args.done.target (current_of o)) (is_live c.args.done.target i.live.items) due in
     subst (λ n. 0 < (of_number n i.log.lists).room) (sym c.op-3.ensures) (due_has_room i.next_number c.args.done.op c.args.done.target c.in-Some.place i.queue i.opened.items o i.log.lists m.6 where_is here both.0)
 
 pub returns-clause-ok : goal.returns-clause-ok
 returns-clause-ok g c =
-    let i = c.self.inside in let m = c.self.invariant in let o = c.index.result.now in
+    let i = c.self.inside in let m = c.self.invariant in let o = c.index-2.result.now in
     let where_is : IsIndex {J = g.row.J.Denot} c.args.done.op i.opened.items (Some c.in-Some.place) = search rules in
-    let here : slice_get i.opened.items c.in-Some.place ≡ Some o = slice_get_read i.opened.items _ c.in-Some.place o refl where_is.0 c.index.ensures in
+    let here : slice_get i.opened.items c.in-Some.place ≡ Some o = slice_get_read i.opened.items _ c.in-Some.place o refl where_is.0 c.index-2.ensures in
     let due : true ≡ (is_due c.args.done.target (current_of o) && is_live c.args.done.target i.live.items) = search rules in
     let least : is_least c.args.done.op c.args.done.target (map (current_of {J = g.row.J.Denot}) i.opened.items) ≡ true = search rules in
     let is : record { book = i.log.book; slots = i.codes.table.slots; methods = i.codes.table.methods; keeper = i.codes.keeper; jobs = map (jobs_left g.J.Errand.whom) i.opened.items } ≡ c.args.self.now = c.self.view_is in
@@ -93,8 +107,17 @@ returns-clause-ok g c =
 
 pub returns-clause-jobs : goal.returns-clause-jobs
 returns-clause-jobs g c =
-    let i = c.self.inside in let o = c.index.result.now in
+    let i = c.self.inside in let o = c.index-2.result.now in
     let where_is : IsIndex {J = g.row.J.Denot} c.args.done.op i.opened.items (Some c.in-Some.place) = search rules in
-    let here : slice_get i.opened.items c.in-Some.place ≡ Some o = slice_get_read i.opened.items _ c.in-Some.place o refl where_is.0 c.index.ensures in
+    let here : slice_get i.opened.items c.in-Some.place ≡ Some o = slice_get_read i.opened.items _ c.in-Some.place o refl where_is.0 c.index-2.ensures in
     let made = c.finish_at.ensures.step o here in
     ap (map (jobs_left g.J.Errand.whom)) made.2 ∙ set_left g.J.Errand.whom c.in-Some.place i.opened.items o made.0 here made.3 (ap (λ (x : Current). x.number) made.1) ∙ ap (λ (d : DeskSeen). d.jobs) c.self.view_is
+
+pub returns-clause-asked : goal.returns-clause-asked
+returns-clause-asked g c =
+    let i = c.self.inside in let m = c.self.invariant in let o = c.index.result.now in
+    let where_is : IsIndex {J = g.row.J.Denot} c.args.done.op i.opened.items (Some c.in-Some.place) = search rules in
+    let here : slice_get i.opened.items c.in-Some.place ≡ Some o = slice_get_read i.opened.items _ c.in-Some.place o refl where_is.0 c.index.ensures in
+    let same : asks_it c.args.done.ask o.request ≡ true = search rules in
+    subst (λ (d : DeskSeen). is_asked_by c.args.done.op c.args.done.ask (at d).opened ≡ true) c.self.view_is
+    (ap (λ (s : State). is_asked_by c.args.done.op c.args.done.ask s.opened) m.0.state ∙ asked_at c.args.done.op c.in-Some.place c.args.done.ask i.opened.items o where_is here ∙ same)
