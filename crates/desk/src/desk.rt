@@ -27,7 +27,7 @@ use crate::lists::{
     OPEN, are_all, asks_it, finish_at, fit_their_request, holds_target, index_of, is_census,
     is_census_open, is_idle, is_least, job_of, jobs_fit, keep_live, least_free, leave, lives,
     make_room, may_close, may_finish, may_open_more, names_of, operate_at, place_chosen, steps_of,
-    targets_of,
+    targets_in,
 };
 use crate::log::{Log, Receipt, RoomFault};
 use crate::targets::{due_after, name_at, oldest, progress_in, standing_to, untold_in};
@@ -40,6 +40,7 @@ use operations::queue::{Queue, Unqueued, Waiting};
 use std::alloc::{AllocError, Global};
 use std::collections::VecDeque;
 use std::marker::{Model, PhantomData};
+use std::mem;
 
 /// The last name and number.
 pub const LAST: u64 = (1 << 40) - 1;
@@ -54,6 +55,8 @@ pub struct Desk<N: Name, J: Errand> {
     next_number: u64,
     queue: Queue<Carried<J>>,
     opened: Vec<Opened<J>>,
+    /// The memory of the list of who was due for the request that was closed last: the next to be submitted takes it.
+    spare: Vec<u64>,
     codes: Codes<N>,
     log: Log<N>,
 }
@@ -101,6 +104,7 @@ impl<N: Name, J: Errand> Desk<N, J> {
             next_number: 1,
             queue: Queue::new(alloc),
             opened,
+            spare: Vec::new(alloc),
             codes: Codes::new(table, keeper, board),
             log: Log::new(alloc),
         })
@@ -277,7 +281,8 @@ impl<N: Name, J: Errand> Desk<N, J> {
                 jobs,
             });
         };
-        let Ok(due) = targets_of(&request, self.alloc) else {
+        let spare = mem::replace(&mut self.spare, Vec::new(self.alloc));
+        let Ok(due) = targets_in(spare, &request) else {
             self.log.give_back(3 + steps);
             return Err(Refused {
                 fault: AskFault::NoMemory,
@@ -427,10 +432,11 @@ impl<N: Name, J: Errand> Desk<N, J> {
             request: _,
             before: _,
             left,
-            due: _,
+            due,
             operated: _,
             jobs,
         } = self.opened.remove(place);
+        self.spare = due;
         self.log.give_back(left);
         Ok((
             number,

@@ -1,5 +1,5 @@
 // Steps on the desk's lists.
-ghost use Rattle.std.specs.Prelude.{◌≡◌, ◌&&◌, ◌==◌, ◌<◌, ◌≤◌, ◌+◌, ℕ, length, true, false, not, map, Some, None, IfOk, vec_capacity, vec_len, IfSome, IfNone, OnSome, slice_get, slice_index, slice_set};
+ghost use Rattle.std.specs.Prelude.{◌≡◌, ◌&&◌, ◌==◌, ◌<◌, ◌≤◌, ◌+◌, ℕ, length, true, false, not, map, Some, None, IfOk, vec_capacity, vec_len, IfSome, IfNone, OnSome, OnErr, slice_get, slice_index, slice_set};
 ghost use Rattle.std.specs.List.{list_any, list_all};
 ghost use Rattle.operations.specs.Names.{among, is_distinct};
 ghost use Rattle.operations.specs.Requests.{is_census, are_targets};
@@ -167,14 +167,16 @@ pub fn is_census(request: &Request) -> bool
     }
 }
 
-/// A list of its targets.
-pub fn targets_of(request: &Request, alloc: Global) -> Result<Vec<u64>, AllocError>
-    ensures { IfOk result (λ v. v.items ≡ targets_of request.now) }
+/// A list of its targets, in the memory of this one, whose names go. Refused only where that is too small and there is no more.
+pub fn targets_in(mut names: Vec<u64>, request: &Request) -> Result<Vec<u64>, AllocError>
+    ensures ok { IfOk result (λ v. v.items ≡ targets_of request.now) }
+    ensures err { OnErr result (vec_capacity names < length (targets_of request.now)) }
 {
-    match request {
-        Request::Census => Ok(Vec::new(alloc)),
-        Request::Handshake { targets, .. } => Vec::from_slice(alloc, targets.as_slice()),
+    names.clear();
+    if let Request::Handshake { targets, .. } = request {
+        names.extend_from_slice(targets.as_slice())?;
     }
+    Ok(names)
 }
 
 /// How many entries it makes between its Open and its Close at most.

@@ -13,11 +13,11 @@ use Rattle.desk.proofs.desk.Desk.submit.Goals as goal
 pub invariant_of-self-2 : goal.invariant_of-self-2
 invariant_of-self-2 g c =
     let i = c.self.inside in let m = c.self.invariant in
-    let count : length c.in-Ok-targets_of.due.items ≡ length (targets_of c.args.request) = ap (λ (l : List ℕ). length l) (search rules) in
-    let enough : length (targets_of c.args.request) ≤ c.in-Ok-new_list.list.room = omega (arith, count, c.in-Ok-new_list.ensures.list.1, c.in-Ok-targets_of.due.ok.0) in
+    let count : length c.in-Ok-targets_in.due.items ≡ length (targets_of c.args.request) = ap (λ (l : List ℕ). length l) (search rules) in
+    let enough : length (targets_of c.args.request) ≤ c.in-Ok-new_list.list.room = omega (arith, count, c.in-Ok-new_list.ensures.list.1, c.in-Ok-targets_in.due.ok.0) in
     let low : 0 < i.next_number = (let n = m.6.count in omega arith) in
     let fit : jobs_fit g.J.Errand.whom g.J.Errand.asks c.args.request c.args.jobs.items ≡ true = search rules in
-    let w : Waiting (Carried g.row.J.Denot) = record { number = i.next_number; request = c.args.request; load = record { due = c.in-Ok-targets_of.due; jobs = c.args.jobs } } in
+    let w : Waiting (Carried g.row.J.Denot) = record { number = i.next_number; request = c.args.request; load = record { due = c.in-Ok-targets_in.due; jobs = c.args.jobs } } in
     let carried : IsCarried g.J.Errand.whom w = record { number = low; due = search rules; distinct = targets_distinct c.args.request (search rules); jobs = fitting g.J.Errand.whom g.J.Errand.asks c.args.request c.args.jobs.items fit } in (
       ask_keeps _ _ i.log.book c.enter_ask.new.self.book i.next_name i.next_number i.live.items i.queue c.push.new.self w i.opened.items i.codes.table m.0 refl c.in_default-push.ensures.ok (search rules) (search rules),
       subst (AreCarried g.J.Errand.whom) (sym c.in_default-push.ensures.ok) (carried_push g.J.Errand.whom i.queue w m.1 carried),
