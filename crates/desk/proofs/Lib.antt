@@ -12,3 +12,4 @@ pub mod RoomSteps
 pub mod JobsLeft
 pub mod Listed
 pub mod Distinct
+pub mod Unfolding

@@ -7,3 +7,4 @@ pub mod Once
 pub mod JobsFit
 pub mod Rising
 pub mod Replies
+pub mod Unfolded

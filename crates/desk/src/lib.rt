@@ -8,6 +8,7 @@ mod codes;
 mod desk;
 mod entries;
 mod faults;
+mod kept;
 mod law;
 mod lists;
 mod log;

@@ -1,12 +1,17 @@
 //! The history with the room that is kept in it and the replies by operation, and receipts of its entries.
-ghost use Rattle.std.specs.Prelude.{◌≡◌, ℕ, ◌+◌, ◌<◌, ◌≤◌, [], ◌∷◌, ◌++◌, length, true, false, None, OnOk, IfOk, IfErr, vec_len, vec_capacity};
+//!
+//! It is kept in two lists: the entries, and the requests of those that are an Ask, which take more memory than any other entry.
+ghost use Rattle.std.specs.Prelude.{◌≡◌, ℕ, List, ◌+◌, ◌<◌, ◌≤◌, [], ◌∷◌, ◌++◌, length, true, false, None, OnOk, IfOk, IfErr, vec_len, vec_capacity};
 ghost use Rattle.desk.specs.declared.entries.Entry.{Entry as EntryOf};
 ghost use Rattle.desk.specs.Fields.{install_entries, kept_before};
 ghost use Rattle.desk.specs.Once.{reply_in, replies_of};
 ghost use Rattle.desk.specs.Machine.{has_room, stands, room_fault};
 ghost use Rattle.desk.specs.Replies.{of_number, HasLess};
+ghost use Rattle.desk.specs.Unfolded.{unfolded, asks, is_ask};
+ghost use Rattle.operations.specs.declared.Request.{Request as RequestOf};
 
 use crate::entries::Entry;
+use crate::kept::{Kept, without_request};
 use crate::replies::{ReplyList, place_of};
 use bodies::Name;
 use method_table::table::Installed;
@@ -34,25 +39,27 @@ impl<N: Name> Model for Receipt<N> {
     ghost view = { λ r. record { place = r.place; entry = r.entry.value } };
 }
 
-/// Contracts see the entries with for how many more room is kept, the replies of each operation that was asked, and for how many
-/// more operations there is room.
+/// Contracts see the entries, each Ask with its request, with for how many more room is kept, the replies of each operation that was
+/// asked, and for how many more operations there is room.
 #[derive(Drop)]
 pub struct Log<N: Name> {
-    entries: Vec<Entry>,
+    entries: Vec<Kept>,
+    asked: Vec<Request>,
     reserved: usize,
     lists: Vec<ReplyList>,
     of: PhantomData<N>,
 }
 
 impl<N: Name> Model for Log<N> {
-    ghost use Rattle.std.specs.Prelude.{◌+◌, ◌-◌, ◌≤◌, vec_len, vec_capacity};
+    ghost use Rattle.std.specs.Prelude.{◌≡◌, ◌+◌, ◌-◌, ◌≤◌, length, min, vec_len, vec_capacity};
     ghost use Rattle.desk.specs.Replies.{Logged, AreReplies};
+    ghost use Rattle.desk.specs.Unfolded.{unfolded, asks};
 
     ghost Value = { Logged };
 
-    ghost view = { λ l. record { book = record { history = l.entries.items; reserved = l.reserved }; lists = l.lists.items; spare = vec_capacity l.lists - vec_len l.lists } };
+    ghost view = { λ l. record { book = record { history = unfolded l.entries.items l.asked.items; reserved = l.reserved }; lists = l.lists.items; spare = min (vec_capacity l.lists - vec_len l.lists) (vec_capacity l.asked - vec_len l.asked) } };
 
-    ghost invariant = { λ l. (vec_len l.entries + l.reserved ≤ vec_capacity l.entries) × AreReplies l.entries.items l.lists.items };
+    ghost invariant = { λ l. (vec_len l.entries + l.reserved ≤ vec_capacity l.entries) × (asks l.entries.items ≡ length l.asked.items) × AreReplies (unfolded l.entries.items l.asked.items) l.lists.items };
 }
 
 /// Why no room is kept.
@@ -75,17 +82,59 @@ fn fits(len: usize, reserved: usize, more: usize) -> bool
     }
 }
 
-// Puts an entry to the end.
+// Puts an entry that has no request to the end.
 #[inline(always)]
-fn append<N: Name>(entries: &mut Vec<Entry>, entry: Entry) -> Receipt<N>
-    requires { vec_len entries.old < vec_capacity entries.old }
-    ensures items { entries.new.items ≡ entries.old.items ++ entry ∷ [] }
+fn append<N: Name>(entries: &mut Vec<Kept>, entry: Entry) -> Receipt<N>
+    requires room { vec_len entries.old < vec_capacity entries.old }
+    requires no_request { is_ask entry ≡ false }
+    ensures history { (rs : List RequestOf) → asks entries.old.items ≡ length rs → unfolded entries.new.items rs ≡ unfolded entries.old.items rs ++ entry ∷ [] }
+    ensures asks { asks entries.new.items ≡ asks entries.old.items }
     ensures sizes { (vec_len entries.new ≡ vec_len entries.old + 1) × (vec_capacity entries.new ≡ vec_capacity entries.old) }
-    ensures receipt { result ≡ stands (length entries.old.items) entry }
+    ensures receipt { result ≡ stands (vec_len entries.old) entry }
 {
     let place = entries.len();
     let seen = Snapshot::of(&entry);
-    entries.push_reserved(entry);
+    entries.push_reserved(without_request(entry));
+    Receipt {
+        place,
+        entry: seen,
+        of: PhantomData,
+    }
+}
+
+// What clauses see of an Ask, and its request again.
+#[inline(always)]
+fn seen_as_ask(number: u64, request: Request) -> (Snapshot<Entry>, Request)
+    ensures { (result.0.value ≡ Entry.Ask number request) × (result.1 ≡ request) }
+{
+    let entry = Entry::Ask(number, request);
+    let asked = Snapshot::of(&entry);
+    match entry {
+        Entry::Ask(_, request) => (asked, request),
+        _ => unreachable!(),
+    }
+}
+
+// Puts an Ask to the end, and its request to the requests.
+#[inline(always)]
+fn append_ask<N: Name>(
+    entries: &mut Vec<Kept>,
+    asked: &mut Vec<Request>,
+    number: u64,
+    request: Request,
+) -> Receipt<N>
+    requires room { vec_len entries.old < vec_capacity entries.old }
+    requires spare { vec_len asked.old < vec_capacity asked.old }
+    requires whole { asks entries.old.items ≡ length asked.old.items }
+    ensures history { unfolded entries.new.items asked.new.items ≡ unfolded entries.old.items asked.old.items ++ Entry.Ask number request ∷ [] }
+    ensures whole { asks entries.new.items ≡ length asked.new.items }
+    ensures sizes { (vec_len entries.new ≡ vec_len entries.old + 1) × (vec_capacity entries.new ≡ vec_capacity entries.old) }
+    ensures receipt { result ≡ stands (vec_len entries.old) (Entry.Ask number request) }
+{
+    let place = entries.len();
+    let (seen, request) = seen_as_ask(number, request);
+    entries.push_reserved(Kept::Asked(number));
+    asked.push_reserved(request);
     Receipt {
         place,
         entry: seen,
@@ -99,6 +148,7 @@ impl<N: Name> Log<N> {
     {
         Log {
             entries: Vec::new(alloc),
+            asked: Vec::new(alloc),
             reserved: 0,
             lists: Vec::new(alloc),
             of: PhantomData,
@@ -130,7 +180,7 @@ impl<N: Name> Log<N> {
         ensures lists { self.new.lists ≡ self.old.lists }
         ensures err { IfErr result (λ e. (self.new.book ≡ self.old.book) × room_fault (has_room (length self.old.book.history) self.old.book.reserved more) e) }
     {
-        if !fits(self.entries.len(), self.reserved, more) {
+        if !self.has_room(more) {
             return Err(RoomFault::HistoryFull);
         }
         if self.entries.reserve(self.reserved + more).is_err() {
@@ -158,13 +208,15 @@ impl<N: Name> Log<N> {
     {
         let list = ReplyList::with_room(alloc, replies)?;
         self.lists.reserve(1).map_err(|_| AllocError)?;
+        self.asked.reserve(1).map_err(|_| AllocError)?;
         Ok(list)
     }
 
-    /// Puts an entry that has no reply to the end, in room that was kept.
+    /// Puts an entry that has no request and no reply to the end, in room that was kept.
     #[inline(always)]
     pub fn enter(&mut self, entry: Entry) -> Receipt<N>
         requires reserved { 0 < self.old.book.reserved }
+        requires no_request { is_ask entry ≡ false }
         requires no_reply { (n : ℕ) → reply_in n entry ≡ None }
         ensures history { self.new.book.history ≡ self.old.book.history ++ entry ∷ [] }
         ensures reserved { self.new.book.reserved + 1 ≡ self.old.book.reserved }
@@ -201,7 +253,7 @@ impl<N: Name> Log<N> {
     {
         self.reserved -= 1;
         self.lists.push_reserved(list);
-        append(&mut self.entries, Entry::Ask(number, request))
+        append_ask(&mut self.entries, &mut self.asked, number, request)
     }
 
     /// Puts a Finish to the end, and its reply to those of its operation, in room that was kept.

@@ -1,13 +1,29 @@
-use Rattle.std.proofs.Common.{◌++◌, ◌∷◌, [], sym, subst, refl, rules}
+use Rattle.std.proofs.Common.{◌≡◌, ◌++◌, ◌∷◌, [], ◌∙◌, length, sym, ap, subst, refl, rules}
+use Rattle.std.specs.Prelude.{vec_len}
 use Rattle.desk.specs.declared.entries.Entry.TheVariants as entry
-use Rattle.desk.specs.Replies.{AreReplies}
+use Rattle.desk.specs.Machine.{stands}
+use Rattle.desk.specs.Replies.{Logged, AreReplies}
+use Rattle.desk.specs.Unfolded.{unfolded}
 use Rattle.desk.proofs.ReplyLists.{more_lists}
+use Rattle.desk.proofs.Unfolding.{unfolded_length}
 use Rattle.desk.proofs.log.Log.enter_ask.Goals as goal
 
 pub invariant_of-self : goal.invariant_of-self
 invariant_of-self g c =
     let i = c.self.inside in let m = c.self.invariant in let ask = entry.Ask c.args.number c.args.request in (
       search rules,
-      subst (λ h. AreReplies h c.push_reserved.new.self.items) (sym c.append.ensures.items)
-          (subst (AreReplies (i.entries.items ++ ask ∷ [])) (sym c.push_reserved.ensures.items) (more_lists i.entries.items i.lists.items c.args.list ask m.1 c.requires.empty (λ n. refl))),
+      c.append_ask.ensures.whole,
+      subst (λ h. AreReplies h c.push_reserved.new.self.items) (sym c.append_ask.ensures.history)
+          (subst (AreReplies (unfolded i.entries.items i.asked.items ++ ask ∷ [])) (sym c.push_reserved.ensures.items) (more_lists (unfolded i.entries.items i.asked.items) i.lists.items c.args.list ask m.2 c.requires.empty (λ n. refl))),
     )
+
+pub returns-clause-history : goal.returns-clause-history
+returns-clause-history g c =
+    subst (λ (d : Logged). unfolded c.append_ask.new.entries.items c.append_ask.new.asked.items ≡ d.book.history ++ entry.Ask c.args.number c.args.request ∷ []) c.self.view_is c.append_ask.ensures.history
+
+pub returns-clause-receipt : goal.returns-clause-receipt
+returns-clause-receipt g c =
+    let i = c.self.inside in
+    let count : vec_len i.entries ≡ length i.entries.items = search rules in
+    subst (λ (d : Logged). c.append_ask.result ≡ stands (length d.book.history) (entry.Ask c.args.number c.args.request)) c.self.view_is
+    (c.append_ask.ensures.receipt ∙ ap (λ k. stands k (entry.Ask c.args.number c.args.request)) (count ∙ sym (unfolded_length i.entries.items i.asked.items c.self.invariant.1)))
