@@ -119,13 +119,13 @@ impl<'a, N: Name, J: Errand> Coordinator<'a, N, J> {
         ensures free { OnOk result ((self.new.held ≡ []) × (self.new.operated ≡ false)) }
         ensures refused { IfErr result (drive_refused self.old self.new) }
     {
-        let Ok(is_census) = self.begin(rt) else {
+        let Ok((is_census, has_more)) = self.begin_listed(rt) else {
             return Err(DriveFault::QueueEmpty);
         };
+        self.tell_on(rt, has_more);
         if is_census {
-            return self.work_census(rt);
+            return self.drive_census(rt);
         }
-        self.tell_all(rt);
         Ok(self.drive_handshake(rt))
     }
 
@@ -162,6 +162,30 @@ impl<'a, N: Name, J: Errand> Coordinator<'a, N, J> {
         let mut desk = self.shared.desk().lock(rt);
         let begun = open_or_go_on(&mut desk)?;
         Ok(begun)
+    }
+
+    // The same, and lists what is to be told under the same hold of the desk's lock; answers also whether any is to be told more.
+    fn begin_listed<R: Wait>(&mut self, rt: &R) -> Result<(bool, bool), QueueEmpty>
+        ensures empty { OnErr result ((s : DeskState) × (s.opened ≡ []) × (s.waiting ≡ [])) }
+        ensures same { self.new ≡ self.old }
+    {
+        for _ in rt.forever() {
+            if let Some(begun) = self.try_begin_listed(rt)? {
+                return Ok(begun);
+            }
+        }
+        unreachable!()
+    }
+
+    fn try_begin_listed<R: Wait>(&mut self, rt: &R) -> Result<Option<(bool, bool)>, QueueEmpty>
+        ensures empty { OnErr result ((s : DeskState) × (s.opened ≡ []) × (s.waiting ≡ [])) }
+        ensures same { self.new ≡ self.old }
+    {
+        let mut desk = self.shared.desk().lock(rt);
+        let Some(is_census) = open_or_go_on(&mut desk)? else {
+            return Ok(None);
+        };
+        Ok(Some((is_census, self.list_from(&mut desk))))
     }
 
     // Lists each thread that is due for an open request, or for the oldest of them alone, under one hold of the desk's lock.

@@ -82,7 +82,7 @@ fn untold_of<N: Name, J: Errand>(
         return None;
     }
     let number = desk.untold(who.name, armer.last(who.place))?;
-    let has_more = desk.untold(who.name, number).is_some();
+    let has_more = desk.open_count() > 1 && desk.untold(who.name, number).is_some();
     let target = Target {
         place: who.place,
         is_census: desk.open_kind()?,
@@ -189,12 +189,21 @@ impl<'a, N: Name, J: Errand> Coordinator<'a, N, J> {
     pub(crate) fn tell_all<R: Wait>(&mut self, rt: &R)
         ensures { (self.new.held ≡ self.old.held) × (self.new.operated ≡ self.old.operated) }
     {
+        let has_more = self.list_untold(rt);
+        self.tell_on(rt, has_more);
+    }
+
+    // Tells what was listed, and then lists and tells as long as there is more.
+    pub(crate) fn tell_on<R: Wait>(&mut self, rt: &R, has_more: bool)
+        ensures { (self.new.held ≡ self.old.held) × (self.new.operated ≡ self.old.operated) }
+    {
+        let mut has_more = has_more;
         for _ in rt.forever() {
-            let has_more = self.list_untold(rt);
             self.tell_listed(rt);
             if !has_more {
                 return;
             }
+            has_more = self.list_untold(rt);
         }
     }
 
@@ -203,16 +212,22 @@ impl<'a, N: Name, J: Errand> Coordinator<'a, N, J> {
     fn list_untold<R: Wait>(&mut self, rt: &R) -> bool
         ensures { self.new ≡ self.old }
     {
-        self.due.clear();
         let mut desk = self.shared.desk().lock(rt);
+        self.list_from(&mut desk)
+    }
+
+    // The same under a hold of the desk's lock.
+    pub(crate) fn list_from(&mut self, desk: &mut Desk<N, J>) -> bool
+        ensures { self.new ≡ self.old }
+    {
+        self.due.clear();
         let has_more = list_untold(
-            &mut desk,
+            desk,
             &self.armer,
             self.places,
             &mut self.due,
             &mut self.untold,
         );
-        drop(desk);
         self.untold.reverse();
         has_more
     }

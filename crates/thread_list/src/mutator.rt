@@ -58,16 +58,6 @@ pub enum ReturnFault {
     EmptyStack,
 }
 
-// The fault of a call that is refused. A call of a cold function tells the compiler what is rare, so that the way of a call that is
-// accepted is laid out as one line.
-#[cold]
-#[inline(never)]
-fn refused<F>(fault: F) -> F
-    ensures { result ≡ fault }
-{
-    fault
-}
-
 impl<'a, N: Name, J: Errand> Mutator<'a, N, J> {
     /// The thread's name.
     pub fn name(&self) -> u64
@@ -105,15 +95,18 @@ impl<'a, N: Name, J: Errand> Mutator<'a, N, J> {
         ensures err { IfErr result (λ e. (self.new ≡ self.old) × call_refused self.old method e) }
     {
         let Standing::InJava(body) = &mut self.standing else {
-            return Err(refused(CallFault::Illegal(self.state())));
+            return Err(CallFault::Illegal(self.state()));
         };
-        if method >= self.shared.methods() {
-            return Err(refused(CallFault::NoSuchMethod));
+        // What is accepted comes first in each test: the compiler lays it out as one line.
+        if method < self.shared.methods() {
+            if body.depth() < 256 {
+                Ok(body.call(self.shared.board(), method, hint))
+            } else {
+                Err(CallFault::DepthFull)
+            }
+        } else {
+            Err(CallFault::NoSuchMethod)
         }
-        if body.depth() >= 256 {
-            return Err(refused(CallFault::DepthFull));
-        }
-        Ok(body.call(self.shared.board(), method, hint))
     }
 
     /// Returns from the method of the top frame, and polls: one load.
@@ -125,10 +118,10 @@ impl<'a, N: Name, J: Errand> Mutator<'a, N, J> {
         ensures err { IfErr result (λ e. (self.new ≡ self.old) × return_refused self.old e) }
     {
         let Standing::InJava(body) = &mut self.standing else {
-            return Err(refused(ReturnFault::Illegal(self.state())));
+            return Err(ReturnFault::Illegal(self.state()));
         };
         if body.depth() == 0 {
-            return Err(refused(ReturnFault::EmptyStack));
+            return Err(ReturnFault::EmptyStack);
         }
         body.ret();
         let found = body.poll(self.shared.row());
@@ -169,7 +162,7 @@ impl<'a, N: Name, J: Errand> Mutator<'a, N, J> {
             Standing::InJava(body) => body.publish(self.shared.board()),
             Standing::InVm(body) => body.publish(self.shared.board()),
             Standing::AtPoll(_, _) | Standing::InNative(_) | Standing::Blocked => {
-                return Err(refused(self.state()));
+                return Err(self.state());
             }
         }
         Ok(())
