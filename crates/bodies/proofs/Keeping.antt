@@ -22,7 +22,7 @@ use Rattle.board.specs.Boards.{BoardId, SeatSeen}
 use Rattle.atomic_table.specs.Seated.{TableId}
 use Rattle.poll.specs.Rows.{PollerSeen}
 use Rattle.bodies.specs.declared.body.Parts.{Parts}
-use Rattle.bodies.specs.Bodies.{BodyView, image_of, IsPaired, IsFit, IsKept, IsSpare, IsTried, AreMade, IsPublished, AreStanding, all_changed, changed, code_if, frame}
+use Rattle.bodies.specs.Bodies.{BodyView, image_of, IsPaired, IsFit, IsKept, IsSpare, IsTried, AreMade, AreCounted, IsPublished, AreStanding, all_changed, changed, code_if, frame}
 
 -- what the parts of a body show, and what they keep
 abbrev pub shown : Parts → BodyView
@@ -291,6 +291,22 @@ one_made old image image' start seat seat' made change found are ne counts is = 
         let y : times c image'.counted ≡ times c image.counted = counts.others c (back c e) in
         let same : cond {A = ℕ} (is_uncounted image'.frames image'.counted c) 1 0 ≡ cond {A = ℕ} (is_uncounted image.frames image.counted c) 1 0 = λ i. cond {A = ℕ} (not (eqb (x i) (y i))) 1 0 in
         let was = are.each c in omega arith
+
+-- a publication of one code alone
+pub only_counted : (image new : ImageView) (start seat : SeatSeen) (change : Change) (found : ℕ) → IsFit start.board.slots image start.seen → Differs image change.code
+    → Counts image (record new { changed = change.code ∷ [] }) change → seat.seen ≡ count_changed start.seen change.code change.by found → seat.board ≡ start.board → IsSettled new
+    → AreCounted image new start seat
+only_counted image new start seat change found fit differs counts step board settled =
+    let none : AreMade image image start.seen start.seen [] = record { frames_stay = refl; publishing_stays = refl; seat_is = refl; each = λ c. omega arith } in
+    let made = one_made image image (record new { changed = change.code ∷ [] }) start.seen start.seen seat.seen [] change found none differs counts step in
+    let fits = change_fits start.board.slots image (record new { changed = change.code ∷ [] }) start.seen seat.seen change found fit counts step in record {
+      board_stays = board;
+      fit = record { few = fits.few; counted_is = fits.counted_is; more_is_fresh = fits.more_is_fresh; frame_slots = fits.frame_slots; counted_slots = fits.counted_slots };
+      changes = (change, found) ∷ [];
+      made = record { frames_stay = made.frames_stay; publishing_stays = made.publishing_stays; seat_is = made.seat_is; each = made.each };
+      settled = settled;
+    }
+
 
 pub all_steps : (t : SeatView) (made : List (Change × ℕ)) → (all_changed t made).steps ≡ t.steps + length made
 all_steps t [] = omega arith

@@ -159,9 +159,9 @@ fn count_changes(image: &mut Image, seat: &mut ThreadSeat, board: &Board)
     }
 }
 
-// Opens a publication, counts the codes that moved, and ends it. It stands apart, since in most publications no code moved.
+// Opens a publication, counts the codes that moved, one by one, and ends it.
 #[inline(never)]
-fn publish_changes(image: &mut Image, seat: &mut ThreadSeat, board: &Board)
+fn publish_all(image: &mut Image, seat: &mut ThreadSeat, board: &Board)
     requires board { seat.old.board ≡ board.now }
     requires fit { IsFit seat.old.board.slots image.old seat.old.seen }
     requires closed { image.old.publishing ≡ false }
@@ -176,6 +176,21 @@ fn publish_changes(image: &mut Image, seat: &mut ThreadSeat, board: &Board)
     match image.end() {
         Ok(()) => {}
         Err(_) => unreachable!(),
+    }
+}
+
+// Counts the codes that moved: one alone at once, and else one by one. It stands apart, since in most publications no code moved.
+#[inline(never)]
+fn publish_changes(image: &mut Image, seat: &mut ThreadSeat, board: &Board)
+    requires board { seat.old.board ≡ board.now }
+    requires fit { IsFit seat.old.board.slots image.old seat.old.seen }
+    requires closed { image.old.publishing ≡ false }
+    requires begun { seat.old.seen.moment ≢ 0 }
+    ensures { AreCounted image.old image.new seat.old seat.new }
+{
+    match image.settle_only() {
+        Some(change) => seat.count_change(board, change.code, change.by),
+        None => publish_all(image, seat, board),
     }
 }
 

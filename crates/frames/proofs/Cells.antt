@@ -669,3 +669,26 @@ sum_append serial (x ∷ xs) ys = step (net_sum serial (xs ++ ys)) (net_sum seri
 -- the list's nets are dropped
 pub dropped : (cells list : List Change) → AreCells cells list → AreCells cells []
 dropped cells list a = relisted cells list [] a (λ c. omega arith)
+
+-- the only net is taken out of its cell
+pub record TakenOnly (cells list more : List Change) (places room : ℕ) (e : Change) : Type 0 where
+  pub kept : AreKept more [] places list room false
+  pub was : settled (cells ++ list) ≡ e ∷ []
+  pub none : settled (more ++ list) ≡ []
+
+pub taken_only : (cells list : List Change) (touched : List ℕ) (places room i : ℕ) (e : Change) → AreKept cells touched places list room false → length touched ≡ 1 → length list ≡ 0
+    → i ≡ get_or touched 0 i → e ≡ get_or cells i e → is_zero e.by ≡ false → TakenOnly cells list (set cells i (nothing_at i)) places room e
+taken_only cells list [] places room i e k one none at_ is some = absurd (omega (arith, one))
+taken_only cells list (j ∷ m ∷ ms) places room i e k one none at_ is some = absurd (omega (arith, one))
+taken_only cells (x ∷ xs) (j ∷ []) places room i e k one none at_ is some = absurd (omega (arith, none))
+taken_only cells [] (j ∷ []) places room i e k one none at_ is some =
+    let bound : i < 1024 = rw at_ (k.touched_are.places 0 i (omega arith)) in
+    let left = emptied_net cells [] i e k.cells_are bound is some in
+    let more : List Change = set cells i (nothing_at i) in
+    let empty : AreCells more [] = dropped more (e ∷ []) left.are in
+    let untouched : AreAmong more [] = left.among [] (rw at_ k.touched_are.among) in
+    record {
+      kept = none_kept more places room empty untouched k.has_places k.has_room;
+      was = sym (same_all cells [] more (e ∷ []) left.are untouched left.totals) ∙ (rw some refl);
+      none = list_all more [] empty untouched;
+    }

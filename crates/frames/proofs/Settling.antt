@@ -459,3 +459,24 @@ serial_balance serial frames (e ∷ es) r w =
         → pos (serial_times serial (counted_by frames (e ∷ es))) +ℤ (cond b by (pos 0) +ℤ net_sum serial es) ≡ pos (serial_count serial frames)
     split true n t a by h s front back all rest = omega (arith, ints)
     split false n t a by h s front back all rest = omega (arith, ints)
+
+-- the code of the only net is the only one whose counts differ
+pub record OnlyDiffers (frames : List Frame) (e : Change) : Type 0 where
+  pub by : pos (times e.code (counted_by frames (e ∷ []))) +ℤ e.by ≡ pos (act e.code frames)
+  pub moved : times e.code (counted_by frames []) ≡ act e.code frames
+  pub stay : (c : CodeId) → same_code c e.code ≡ false → times c (counted_by frames []) ≡ times c (counted_by frames (e ∷ []))
+  pub differs : act e.code frames ≢ times e.code (counted_by frames (e ∷ []))
+  pub others : (c : CodeId) → same_code c e.code ≡ false → act c frames ≡ times c (counted_by frames (e ∷ []))
+  pub grown : (c : CodeId) → is_among c (e.code ∷ []) ≡ (same_code c e.code || false)
+
+pub only_differs : (frames : List Frame) (es : List Change) (e : Change) → es ≡ e ∷ [] → IsRising None es → ((c : CodeId) → IsWithin (net_in es c) (act c frames)) → OnlyDiffers frames e
+only_differs frames es e is r w =
+    let rising : IsRising None (e ∷ []) = subst (IsRising None) is r in
+    let within : (c : CodeId) → IsWithin (net_in (e ∷ []) c) (act c frames) = subst (λ xs. (c : CodeId) → IsWithin (net_in xs c) (act c frames)) is w in record {
+      by = first_by frames e [] (within e.code);
+      moved = first_moved frames e [] rising;
+      stay = first_others frames e [];
+      differs = (is_next_of frames (e ∷ []) [] false rising within).0;
+      others = λ c h. sym (times-codes_of c frames) ∙ first_others frames e [] c h;
+      grown = λ c. ap (λ b. b || false) (same_sym e.code c);
+    }

@@ -1,7 +1,8 @@
 //! The image of one thread's stack.
 ghost use Rattle.std.specs.Prelude.{◌≡◌, ◌≢◌, pos, ◌+ℤ◌, ℕ, ◌+◌, ◌<◌, ◌≤◌, List, [], ◌∷◌, ◌++◌, length, true, false, IfOk, OnOk, OnErr, IfErr, IfSome, IfNone, IsTrue, option_map, Some, None, ◌↔◌, vec_capacity};
-ghost use Rattle.frames.specs.Stack.{act, times, is_among, top_serial_of, has_serial, serial_count};
-ghost use Rattle.frames.specs.ImageView.{SameBag, next_code, IsNext, unsettled, serial_times, IsCounted, HasFrames, Counts, IsSettled, push_fault, pop_fault, end_fault};
+ghost use Rattle.frames.specs.declared.CodeId.{CodeId};
+ghost use Rattle.frames.specs.Stack.{same_code, act, times, is_among, top_serial_of, has_serial, serial_count};
+ghost use Rattle.frames.specs.ImageView.{SameBag, next_code, IsNext, unsettled, serial_times, IsCounted, Differs, HasFrames, Counts, IsSettled, push_fault, pop_fault, end_fault};
 
 use crate::nets::Nets;
 use crate::{Change, CodeId, EndFault, Frame, PopFault, Publishing, PushFault};
@@ -236,6 +237,27 @@ impl Image {
         self.given = 0;
         self.publishing = false;
         Ok(())
+    }
+
+    /// A whole publication in one step, where no more than one code moved since the last: counts the
+    /// frames of that code, and gives it with the difference, as [`begin`](Image::begin),
+    /// [`next_change`](Image::next_change) and [`end`](Image::end) would.
+    ///
+    /// `None` promises only that nothing changed: it is answered where no count differs or more do,
+    /// and maybe where one does, but other codes moved and moved back, or share its cell.
+    #[inline(always)]
+    pub fn settle_only(&mut self) -> Option<Change>
+        requires closed { self.old.publishing ≡ false }
+        ensures frames { self.new.frames ≡ self.old.frames }
+        ensures settled { IfSome result (λ change. IsSettled self.new) }
+        ensures closed { IfSome result (λ change. self.new.changed ≡ []) }
+        ensures counts { IfSome result (λ change. Counts self.old (record self.new { changed = change.code ∷ [] }) change) }
+        ensures differs { IfSome result (λ change. Differs self.old change.code) }
+        ensures by { IfSome result (λ change. change.by ≢ pos 0) }
+        ensures others { IfSome result (λ change. (code : CodeId) → same_code code change.code ≡ false → act code self.old.frames ≡ times code self.old.counted) }
+        ensures none { IfNone result (self.new ≡ self.old) }
+    {
+        self.nets.take_only()
     }
 
     /// Whether no publication is open and every code has as many frames as are counted.

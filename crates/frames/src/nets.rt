@@ -151,6 +151,29 @@ impl Nets {
         }
     }
 
+    /// Takes out the only net, straight from its cell: nothing is listed or sorted, as a flush would.
+    /// `None` where more cells than one were touched, the one has no net, or the list isn't empty;
+    /// nothing changes then.
+    #[inline(always)]
+    pub(crate) fn take_only(&mut self) -> Option<Change>
+        requires open { self.old.flushed ≡ false }
+        ensures some { IfSome result (λ net. (self.old.entries ≡ net ∷ [])
+            × (self.new ≡ record { entries = []; flushed = false })) }
+        ensures none { IfNone result (self.new ≡ self.old) }
+    {
+        if self.touched.len() != 1 || !self.list.is_empty() {
+            return None;
+        }
+        let place = self.touched[0] as usize;
+        let net = self.cells[place];
+        if !has_net(&net) {
+            return None;
+        }
+        self.cells[place] = nothing_at(place);
+        self.touched.clear();
+        Some(net)
+    }
+
     /// Drops all nets.
     pub(crate) fn clear(&mut self)
         ensures { self.new ≡ record { entries = []; flushed = false } }
