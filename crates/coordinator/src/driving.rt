@@ -242,10 +242,19 @@ impl<'a, N: Name, J: Errand> Coordinator<'a, N, J> {
     // target that comes for what it was told serves itself, and is waited for only to the end: what another runs until then may wait
     // for those that come after it. It waits without a lock as far as the spins that are left go, and then asleep. Answers how many
     // are left.
+    #[inline(always)]
     fn serve_due<R: Wait>(&self, rt: &R, who: Live, spins: u32, to_the_end: bool) -> u32 {
         if who.place >= self.places || self.serve_at(rt, who).is_ok() {
             return spins;
         }
+        self.serve_later(rt, who, spins, to_the_end)
+    }
+
+    // The same of a target whose body isn't in its berth.
+    #[inline(never)]
+    fn serve_later<R: Wait>(&self, rt: &R, who: Live, spins: u32, to_the_end: bool) -> u32
+        requires { who.place < N.board.places }
+    {
         let number = self.awaited(rt, who.name);
         if number == 0 {
             return spins;
@@ -275,6 +284,7 @@ impl<'a, N: Name, J: Errand> Coordinator<'a, N, J> {
 
     // Takes the body of a target out of its berth, serves all its jobs in order, and brings it back; the error is the receipt that it
     // isn't there.
+    #[inline(always)]
     fn serve_at<R: Wait>(&self, rt: &R, due: Live) -> Result<Attended<N>, BerthReceipt<N>>
         requires { due.place < N.board.places }
         ensures attended { IfOk result (λ a. IsAttended due.place due.name a.out a.done a.back) }

@@ -44,6 +44,7 @@ fn look_up<N: Name, J: Errand>(
 }
 
 // The job of the name in an operation, where it is wanted.
+#[inline(always)]
 fn job_of<N: Name, J: Errand>(
     desk: &mut Desk<N, J>,
     number: u64,
@@ -70,6 +71,7 @@ pub struct Untold<J> {
 }
 
 // The same of a live thread, and whether it is to be told more. None where it was told all, or the desk names a place that there isn't.
+#[inline(always)]
 fn untold_of<N: Name, J: Errand>(
     desk: &mut Desk<N, J>,
     armer: &Teller,
@@ -245,6 +247,7 @@ impl<'a, N: Name, J: Errand> Coordinator<'a, N, J> {
     }
 
     // Tells a thread what was listed for it. Where its berth bears another name or none, the name is told as by `tell`.
+    #[inline(always)]
     fn tell_at<R: Wait>(&mut self, rt: &R, untold: Untold<J>)
         ensures { (self.new.held ≡ self.old.held) × (self.new.operated ≡ self.old.operated) }
     {
@@ -266,6 +269,7 @@ impl<'a, N: Name, J: Errand> Coordinator<'a, N, J> {
 
     // The job in hand, or the mark of the census, goes into the berth, and the place is armed. Answers the receipt of the one or the
     // other. A job of another operation or for another name is dropped.
+    #[inline(always)]
     fn put<R: Wait>(
         &mut self,
         rt: &R,

@@ -306,6 +306,7 @@ fn operate<J>(request: &mut Opened<J>)
 }
 
 /// A Finish of the name.
+#[inline(always)]
 pub fn finish_at<J>(opened: &mut Vec<Opened<J>>, place: usize, name: u64)
     requires { (place < length opened.old.items) × ((o : OpenedOf J) → slice_get opened.old.items place ≡ Some o → (0 < o.left) × (is_distinct o.due.items ≡ true)) }
     ensures step { (o : OpenedOf J) → slice_get opened.old.items place ≡ Some o → (after : OpenedOf J) × (current_of after ≡ finished name (current_of o)) × (opened.new.items ≡ slice_set opened.old.items place after) × (after.jobs ≡ o.jobs) }

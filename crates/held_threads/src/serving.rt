@@ -31,6 +31,7 @@ pub fn told_job<N: Name, J: Errand, R: Wait>(
 }
 
 /// Publishes a body, runs its job on it, enters what the job answered, and clears the operation. The receipt is of that entry.
+#[inline(always)]
 pub fn serve_body<N: Name, J: Errand, R: Wait>(
     rt: &R,
     shared: &Shared<N, J>,
@@ -42,12 +43,45 @@ pub fn serve_body<N: Name, J: Errand, R: Wait>(
     ensures served { IsServed (J.number job) body.old body.new }
 {
     body.publish(shared.board());
-    let (receipt, _others) = serve(rt, shared, body, job);
+    let (receipt, _others) = serve(rt, shared, body, job, false);
     receipt
 }
 
-/// Brings a body that was taken out of its berth back, once what its thread was told meanwhile is served, job by job in order.
+/// Brings a body that was taken out of its berth back, once what its thread was told meanwhile is served, job by job in order. The first
+/// try is in line: mostly nothing was told meanwhile, and what a call answers would go through memory.
+#[inline(always)]
 pub fn bring_back<N: Name, J: Errand, R: Wait>(
+    rt: &R,
+    shared: &Shared<N, J>,
+    body: Body<N>,
+) -> BodyReceipt<N>
+    requires body { (body.seat.stored ≢ 0) × (0 < body.name) }
+    ensures { IsBrought body result }
+{
+    match shared.berth_of(&body).bring(rt, body) {
+        Ok(receipt) => receipt,
+        Err((back, job)) => serve_on(rt, shared, back, job),
+    }
+}
+
+// Serves a job that was told meanwhile, and what comes after it, and brings the body back.
+#[inline(never)]
+fn serve_on<N: Name, J: Errand, R: Wait>(
+    rt: &R,
+    shared: &Shared<N, J>,
+    body: Body<N>,
+    job: Due<J>,
+) -> BodyReceipt<N>
+    requires body { (body.seat.stored ≢ 0) × (0 < body.name) }
+    requires job { (J.whom job ≡ body.name) × (0 < J.number job) }
+    ensures { IsBrought body result }
+{
+    let mut body = body;
+    let _ = serve_body(rt, shared, &mut body, job);
+    bring_on(rt, shared, body)
+}
+
+fn bring_on<N: Name, J: Errand, R: Wait>(
     rt: &R,
     shared: &Shared<N, J>,
     body: Body<N>,

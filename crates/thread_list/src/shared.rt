@@ -210,6 +210,7 @@ impl<N: Name, J: Errand> Shared<N, J> {
         rt: &R,
         body: &Body<N>,
         done: Done,
+        looks: bool,
     ) -> Result<(Receipt<N>, bool), Done>
         requires name { body.now.name ≡ done.target }
         requires settled { IsSettled body.now.image }
@@ -220,23 +221,30 @@ impl<N: Name, J: Errand> Shared<N, J> {
         let name = done.target();
         let mut desk = self.desk.lock(rt);
         let receipt = desk.finish(body, done)?;
-        let others = desk.next_due(name).is_some() || desk.next_due(0).is_some();
+        let others =
+            looks && (desk.next_due(name).is_some() || desk.next_due(0).is_some());
         Ok((receipt, others))
     }
 
-    /// Enters what a job answered on a settled body. Answers also whether another thread has still to be answered for: one with a greater
-    /// name, where there is one, is found without a look at all that are done. The first try is in line: it nearly always succeeds, and
-    /// what a call of the loop answers would go through memory.
+    /// Enters what a job answered on a settled body. Where it looks for that (`looks`), it answers also whether another thread has still to
+    /// be answered for: one with a greater name, where there is one, is found without a look at all that are done. The first try is in
+    /// line: it nearly always succeeds, and what a call of the loop answers would go through memory.
     #[inline(always)]
-    pub fn finish<R: Wait>(&self, rt: &R, body: &Body<N>, done: Done) -> (Receipt<N>, bool)
+    pub fn finish<R: Wait>(
+        &self,
+        rt: &R,
+        body: &Body<N>,
+        done: Done,
+        looks: bool,
+    ) -> (Receipt<N>, bool)
         requires name { body.now.name ≡ done.target }
         requires settled { IsSettled body.now.image }
         requires reply { done.reply ≡ reply done.ask body.now.image.frames }
         ensures { result.0.entry ≡ Entry.Finish done.op done.target done.reply }
     {
-        let finished = match self.try_finish(rt, body, done) {
+        let finished = match self.try_finish(rt, body, done, looks) {
             Ok(finished) => finished,
-            Err(back) => self.finish_again(rt, body, back),
+            Err(back) => self.finish_again(rt, body, back, looks),
         };
         self.ring();
         finished
@@ -244,7 +252,13 @@ impl<N: Name, J: Errand> Shared<N, J> {
 
     // Enters it after a try that failed: other threads run before each further one.
     #[inline(never)]
-    fn finish_again<R: Wait>(&self, rt: &R, body: &Body<N>, done: Done) -> (Receipt<N>, bool)
+    fn finish_again<R: Wait>(
+        &self,
+        rt: &R,
+        body: &Body<N>,
+        done: Done,
+        looks: bool,
+    ) -> (Receipt<N>, bool)
         requires name { body.now.name ≡ done.target }
         requires settled { IsSettled body.now.image }
         requires reply { done.reply ≡ reply done.ask body.now.image.frames }
@@ -253,7 +267,7 @@ impl<N: Name, J: Errand> Shared<N, J> {
         let mut done = done;
         for _ in rt.forever() {
             thread::yield_now();
-            match self.try_finish(rt, body, done) {
+            match self.try_finish(rt, body, done, looks) {
                 Ok(finished) => return finished,
                 Err(back) => done = back,
             }

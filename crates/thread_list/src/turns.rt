@@ -147,7 +147,7 @@ fn take_turn<N: Name, J: Errand, R: Wait>(
         Some(job) => job,
         None => return (body, outing, None),
     };
-    let (receipt, others) = serve(rt, shared, &mut body, job);
+    let (receipt, others) = serve(rt, shared, &mut body, job, true);
     if others {
         give_way(shared, place);
     }

@@ -1,5 +1,5 @@
 use Rattle.std.proofs.Common.{◌≡◌, ◌≢◌, ◌<◌}
-use Rattle.held_threads.proofs.serving.bring_back.Given as goal
+use Rattle.held_threads.proofs.serving.bring_on.Given as goal
 
 abbrev pub invariant-loop : goal.invariant-loop
 invariant-loop g l =

@@ -1,7 +1,7 @@
 use Rattle.std.proofs.Common.{◌≡◌, ◌≢◌, ◌<◌, ◌∙◌, ap, sym, subst}
 use Rattle.bodies.specs.Bodies.{BodyView}
 use Rattle.held_threads.proofs.Each.{operated_keeps, operated_frames}
-use Rattle.held_threads.proofs.serving.bring_back.Goals as goal
+use Rattle.held_threads.proofs.serving.bring_on.Goals as goal
 
 pub loop-preserved : goal.loop-preserved
 loop-preserved g c =
