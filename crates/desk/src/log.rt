@@ -1,6 +1,7 @@
 //! The history with the room that is kept in it and the replies by operation, and receipts of its entries.
 //!
-//! It is kept in two lists: the entries, and the requests of those that are an Ask, which take more memory than any other entry.
+//! It is kept in two lists: the entries, where an Ask is without its request, and the requests. A request is larger than all else that
+//! an entry has, and few entries have one.
 ghost use Rattle.std.specs.Prelude.{◌≡◌, ℕ, List, ◌+◌, ◌<◌, ◌≤◌, [], ◌∷◌, ◌++◌, length, true, false, None, OnOk, IfOk, IfErr, vec_len, vec_capacity};
 ghost use Rattle.desk.specs.declared.entries.Entry.{Entry as EntryOf};
 ghost use Rattle.desk.specs.Fields.{install_entries, kept_before};
