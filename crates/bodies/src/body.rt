@@ -35,7 +35,12 @@ struct Parts {
     images: Vec<Image>,
     seat: ThreadSeat,
     poller: Poller,
+    // Nothing: what the thread of the next place writes lies behind it, on lines of its own.
+    apart: [u64; LINE],
 }
+
+// A line of the processor's caches, in words.
+const LINE: usize = 8;
 
 /// The seat and the poller of one place, in a box with room for the name and the image of the thread that has the place: bodies are
 /// moved as that box.
@@ -69,6 +74,7 @@ impl Seats {
             images,
             seat,
             poller,
+            apart: [0; LINE],
         };
         let parts = Box::new(alloc, parts)?;
         Ok(Seats { parts })

@@ -320,6 +320,13 @@ sorted_rising (e ∷ es) last first sorted some once = (
 is_above : (a b : CodeId) → is_lt (ordering_then (nat_cmp a.serial b.serial) (nat_cmp a.slot b.slot)) ≡ false → code_lt a b ≡ false
 is_above a b h = grind (arith, nat_tests)
 
+-- an order of nets settles to the same, and has each code as often
+pub turned_settled : (es turned : List Change) → IsPermutation es turned → settled turned ≡ settled es
+turned_settled es turned h = same_settled turned es (λ c. sym (total_permutation es turned c h))
+
+pub turned_once : (es turned : List Change) → AreOnce es → IsPermutation es turned → AreOnce turned
+turned_once es turned once h = λ c. subst (λ n. n ≤ 1) (sym (times_permutation es turned c h)) (once c)
+
 -- the nets that aren't 0, sorted, are what the list settles to
 pub sorted_settled : (es ys : List Change) → AreOnce es → IsPermutation (filter (λ e. not (is_zero e.by)) es) ys → IsSortedByKey {K = ℕ × ℕ} (λ (e : Change). (e.code.serial, e.code.slot)) (λ x y. ordering_then (nat_cmp x.0 y.0) (nat_cmp x.1 y.1)) ys → ys ≡ settled es
 sorted_settled es ys once moved_ sorted =

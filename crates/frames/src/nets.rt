@@ -5,7 +5,8 @@ ghost use Rattle.std.specs.List.Sorted.{IsPermutation};
 ghost use Rattle.frames.specs.declared.CodeId.{CodeId};
 ghost use Rattle.frames.specs.declared.Change.{Change};
 ghost use Rattle.frames.specs.Stack.{same_code, times};
-ghost use Rattle.frames.specs.Nets.{NetsView, net_in, add, settled, total, codes_in, cell_of, nothing_at, is_zero, is_in, IsAt, IsPut, IsWithin, AreAmong, AreOnce, AreCells, AreTouched, AreKept, net_sum, AreSmall};
+ghost use Rattle.frames.specs.Kept.{upto};
+ghost use Rattle.frames.specs.Nets.{NetsView, IsRising, net_in, add, settled, total, codes_in, cell_of, nothing_at, is_zero, is_in, IsAt, IsPut, IsWithin, AreAmong, AreOnce, AreCells, AreTouched, AreKept, net_sum, AreSmall};
 
 use crate::{Change, CodeId};
 use std::alloc::{AllocError, Global};
@@ -40,7 +41,8 @@ pub(crate) struct Nets {
 
 impl Model for Nets {
     ghost use Rattle.std.specs.Prelude.{vec_capacity, ◌++◌};
-    ghost use Rattle.frames.specs.Nets.{NetsView, AreKept, settled};
+    ghost use Rattle.frames.specs.Kept.{upto};
+ghost use Rattle.frames.specs.Nets.{NetsView, IsRising, AreKept, settled};
 
     ghost Value = { NetsView };
 
@@ -428,9 +430,38 @@ fn sort(nets: &mut Vec<Change>)
     ensures items { nets.new.items ≡ settled nets.old.items }
     ensures capacity { vec_capacity nets.new ≡ vec_capacity nets.old }
 {
-    nets.retain(|net| has_net(net));
     turn(nets);
+    if rises(nets) {
+        return;
+    }
+    nets.retain(|net| has_net(net));
     nets.sort_unstable_by_key(|net| (net.code.serial, net.code.slot));
+}
+
+// Whether each has a net, and a greater serial than the one before: then there is nothing to sort.
+fn rises(nets: &[Change]) -> bool
+    ensures { result ≡ true → IsRising None nets.now }
+{
+    let mut last = None;
+    let mut rest = nets;
+    while let Some((net, others)) = rest.split_first() {
+        if !(has_net(net) && is_above(last, net.code)) {
+            return false;
+        }
+        last = Some(net.code);
+        rest = others;
+    }
+    true
+}
+
+#[inline(always)]
+fn is_above(last: Option<CodeId>, code: CodeId) -> bool
+    ensures { result ≡ true → upto last code ≡ false }
+{
+    match last {
+        Some(last) => last.serial < code.serial,
+        None => true,
+    }
 }
 
 // Turns the list round where it begins falling. Codes come off a stack in the reverse order of

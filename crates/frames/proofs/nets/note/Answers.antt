@@ -1,4 +1,4 @@
-use Rattle.std.proofs.Common.{◌≡◌, ◌+ℤ◌, to_z, of_z, w32, false, arith, rules, vec_capacity, refl, []}
+use Rattle.std.proofs.Common.{◌≡◌, to_z, of_z, w32, arith, rules, vec_capacity, refl, []}
 use Rattle.std.proofs.lemmas.Int.{ints}
 use Rattle.std.proofs.lemmas.List.{nil_from_length}
 use Rattle.frames.specs.declared.CodeId.{CodeId}
