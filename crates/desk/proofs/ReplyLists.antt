@@ -1,6 +1,6 @@
 -- The lists of replies and the history.
 use Rattle.std.proofs.Common.{◌≡◌, ◌≢◌, ℕ, zero, suc, ◌+◌, ◌-◌, ◌<◌, List, [], ◌∷◌, ◌++◌, Bool, true, false, cond, Option, Some, None, length, refl, sym, ap, ◌∙◌, arith, get_or, get_or-set_same, get_or-set_other}
-use Rattle.std.proofs.lemmas.List.{append-nil, get_or_default}
+use Rattle.std.proofs.lemmas.List.{append-nil}
 use Rattle.std.specs.Prelude.{◌==◌, slice_set}
 use Rattle.std.proofs.lemmas.Bool.{eq-eqb, ne_eqb, eqb-true, eqb-false}
 use Rattle.desk.specs.declared.entries.Entry.{Entry}
@@ -63,9 +63,8 @@ in_lists n lists h = by (n == 0) refl h
     by false e h = let above = eqb-false n 0 e in (omega arith, get_in (n - 1) lists h)
 
 -- what is read there
-pub read_here : (n : ℕ) (lists : List Said) (y : Said) → 0 < n → n - 1 < length lists → y ≡ get_or lists (n - 1) y → of_number n lists ≡ y
-read_here n lists y low is_in e =
-    ap (λ b. cond b nothing_said (get_or lists (n - 1) nothing_said)) (ne_eqb n 0 (λ f. absurd (omega arith))) ∙ (get_or_default lists (n - 1) nothing_said y is_in ∙ sym e)
+pub read_here : (n : ℕ) (lists : List Said) → 0 < n → of_number n lists ≡ get_or lists (n - 1) nothing_said
+read_here n lists low = ap (λ b. cond b nothing_said (get_or lists (n - 1) nothing_said)) (ne_eqb n 0 (λ f. absurd (omega arith)))
 
 finish_reply : (n op name reply : ℕ) → n ≡ op → reply_in n (Finish op name reply) ≡ Some (name, reply)
 finish_reply n op name reply e = ap (λ b. cond b (Some (name, reply)) None) (eq-eqb op n (sym e))

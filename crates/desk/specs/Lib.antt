@@ -7,4 +7,5 @@ pub mod Once
 pub mod JobsFit
 pub mod Rising
 pub mod Replies
+pub mod Spans
 pub mod Unfolded

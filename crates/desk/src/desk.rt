@@ -289,13 +289,14 @@ impl<N: Name, J: Errand> Desk<N, J> {
                 jobs,
             });
         };
-        let Ok(list) = self.log.new_list(self.alloc, due.len()) else {
+        let replies = due.len();
+        if self.log.reserve_ask(replies).is_err() {
             self.log.give_back(3 + steps);
             return Err(Refused {
                 fault: AskFault::NoMemory,
                 jobs,
             });
-        };
+        }
         let number = self.next_number;
         if let Err(back) = self.queue.push(number, request, Carried { due, jobs }) {
             self.log.give_back(3 + steps);
@@ -311,7 +312,7 @@ impl<N: Name, J: Errand> Desk<N, J> {
             });
         }
         self.next_number += 1;
-        Ok((number, self.log.enter_ask(number, copy, list)))
+        Ok((number, self.log.enter_ask(number, copy, replies)))
     }
 
     /// Why a handshake of the jobs' targets in order, with the ask of the first, is refused with these jobs: as `submit` refuses it, and

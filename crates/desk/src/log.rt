@@ -8,12 +8,13 @@ ghost use Rattle.desk.specs.Fields.{install_entries, kept_before};
 ghost use Rattle.desk.specs.Once.{reply_in, replies_of};
 ghost use Rattle.desk.specs.Machine.{has_room, stands, room_fault};
 ghost use Rattle.desk.specs.Replies.{of_number, HasLess};
+ghost use Rattle.desk.specs.Spans.{silent};
 ghost use Rattle.desk.specs.Unfolded.{unfolded, asks, is_ask};
 ghost use Rattle.operations.specs.declared.Request.{Request as RequestOf};
 
 use crate::entries::Entry;
 use crate::kept::{Kept, without_request};
-use crate::replies::{ReplyList, place_of};
+use crate::replies::{Replies, place_of};
 use bodies::Name;
 use method_table::table::Installed;
 use operations::Request;
@@ -47,7 +48,7 @@ pub struct Log<N: Name> {
     entries: Vec<Kept>,
     asked: Vec<Request>,
     reserved: usize,
-    lists: Vec<ReplyList>,
+    replies: Replies,
     of: PhantomData<N>,
 }
 
@@ -58,9 +59,9 @@ impl<N: Name> Model for Log<N> {
 
     ghost Value = { Logged };
 
-    ghost view = { λ l. record { book = record { history = unfolded l.entries.items l.asked.items; reserved = l.reserved }; lists = l.lists.items; spare = min (vec_capacity l.lists - vec_len l.lists) (vec_capacity l.asked - vec_len l.asked) } };
+    ghost view = { λ l. record { book = record { history = unfolded l.entries.items l.asked.items; reserved = l.reserved }; lists = l.replies.lists; spare = min l.replies.spare (vec_capacity l.asked - vec_len l.asked); places = l.replies.places } };
 
-    ghost invariant = { λ l. (vec_len l.entries + l.reserved ≤ vec_capacity l.entries) × (asks l.entries.items ≡ length l.asked.items) × AreReplies (unfolded l.entries.items l.asked.items) l.lists.items };
+    ghost invariant = { λ l. (vec_len l.entries + l.reserved ≤ vec_capacity l.entries) × (asks l.entries.items ≡ length l.asked.items) × AreReplies (unfolded l.entries.items l.asked.items) l.replies.lists };
 }
 
 /// Why no room is kept.
@@ -151,7 +152,7 @@ impl<N: Name> Log<N> {
             entries: Vec::new(alloc),
             asked: Vec::new(alloc),
             reserved: 0,
-            lists: Vec::new(alloc),
+            replies: Replies::new(alloc),
             of: PhantomData,
         }
     }
@@ -161,8 +162,8 @@ impl<N: Name> Log<N> {
         ensures { IfOk result (λ list. list.items ≡ replies_of op self.now.book.history) }
     {
         let _ = &self.entries;
-        match place_of(op, self.lists.len()) {
-            Some(place) => self.lists[place].copied(alloc),
+        match place_of(op, self.replies.len()) {
+            Some(place) => self.replies.copied(alloc, place),
             None => Ok(Vec::new(alloc)),
         }
     }
@@ -171,7 +172,7 @@ impl<N: Name> Log<N> {
     pub fn has_room(&self, more: usize) -> bool
         ensures { result ≡ has_room (length self.now.book.history) self.now.book.reserved more }
     {
-        let _ = &self.lists;
+        let _ = &self.replies;
         fits(self.entries.len(), self.reserved, more)
     }
 
@@ -201,16 +202,13 @@ impl<N: Name> Log<N> {
         self.reserved -= less;
     }
 
-    /// A list with room for as many replies, and room for one operation more. Refused only for want of memory.
-    pub fn new_list(&mut self, alloc: Global, replies: usize) -> Result<ReplyList, AllocError>
-        ensures list { IfOk result (λ l. (l.said ≡ []) × (replies ≤ l.room)) }
-        ensures spare { OnOk result (0 < self.new.spare) }
+    /// Keeps room for an operation more with as many replies. Refused only for want of memory.
+    pub fn reserve_ask(&mut self, replies: usize) -> Result<(), AllocError>
+        ensures room { OnOk result ((0 < self.new.spare) × (replies ≤ self.new.places)) }
         ensures same { (self.new.book ≡ self.old.book) × (self.new.lists ≡ self.old.lists) }
     {
-        let list = ReplyList::with_room(alloc, replies)?;
-        self.lists.reserve(1).map_err(|_| AllocError)?;
-        self.asked.reserve(1).map_err(|_| AllocError)?;
-        Ok(list)
+        self.replies.reserve(replies)?;
+        self.asked.reserve(1)
     }
 
     /// Puts an entry that has no request and no reply to the end, in room that was kept.
@@ -242,18 +240,18 @@ impl<N: Name> Log<N> {
         self.enter(Entry::Install(installed.code, method))
     }
 
-    /// Puts an Ask to the end, in room that was kept, with the list for its replies.
-    pub fn enter_ask(&mut self, number: u64, request: Request, list: ReplyList) -> Receipt<N>
+    /// Puts an Ask to the end, and keeps places for as many replies, in room that was kept.
+    pub fn enter_ask(&mut self, number: u64, request: Request, replies: usize) -> Receipt<N>
         requires reserved { 0 < self.old.book.reserved }
         requires spare { 0 < self.old.spare }
-        requires empty { list.said ≡ [] }
+        requires places { replies ≤ self.old.places }
         ensures history { self.new.book.history ≡ self.old.book.history ++ Entry.Ask number request ∷ [] }
         ensures reserved { self.new.book.reserved + 1 ≡ self.old.book.reserved }
-        ensures lists { self.new.lists ≡ self.old.lists ++ list ∷ [] }
+        ensures lists { self.new.lists ≡ self.old.lists ++ silent replies ∷ [] }
         ensures receipt { result ≡ stands (length self.old.book.history) (Entry.Ask number request) }
     {
         self.reserved -= 1;
-        self.lists.push_reserved(list);
+        self.replies.add(replies);
         append_ask(&mut self.entries, &mut self.asked, number, request)
     }
 
@@ -269,7 +267,7 @@ impl<N: Name> Log<N> {
         ensures receipt { result ≡ stands (length self.old.book.history) (Entry.Finish op name reply) }
     {
         self.reserved -= 1;
-        self.lists[(op - 1) as usize].push(name, reply);
+        self.replies.push((op - 1) as usize, name, reply);
         append(&mut self.entries, Entry::Finish(op, name, reply))
     }
 }

@@ -1,49 +1,117 @@
-//! The replies of one operation, in room that was kept for them.
-ghost use Rattle.std.specs.Prelude.{◌≡◌, ◌+◌, ◌<◌, ◌≤◌, ◌⊎◌, ◌++◌, ◌∷◌, [], length, IfOk, IfSome, IfNone};
+//! The replies of all operations, in one block, so that an operation needs no memory of its own.
+ghost use Rattle.std.specs.Prelude.{◌≡◌, ◌+◌, ◌<◌, ◌≤◌, ◌⊎◌, ◌++◌, ◌∷◌, [], length, replicate, get_or, slice_set, IfOk, OnOk, IfSome, IfNone, vec_len, vec_capacity};
+ghost use Rattle.desk.specs.Replies.{nothing_said};
+ghost use Rattle.desk.specs.Spans.{silent, answered};
 
 use std::alloc::{AllocError, Global};
 use std::marker::Model;
 
-/// Names with their replies, in the order in which they came. Contracts see them, and for how many more there is room.
+/// Where the replies of an operation begin, how many there are, and how many more can come behind them.
+#[derive(Clone, Copy)]
+pub struct Span {
+    start: usize,
+    said: usize,
+    room: usize,
+}
+
+/// Names with their replies by operation, in the order in which they came. Contracts see for each operation its replies with the room
+/// that is left, for how many more operations there is room, and for how many more replies.
 #[derive(Drop)]
-pub struct ReplyList {
-    replies: Vec<(u64, u64)>,
+pub struct Replies {
+    all: Vec<(u64, u64)>,
+    spans: Vec<Span>,
 }
 
-impl Model for ReplyList {
-    ghost use Rattle.std.specs.Prelude.{◌-◌, vec_len, vec_capacity};
-    ghost use Rattle.desk.specs.Replies.{Said};
+impl Model for Replies {
+    ghost use Rattle.std.specs.Prelude.{◌-◌, map, length, vec_len, vec_capacity};
+    ghost use Rattle.desk.specs.Spans.{RepliesSeen, said_in, AreBehind};
 
-    ghost Value = { Said };
+    ghost Value = { RepliesSeen };
 
-    ghost view = { λ l. record { said = l.replies.items; room = vec_capacity l.replies - vec_len l.replies } };
+    ghost view = { λ r. record { lists = map (said_in r.all.items) r.spans.items; spare = vec_capacity r.spans - vec_len r.spans; places = vec_capacity r.all - vec_len r.all } };
+
+    ghost invariant = { λ r. AreBehind 0 r.spans.items (length r.all.items) };
 }
 
-impl ReplyList {
-    /// An empty list with room for as many replies. Refused only for want of memory.
-    pub fn with_room(alloc: Global, replies: usize) -> Result<ReplyList, AllocError>
-        ensures { IfOk result (λ l. (l.said ≡ []) × (replies ≤ l.room)) }
+// Puts as many places to the end, in room that was kept, so that a reply is written into its place later.
+fn fill(all: &mut Vec<(u64, u64)>, places: usize)
+    requires room { vec_len all.old + places ≤ vec_capacity all.old }
+    ensures items { all.new.items ≡ all.old.items ++ replicate places (0, 0) }
+{
+    for _ in 0..places {
+        all.push_reserved((0, 0));
+    }
+}
+
+impl Replies {
+    pub fn new(alloc: Global) -> Replies
+        ensures { result.lists ≡ [] }
     {
-        Ok(ReplyList {
-            replies: Vec::with_capacity(alloc, replies)?,
-        })
+        Replies {
+            all: Vec::new(alloc),
+            spans: Vec::new(alloc),
+        }
     }
 
-    /// Puts a reply last, in room that was kept.
+    /// How many operations there are.
+    pub fn len(&self) -> usize
+        ensures { result ≡ length self.now.lists }
+    {
+        let _ = &self.all;
+        self.spans.len()
+    }
+
+    /// Keeps room for one operation more with as many replies. Refused only for want of memory.
+    pub fn reserve(&mut self, replies: usize) -> Result<(), AllocError>
+        ensures room { OnOk result ((0 < self.new.spare) × (replies ≤ self.new.places)) }
+        ensures lists { self.new.lists ≡ self.old.lists }
+    {
+        self.spans.reserve(1)?;
+        self.all.reserve(replies)
+    }
+
+    /// One operation more, which can have as many replies, in room that was kept.
+    pub fn add(&mut self, replies: usize)
+        requires spare { 0 < self.old.spare }
+        requires places { replies ≤ self.old.places }
+        ensures { self.new.lists ≡ self.old.lists ++ silent replies ∷ [] }
+    {
+        let start = self.all.len();
+        fill(&mut self.all, replies);
+        self.spans.push_reserved(Span {
+            start,
+            said: 0,
+            room: replies,
+        });
+    }
+
+    /// Puts a reply last in those of the operation that stands at a place.
     #[inline(always)]
-    pub fn push(&mut self, name: u64, reply: u64)
-        requires { 0 < self.old.room }
-        ensures said { self.new.said ≡ self.old.said ++ (name, reply) ∷ [] }
-        ensures room { self.new.room + 1 ≡ self.old.room }
+    pub fn push(&mut self, place: usize, name: u64, reply: u64)
+        requires place { place < length self.old.lists }
+        requires room { 0 < (get_or self.old.lists place nothing_said).room }
+        ensures { self.new.lists ≡ slice_set self.old.lists place (answered (name, reply) (get_or self.old.lists place nothing_said)) }
     {
-        self.replies.push_reserved((name, reply));
+        let Span { start, said, room } = self.spans[place];
+        self.all[start + said] = (name, reply);
+        self.spans[place] = Span {
+            start,
+            said: said + 1,
+            room: room - 1,
+        };
     }
 
-    /// The same names and replies. Refused only for want of memory.
-    pub fn copied(&self, alloc: Global) -> Result<Vec<(u64, u64)>, AllocError>
-        ensures { IfOk result (λ list. list.items ≡ self.now.said) }
+    /// The names and replies of the operation that stands at a place. Refused only for want of memory.
+    pub fn copied(&self, alloc: Global, place: usize) -> Result<Vec<(u64, u64)>, AllocError>
+        requires { place < length self.now.lists }
+        ensures { IfOk result (λ list. list.items ≡ (get_or self.now.lists place nothing_said).said) }
     {
-        Vec::from_slice(alloc, self.replies.as_slice())
+        let Span {
+            start,
+            said,
+            room: _,
+        } = self.spans[place];
+        Vec::from_slice(alloc, &self.all[start..start + said])
     }
 }
 

@@ -12,7 +12,7 @@ invariant_of-self g c =
     let i = c.self.inside in let m = c.self.invariant in (
       search rules,
       c.append.ensures.asks ∙ m.1,
-      subst (λ h. AreReplies h i.lists.items) (sym (c.append.ensures.history i.asked.items m.1)) (same_lists (unfolded i.entries.items i.asked.items) i.lists.items c.args.entry m.2 c.requires.no_reply),
+      subst (λ h. AreReplies h i.replies.lists) (sym (c.append.ensures.history i.asked.items m.1)) (same_lists (unfolded i.entries.items i.asked.items) i.replies.lists c.args.entry m.2 c.requires.no_reply),
     )
 
 pub returns-clause-history : goal.returns-clause-history

@@ -3,6 +3,7 @@ use Rattle.std.specs.Prelude.{vec_len}
 use Rattle.desk.specs.declared.entries.Entry.TheVariants as entry
 use Rattle.desk.specs.Machine.{stands}
 use Rattle.desk.specs.Replies.{Logged, AreReplies}
+use Rattle.desk.specs.Spans.{silent}
 use Rattle.desk.specs.Unfolded.{unfolded}
 use Rattle.desk.proofs.ReplyLists.{more_lists}
 use Rattle.desk.proofs.Unfolding.{unfolded_length}
@@ -13,8 +14,8 @@ invariant_of-self g c =
     let i = c.self.inside in let m = c.self.invariant in let ask = entry.Ask c.args.number c.args.request in (
       search rules,
       c.append_ask.ensures.whole,
-      subst (λ h. AreReplies h c.push_reserved.new.self.items) (sym c.append_ask.ensures.history)
-          (subst (AreReplies (unfolded i.entries.items i.asked.items ++ ask ∷ [])) (sym c.push_reserved.ensures.items) (more_lists (unfolded i.entries.items i.asked.items) i.lists.items c.args.list ask m.2 c.requires.empty (λ n. refl))),
+      subst (λ h. AreReplies h c.add.new.self.lists) (sym c.append_ask.ensures.history)
+          (subst (AreReplies (unfolded i.entries.items i.asked.items ++ ask ∷ [])) (sym c.add.ensures) (more_lists (unfolded i.entries.items i.asked.items) i.replies.lists (silent c.args.replies) ask m.2 refl (λ n. refl))),
     )
 
 pub returns-clause-history : goal.returns-clause-history

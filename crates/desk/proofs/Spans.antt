@@ -1,0 +1,120 @@
+-- What is said in the spans of one list, through each change of it.
+use Rattle.std.proofs.Common.{◌≡◌, ℕ, zero, suc, ◌+◌, ◌-◌, ◌<◌, ◌≤◌, List, [], ◌∷◌, ◌++◌, map, length, take, drop, get_or, refl, sym, ap, ◌∙◌, subst, arith, length-drop, length-append}
+use Rattle.std.proofs.lemmas.List.{drop-append-le, take-append-le, drop-set-lt, drop-set-add, take-set-le, take_more_set, length-map, map-append}
+use Rattle.std.specs.Prelude.{slice_set}
+use Rattle.desk.specs.declared.replies.Span.{Span}
+use Rattle.desk.specs.Replies.{Said, nothing_said}
+use Rattle.desk.specs.Spans.{said_in, AreBehind, silent, answered}
+
+abbrev end_of : Span → ℕ
+end_of s = s.start + (s.said + s.room)
+
+-- what lies behind the spans makes no difference
+said_more : (all more : List (ℕ × ℕ)) (s : Span) → end_of s ≤ length all → said_in (all ++ more) s ≡ said_in all s
+said_more all more s is_in =
+    let l = length-drop s.start all in
+    ap (λ (k : List (ℕ × ℕ)). record { said = k; room = s.room })
+    (ap (take s.said) (drop-append-le s.start all more (omega arith)) ∙ take-append-le s.said (drop s.start all) more (omega arith))
+
+from_to : (ss : List Span) (from to : ℕ) → AreBehind from ss to → from ≤ to
+from_to [] from to h = h
+from_to (s ∷ ss) from to h = let r = from_to ss (end_of s) to h.1 in let l = h.0 in omega arith
+
+lists_more : (ss : List Span) (from : ℕ) (all more : List (ℕ × ℕ)) → AreBehind from ss (length all) → map (said_in (all ++ more)) ss ≡ map (said_in all) ss
+lists_more [] from all more h = refl
+lists_more (s ∷ ss) from all more h = (λ i. said_more all more s (from_to ss (end_of s) (length all) h.1) i ∷ lists_more ss (end_of s) all more h.1 i)
+
+-- a span more behind the others, without replies
+abbrev fresh : ℕ → ℕ → Span
+fresh start room = record { start = start; said = 0; room = room }
+
+behind_push : (ss : List Span) (from to room : ℕ) → AreBehind from ss to → AreBehind from (ss ++ fresh to room ∷ []) (to + room)
+behind_push [] from to room h = (h, omega arith)
+behind_push (s ∷ ss) from to room h = (h.0, behind_push ss (end_of s) to room h.1)
+
+pub behind_more : (all all' more : List (ℕ × ℕ)) (ss ss' : List Span) (start room : ℕ) → AreBehind 0 ss (length all) → start ≡ length all → length more ≡ room → all' ≡ all ++ more → ss' ≡ ss ++ fresh start room ∷ [] → AreBehind 0 ss' (length all')
+behind_more all all' more ss ss' start room h at count all_is is =
+    let l = ap (λ (l : List (ℕ × ℕ)). length l) all_is in
+    let long : start + room ≡ length all' = omega (arith, length-append all more) in
+    subst (λ n. AreBehind 0 ss' n) long (subst (λ l. AreBehind 0 l (start + room)) (sym is) (behind_push ss 0 start room (subst (AreBehind 0 ss) (sym at) h)))
+
+pub lists_push : (all all' more : List (ℕ × ℕ)) (ss ss' : List Span) (start room : ℕ) → AreBehind 0 ss (length all) → all' ≡ all ++ more → ss' ≡ ss ++ fresh start room ∷ [] → map (said_in all') ss' ≡ map (said_in all) ss ++ silent room ∷ []
+lists_push all all' more ss ss' start room h all_is is =
+    (λ i. map (said_in (all_is i)) (is i)) ∙ map-append (said_in (all ++ more)) ss (fresh start room ∷ []) ∙ ap (λ (l : List Said). l ++ silent room ∷ []) (lists_more ss 0 all more h)
+
+-- each span is within the list
+span_in : (ss : List Span) (from to k : ℕ) (d : Span) → AreBehind from ss to → k < length ss → (from ≤ (get_or ss k d).start) × (end_of (get_or ss k d) ≤ to)
+span_in [] from to k d h low = absurd (omega arith)
+span_in (s ∷ ss) from to zero d h low = (h.0, from_to ss (end_of s) to h.1)
+span_in (s ∷ ss) from to (suc k) d h low = let r = span_in ss (end_of s) to k d h.1 (omega arith) in let l = h.0 in (omega (arith, r.0), r.1)
+
+get_lists : (all : List (ℕ × ℕ)) (ss : List Span) (k : ℕ) (d : Span) (e : Said) → k < length ss → get_or (map (said_in all) ss) k e ≡ said_in all (get_or ss k d)
+get_lists all [] k d e low = absurd (omega arith)
+get_lists all (s ∷ ss) zero d e low = refl
+get_lists all (s ∷ ss) (suc k) d e low = get_lists all ss k d e (omega arith)
+
+-- the same of a span that was read
+pub read_in : (ss : List Span) (from to k : ℕ) (s : Span) → AreBehind from ss to → k < length ss → s ≡ get_or ss k s → (from ≤ s.start) × (end_of s ≤ to)
+read_in ss from to k s h low is = subst (λ (z : Span). (from ≤ z.start) × (end_of z ≤ to)) (sym is) (span_in ss from to k s h low)
+
+pub read_said : (all : List (ℕ × ℕ)) (ss : List Span) (k : ℕ) (s : Span) (e : Said) → k < length ss → s ≡ get_or ss k s → get_or (map (said_in all) ss) k e ≡ said_in all s
+read_said all ss k s e low is = get_lists all ss k s e low ∙ ap (said_in all) (sym is)
+
+-- what is seen of the spans has as many places, and as much room in each
+pub place_in : (all : List (ℕ × ℕ)) (ss : List Span) (lists : List Said) (k : ℕ) → map (said_in all) ss ≡ lists → k < length lists → k < length ss
+place_in all ss lists k is low = let l = ap (λ (l : List Said). length l) is in omega (arith, length-map ss (said_in all))
+
+pub room_in : (all : List (ℕ × ℕ)) (ss : List Span) (lists : List Said) (k : ℕ) (s : Span) → map (said_in all) ss ≡ lists → k < length ss → s ≡ get_or ss k s → 0 < (get_or lists k nothing_said).room → 0 < s.room
+room_in all ss lists k s is low read room =
+    subst (λ (x : Said). 0 < x.room) (ap (λ (l : List Said). get_or l k nothing_said) (sym is) ∙ read_said all ss k s nothing_said low read) room
+
+-- a reply in a place before a span or behind it makes no difference there
+said_after : (all : List (ℕ × ℕ)) (p : ℕ) (x : ℕ × ℕ) (s : Span) → p < s.start → said_in (slice_set all p x) s ≡ said_in all s
+said_after all p x s low = ap (λ (k : List (ℕ × ℕ)). record { said = take s.said k; room = s.room }) (drop-set-lt s.start all p x low)
+
+drop_set : (all : List (ℕ × ℕ)) (n p : ℕ) (x : ℕ × ℕ) → n ≤ p → drop n (slice_set all p x) ≡ slice_set (drop n all) (p - n) x
+drop_set all n p x low =
+    let e : n + (p - n) ≡ p = omega arith in
+    ap (λ k. drop n (slice_set all k x)) (sym e) ∙ drop-set-add n all (p - n) x
+
+said_before : (all : List (ℕ × ℕ)) (p : ℕ) (x : ℕ × ℕ) (s : Span) → end_of s ≤ p → said_in (slice_set all p x) s ≡ said_in all s
+said_before all p x s low =
+    ap (λ (k : List (ℕ × ℕ)). record { said = k; room = s.room })
+    (ap (take s.said) (drop_set all s.start p x (omega arith)) ∙ take-set-le s.said (drop s.start all) (p - s.start) x (omega arith))
+
+lists_after : (ss : List Span) (from to : ℕ) (all : List (ℕ × ℕ)) (p : ℕ) (x : ℕ × ℕ) → AreBehind from ss to → p < from → map (said_in (slice_set all p x)) ss ≡ map (said_in all) ss
+lists_after [] from to all p x h low = refl
+lists_after (s ∷ ss) from to all p x h low =
+    let first : p < s.start = (let l = h.0 in omega arith) in
+    (λ i. said_after all p x s first i ∷ lists_after ss (end_of s) to all p x h.1 (omega (arith, first)) i)
+
+-- a span with one reply more and one place less
+abbrev pub next : Span → Span
+next s = record { start = s.start; said = s.said + 1; room = s.room - 1 }
+
+said_next : (all : List (ℕ × ℕ)) (x : ℕ × ℕ) (s : Span) → s.start + s.said < length all → said_in (slice_set all (s.start + s.said) x) (next s) ≡ answered x (said_in all s)
+said_next all x s is_in =
+    let l = length-drop s.start all in
+    ap (λ (k : List (ℕ × ℕ)). record { said = k; room = s.room - 1 })
+    (ap (take (s.said + 1)) (drop-set-add s.start all s.said x) ∙ take_more_set (drop s.start all) s.said x (omega arith))
+
+pub lists_set : (ss : List Span) (from to : ℕ) (all : List (ℕ × ℕ)) (k : ℕ) (x : ℕ × ℕ) (s : Span) → AreBehind from ss to → to ≡ length all → k < length ss → s ≡ get_or ss k s → 0 < s.room
+    → map (said_in (slice_set all (s.start + s.said) x)) (slice_set ss k (next s)) ≡ slice_set (map (said_in all) ss) k (answered x (said_in all s))
+lists_set [] from to all k x s h e low is room = absurd (omega arith)
+lists_set (y ∷ ss) from to all zero x s h e low is room =
+    let rest : AreBehind (end_of s) ss to = subst (λ (z : Span). AreBehind (end_of z) ss to) (sym is) h.1 in
+    let end = from_to ss (end_of s) to rest in
+    (λ i. said_next all x s (omega arith) i ∷ lists_after ss (end_of s) to all (s.start + s.said) x rest (omega arith) i)
+lists_set (y ∷ ss) from to all (suc k) x s h e low is room =
+    let there = span_in ss (end_of y) to k s h.1 (omega arith) in
+    let start : end_of y ≤ s.start = subst (λ (z : Span). end_of y ≤ z.start) (sym is) there.0 in
+    (λ i. said_before all (s.start + s.said) x y (omega (arith, start)) i ∷ lists_set ss (end_of y) to all k x s h.1 e (omega arith) is room i)
+
+pub behind_set : (ss : List Span) (from to k : ℕ) (s : Span) → AreBehind from ss to → k < length ss → s ≡ get_or ss k s → 0 < s.room → AreBehind from (slice_set ss k (next s)) to
+behind_set [] from to k s h low is room = absurd (omega arith)
+behind_set (y ∷ ss) from to zero s h low is room =
+    let first : from ≤ s.start = subst (λ (z : Span). from ≤ z.start) (sym is) h.0 in
+    let rest : AreBehind (end_of s) ss to = subst (λ (z : Span). AreBehind (end_of z) ss to) (sym is) h.1 in
+    let same : end_of s ≡ s.start + (s.said + 1 + (s.room - 1)) = omega arith in
+    (first, subst (λ n. AreBehind n ss to) same rest)
+behind_set (y ∷ ss) from to (suc k) s h low is room = (h.0, behind_set ss (end_of y) to k s h.1 (omega arith) is room)
