@@ -6,6 +6,7 @@ pub mod Keeping
 pub mod Once
 pub mod Rising
 pub mod LiveNames
+pub mod RequestLists
 pub mod Spans
 pub mod ReplyLists
 pub mod RoomKept

@@ -9,3 +9,4 @@ pub mod Rising
 pub mod Replies
 pub mod Spans
 pub mod Unfolded
+pub mod Requested

@@ -29,7 +29,7 @@ use crate::lists::{
     make_room, may_close, may_finish, may_open_more, names_of, operate_at, place_chosen, steps_of,
     targets_in,
 };
-use crate::log::{Log, Receipt, RoomFault};
+use crate::log::{Log, Receipt, RoomFault, seen_as_ask};
 use crate::targets::{due_after, name_at, oldest, progress_in, standing_to, untold_in};
 use board::{Board, Keeper, Spent, Weighed};
 use bodies::{Body, Name};
@@ -274,13 +274,6 @@ impl<N: Name, J: Errand> Desk<N, J> {
                 jobs,
             }),
         }
-        let Ok(copy) = request.copied(self.alloc) else {
-            self.log.give_back(3 + steps);
-            return Err(Refused {
-                fault: AskFault::NoMemory,
-                jobs,
-            });
-        };
         let spare = mem::replace(&mut self.spare, Vec::new(self.alloc));
         let Ok(due) = targets_in(spare, &request) else {
             self.log.give_back(3 + steps);
@@ -289,15 +282,15 @@ impl<N: Name, J: Errand> Desk<N, J> {
                 jobs,
             });
         };
-        let replies = due.len();
-        if self.log.reserve_ask(replies).is_err() {
+        let Ok(noted) = self.log.note(&request) else {
             self.log.give_back(3 + steps);
             return Err(Refused {
                 fault: AskFault::NoMemory,
                 jobs,
             });
-        }
+        };
         let number = self.next_number;
+        let (seen, request) = seen_as_ask(number, request);
         if let Err(back) = self.queue.push(number, request, Carried { due, jobs }) {
             self.log.give_back(3 + steps);
             let Unqueued {
@@ -312,7 +305,7 @@ impl<N: Name, J: Errand> Desk<N, J> {
             });
         }
         self.next_number += 1;
-        Ok((number, self.log.enter_ask(number, copy, replies)))
+        Ok((number, self.log.enter_ask(number, noted, seen)))
     }
 
     /// Why a handshake of the jobs' targets in order, with the ask of the first, is refused with these jobs: as `submit` refuses it, and

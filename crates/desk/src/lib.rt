@@ -13,6 +13,7 @@ mod law;
 mod lists;
 mod log;
 mod replies;
+mod requests;
 mod targets;
 
 pub use desk::Desk;

@@ -1,20 +1,22 @@
 //! The history with the room that is kept in it and the replies by operation, and receipts of its entries.
 //!
-//! It is kept in two lists: the entries, where an Ask is without its request, and the requests. A request is larger than all else that
+//! It is kept in two parts: the entries, where an Ask is without its request, and the requests. A request is larger than all else that
 //! an entry has, and few entries have one.
 ghost use Rattle.std.specs.Prelude.{◌≡◌, ℕ, List, ◌+◌, ◌<◌, ◌≤◌, [], ◌∷◌, ◌++◌, length, true, false, None, OnOk, IfOk, IfErr, vec_len, vec_capacity};
 ghost use Rattle.desk.specs.declared.entries.Entry.{Entry as EntryOf};
 ghost use Rattle.desk.specs.Fields.{install_entries, kept_before};
 ghost use Rattle.desk.specs.Once.{reply_in, replies_of};
-ghost use Rattle.desk.specs.Machine.{has_room, stands, room_fault};
+ghost use Rattle.desk.specs.Machine.{has_room, stands, room_fault, targets_of};
 ghost use Rattle.desk.specs.Replies.{of_number, HasLess};
 ghost use Rattle.desk.specs.Spans.{silent};
 ghost use Rattle.desk.specs.Unfolded.{unfolded, asks, is_ask};
+ghost use Rattle.desk.specs.Requested.{request_of};
 ghost use Rattle.operations.specs.declared.Request.{Request as RequestOf};
 
 use crate::entries::Entry;
 use crate::kept::{Kept, without_request};
 use crate::replies::{Replies, place_of};
+use crate::requests::{Noted, Requests};
 use bodies::Name;
 use method_table::table::Installed;
 use operations::Request;
@@ -42,26 +44,26 @@ impl<N: Name> Model for Receipt<N> {
 }
 
 /// Contracts see the entries, each Ask with its request, with for how many more room is kept, the replies of each operation that was
-/// asked, and for how many more operations there is room.
+/// asked, for how many more operations and replies there is room, and the names that were noted for the next Ask.
 #[derive(Drop)]
 pub struct Log<N: Name> {
     entries: Vec<Kept>,
-    asked: Vec<Request>,
+    asked: Requests,
     reserved: usize,
     replies: Replies,
     of: PhantomData<N>,
 }
 
 impl<N: Name> Model for Log<N> {
-    ghost use Rattle.std.specs.Prelude.{◌≡◌, ◌+◌, ◌-◌, ◌≤◌, length, min, vec_len, vec_capacity};
+    ghost use Rattle.std.specs.Prelude.{◌≡◌, ◌+◌, ◌≤◌, length, min, vec_len, vec_capacity};
     ghost use Rattle.desk.specs.Replies.{Logged, AreReplies};
     ghost use Rattle.desk.specs.Unfolded.{unfolded, asks};
 
     ghost Value = { Logged };
 
-    ghost view = { λ l. record { book = record { history = unfolded l.entries.items l.asked.items; reserved = l.reserved }; lists = l.replies.lists; spare = min l.replies.spare (vec_capacity l.asked - vec_len l.asked); places = l.replies.places } };
+    ghost view = { λ l. record { book = record { history = unfolded l.entries.items l.asked.list; reserved = l.reserved }; lists = l.replies.lists; spare = min l.replies.spare l.asked.spare; places = l.replies.places; noted = l.asked.noted } };
 
-    ghost invariant = { λ l. (vec_len l.entries + l.reserved ≤ vec_capacity l.entries) × (asks l.entries.items ≡ length l.asked.items) × AreReplies (unfolded l.entries.items l.asked.items) l.replies.lists };
+    ghost invariant = { λ l. (vec_len l.entries + l.reserved ≤ vec_capacity l.entries) × (asks l.entries.items ≡ length l.asked.list) × AreReplies (unfolded l.entries.items l.asked.list) l.replies.lists };
 }
 
 /// Why no room is kept.
@@ -104,9 +106,9 @@ fn append<N: Name>(entries: &mut Vec<Kept>, entry: Entry) -> Receipt<N>
     }
 }
 
-// What clauses see of an Ask, and its request again.
+/// What clauses see of an Ask, and its request again.
 #[inline(always)]
-fn seen_as_ask(number: u64, request: Request) -> (Snapshot<Entry>, Request)
+pub fn seen_as_ask(number: u64, request: Request) -> (Snapshot<Entry>, Request)
     ensures { (result.0.value ≡ Entry.Ask number request) × (result.1 ≡ request) }
 {
     let entry = Entry::Ask(number, request);
@@ -117,26 +119,27 @@ fn seen_as_ask(number: u64, request: Request) -> (Snapshot<Entry>, Request)
     }
 }
 
-// Puts an Ask to the end, and its request to the requests.
+// Puts an Ask to the end, and its request, whose names were noted, to the requests.
 #[inline(always)]
 fn append_ask<N: Name>(
     entries: &mut Vec<Kept>,
-    asked: &mut Vec<Request>,
+    asked: &mut Requests,
     number: u64,
-    request: Request,
+    noted: Noted,
+    seen: Snapshot<Entry>,
 ) -> Receipt<N>
     requires room { vec_len entries.old < vec_capacity entries.old }
-    requires spare { vec_len asked.old < vec_capacity asked.old }
-    requires whole { asks entries.old.items ≡ length asked.old.items }
-    ensures history { unfolded entries.new.items asked.new.items ≡ unfolded entries.old.items asked.old.items ++ Entry.Ask number request ∷ [] }
-    ensures whole { asks entries.new.items ≡ length asked.new.items }
+    requires spare { 0 < asked.old.spare }
+    requires noted { noted.count ≤ length asked.old.noted }
+    requires whole { asks entries.old.items ≡ length asked.old.list }
+    ensures history { unfolded entries.new.items asked.new.list ≡ unfolded entries.old.items asked.old.list ++ Entry.Ask number (request_of noted asked.old.noted) ∷ [] }
+    ensures whole { asks entries.new.items ≡ length asked.new.list }
     ensures sizes { (vec_len entries.new ≡ vec_len entries.old + 1) × (vec_capacity entries.new ≡ vec_capacity entries.old) }
-    ensures receipt { result ≡ stands (vec_len entries.old) (Entry.Ask number request) }
+    ensures receipt { result ≡ stands (vec_len entries.old) seen.value }
 {
     let place = entries.len();
-    let (seen, request) = seen_as_ask(number, request);
     entries.push_reserved(Kept::Asked(number));
-    asked.push_reserved(request);
+    asked.add(noted);
     Receipt {
         place,
         entry: seen,
@@ -150,7 +153,7 @@ impl<N: Name> Log<N> {
     {
         Log {
             entries: Vec::new(alloc),
-            asked: Vec::new(alloc),
+            asked: Requests::new(alloc),
             reserved: 0,
             replies: Replies::new(alloc),
             of: PhantomData,
@@ -202,13 +205,15 @@ impl<N: Name> Log<N> {
         self.reserved -= less;
     }
 
-    /// Keeps room for an operation more with as many replies. Refused only for want of memory.
-    pub fn reserve_ask(&mut self, replies: usize) -> Result<(), AllocError>
-        ensures room { OnOk result ((0 < self.new.spare) × (replies ≤ self.new.places)) }
+    /// Notes the names of a request that is to be entered, and keeps room for it and its replies. Refused only for want of memory.
+    pub fn note(&mut self, request: &Request) -> Result<Noted, AllocError>
+        ensures noted { IfOk result (λ noted. (request_of noted self.new.noted ≡ request.now) × (noted.count ≡ length (targets_of request.now)) × (noted.count ≤ length self.new.noted)) }
+        ensures room { IfOk result (λ noted. (0 < self.new.spare) × (noted.count ≤ self.new.places)) }
         ensures same { (self.new.book ≡ self.old.book) × (self.new.lists ≡ self.old.lists) }
     {
-        self.replies.reserve(replies)?;
-        self.asked.reserve(1)
+        let noted = self.asked.note(request)?;
+        self.replies.reserve(noted.count())?;
+        Ok(noted)
     }
 
     /// Puts an entry that has no request and no reply to the end, in room that was kept.
@@ -240,19 +245,21 @@ impl<N: Name> Log<N> {
         self.enter(Entry::Install(installed.code, method))
     }
 
-    /// Puts an Ask to the end, and keeps places for as many replies, in room that was kept.
-    pub fn enter_ask(&mut self, number: u64, request: Request, replies: usize) -> Receipt<N>
+    /// Puts an Ask to the end, of the request that was noted, with places for its replies, in room that was kept.
+    pub fn enter_ask(&mut self, number: u64, noted: Noted, seen: Snapshot<Entry>) -> Receipt<N>
         requires reserved { 0 < self.old.book.reserved }
         requires spare { 0 < self.old.spare }
-        requires places { replies ≤ self.old.places }
-        ensures history { self.new.book.history ≡ self.old.book.history ++ Entry.Ask number request ∷ [] }
+        requires places { noted.count ≤ self.old.places }
+        requires noted { noted.count ≤ length self.old.noted }
+        requires seen { seen.value ≡ Entry.Ask number (request_of noted self.old.noted) }
+        ensures history { self.new.book.history ≡ self.old.book.history ++ seen.value ∷ [] }
         ensures reserved { self.new.book.reserved + 1 ≡ self.old.book.reserved }
-        ensures lists { self.new.lists ≡ self.old.lists ++ silent replies ∷ [] }
-        ensures receipt { result ≡ stands (length self.old.book.history) (Entry.Ask number request) }
+        ensures lists { self.new.lists ≡ self.old.lists ++ silent noted.count ∷ [] }
+        ensures receipt { result ≡ stands (length self.old.book.history) seen.value }
     {
         self.reserved -= 1;
-        self.replies.add(replies);
-        append_ask(&mut self.entries, &mut self.asked, number, request)
+        self.replies.add(noted.count());
+        append_ask(&mut self.entries, &mut self.asked, number, noted, seen)
     }
 
     /// Puts a Finish to the end, and its reply to those of its operation, in room that was kept.

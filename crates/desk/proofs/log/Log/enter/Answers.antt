@@ -12,17 +12,17 @@ invariant_of-self g c =
     let i = c.self.inside in let m = c.self.invariant in (
       search rules,
       c.append.ensures.asks ∙ m.1,
-      subst (λ h. AreReplies h i.replies.lists) (sym (c.append.ensures.history i.asked.items m.1)) (same_lists (unfolded i.entries.items i.asked.items) i.replies.lists c.args.entry m.2 c.requires.no_reply),
+      subst (λ h. AreReplies h i.replies.lists) (sym (c.append.ensures.history i.asked.list m.1)) (same_lists (unfolded i.entries.items i.asked.list) i.replies.lists c.args.entry m.2 c.requires.no_reply),
     )
 
 pub returns-clause-history : goal.returns-clause-history
 returns-clause-history g c =
     let i = c.self.inside in
-    subst (λ (d : Logged). unfolded c.append.new.entries.items i.asked.items ≡ d.book.history ++ c.args.entry ∷ []) c.self.view_is (c.append.ensures.history i.asked.items c.self.invariant.1)
+    subst (λ (d : Logged). unfolded c.append.new.entries.items i.asked.list ≡ d.book.history ++ c.args.entry ∷ []) c.self.view_is (c.append.ensures.history i.asked.list c.self.invariant.1)
 
 pub returns-clause-receipt : goal.returns-clause-receipt
 returns-clause-receipt g c =
     let i = c.self.inside in
     let count : vec_len i.entries ≡ length i.entries.items = search rules in
     subst (λ (d : Logged). c.append.result ≡ stands (length d.book.history) c.args.entry) c.self.view_is
-    (c.append.ensures.receipt ∙ ap (λ k. stands k c.args.entry) (count ∙ sym (unfolded_length i.entries.items i.asked.items c.self.invariant.1)))
+    (c.append.ensures.receipt ∙ ap (λ k. stands k c.args.entry) (count ∙ sym (unfolded_length i.entries.items i.asked.list c.self.invariant.1)))

@@ -27,15 +27,15 @@ invariant_of-self g c =
     let said = ap (λ (s : Said). s.said ++ (c.args.name, c.args.reply) ∷ []) (sym (read_here c.args.op lists at.0)) in (
       search rules,
       c.append.ensures.asks ∙ m.1,
-      subst (λ (h : List Entry). AreReplies h c.push.new.self.lists) (sym (c.append.ensures.history i.asked.items m.1))
-          (subst (AreReplies (unfolded i.entries.items i.asked.items ++ entry.Finish c.args.op c.args.name c.args.reply ∷ [])) (sym c.push.ensures)
-          (said_lists (unfolded i.entries.items i.asked.items) lists more c.args.op c.args.name c.args.reply m.2 at.0 at.1 said)),
+      subst (λ (h : List Entry). AreReplies h c.push.new.self.lists) (sym (c.append.ensures.history i.asked.list m.1))
+          (subst (AreReplies (unfolded i.entries.items i.asked.list ++ entry.Finish c.args.op c.args.name c.args.reply ∷ [])) (sym c.push.ensures)
+          (said_lists (unfolded i.entries.items i.asked.list) lists more c.args.op c.args.name c.args.reply m.2 at.0 at.1 said)),
     )
 
 pub returns-clause-history : goal.returns-clause-history
 returns-clause-history g c =
     let i = c.self.inside in
-    subst (λ (d : Logged). unfolded c.append.new.entries.items i.asked.items ≡ d.book.history ++ entry.Finish c.args.op c.args.name c.args.reply ∷ []) c.self.view_is (c.append.ensures.history i.asked.items c.self.invariant.1)
+    subst (λ (d : Logged). unfolded c.append.new.entries.items i.asked.list ≡ d.book.history ++ entry.Finish c.args.op c.args.name c.args.reply ∷ []) c.self.view_is (c.append.ensures.history i.asked.list c.self.invariant.1)
 
 pub returns-clause-rooms : goal.returns-clause-rooms
 returns-clause-rooms g c =
@@ -53,4 +53,4 @@ returns-clause-receipt g c =
     let i = c.self.inside in
     let count : vec_len i.entries ≡ length i.entries.items = search rules in
     subst (λ (d : Logged). c.append.result ≡ stands (length d.book.history) (entry.Finish c.args.op c.args.name c.args.reply)) c.self.view_is
-    (c.append.ensures.receipt ∙ ap (λ k. stands k (entry.Finish c.args.op c.args.name c.args.reply)) (count ∙ sym (unfolded_length i.entries.items i.asked.items c.self.invariant.1)))
+    (c.append.ensures.receipt ∙ ap (λ k. stands k (entry.Finish c.args.op c.args.name c.args.reply)) (count ∙ sym (unfolded_length i.entries.items i.asked.list c.self.invariant.1)))

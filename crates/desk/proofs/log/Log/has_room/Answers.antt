@@ -9,4 +9,4 @@ returns g c =
     let i = c.self.inside in
     let said : c.fits.result ≡ has_room (length i.entries.items) i.reserved c.args.more = search rules in
     subst (λ (d : Logged). c.fits.result ≡ has_room (length d.book.history) d.book.reserved c.args.more) c.self.view_is
-    (said ∙ ap (λ k. has_room k i.reserved c.args.more) (sym (unfolded_length i.entries.items i.asked.items c.self.invariant.1)))
+    (said ∙ ap (λ k. has_room k i.reserved c.args.more) (sym (unfolded_length i.entries.items i.asked.list c.self.invariant.1)))
