@@ -307,7 +307,6 @@ only_counted image new start seat change found fit differs counts step board set
       settled = settled;
     }
 
-
 pub all_steps : (t : SeatView) (made : List (Change × ℕ)) → (all_changed t made).steps ≡ t.steps + length made
 all_steps t [] = omega arith
 all_steps t (x ∷ xs) = let rec = all_steps t xs in let one = changed_steps (all_changed t xs) x.0.code x.0.by x.1 in omega arith

@@ -41,8 +41,7 @@ pub(crate) struct Nets {
 
 impl Model for Nets {
     ghost use Rattle.std.specs.Prelude.{vec_capacity, ◌++◌};
-    ghost use Rattle.frames.specs.Kept.{upto};
-ghost use Rattle.frames.specs.Nets.{NetsView, IsRising, AreKept, settled};
+    ghost use Rattle.frames.specs.Nets.{NetsView, AreKept, settled};
 
     ghost Value = { NetsView };
 

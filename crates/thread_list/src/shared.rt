@@ -221,8 +221,7 @@ impl<N: Name, J: Errand> Shared<N, J> {
         let name = done.target();
         let mut desk = self.desk.lock(rt);
         let receipt = desk.finish(body, done)?;
-        let others =
-            looks && (desk.next_due(name).is_some() || desk.next_due(0).is_some());
+        let others = looks && (desk.next_due(name).is_some() || desk.next_due(0).is_some());
         Ok((receipt, others))
     }
 
