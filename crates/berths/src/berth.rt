@@ -59,15 +59,22 @@ impl<N: Name, J: Errand> Berth<N, J> {
         }
     }
 
+    // A thread that comes to serve itself takes its body out again at once, and rings then: so nobody is woken to find the body here who
+    // would serve it in the thread's place, but for a census, which keeps the body.
     #[inline(always)]
-    fn try_give<R: Wait>(&self, rt: &R, body: Body<N>) -> Result<BodyReceipt<N>, Body<N>>
+    fn try_give<R: Wait>(
+        &self,
+        rt: &R,
+        body: Body<N>,
+        serves: bool,
+    ) -> Result<BodyReceipt<N>, Body<N>>
         requires body { (body.seat.stored ≢ 0) × (0 < body.name) }
         ensures ok { IfOk result (λ r. r ≡ moved body BodyAct.Given) }
         ensures err { IfErr result (λ b. b ≡ body) }
     {
         let mut room = self.room.lock(rt);
         let receipt = room.give(body)?;
-        let wanted = room.has_sleepers();
+        let wanted = room.has_sleepers() && (!serves || room.is_marked());
         drop(room);
         self.ring(wanted);
         Ok(receipt)
@@ -79,22 +86,39 @@ impl<N: Name, J: Errand> Berth<N, J> {
         requires body { (body.seat.stored ≢ 0) × (0 < body.name) }
         ensures { result ≡ moved body BodyAct.Given }
     {
-        match self.try_give(rt, body) {
+        self.give_for(rt, body, false)
+    }
+
+    /// The body of a thread goes in that calls [`serve`](Berth::serve) next. It doesn't ring, but in a census: `serve` does.
+    #[inline(always)]
+    pub fn give_to_serve<R: Wait>(&self, rt: &R, body: Body<N>) -> BodyReceipt<N>
+        requires body { (body.seat.stored ≢ 0) × (0 < body.name) }
+        ensures { result ≡ moved body BodyAct.Given }
+    {
+        self.give_for(rt, body, true)
+    }
+
+    #[inline(always)]
+    fn give_for<R: Wait>(&self, rt: &R, body: Body<N>, serves: bool) -> BodyReceipt<N>
+        requires body { (body.seat.stored ≢ 0) × (0 < body.name) }
+        ensures { result ≡ moved body BodyAct.Given }
+    {
+        match self.try_give(rt, body, serves) {
             Ok(receipt) => receipt,
-            Err(back) => self.give_again(rt, back),
+            Err(back) => self.give_again(rt, back, serves),
         }
     }
 
     // The same after a try that failed: other threads run before each further one.
     #[inline(never)]
-    fn give_again<R: Wait>(&self, rt: &R, body: Body<N>) -> BodyReceipt<N>
+    fn give_again<R: Wait>(&self, rt: &R, body: Body<N>, serves: bool) -> BodyReceipt<N>
         requires body { (body.seat.stored ≢ 0) × (0 < body.name) }
         ensures { result ≡ moved body BodyAct.Given }
     {
         let mut body = body;
         for _ in rt.forever() {
             thread::yield_now();
-            match self.try_give(rt, body) {
+            match self.try_give(rt, body, serves) {
                 Ok(receipt) => return receipt,
                 Err(back) => body = back,
             }

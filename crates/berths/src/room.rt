@@ -215,6 +215,15 @@ impl<N: Name, J: Errand> Room<N, J> {
         self.sleepers != 0
     }
 
+    /// Whether a census keeps the thread.
+    #[inline(always)]
+    pub fn is_marked(&self) -> bool
+        ensures { result ≡ not (self.now.mark == 0) }
+    {
+        let _ = &self.sleepers;
+        self.mark != 0
+    }
+
     /// Whether the thread of the name has its body and has still to come for what it was told up to the number.
     pub fn awaits(&self, name: u64, number: u64) -> bool
         ensures yes { result ≡ true → (self.now.holder ≡ IsOut name) × (awaits_job number self.now.jobs ≡ true) }

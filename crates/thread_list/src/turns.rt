@@ -140,7 +140,7 @@ fn take_turn<N: Name, J: Errand, R: Wait>(
 {
     let place = body.place();
     let berth = shared.berth_of(&body);
-    let given = berth.give(rt, body);
+    let given = berth.give_to_serve(rt, body);
     let (mut body, told, outing) = berth.serve(rt, place, given);
     body.publish(shared.board());
     let job = match told {

@@ -1,4 +1,4 @@
-use Rattle.std.proofs.Common.{◌≢◌, ◌<◌, sym, subst}
+use Rattle.std.proofs.Common.{◌<◌, sym, subst}
 use Rattle.held_threads.proofs.Each.{operated_keeps, brought_after}
 use Rattle.held_threads.proofs.serving.serve_on.Goals as goal
 
