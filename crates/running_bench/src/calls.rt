@@ -1,5 +1,6 @@
 //! The calls of one thread, in loops. Each loop is a function of its own, which the compiler gives registers of its own: in line, its
-//! counters would lie in memory.
+//! counters would lie in memory. It ends at the first call that is refused or tells the thread to stop, so that nothing is kept of those
+//! before.
 ghost use Rattle.std.specs.Prelude.{◌≡◌};
 
 use crate::plan::{Kind, Plan};
@@ -75,11 +76,12 @@ fn publish<N: Name, J: Errand>(thread: &mut Mutator<'_, N, J>) -> bool {
 
 #[inline(never)]
 fn back_edges<N: Name, J: Errand>(thread: &mut Mutator<'_, N, J>, turns: u64) -> bool {
-    let mut all = true;
     for _ in 0..turns {
-        all &= goes_on(thread.back_edge());
+        if !goes_on(thread.back_edge()) {
+            return false;
+        }
     }
-    all
+    true
 }
 
 // A call of the method by its hint.
@@ -100,22 +102,22 @@ pub fn pairs<N: Name, J: Errand>(
     method: u32,
     turns: u64,
 ) -> bool {
-    let mut all = true;
     for _ in 0..turns {
-        all &= call(shared, thread, method);
-        all &= ret(thread);
+        if !(call(shared, thread, method) && ret(thread)) {
+            return false;
+        }
     }
-    all
+    true
 }
 
 #[inline(never)]
 fn interpreted_pairs<N: Name, J: Errand>(thread: &mut Mutator<'_, N, J>, turns: u64) -> bool {
-    let mut all = true;
     for _ in 0..turns {
-        all &= interpret(thread);
-        all &= ret(thread);
+        if !(interpret(thread) && ret(thread)) {
+            return false;
+        }
     }
-    all
+    true
 }
 
 // So many calls, of each method whose number is the step times that of the call.
@@ -126,21 +128,23 @@ fn go_down<N: Name, J: Errand>(
     depth: u64,
     step: u64,
 ) -> bool {
-    let mut all = true;
     for level in 0..depth {
         let method = (level.wrapping_mul(step) % 256) as u32;
-        all &= call(shared, thread, method);
+        if !call(shared, thread, method) {
+            return false;
+        }
     }
-    all
+    true
 }
 
 #[inline(always)]
 fn go_up<N: Name, J: Errand>(thread: &mut Mutator<'_, N, J>, depth: u64) -> bool {
-    let mut all = true;
     for _ in 0..depth {
-        all &= ret(thread);
+        if !ret(thread) {
+            return false;
+        }
     }
-    all
+    true
 }
 
 // So many calls in all, a stack of this depth at a time.
@@ -151,12 +155,12 @@ fn stacks<N: Name, J: Errand>(
     turns: u64,
     depth: u64,
 ) -> bool {
-    let mut all = true;
     for _ in 0..turns.checked_div(depth).unwrap_or(0) {
-        all &= go_down(shared, thread, depth, 7);
-        all &= go_up(thread, depth);
+        if !(go_down(shared, thread, depth, 7) && go_up(thread, depth)) {
+            return false;
+        }
     }
-    all
+    true
 }
 
 #[inline(never)]
@@ -166,14 +170,16 @@ fn publications<N: Name, J: Errand>(
     turns: u64,
     codes: u64,
 ) -> bool {
-    let mut all = true;
     for _ in 0..turns {
-        all &= go_down(shared, thread, codes, 1);
-        all &= publish(thread);
-        all &= go_up(thread, codes);
-        all &= publish(thread);
+        if !(go_down(shared, thread, codes, 1)
+            && publish(thread)
+            && go_up(thread, codes)
+            && publish(thread))
+        {
+            return false;
+        }
     }
-    all
+    true
 }
 
 #[inline(never)]
@@ -182,12 +188,12 @@ fn crossings<N: Name, J: Errand, R: Wait>(
     thread: &mut Mutator<'_, N, J>,
     turns: u64,
 ) -> bool {
-    let mut all = true;
     for _ in 0..turns {
-        all &= thread.to_native(rt).is_ok();
-        all &= goes_on(thread.from_native(rt));
+        if !(thread.to_native(rt).is_ok() && goes_on(thread.from_native(rt))) {
+            return false;
+        }
     }
-    all
+    true
 }
 
 /// So many pairs by one of several threads, which publishes after as many pairs as are given with the code on its stack and without it;
@@ -203,13 +209,15 @@ pub fn publishing_pairs<N: Name, J: Errand>(
     if every == 0 {
         return pairs(shared, thread, method, turns);
     }
-    let mut all = true;
     for _ in 0..turns.checked_div(every).unwrap_or(0) {
-        all &= call(shared, thread, method);
-        all &= publish(thread);
-        all &= pairs(shared, thread, method, every.saturating_sub(1));
-        all &= ret(thread);
-        all &= publish(thread);
+        if !(call(shared, thread, method)
+            && publish(thread)
+            && pairs(shared, thread, method, every.saturating_sub(1))
+            && ret(thread)
+            && publish(thread))
+        {
+            return false;
+        }
     }
-    all
+    true
 }
