@@ -238,10 +238,10 @@ impl<'a, N: Name, J: Errand> Coordinator<'a, N, J> {
         left
     }
 
-    // Serves a target at once where its body is in its berth, and else, where the oldest open request is of it, once it is there. A
-    // target that comes for what it was told serves itself, and is waited for only to the end: what another runs until then may wait
-    // for those that come after it. It waits without a lock as far as the spins that are left go, and then asleep. Answers how many
-    // are left.
+    // Serves a target at once where its body is in its berth, and else waits for it: without a lock as far as the spins that are left go,
+    // since a lock that it took then the thread would wait for, and then, where the oldest open request is of it, asleep until its body is
+    // there. A target that comes for what it was told serves itself, and is waited for only to the end: what another runs until then may
+    // wait for those that come after it. Answers how many spins are left.
     #[inline(always)]
     fn serve_due<R: Wait>(&self, rt: &R, who: Live, spins: u32, to_the_end: bool) -> u32 {
         if who.place >= self.places || self.serve_at(rt, who).is_ok() {
@@ -255,13 +255,13 @@ impl<'a, N: Name, J: Errand> Coordinator<'a, N, J> {
     fn serve_later<R: Wait>(&self, rt: &R, who: Live, spins: u32, to_the_end: bool) -> u32
         requires { who.place < N.board.places }
     {
-        let number = self.awaited(rt, who.name);
-        if number == 0 {
-            return spins;
-        }
         let left = self.spin(who.place, spins);
         if left > 0 {
             return left;
+        }
+        let number = self.awaited(rt, who.name);
+        if number == 0 {
+            return 0;
         }
         if self.shared.berth(who.place).wait_for(rt, who.name, number) {
             let _ = self.serve_at(rt, who);
