@@ -1,6 +1,6 @@
 //! The calls of one thread, in loops. Each loop is a function of its own, which the compiler gives registers of its own: in line, its
-//! counters would lie in memory. It ends at the first call that is refused or tells the thread to stop, so that nothing is kept of those
-//! before.
+//! counters would lie in memory. It has the thread by value, as a runtime's thread has its own, and ends at the first call that is refused
+//! or tells the thread to stop.
 ghost use Rattle.std.specs.Prelude.{◌≡◌};
 
 use crate::plan::{Kind, Plan};
@@ -24,11 +24,11 @@ pub fn time_calls<N: Name, J: Errand, R: Wait + Clock>(
     plan: Plan,
     shared: &Shared<N, J>,
 ) -> Result<u64, Wrong> {
-    let Ok((mut thread, _receipt)) = shared.start(rt, alloc) else {
+    let Ok((thread, _receipt)) = shared.start(rt, alloc) else {
         return Err(Wrong::Answer);
     };
     let start = Instant::now(rt)?;
-    let goes_on = turns_of(rt, plan, shared, &mut thread);
+    let (mut thread, goes_on) = turns_of(rt, plan, shared, thread);
     let took = start.elapsed(rt)?;
     if !goes_on || thread.publish().is_err() || thread.exit(rt).is_err() {
         return Err(Wrong::Answer);
@@ -36,21 +36,21 @@ pub fn time_calls<N: Name, J: Errand, R: Wait + Clock>(
     Ok(nanoseconds(took))
 }
 
-// Makes the plan's turns. Answers whether each call was taken, and none told the thread to stop.
-fn turns_of<N: Name, J: Errand, R: Wait>(
+// Makes the plan's turns. Answers the thread, and whether each call was taken and none told it to stop.
+fn turns_of<'a, N: Name, J: Errand, R: Wait>(
     rt: &R,
     plan: Plan,
-    shared: &Shared<N, J>,
-    thread: &mut Mutator<'_, N, J>,
-) -> bool {
+    shared: &'a Shared<N, J>,
+    thread: Mutator<'a, N, J>,
+) -> (Mutator<'a, N, J>, bool) {
     match plan.kind {
-        Kind::BackEdge => back_edges(thread, plan.turns),
-        Kind::Call => pairs(shared, thread, METHOD, plan.turns),
+        Kind::Native => crossings(rt, thread, plan.turns),
         Kind::Interpreted => interpreted_pairs(thread, plan.turns),
+        Kind::BackEdge => back_edges(thread, plan.turns),
+        Kind::Call => hinted_pairs(shared, thread, plan.turns),
         Kind::Deep => stacks(shared, thread, plan.turns, plan.arg),
         Kind::Publish => publications(shared, thread, plan.turns, plan.arg),
-        Kind::Native => crossings(rt, thread, plan.turns),
-        _ => false,
+        _ => (thread, false),
     }
 }
 
@@ -75,13 +75,17 @@ fn publish<N: Name, J: Errand>(thread: &mut Mutator<'_, N, J>) -> bool {
 }
 
 #[inline(never)]
-fn back_edges<N: Name, J: Errand>(thread: &mut Mutator<'_, N, J>, turns: u64) -> bool {
+fn back_edges<'a, N: Name, J: Errand>(
+    thread: Mutator<'a, N, J>,
+    turns: u64,
+) -> (Mutator<'a, N, J>, bool) {
+    let mut thread = thread;
     for _ in 0..turns {
         if !goes_on(thread.back_edge()) {
-            return false;
+            return (thread, false);
         }
     }
-    true
+    (thread, true)
 }
 
 // A call of the method by its hint.
@@ -110,14 +114,34 @@ pub fn pairs<N: Name, J: Errand>(
     true
 }
 
+// Calls the method by its hint and returns, so many times.
 #[inline(never)]
-fn interpreted_pairs<N: Name, J: Errand>(thread: &mut Mutator<'_, N, J>, turns: u64) -> bool {
+fn hinted_pairs<'a, N: Name, J: Errand>(
+    shared: &'a Shared<N, J>,
+    thread: Mutator<'a, N, J>,
+    turns: u64,
+) -> (Mutator<'a, N, J>, bool) {
+    let mut thread = thread;
     for _ in 0..turns {
-        if !(interpret(thread) && ret(thread)) {
-            return false;
+        if !(call(shared, &mut thread, METHOD) && ret(&mut thread)) {
+            return (thread, false);
         }
     }
-    true
+    (thread, true)
+}
+
+#[inline(never)]
+fn interpreted_pairs<'a, N: Name, J: Errand>(
+    thread: Mutator<'a, N, J>,
+    turns: u64,
+) -> (Mutator<'a, N, J>, bool) {
+    let mut thread = thread;
+    for _ in 0..turns {
+        if !(interpret(&mut thread) && ret(&mut thread)) {
+            return (thread, false);
+        }
+    }
+    (thread, true)
 }
 
 // So many calls, of each method whose number is the step times that of the call.
@@ -149,51 +173,54 @@ fn go_up<N: Name, J: Errand>(thread: &mut Mutator<'_, N, J>, depth: u64) -> bool
 
 // So many calls in all, a stack of this depth at a time.
 #[inline(never)]
-fn stacks<N: Name, J: Errand>(
-    shared: &Shared<N, J>,
-    thread: &mut Mutator<'_, N, J>,
+fn stacks<'a, N: Name, J: Errand>(
+    shared: &'a Shared<N, J>,
+    thread: Mutator<'a, N, J>,
     turns: u64,
     depth: u64,
-) -> bool {
+) -> (Mutator<'a, N, J>, bool) {
+    let mut thread = thread;
     for _ in 0..turns.checked_div(depth).unwrap_or(0) {
-        if !(go_down(shared, thread, depth, 7) && go_up(thread, depth)) {
-            return false;
+        if !(go_down(shared, &mut thread, depth, 7) && go_up(&mut thread, depth)) {
+            return (thread, false);
         }
     }
-    true
+    (thread, true)
 }
 
 #[inline(never)]
-fn publications<N: Name, J: Errand>(
-    shared: &Shared<N, J>,
-    thread: &mut Mutator<'_, N, J>,
+fn publications<'a, N: Name, J: Errand>(
+    shared: &'a Shared<N, J>,
+    thread: Mutator<'a, N, J>,
     turns: u64,
     codes: u64,
-) -> bool {
+) -> (Mutator<'a, N, J>, bool) {
+    let mut thread = thread;
     for _ in 0..turns {
-        if !(go_down(shared, thread, codes, 1)
-            && publish(thread)
-            && go_up(thread, codes)
-            && publish(thread))
+        if !(go_down(shared, &mut thread, codes, 1)
+            && publish(&mut thread)
+            && go_up(&mut thread, codes)
+            && publish(&mut thread))
         {
-            return false;
+            return (thread, false);
         }
     }
-    true
+    (thread, true)
 }
 
 #[inline(never)]
-fn crossings<N: Name, J: Errand, R: Wait>(
+fn crossings<'a, N: Name, J: Errand, R: Wait>(
     rt: &R,
-    thread: &mut Mutator<'_, N, J>,
+    thread: Mutator<'a, N, J>,
     turns: u64,
-) -> bool {
+) -> (Mutator<'a, N, J>, bool) {
+    let mut thread = thread;
     for _ in 0..turns {
         if !(thread.to_native(rt).is_ok() && goes_on(thread.from_native(rt))) {
-            return false;
+            return (thread, false);
         }
     }
-    true
+    (thread, true)
 }
 
 /// So many pairs by one of several threads, which publishes after as many pairs as are given with the code on its stack and without it;
