@@ -12,16 +12,21 @@ use std::marker::Model;
 use std::sync::{Condvar, Mutex, Wait};
 use std::thread;
 
-/// A room under a lock, and a bell that rings for those that wait for a change of it. Each call takes this lock, and no other, and
-/// answers the receipt of what it did there, or what came out. Contracts see the place that it was made for.
+// With so many words more a berth fills two lines of the cache.
+const APART: usize = 4;
+
+/// A room under a lock, and a bell that rings for those that wait for a change of it. Each call but `wake` takes this lock, and none
+/// another, and answers the receipt of what it did there, or what came out. Contracts see the place that it was made for.
 ///
-/// `give`, `release`, `bring` and `resume` try once in line, and only their further tries are a call: the first nearly always
+/// `give`, `release_quietly`, `bring` and `resume` try once in line, and only their further tries are a call: the first nearly always
 /// succeeds, and what a call of the loop answers would go through memory.
 #[derive(Drop)]
 pub struct Berth<N: Name, J: Errand> {
     place: usize,
     room: Mutex<Room<N, J>>,
     bell: Condvar,
+    /// Keeps the next berth out of the lines of this one: each is of another thread.
+    apart: [u64; APART],
 }
 
 impl<N: Name, J: Errand> Model for Berth<N, J> {
@@ -41,6 +46,7 @@ impl<N: Name, J: Errand> Berth<N, J> {
             place: room.place(),
             room: Mutex::new(room),
             bell: Condvar::new(),
+            apart: [0; APART],
         }
     }
 
@@ -161,17 +167,15 @@ impl<N: Name, J: Errand> Berth<N, J> {
         rt: &R,
         body: Body<N>,
         operated: bool,
-    ) -> Result<BodyReceipt<N>, Body<N>>
+    ) -> Result<(BodyReceipt<N>, bool), Body<N>>
         requires body { (body.seat.stored ≢ 0) × (0 < body.name) }
-        ensures ok { IfOk result (λ r. r ≡ moved body (BodyAct.Released operated)) }
+        ensures ok { IfOk result (λ r. r.0 ≡ moved body (BodyAct.Released operated)) }
         ensures err { IfErr result (λ b. b ≡ body) }
     {
         let mut room = self.room.lock(rt);
         let receipt = room.release(body, operated)?;
         let wanted = room.has_sleepers();
-        drop(room);
-        self.ring(wanted);
-        Ok(receipt)
+        Ok((receipt, wanted))
     }
 
     /// A held body goes back. Where a census was operated over it, nothing keeps the thread any more.
@@ -180,27 +184,54 @@ impl<N: Name, J: Errand> Berth<N, J> {
         requires body { (body.seat.stored ≢ 0) × (0 < body.name) }
         ensures { result ≡ moved body (BodyAct.Released operated) }
     {
+        let (receipt, wanted) = self.release_quietly(rt, body, operated);
+        self.ring(wanted);
+        receipt
+    }
+
+    /// The same without a ring. Answers also whether one waits, whom [`wake`](Berth::wake) wakes then.
+    #[inline(always)]
+    pub fn release_quietly<R: Wait>(
+        &self,
+        rt: &R,
+        body: Body<N>,
+        operated: bool,
+    ) -> (BodyReceipt<N>, bool)
+        requires body { (body.seat.stored ≢ 0) × (0 < body.name) }
+        ensures { result.0 ≡ moved body (BodyAct.Released operated) }
+    {
         match self.try_release(rt, body, operated) {
-            Ok(receipt) => receipt,
+            Ok(released) => released,
             Err(back) => self.release_again(rt, back, operated),
         }
     }
 
     // The same after a try that failed: other threads run before each further one.
     #[inline(never)]
-    fn release_again<R: Wait>(&self, rt: &R, body: Body<N>, operated: bool) -> BodyReceipt<N>
+    fn release_again<R: Wait>(
+        &self,
+        rt: &R,
+        body: Body<N>,
+        operated: bool,
+    ) -> (BodyReceipt<N>, bool)
         requires body { (body.seat.stored ≢ 0) × (0 < body.name) }
-        ensures { result ≡ moved body (BodyAct.Released operated) }
+        ensures { result.0 ≡ moved body (BodyAct.Released operated) }
     {
         let mut body = body;
         for _ in rt.forever() {
             thread::yield_now();
             match self.try_release(rt, body, operated) {
-                Ok(receipt) => return receipt,
+                Ok(released) => return released,
                 Err(back) => body = back,
             }
         }
         unreachable!()
+    }
+
+    /// Wakes those that wait for a change.
+    pub fn wake(&self) {
+        let _ = &self.place;
+        self.bell.notify_all();
     }
 
     #[inline(always)]
@@ -384,27 +415,29 @@ impl<N: Name, J: Errand> Berth<N, J> {
         unreachable!()
     }
 
-    /// Takes the body that its thread gave out again, once it is here and no census keeps it, with its oldest job.
+    /// Takes the body that its thread gave out again, once it is here and no census keeps it, with its oldest job. Answers also whether
+    /// the thread slept until then or has woken another.
     pub fn serve<R: Wait>(
         &self,
         rt: &R,
         place: usize,
         given: BodyReceipt<N>,
-    ) -> (Body<N>, Option<Due<J>>, Outing<N>)
+    ) -> (Body<N>, Option<Due<J>>, Outing<N>, bool)
         ensures body { (result.0.name ≡ given.body.name) × (0 < result.0.name) × (result.0.seat.place ≡ place) × (result.0.seat.stored ≢ 0) }
         ensures job { IfSome result.1 (λ j. (J.whom j ≡ given.body.name) × (0 < J.number j)) }
         ensures outing { (result.2.given ≡ given) × (result.2.out ≡ moved result.0 (BodyAct.Served (number_of J.number result.1))) }
     {
         let mut given = given;
+        let mut slept = false;
         for _ in rt.forever() {
             let mut room = self.room.lock(rt);
             if room.place() == place {
                 match room.serve(given) {
-                    Ok(served) => {
+                    Ok((body, told, outing)) => {
                         let wanted = room.has_sleepers();
                         drop(room);
                         self.ring(wanted);
-                        return served;
+                        return (body, told, outing, slept || wanted);
                     }
                     Err(back) => given = back,
                 }
@@ -412,6 +445,7 @@ impl<N: Name, J: Errand> Berth<N, J> {
             room.note_sleeper(true);
             let mut room = self.bell.wait(rt, room);
             room.note_sleeper(false);
+            slept = true;
         }
         unreachable!()
     }

@@ -20,13 +20,17 @@ use std::sync::Wait;
 use std::{hint, thread};
 use thread_list::Shared;
 
-/// How often a `drive` looks at poll words without a lock before it sleeps: about as long as a thread takes to its next poll.
+/// How often a `drive` looks at poll words without a lock before it sleeps.
 pub const SPINS: u32 = 500;
 
-// How often a census looks into berths for bodies that aren't there, with a pause after each look, before it sleeps.
-const LOOKS: u32 = 64;
+// How often of these for one thread, which is longer than a thread takes to its next poll: one that didn't come there may wait for this very
+// processor.
+const PATIENCE: u32 = 250;
 
-const PAUSE: u32 = 8;
+// How often a census looks into berths for bodies that aren't there, with a pause after each look, before it sleeps.
+const LOOKS: u32 = 128;
+
+const PAUSE: u32 = 16;
 
 fn pause() {
     for _ in 0..PAUSE {
@@ -238,8 +242,8 @@ impl<'a, N: Name, J: Errand> Coordinator<'a, N, J> {
         left
     }
 
-    // Serves a target at once where its body is in its berth, and else waits for it: without a lock as far as the spins that are left go,
-    // since a lock that it took then the thread would wait for, and then, where the oldest open request is of it, asleep until its body is
+    // Serves a target at once where its body is in its berth, and else waits for it: without a lock as far as patience and the spins that are
+    // left go, since a lock that it took then the thread would wait for, and then, where the oldest open request is of it, asleep until its body is
     // there. A target that comes for what it was told serves itself, and is waited for only to the end: what another runs until then may
     // wait for those that come after it. Answers how many spins are left.
     #[inline(always)]
@@ -271,15 +275,18 @@ impl<'a, N: Name, J: Errand> Coordinator<'a, N, J> {
         0
     }
 
-    // Spins until nothing is armed at the place, so many times at most. Answers how many are left.
+    // Spins until nothing is armed at the place, so many times at most as patience and the spins that are left go. Answers how many are
+    // left, none where something is armed still.
     fn spin(&self, place: usize, spins: u32) -> u32 {
         let _ = &self.bodies;
-        let mut left = spins;
-        while left > 0 && self.shared.row().peek(place) != 0 {
+        let patience = if spins < PATIENCE { spins } else { PATIENCE };
+        for made in 0..patience {
+            if self.shared.row().peek(place) == 0 {
+                return spins - made;
+            }
             hint::spin_loop();
-            left -= 1;
         }
-        left
+        0
     }
 
     // Takes the body of a target out of its berth, serves all its jobs in order, and brings it back; the error is the receipt that it
@@ -320,13 +327,27 @@ impl<'a, N: Name, J: Errand> Coordinator<'a, N, J> {
         let Some(list) = self.counted(rt) else {
             return Err(DriveFault::NoMemory);
         };
-        self.release_all(rt);
+        let wanted = put_back(rt, self.shared, &mut self.bodies, self.operated);
+        let closed = self.close(rt);
+        self.wake(wanted);
+        let (number, receipt) = match closed {
+            Ok(closed) => closed,
+            Err(_) => self.close_again(rt),
+        };
+        Ok((Driven::Census(number, list), receipt))
+    }
+
+    // Closes the oldest open request after a try that failed: other threads run before each further one.
+    fn close_again<R: Wait>(&mut self, rt: &R) -> (u64, Receipt<N>)
+        requires free { self.old.held ≡ [] }
+        ensures closed { result.1.entry ≡ Entry.Close result.0 }
+        ensures free { (self.new.held ≡ []) × (self.new.operated ≡ false) }
+    {
         for _ in rt.forever() {
-            if let Ok(closed) = self.close(rt) {
-                let (number, receipt) = closed;
-                return Ok((Driven::Census(number, list), receipt));
-            }
             thread::yield_now();
+            if let Ok(closed) = self.close(rt) {
+                return closed;
+            }
         }
         unreachable!()
     }
@@ -391,20 +412,41 @@ impl<'a, N: Name, J: Errand> Coordinator<'a, N, J> {
     pub(crate) fn release_all<R: Wait>(&mut self, rt: &R)
         ensures { self.new ≡ record self.old { held = [] } }
     {
-        put_back(rt, self.shared, &mut self.bodies, self.operated);
+        let wanted = put_back(rt, self.shared, &mut self.bodies, self.operated);
+        self.wake(wanted);
+    }
+
+    // Wakes those that wait at the berths of these places.
+    fn wake(&self, wanted: u64) {
+        let _ = &self.bodies;
+        if wanted == 0 {
+            return;
+        }
+        for place in 0..self.places {
+            if (wanted >> place) & 1 == 1 {
+                self.shared.berth(place).wake();
+            }
+        }
     }
 }
 
-// Brings the bodies back into their berths.
+// Brings the bodies back into their berths, and wakes nobody yet: who is woken may take this very processor. Answers the places at whose
+// berths some wait, as bits.
 fn put_back<N: Name, J: Errand, R: Wait>(
     rt: &R,
     shared: &Shared<N, J>,
     bodies: &mut Held<N>,
     operated: bool,
-)
+) -> u64
     ensures { bodies.new ≡ [] }
 {
+    let mut wanted: u64 = 0;
     while let Some(body) = bodies.take_last() {
-        body.back(rt, shared, operated);
+        let place = body.place();
+        let (_receipt, waits) = body.back_quietly(rt, shared, operated);
+        if waits {
+            wanted |= 1 << (place % 64);
+        }
     }
+    wanted
 }

@@ -70,6 +70,26 @@ impl<N: Name> Loose<N> {
         let Loose { body } = self;
         shared.berth_of(&body).release(rt, body, operated)
     }
+
+    /// The same without waking those that wait at the berth. Answers also whether any does.
+    pub fn back_quietly<J: Errand, R: Wait>(
+        self,
+        rt: &R,
+        shared: &Shared<N, J>,
+        operated: bool,
+    ) -> (BodyReceipt<N>, bool)
+        ensures { result.0 ≡ moved self (BodyAct.Released operated) }
+    {
+        let Loose { body } = self;
+        shared.berth_of(&body).release_quietly(rt, body, operated)
+    }
+
+    /// The place of its thread.
+    pub fn place(&self) -> usize
+        ensures { result ≡ self.now.seat.place }
+    {
+        self.body.place()
+    }
 }
 
 // Where the body of the place stands.

@@ -43,7 +43,7 @@ pub fn serve_body<N: Name, J: Errand, R: Wait>(
     ensures served { IsServed (J.number job) body.old body.new }
 {
     body.publish(shared.board());
-    let (receipt, _others) = serve(rt, shared, body, job, false);
+    let (receipt, _woke) = serve(rt, shared, body, job);
     receipt
 }
 

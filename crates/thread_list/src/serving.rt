@@ -37,15 +37,14 @@ pub fn served<N: Name, J: Errand, R: Wait>(
     unreachable!()
 }
 
-/// Runs a job on a settled body, enters what it answered, and clears the operation. Answers the receipt of that entry, and, where it looks
-/// for that (`looks`), whether others had still to be answered for then.
+/// Runs a job on a settled body, enters what it answered, and clears the operation. Answers the receipt of that entry, and whether it woke
+/// one that waited for it.
 #[inline(always)]
 pub fn serve<N: Name, J: Errand, R: Wait>(
     rt: &R,
     shared: &Shared<N, J>,
     body: &mut Body<N>,
     job: Due<J>,
-    looks: bool,
 ) -> (Receipt<N>, bool)
     requires job { (J.whom job ≡ body.old.name) × (0 < J.number job) }
     requires settled { IsSettled body.old.image }
@@ -56,7 +55,7 @@ pub fn serve<N: Name, J: Errand, R: Wait>(
 {
     let n = job.number();
     let done = job.run_on(body);
-    let (receipt, others) = shared.finish(rt, body, done, looks);
+    let (receipt, woke) = shared.finish(rt, body, done);
     body.clear(shared.row(), n);
-    (receipt, others)
+    (receipt, woke)
 }

@@ -123,6 +123,16 @@ impl<N: Name, J: Errand> Shared<N, J> {
         self.hints.of(method)
     }
 
+    // The first place from this one on where something is armed, or past the last. Nothing is promised of it.
+    pub(crate) fn next_armed(&self, from: usize) -> usize {
+        for place in from..self.berths.len() {
+            if self.row.peek(place) != 0 {
+                return place;
+            }
+        }
+        self.berths.len()
+    }
+
     /// The sum of all count words as they were a moment ago. Nothing is promised of it.
     pub fn peek_counts(&self) -> u64 {
         let mut sum: u64 = 0;
@@ -193,81 +203,61 @@ impl<N: Name, J: Errand> Shared<N, J> {
         Ok(list)
     }
 
-    // Wakes those that wait until a thread is answered for or gone, where there are any; called once the desk's lock was let go after
-    // such an entry. No wake-up is lost: who waits has counted itself under the lock under which it looked, and keeps the lock until it
+    // Wakes those that wait until a thread is answered for or gone, and answers whether there are any; called once the desk's lock was let
+    // go after such an entry. No wake-up is lost: who waits has counted itself under the lock under which it looked, and keeps the lock until it
     // sleeps. Where it looked before the entry it is counted here, or has woken already and looks again; where it looks afterwards it
     // finds the entry, and doesn't wait.
     #[inline(always)]
-    fn ring(&self) {
-        if self.waiters.load(Ordering::SeqCst) != 0 {
+    fn ring(&self) -> bool {
+        let wanted = self.waiters.load(Ordering::SeqCst) != 0;
+        if wanted {
             self.finished.notify_all();
         }
+        wanted
     }
 
     #[inline(always)]
-    fn try_finish<R: Wait>(
-        &self,
-        rt: &R,
-        body: &Body<N>,
-        done: Done,
-        looks: bool,
-    ) -> Result<(Receipt<N>, bool), Done>
+    fn try_finish<R: Wait>(&self, rt: &R, body: &Body<N>, done: Done) -> Result<Receipt<N>, Done>
         requires name { body.now.name ≡ done.target }
         requires settled { IsSettled body.now.image }
         requires reply { done.reply ≡ reply done.ask body.now.image.frames }
-        ensures ok { IfOk result (λ r. r.0.entry ≡ Entry.Finish done.op done.target done.reply) }
+        ensures ok { IfOk result (λ r. r.entry ≡ Entry.Finish done.op done.target done.reply) }
         ensures err { IfErr result (λ d. d ≡ done) }
     {
-        let name = done.target();
         let mut desk = self.desk.lock(rt);
         let receipt = desk.finish(body, done)?;
-        let others = looks && (desk.next_due(name).is_some() || desk.next_due(0).is_some());
-        Ok((receipt, others))
+        Ok(receipt)
     }
 
-    /// Enters what a job answered on a settled body. Where it looks for that (`looks`), it answers also whether another thread has still to
-    /// be answered for: one with a greater name, where there is one, is found without a look at all that are done. The first try is in
-    /// line: it nearly always succeeds, and what a call of the loop answers would go through memory.
+    /// Enters what a job answered on a settled body, and answers whether it woke one that waited for that. The first try is in line: it
+    /// nearly always succeeds, and what a call of the loop answers would go through memory.
     #[inline(always)]
-    pub fn finish<R: Wait>(
-        &self,
-        rt: &R,
-        body: &Body<N>,
-        done: Done,
-        looks: bool,
-    ) -> (Receipt<N>, bool)
+    pub fn finish<R: Wait>(&self, rt: &R, body: &Body<N>, done: Done) -> (Receipt<N>, bool)
         requires name { body.now.name ≡ done.target }
         requires settled { IsSettled body.now.image }
         requires reply { done.reply ≡ reply done.ask body.now.image.frames }
         ensures { result.0.entry ≡ Entry.Finish done.op done.target done.reply }
     {
-        let finished = match self.try_finish(rt, body, done, looks) {
-            Ok(finished) => finished,
-            Err(back) => self.finish_again(rt, body, back, looks),
+        let receipt = match self.try_finish(rt, body, done) {
+            Ok(receipt) => receipt,
+            Err(back) => self.finish_again(rt, body, back),
         };
-        self.ring();
-        finished
+        (receipt, self.ring())
     }
 
     // Enters it after a try that failed: other threads run before each further one.
     #[inline(never)]
-    fn finish_again<R: Wait>(
-        &self,
-        rt: &R,
-        body: &Body<N>,
-        done: Done,
-        looks: bool,
-    ) -> (Receipt<N>, bool)
+    fn finish_again<R: Wait>(&self, rt: &R, body: &Body<N>, done: Done) -> Receipt<N>
         requires name { body.now.name ≡ done.target }
         requires settled { IsSettled body.now.image }
         requires reply { done.reply ≡ reply done.ask body.now.image.frames }
-        ensures { result.0.entry ≡ Entry.Finish done.op done.target done.reply }
+        ensures { result.entry ≡ Entry.Finish done.op done.target done.reply }
     {
         let mut done = done;
         for _ in rt.forever() {
             thread::yield_now();
-            match self.try_finish(rt, body, done, looks) {
-                Ok(finished) => return finished,
+            match self.try_finish(rt, body, done) {
+                Ok(receipt) => return receipt,
                 Err(back) => done = back,
             }
         }
@@ -289,7 +279,7 @@ impl<N: Name, J: Errand> Shared<N, J> {
         for _ in rt.forever() {
             let gone = self.desk.lock(rt).exit(name);
             if let Ok(exit) = gone {
-                self.ring();
+                let _ = self.ring();
                 return Exited {
                     served,
                     vacated,

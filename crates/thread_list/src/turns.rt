@@ -141,27 +141,38 @@ fn take_turn<N: Name, J: Errand, R: Wait>(
     let place = body.place();
     let berth = shared.berth_of(&body);
     let given = berth.give_to_serve(rt, body);
-    let (mut body, told, outing) = berth.serve(rt, place, given);
+    let (mut body, told, outing, changed) = berth.serve(rt, place, given);
     body.publish(shared.board());
     let job = match told {
         Some(job) => job,
-        None => return (body, outing, None),
+        None => {
+            give_way(shared, place, changed);
+            return (body, outing, None);
+        }
     };
-    let (receipt, others) = serve(rt, shared, &mut body, job, true);
-    if others {
-        give_way(shared, place);
-    }
+    let (receipt, woke) = serve(rt, shared, &mut body, job);
+    give_way(shared, place, changed || woke);
     (body, outing, Some(receipt))
 }
 
-// How often a thread that has served itself yields at most while others have still to: where more threads run than there are processors,
-// each of them then comes to its poll within one round of the scheduler.
-const YIELDS: u32 = 16;
+// How often a thread yields at most after a turn while others have still to come to their polls: where more threads run than there are
+// processors, these then come there within a round of the scheduler and not after a time slice of each.
+const YIELDS: u32 = 64;
 
-// Lets other threads run, until something new is armed at the place.
-fn give_way<N: Name, J: Errand>(shared: &Shared<N, J>, place: usize) {
-    for _ in 0..YIELDS {
+// How often at least, where it slept or has woken another: who was woken, or wakes the others still, may wait for this very processor.
+const LEAST: u32 = 4;
+
+// Lets other threads run while something is armed at any place, and some turns where the thread slept or woke another (`changed`), until
+// something new is armed at its own.
+fn give_way<N: Name, J: Errand>(shared: &Shared<N, J>, place: usize, changed: bool) {
+    let least = if changed { LEAST } else { 0 };
+    let mut clear = 0;
+    for turn in 0..YIELDS {
         if shared.row().peek(place) != 0 {
+            return;
+        }
+        clear = shared.next_armed(clear);
+        if clear >= shared.berths.len() && turn >= least {
             return;
         }
         thread::yield_now();

@@ -1,5 +1,5 @@
 use Rattle.std.proofs.Common.{◌≡◌, []}
-use Rattle.coordinator.proofs.coordinator.Coordinator.drive_census.Given as goal
+use Rattle.coordinator.proofs.coordinator.Coordinator.close_again.Given as goal
 
 abbrev pub invariant-loop : goal.invariant-loop
 invariant-loop g l =
