@@ -1,15 +1,12 @@
 -- What reclaiming answers.
-use Rattle.std.specs.Prelude.{◌≡◌, ℕ, zero, suc, List, Some}
-use Rattle.frames.specs.declared.CodeId.{CodeId}
-use Rattle.frames.specs.declared.board_rule.KeeperView.{KeeperView}
-use Rattle.frames.specs.BoardViews.{looked_at}
+use Rattle.std.specs.Prelude.{◌≡◌, ℕ, List, Some}
 use Rattle.method_table.specs.declared.Code.{Code}
 use Rattle.operations.specs.declared.Ask.{Ask}
 use Rattle.method_table.specs.Codes.{id_of, unfreed}
 use Rattle.board.specs.declared.weighed.Weighed.{Weighed}
 use Rattle.board.specs.declared.weighed.Weighed.TheVariants.{NotLooked, Used as InUse, Clear}
 use Rattle.desk.specs.declared.entries.Entry.TheVariants as entry
-use Rattle.desk.specs.CodeBoard.{KeeperWeighs}
+use Rattle.desk.specs.CodeBoard.{KeeperWeighs, LooksBelow}
 use Rattle.desk.specs.Fields.{DeskSeen, Enters, at}
 use Rattle.desk.specs.Machine.{State, Book, Stands}
 use Rattle.desk.specs.JobsFit.{jobs_fit, request_of}
@@ -18,14 +15,9 @@ use Rattle.desk.specs.declared.faults.ReclaimFault.{ReclaimFault}
 use Rattle.coordinator.specs.declared.faults.Reclaimed.{Reclaimed}
 use Rattle.coordinator.specs.declared.faults.Reclaimed.TheVariants.{Freed, Used, Late}
 
--- The keeper looked for the code at each place below this one, in their order, whatever was found there.
-abbrev pub LooksBelow : CodeId → ℕ → KeeperView → KeeperView → Type 0
-LooksBelow id zero old new = new ≡ old
-LooksBelow id (suc place) old new = (mid : KeeperView) × LooksBelow id place old mid × (found : ℕ) × (new ≡ looked_at mid id place found)
-
 -- The keeper looked for the unfreed code of the serial at each place below this one, and nothing else of the desk changed.
 pub record LooksAtAll (serial places : ℕ) (old new : DeskSeen) : Type 0 where
-  pub looks : (code : Code) → unfreed (at old).table.codes serial ≡ Some code → LooksBelow (id_of code) places old.keeper new.keeper
+  pub looks : (code : Code) × (unfreed (at old).table.codes serial ≡ Some code) × LooksBelow (id_of code) places old.keeper new.keeper
   pub book_stays : new.book ≡ old.book
   pub sizes_stay : (new.slots ≡ old.slots) × (new.methods ≡ old.methods)
 

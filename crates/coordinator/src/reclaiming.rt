@@ -1,6 +1,6 @@
 //! Reclaiming a code that isn't entrant.
 ghost use Rattle.std.specs.Prelude.{◌≡◌, ◌<◌, ◌≤◌, [], true, false, length, IfOk, OnOk, IfErr, OnErr, IfSome};
-ghost use Rattle.coordinator.specs.Reclaiming.{IsReclaimed, LooksAtAll, Frees, not_reclaimed};
+ghost use Rattle.coordinator.specs.Reclaiming.{IsReclaimed, Frees, not_reclaimed};
 ghost use Rattle.coordinator.specs.Receipts.{IsAskOf};
 ghost use Rattle.desk.specs.Fields.{at};
 ghost use Rattle.desk.specs.JobsFit.{jobs_fit, request_of};
@@ -11,7 +11,6 @@ use crate::faults::Reclaimed;
 use board::{Board, Weighed};
 use bodies::Name;
 use desk::{Desk, NotReclaimed, Receipt, ReclaimFault};
-use method_table::table::RetireFault;
 use operations::job::Errand;
 use operations::{Request, Targets};
 use std::alloc::{AllocError, Global};
@@ -58,23 +57,6 @@ fn fault_without_memory<N: Name, J: Errand>(
         return ReclaimFault::Spent;
     }
     ReclaimFault::Ask(desk.ask_fault(jobs))
-}
-
-// Looks for the code at each place. The error is why it can't be looked for.
-fn look_at_all<N: Name, J: Errand>(
-    desk: &mut Desk<N, J>,
-    board: &Board,
-    serial: u64,
-    places: usize,
-) -> Result<(), RetireFault>
-    requires board { board.now ≡ N.board }
-    requires places { places ≤ N.board.places }
-    ensures { OnOk result (LooksAtAll serial places desk.old desk.new) }
-{
-    for place in 0..places {
-        let _past = desk.look(board, serial, place)?;
-    }
-    Ok(())
 }
 
 // Weighs a code, and where no activation stands frees it. None where it isn't a code that can be weighed.
@@ -185,9 +167,10 @@ impl<'a, N: Name, J: Errand> Coordinator<'a, N, J> {
         ensures { IfSome result (IsReclaimed N.board.places serial) }
     {
         let mut desk = self.shared.desk().lock(rt);
-        let Ok(()) = look_at_all(&mut desk, self.shared.board(), serial, self.places) else {
+        let board = self.shared.board();
+        let Ok(()) = desk.look_at_all(board, serial, self.places) else {
             return None;
         };
-        weigh_and_free(&mut desk, self.shared.board(), serial)
+        weigh_and_free(&mut desk, board, serial)
     }
 }

@@ -1,5 +1,5 @@
 -- The codes stay the keeper's view.
-use Rattle.std.proofs.Common.{◌≡◌, ◌≢◌, ℕ, ◌+◌, ◌<◌, Bool, true, false, not, cond, List, [], length, Option, Some, None, sym, refl, ap, ◌∙◌, ⊎_elim, subst, arith, length-set, get_or, get_or-set_same, get_or-set_other}
+use Rattle.std.proofs.Common.{◌≡◌, ◌≢◌, ℕ, zero, suc, ◌+◌, ◌<◌, Bool, true, false, not, cond, List, [], length, Option, Some, None, sym, refl, ap, ◌∙◌, ⊎_elim, subst, arith, length-set, get_or, get_or-set_same, get_or-set_other}
 use Rattle.std.proofs.lemmas.List.{length-replicate, get_or-replicate}
 use Rattle.std.specs.Prelude.{◌&&◌, ◌==◌, slice_get, option_map, IfSome}
 use Rattle.std.proofs.lemmas.Bool.{false≢true, not-true, and_parts, and_cases, eqb-true, eqb-false, eq-eqb, ne_eqb}
@@ -9,9 +9,10 @@ use Rattle.frames.specs.declared.CodeId.{CodeId}
 use Rattle.frames.specs.declared.board_rule.EntryState.{EntryState}
 use Rattle.frames.specs.declared.board_rule.EntryState.TheVariants as entry
 use Rattle.frames.specs.declared.board_rule.StepMade.{StepMade}
+use Rattle.frames.specs.declared.board_rule.StepMade.TheVariants as made
 use Rattle.frames.specs.declared.board_rule.SlotView.{SlotView}
 use Rattle.frames.specs.declared.board_rule.KeeperView.{KeeperView}
-use Rattle.frames.specs.BoardViews.{slot_of, IsIn, with_slot, in_use, not_entrant, empty_slot, keeper_view}
+use Rattle.frames.specs.BoardViews.{slot_of, IsIn, with_slot, slot_with_look, in_use, not_entrant, empty_slot, keeper_view}
 use Rattle.board.specs.Replaced.{left_by, replaced}
 use Rattle.method_table.specs.declared.Code.{Code}
 use Rattle.method_table.specs.declared.CodeState.{CodeState}
@@ -22,7 +23,7 @@ use Rattle.method_table.proofs.Left.{state_is, unfreed_here, slot_left, long_lef
 use Rattle.method_table.specs.TableView.{TableView, IsTable, invalidate_fault, retire_fault, free_fault}
 use Rattle.board.specs.declared.weighed.Weighed.{Weighed}
 use Rattle.board.specs.declared.weighed.Weighed.TheVariants.{NotLooked, Used, Clear}
-use Rattle.desk.specs.CodeBoard.{CodesSeen, Weighs, KeeperWeighs, AreEntries, IsEntry, with_codes, stored}
+use Rattle.desk.specs.CodeBoard.{CodesSeen, Weighs, KeeperWeighs, LooksBelow, AreEntries, IsEntry, with_codes, stored}
 use Rattle.method_table.specs.Entries.{entry_state, first_of, newest_in}
 use Rattle.desk.proofs.Newest.{map_at, push_at, at_low, same_at, found_passes, find_place, any_none_at, newest_push, newest_with, newest_place, in_state_slot}
 
@@ -238,6 +239,11 @@ may_free c h = by c.state h
 -- the keeper has the code in that state
 pub is_in : (t : TableView) (k : KeeperView) (serial : ℕ) (code : Code) (e : EntryState) → AreEntries t k → IsTable t → unfreed t.codes serial ≡ Some code → entry_state code.state ≡ e → (code.slot < t.slots) × IsIn k (id_of code) e
 is_in t k serial code e are table is at = let s = stands t k serial code are table is in (s.0, (s.2, s.3 ∙ at))
+
+-- the keeper looked at places
+pub looked_below : (t : TableView) (id : CodeId) (places : ℕ) (k k' : KeeperView) → AreEntries t k → id.slot < t.slots → LooksBelow id places k k' → AreEntries t k'
+looked_below t id zero k k' are low is = subst (AreEntries t) (sym is) are
+looked_below t id (suc p) k k' are low h = noted t h.0 k' id.slot (slot_with_look (slot_of h.0 id.slot) p h.2) (made.LoadPlace id p h.2) (looked_below t id p k h.0 are low h.1) low h.3 refl refl
 
 -- the moment alone moves
 pub went_on : (t : TableView) (k k' : KeeperView) → AreEntries t k → k'.slots ≡ k.slots → AreEntries t k'

@@ -1,10 +1,10 @@
 -- The codes of the method table and the entries of the board: what the keeper knows of a slot is its newest code.
-use Rattle.std.specs.Prelude.{◌≡◌, ℕ, ◌<◌, true, List, length, Option, Some, None, slice_get}
+use Rattle.std.specs.Prelude.{◌≡◌, ℕ, zero, suc, ◌<◌, true, List, length, Option, Some, None, slice_get}
 use Rattle.frames.specs.declared.CodeId.{CodeId}
 use Rattle.frames.specs.declared.board_rule.EntryState.TheVariants as entry
 use Rattle.frames.specs.declared.board_rule.SlotView.{SlotView}
 use Rattle.frames.specs.declared.board_rule.KeeperView.{KeeperView}
-use Rattle.frames.specs.BoardViews.{slot_of, entry_stored, in_use, in_state}
+use Rattle.frames.specs.BoardViews.{slot_of, entry_stored, in_use, in_state, looked_at}
 use Rattle.board.specs.Replaced.{replaced}
 use Rattle.board.specs.Notes.{IsWeighed}
 use Rattle.board.specs.declared.weighed.Weighed.{Weighed}
@@ -42,6 +42,11 @@ with_codes table codes = record { codes = codes; slots = table.slots; methods = 
 abbrev pub stored : Option CodeId → KeeperView → CodeId → KeeperView
 stored None k code = entry_stored k code (in_use code)
 stored (Some old) k code = replaced k old code
+
+-- The keeper looked for the code at each place below this one, in their order, whatever was found there.
+abbrev pub LooksBelow : CodeId → ℕ → KeeperView → KeeperView → Type 0
+LooksBelow id zero old new = new ≡ old
+LooksBelow id (suc place) old new = (mid : KeeperView) × LooksBelow id place old mid × (found : ℕ) × (new ≡ looked_at mid id place found)
 
 -- What the keeper knows after a weighing: where it was clear, the entry is a zombie's.
 abbrev pub KeeperWeighs : ℕ → CodeId → KeeperView → KeeperView → Weighed → Type 0

@@ -2,13 +2,13 @@
 ghost use Rattle.std.specs.Prelude.{◌≡◌, ◌≢◌, ℕ, ◌+◌, ◌<◌, ◌≤◌, ◌^◌, [], true, false, length, Some, None, IfOk, OnOk, OnErr, IfErr, IfSome, IfNone, option_map, nat_le};
 ghost use Rattle.frames.specs.BoardViews.{slot_of, IsIn, entry_stored, not_entrant, in_state, looked_at, went_round, keeper_view};
 ghost use Rattle.frames.specs.BoardStep.{is_past};
-ghost use Rattle.frames.specs.declared.board_rule.EntryState.TheVariants.{InUse, Vacant, Zombie};
+ghost use Rattle.frames.specs.declared.board_rule.EntryState.TheVariants.{InUse, NotEntrant as IsNotEntrant, Vacant, Zombie};
 ghost use Rattle.board.specs.Boards.{first_keeper};
 ghost use Rattle.method_table.specs.declared.Code.{Code as CodeOf};
 ghost use Rattle.method_table.specs.declared.CodeState.TheVariants.{NotEntrant, Freed};
 ghost use Rattle.method_table.specs.Codes.{id_of, unfreed, in_use_for, with_code, with_state, without_use, next_serial, free_slot};
 ghost use Rattle.method_table.specs.TableView.{IsTable, install_fault, reason, invalidate_fault, retire_fault, free_fault};
-ghost use Rattle.desk.specs.CodeBoard.{AreEntries, CodesSeen, IsCodeOf, Weighs, with_codes, stored};
+ghost use Rattle.desk.specs.CodeBoard.{AreEntries, CodesSeen, IsCodeOf, LooksBelow, Weighs, with_codes, stored};
 
 use board::{Board, Keeper, Spent, Weighed};
 use bodies::Name;
@@ -74,6 +74,20 @@ fn store_vacant(keeper: &mut Keeper, board: &Board, id: CodeId)
     ensures entry { keeper.new.seen ≡ entry_stored keeper.old.seen id (in_state (slot_of keeper.old.seen id.slot) Vacant) }
 {
     keeper.free(board, id);
+}
+
+// Looks for the code, which isn't entrant, at each place below this one, in their order.
+#[inline(always)]
+fn look_below(keeper: &mut Keeper, board: &Board, id: CodeId, places: usize)
+    requires board { keeper.old.board ≡ board.now }
+    requires bounds { (id.slot < keeper.old.board.slots) × (places ≤ keeper.old.board.places) }
+    requires code { IsIn keeper.old.seen id IsNotEntrant }
+    ensures board { keeper.new.board ≡ keeper.old.board }
+    ensures looks { LooksBelow id places keeper.old.seen keeper.new.seen }
+{
+    for place in 0..places {
+        let _past = keeper.look(board, id, place);
+    }
 }
 
 impl<N: Name> Codes<N> {
@@ -153,11 +167,17 @@ impl<N: Name> Codes<N> {
         self.keeper.round(board)
     }
 
-    /// Whether a place is done with the code.
-    pub fn look(&mut self, board: &Board, serial: u64, place: usize) -> Result<bool, RetireFault>
+    /// Looks for the code at each of so many places, in their order.
+    #[inline(always)]
+    pub fn look_at_all(
+        &mut self,
+        board: &Board,
+        serial: u64,
+        places: usize,
+    ) -> Result<(), RetireFault>
         requires board { board.now ≡ N.board }
-        requires place { place < N.board.places }
-        ensures step { IfOk result (λ past. (code : CodeOf) × IsCodeOf self.old serial code × (found : ℕ) × (self.new.keeper ≡ looked_at self.old.keeper (id_of code) place found) × (past ≡ is_past (slot_of self.old.keeper code.slot).left found)) }
+        requires places { places ≤ N.board.places }
+        ensures looks { OnOk result ((code : CodeOf) × IsCodeOf self.old serial code × LooksBelow (id_of code) places self.old.keeper self.new.keeper) }
         ensures table { self.new.table ≡ self.old.table }
         ensures accepted { OnOk result (retire_fault (unfreed self.old.table.codes serial) ≡ None) }
         ensures refused { IfErr result (λ fault. retire_fault (unfreed self.old.table.codes serial) ≡ Some fault) }
@@ -169,7 +189,8 @@ impl<N: Name> Codes<N> {
         let CodeState::NotEntrant = code.state else {
             return Err(RetireFault::NotNotEntrant);
         };
-        Ok(self.keeper.look(board, id_of(code), place))
+        look_below(&mut self.keeper, board, id_of(code), places);
+        Ok(())
     }
 
     /// Weighs the code. Where no activation stands it is a zombie afterwards, in the table and in its entry.

@@ -9,7 +9,7 @@ ghost use Rattle.board.specs.Boards.{first_keeper};
 ghost use Rattle.operations.specs.Asks.{reply};
 ghost use Rattle.method_table.specs.TableView.{install_fault, invalidate_fault, retire_fault, free_fault};
 ghost use Rattle.method_table.specs.Codes.{unfreed, id_of, in_use_for};
-ghost use Rattle.desk.specs.CodeBoard.{AreEntries, KeeperWeighs, stored};
+ghost use Rattle.desk.specs.CodeBoard.{AreEntries, KeeperWeighs, LooksBelow, stored};
 ghost use Rattle.desk.specs.Machine.{Current as CurrentOf, is_legal, is_taken, names_of, lawful, steps_of, is_open};
 ghost use Rattle.desk.specs.Refusals.{start_refused, ask_refused, ask_refused_if, open_refused, close_refused, install_refused, operate_refused, reclaim_refused, is_idle, AreSettled, are_all, MayAsk, MayInstall, MayOperate, MayStart, operate_said, chosen, holds_target};
 ghost use Rattle.desk.specs.Fields.{DeskSeen, at, Enters, EntersInstall, kept_before};
@@ -45,20 +45,21 @@ use std::mem;
 /// The last name and number.
 pub const LAST: u64 = (1 << 40) - 1;
 
-/// The desk.
+/// The desk. What a Finish touches comes first, in the order in which it lies in memory behind the desk's lock: the thread that enters it
+/// finds these lines of the cache with another processor.
 #[derive(Drop)]
 pub struct Desk<N: Name, J: Errand> {
     alloc: Global,
+    opened: Vec<Opened<J>>,
+    log: Log<N>,
+    live: Vec<Live>,
     places: usize,
     next_name: u64,
-    live: Vec<Live>,
     next_number: u64,
     queue: Queue<Carried<J>>,
-    opened: Vec<Opened<J>>,
     /// The memory of the list of who was due for the request that was closed last: the next to be submitted takes it.
     spare: Vec<u64>,
     codes: Codes<N>,
-    log: Log<N>,
 }
 
 impl<N: Name, J: Errand> Model for Desk<N, J> {
@@ -225,6 +226,7 @@ impl<N: Name, J: Errand> Desk<N, J> {
     }
 
     /// Enters a request, which waits with its jobs: one for each target in order, with the request's ask. A refusal hands them back.
+    #[inline(always)]
     pub fn submit(
         &mut self,
         request: Request,
@@ -583,20 +585,27 @@ impl<N: Name, J: Errand> Desk<N, J> {
         }
     }
 
-    /// Whether a place is done with the code.
-    pub fn look(&mut self, board: &Board, serial: u64, place: usize) -> Result<bool, RetireFault>
+    /// Looks for the code at each of so many places, in their order.
+    #[inline(always)]
+    pub fn look_at_all(
+        &mut self,
+        board: &Board,
+        serial: u64,
+        places: usize,
+    ) -> Result<(), RetireFault>
         requires board { board.now ≡ N.board }
-        requires place { place < N.board.places }
-        ensures step { IfOk result (λ past. (code : CodeOf) × (unfreed (at self.old).table.codes serial ≡ Some code) × (found : ℕ) × (self.new.keeper ≡ looked_at self.old.keeper (id_of code) place found) × (past ≡ is_past (slot_of self.old.keeper code.slot).left found)) }
+        requires places { places ≤ N.board.places }
+        ensures looks { OnOk result ((code : CodeOf) × (unfreed (at self.old).table.codes serial ≡ Some code) × LooksBelow (id_of code) places self.old.keeper self.new.keeper) }
         ensures book { (self.new.book ≡ self.old.book) × (self.new.slots ≡ self.old.slots) × (self.new.methods ≡ self.old.methods) }
         ensures jobs { self.new.jobs ≡ self.old.jobs }
         ensures accepted { OnOk result (retire_fault (unfreed (at self.old).table.codes serial) ≡ None) }
         ensures err { IfErr result (λ e. (self.new ≡ self.old) × (retire_fault (unfreed (at self.old).table.codes serial) ≡ Some e)) }
     {
-        self.codes.look(board, serial, place)
+        self.codes.look_at_all(board, serial, places)
     }
 
     /// The job of a target of an open request, with the number of the operation, where it wasn't taken.
+    #[inline(always)]
     pub fn take_job(&mut self, number: u64, name: u64) -> Option<J>
         ensures some { IfSome result (λ j. (J.whom j ≡ name) × (J.number j ≡ number) × (0 < number)) }
         ensures open { OnSome result (is_open number (at self.old).opened ≡ true) }

@@ -48,9 +48,9 @@ impl<N: Name> Model for Receipt<N> {
 #[derive(Drop)]
 pub struct Log<N: Name> {
     entries: Vec<Kept>,
-    asked: Requests,
     reserved: usize,
     replies: Replies,
+    asked: Requests,
     of: PhantomData<N>,
 }
 
@@ -206,6 +206,7 @@ impl<N: Name> Log<N> {
     }
 
     /// Notes the names of a request that is to be entered, and keeps room for it and its replies. Refused only for want of memory.
+    #[inline(always)]
     pub fn note(&mut self, request: &Request) -> Result<Noted, AllocError>
         ensures noted { IfOk result (λ noted. (request_of noted self.new.noted ≡ request.now) × (noted.count ≡ length (targets_of request.now)) × (noted.count ≤ length self.new.noted)) }
         ensures room { IfOk result (λ noted. (0 < self.new.spare) × (noted.count ≤ self.new.places)) }
@@ -246,6 +247,7 @@ impl<N: Name> Log<N> {
     }
 
     /// Puts an Ask to the end, of the request that was noted, with places for its replies, in room that was kept.
+    #[inline(always)]
     pub fn enter_ask(&mut self, number: u64, noted: Noted, seen: Snapshot<Entry>) -> Receipt<N>
         requires reserved { 0 < self.old.book.reserved }
         requires spare { 0 < self.old.spare }

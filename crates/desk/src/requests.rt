@@ -45,6 +45,7 @@ impl Noted {
 }
 
 // Puts the names of a request to the end. Refused only for want of memory.
+#[inline(always)]
 fn put(names: &mut Vec<u64>, request: &Request) -> Result<Noted, AllocError>
     ensures items { names.new.items ≡ names.old.items ++ (if is_ok result then targets_of request.now else []) }
     ensures noted { IfOk result (λ noted. (request_of noted (targets_of request.now) ≡ request.now) × (noted.count ≡ length (targets_of request.now))) }
@@ -77,6 +78,7 @@ impl Requests {
 
     /// Notes the names of a request that is to be added, in place of those that were noted for one that wasn't, and keeps room for it.
     /// Refused only for want of memory.
+    #[inline(always)]
     pub fn note(&mut self, request: &Request) -> Result<Noted, AllocError>
         ensures list { self.new.list ≡ self.old.list }
         ensures spare { OnOk result (0 < self.new.spare) }

@@ -1,0 +1,19 @@
+use Rattle.std.proofs.Common.{ℕ, Option, None, Some, sym, subst}
+use Rattle.std.specs.Prelude.{IfSome}
+use Rattle.desk.specs.Fields.{DeskSeen}
+use Rattle.coordinator.specs.declared.faults.Reclaimed.{Reclaimed}
+use Rattle.coordinator.specs.Reclaiming.{IsReclaimed, LooksAtAll, Frees}
+use Rattle.coordinator.proofs.coordinator.Coordinator.try_weigh.Goals as goal
+
+-- what became of the code where all places had just been looked at
+reclaimed : {N : Type 0} (places serial : ℕ) (before looked after : DeskSeen) → LooksAtAll serial places before looked → (r : Option (Reclaimed N)) → IfSome r (Frees places serial looked after) → IfSome r (IsReclaimed places serial)
+reclaimed places serial before looked after looks None h = tt
+reclaimed places serial before looked after looks (Some said) h = record { before = before; looked = looked; after = after; looks = looks; frees = h }
+
+pub returns : goal.returns
+returns g c =
+    let before = c.deref_mut.result.now in let looked = c.deref_mut-2.result.now in let found = c.in-Ok.ensures in
+    let all : LooksAtAll c.args.serial c.self.inside.places before c.look_at_all.new.self = record { looks = found.looks; book_stays = found.book.0; sizes_stay = (found.book.1, found.book.2) } in
+    let here = subst (LooksAtAll c.args.serial c.self.inside.places before) (sym c.deref_mut-2.ensures.value) all in
+    let whole = subst (λ n. LooksAtAll c.args.serial n before looked) c.self.invariant.2 here in
+    reclaimed g.N.Name.board.places c.args.serial before looked _ whole c.weigh_and_free.result c.weigh_and_free.ensures
