@@ -23,8 +23,8 @@ use thread_list::Shared;
 /// How often a `drive` looks at poll words without a lock before it sleeps.
 pub const SPINS: u32 = 500;
 
-// How often of these for one thread, which is longer than a thread takes to its next poll: one that didn't come there may wait for this very
-// processor.
+// How often of these for one thread, which is longer than a thread takes to its next poll: one that didn't come there may wait for
+// this very processor.
 const PATIENCE: u32 = 250;
 
 // How often a census looks into berths for bodies that aren't there, with a pause after each look, before it sleeps.
@@ -242,10 +242,10 @@ impl<'a, N: Name, J: Errand> Coordinator<'a, N, J> {
         left
     }
 
-    // Serves a target at once where its body is in its berth, and else waits for it: without a lock as far as patience and the spins that are
-    // left go, since a lock that it took then the thread would wait for, and then, where the oldest open request is of it, asleep until its body is
-    // there. A target that comes for what it was told serves itself, and is waited for only to the end: what another runs until then may
-    // wait for those that come after it. Answers how many spins are left.
+    // Serves a target at once where its body is in its berth, and else waits for it: without a lock as far as patience and the spins that
+    // are left go, since a lock that it took then the thread would wait for, and then, where the oldest open request is of it, asleep
+    // until its body is there. A target that comes for what it was told serves itself, and is waited for only to the end: what another
+    // runs until then may wait for those that come after it. Answers how many spins are left.
     #[inline(always)]
     fn serve_due<R: Wait>(&self, rt: &R, who: Live, spins: u32, to_the_end: bool) -> u32 {
         if who.place >= self.places || self.serve_at(rt, who).is_ok() {

@@ -167,6 +167,25 @@ impl<N: Name> Codes<N> {
         self.keeper.round(board)
     }
 
+    /// Whether a place is done with the code.
+    pub fn look(&mut self, board: &Board, serial: u64, place: usize) -> Result<bool, RetireFault>
+        requires board { board.now ≡ N.board }
+        requires place { place < N.board.places }
+        ensures step { IfOk result (λ past. (code : CodeOf) × IsCodeOf self.old serial code × (found : ℕ) × (self.new.keeper ≡ looked_at self.old.keeper (id_of code) place found) × (past ≡ is_past (slot_of self.old.keeper code.slot).left found)) }
+        ensures table { self.new.table ≡ self.old.table }
+        ensures accepted { OnOk result (retire_fault (unfreed self.old.table.codes serial) ≡ None) }
+        ensures refused { IfErr result (λ fault. retire_fault (unfreed self.old.table.codes serial) ≡ Some fault) }
+        ensures unchanged { OnErr result (self.new ≡ self.old) }
+    {
+        let Some(code) = self.table.find(serial) else {
+            return Err(RetireFault::Unknown);
+        };
+        let CodeState::NotEntrant = code.state else {
+            return Err(RetireFault::NotNotEntrant);
+        };
+        Ok(self.keeper.look(board, id_of(code), place))
+    }
+
     /// Looks for the code at each of so many places, in their order.
     #[inline(always)]
     pub fn look_at_all(

@@ -585,6 +585,19 @@ impl<N: Name, J: Errand> Desk<N, J> {
         }
     }
 
+    /// Whether a place is done with the code.
+    pub fn look(&mut self, board: &Board, serial: u64, place: usize) -> Result<bool, RetireFault>
+        requires board { board.now ≡ N.board }
+        requires place { place < N.board.places }
+        ensures step { IfOk result (λ past. (code : CodeOf) × (unfreed (at self.old).table.codes serial ≡ Some code) × (found : ℕ) × (self.new.keeper ≡ looked_at self.old.keeper (id_of code) place found) × (past ≡ is_past (slot_of self.old.keeper code.slot).left found)) }
+        ensures book { (self.new.book ≡ self.old.book) × (self.new.slots ≡ self.old.slots) × (self.new.methods ≡ self.old.methods) }
+        ensures jobs { self.new.jobs ≡ self.old.jobs }
+        ensures accepted { OnOk result (retire_fault (unfreed (at self.old).table.codes serial) ≡ None) }
+        ensures err { IfErr result (λ e. (self.new ≡ self.old) × (retire_fault (unfreed (at self.old).table.codes serial) ≡ Some e)) }
+    {
+        self.codes.look(board, serial, place)
+    }
+
     /// Looks for the code at each of so many places, in their order.
     #[inline(always)]
     pub fn look_at_all(

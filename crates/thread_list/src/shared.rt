@@ -204,9 +204,9 @@ impl<N: Name, J: Errand> Shared<N, J> {
     }
 
     // Wakes those that wait until a thread is answered for or gone, and answers whether there are any; called once the desk's lock was let
-    // go after such an entry. No wake-up is lost: who waits has counted itself under the lock under which it looked, and keeps the lock until it
-    // sleeps. Where it looked before the entry it is counted here, or has woken already and looks again; where it looks afterwards it
-    // finds the entry, and doesn't wait.
+    // go after such an entry. No wake-up is lost: who waits has counted itself under the lock under which it looked, and keeps the lock
+    // until it sleeps. Where it looked before the entry it is counted here, or has woken already and looks again; where it looks
+    // afterwards it finds the entry, and doesn't wait.
     #[inline(always)]
     fn ring(&self) -> bool {
         let wanted = self.waiters.load(Ordering::SeqCst) != 0;
