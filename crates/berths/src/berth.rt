@@ -320,6 +320,7 @@ impl<N: Name, J: Errand> Berth<N, J> {
     }
 
     /// Takes the body of the name to be held, where it is here; the error is the receipt that it wasn't.
+    #[inline(always)]
     pub fn take<R: Wait>(
         &self,
         rt: &R,

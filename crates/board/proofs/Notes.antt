@@ -1,8 +1,10 @@
 -- The keeper's notes over its steps.
-use Rattle.std.proofs.Common.{◌≡◌, ℕ, zero, suc, ◌*◌, ◌%◌, ◌^◌, ◌<◌, true, ◌||◌, ◌&&◌, eqb, List, [], ◌∷◌, length, get_or, set, sym, refl, ap, ◌∙◌, subst, arith, replicate, length-set, get_or-set_same, get_or-set_other, eq-eqb, ne_eqb}
+use Rattle.std.proofs.Common.{◌≡◌, ◌≤◌, ℕ, zero, suc, ◌+◌, ◌-◌, ◌*◌, ◌%◌, ◌^◌, ◌<◌, ⊎_elim, true, ◌||◌, ◌&&◌, eqb, List, [], ◌∷◌, length, get_or, set, sym, refl, ap, ◌∙◌, subst, arith, replicate, length-set, get_or-set_same, get_or-set_other, eq-eqb, ne_eqb}
 use Rattle.std.proofs.lemmas.List.{get_or-replicate, length-replicate}
-use Rattle.std.proofs.lemmas.Nat.Bits.{bit_at-zero, bit_at_set_same, bit_at_set_other}
-use Rattle.std.specs.Int.{bit_at, w64}
+use Rattle.std.proofs.lemmas.Bool.{cases_lt}
+use Rattle.std.proofs.lemmas.Nat.Bits.{bit_at-zero, bit_at_set_same, bit_at_set_other, bit_at-trailing_ones, bit_at_ones}
+use Rattle.std.specs.Int.{bit_at, trailing_ones, w64}
+use Rattle.std.specs.Int.Count.{trailing_of_zero}
 use Rattle.std.specs.Int.Bits.{bit_or}
 use mathlib.Core.Logic.{dite}
 use native.Mathlib.Decide.{ℕ_discrete}
@@ -13,6 +15,24 @@ use Rattle.frames.specs.BoardViews.{slot_of, has_place, empty_slot, slot_with_lo
 use Rattle.board.specs.declared.note.Note.{Note}
 use Rattle.board.specs.Notes.{note_at, blank, Agrees, AreNoted, IsNotedAfter}
 use Rattle.board.proofs.Views.{with_place_has}
+
+-- a word of ones alone has 64 at its end
+all_ones : (n : ℕ) → n < 2 ^ 64 → 2 ^ 64 ≤ n + 1 → (n ≡ 2 ^ 64 - 1) × (trailing_ones w64 n ≡ 64)
+all_ones n fits full = let all : n ≡ 2 ^ 64 - 1 = omega arith in (all, ap (trailing_ones w64) all ∙ trailing_of_zero 64)
+
+-- the ones at the end of a word are ones
+pub ones_are : (n i : ℕ) → n < 2 ^ 64 → i < trailing_ones w64 n → bit_at n i ≡ 1
+ones_are n i fits before = ⊎_elim
+    (λ less. (bit_at-trailing_ones w64 n less).2 i before)
+    (λ full. let all = all_ones n fits full in ap (λ m. bit_at m i) all.0 ∙ bit_at_ones 64 i (subst (λ m. i < m) all.1 before))
+    (cases_lt (n + 1) (2 ^ 64))
+
+-- and where they don't fill it, a zero stands before them
+pub zero_stands : (n : ℕ) → n < 2 ^ 64 → trailing_ones w64 n < 64 → bit_at n (trailing_ones w64 n) ≡ 0
+zero_stands n fits short = ⊎_elim
+    (λ less. (bit_at-trailing_ones w64 n less).1)
+    (λ full. absurd (let all = all_ones n fits full in omega (arith, all.1)))
+    (cases_lt (n + 1) (2 ^ 64))
 
 -- a note is written for the slot that changes
 pub noted_set : (slots : ℕ) (notes : List Note) (k k' : KeeperView) (i : ℕ) (note : Note) (s : SlotView) → k'.slots ≡ set k.slots i s → AreNoted slots notes k → i < slots → Agrees note s → AreNoted slots (set notes i note) k'

@@ -283,13 +283,12 @@ impl Keeper {
         ensures some { IfSome result (λ p. (p < self.now.board.places) × (has_place (slot_of self.now.seen code.slot).looked p ≡ false) × ((q : ℕ) → q < p → IsLooked self.now.seen code q)) }
         ensures none { IfNone result ((q : ℕ) → q < self.now.board.places → IsLooked self.now.seen code q) }
     {
-        let note = self.notes[code.slot as usize];
-        for place in 0..self.places {
-            if !note.has_looked(place) {
-                return Some(place);
-            }
+        let place = self.notes[code.slot as usize].least_unlooked();
+        if place < self.places {
+            Some(place)
+        } else {
+            None
         }
-        None
     }
 
     fn load_count<A: About>(&mut self, board: &Board, code: CodeId) -> u64

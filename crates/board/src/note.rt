@@ -1,5 +1,5 @@
 //! What the keeper writes down of a slot.
-ghost use Rattle.std.specs.Prelude.{◌≡◌, ◌<◌};
+ghost use Rattle.std.specs.Prelude.{◌≡◌, ◌<◌, ◌≤◌, ℕ, true, false};
 ghost use Rattle.frames.specs.BoardStep.{is_past};
 ghost use Rattle.board.specs.Notes.{note_at, is_noted, IsNotedAfter};
 
@@ -25,12 +25,13 @@ impl Note {
         Note { left, looked: 0 }
     }
 
-    /// Whether the place was looked at.
-    pub fn has_looked(&self, place: usize) -> bool
-        requires { place < 64 }
-        ensures { result ≡ is_noted self.now place }
+    /// The least place that wasn't looked at, 64 where all were.
+    pub fn least_unlooked(&self) -> usize
+        ensures bound { result ≤ 64 }
+        ensures below { (p : ℕ) → p < result → is_noted self.now p ≡ true }
+        ensures there { result < 64 → is_noted self.now result ≡ false }
     {
-        self.looked >> place & 1 == 1
+        self.looked.trailing_ones() as usize
     }
 
     /// Writes down what a load of the place's moment tells, and answers it.

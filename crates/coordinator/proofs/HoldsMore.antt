@@ -1,5 +1,5 @@
 -- What is held goes on to be held.
-use Rattle.std.proofs.Common.{◌≡◌, List, [], ◌∷◌, ◌++◌, refl, sym, ap, ◌∙◌, subst}
+use Rattle.std.proofs.Common.{◌≡◌, List, [], ◌∷◌, ◌++◌, refl, ap, ◌∙◌}
 use Rattle.bodies.specs.Bodies.{BodyView}
 use Rattle.coordinator.specs.Holding.{Holding}
 use Rattle.coordinator.specs.Driving.{HoldsOn}
@@ -20,7 +20,3 @@ holds_same old new e = (([], ap (λ (h : Holding). h.held) e ∙ none_more old.h
 pub holds_then : (a b c : Holding) → HoldsOn a b → HoldsOn b c → HoldsOn a c
 holds_then a b c p q =
     ((p.0.0 ++ q.0.0, q.0.1 ∙ (ap (λ t. t ++ q.0.0) p.0.1 ∙ together a.held p.0.0 q.0.0)), q.1 ∙ p.1)
-
--- and then what is held stays
-pub holds_so : (a b c d : Holding) → HoldsOn a b → HoldsOn b c → d ≡ c → HoldsOn a d
-holds_so a b c d p q e = subst (λ (x : Holding). HoldsOn a x) (sym e) (holds_then a b c p q)

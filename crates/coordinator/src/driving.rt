@@ -65,32 +65,6 @@ fn open_or_go_on<N: Name, J: Errand>(desk: &mut Desk<N, J>) -> Result<Option<boo
     }
 }
 
-// Lists each thread that is due for an open request, or for the oldest of them alone, in the order of their names, as far as there is
-// room.
-fn list_due<N: Name, J: Errand>(
-    desk: &Desk<N, J>,
-    places: usize,
-    of_oldest: bool,
-    list: &mut Vec<Live>,
-) {
-    let mut above = 0;
-    for _ in 0..places {
-        let next = if of_oldest {
-            desk.next_awaited(above)
-        } else {
-            desk.next_due(above)
-        };
-        let Some(who) = next else {
-            return;
-        };
-        above = who.name;
-        if list.len() >= list.capacity() {
-            return;
-        }
-        list.push_reserved(who);
-    }
-}
-
 // The number of the oldest open request where the thread of the name is due for that, else 0.
 fn awaited_of<N: Name, J: Errand>(desk: &Desk<N, J>, name: u64) -> u64 {
     if !is_awaited(desk, name) {
@@ -198,7 +172,7 @@ impl<'a, N: Name, J: Errand> Coordinator<'a, N, J> {
     {
         self.due.clear();
         let desk = self.shared.desk().lock(rt);
-        list_due(&desk, self.places, of_oldest, &mut self.due);
+        desk.list_due(of_oldest, &mut self.due);
     }
 
     // The number of the oldest open request where the thread of the name is due for that, else 0.
@@ -352,24 +326,59 @@ impl<'a, N: Name, J: Errand> Coordinator<'a, N, J> {
         unreachable!()
     }
 
-    // Holds all live threads and operates the open census over them. None where there is no memory for its list.
+    // Holds all live threads and operates the open census over them: mostly they are those that telling listed. None where there is no
+    // memory for its list.
     fn counted<R: Wait>(&mut self, rt: &R) -> Option<Vec<(u64, u32)>>
         ensures counted { IfSome result (λ list. IsCensus self.new.held list.items) }
         ensures lacks { IfNone result ((s : DeskState) × LacksList s self.new.held) }
         ensures holds { IfNone result (HoldsOn self.old self.new) }
     {
+        self.hold_listed(rt);
         for _ in rt.forever() {
-            self.hold_all(rt);
             match self.operate(rt) {
                 Ok((_, list, _)) => return Some(list),
                 Err(OperateFault::NoMemory) => return None,
                 Err(OperateFault::Refused(desk::OperateFault::AlreadyDone)) => {
                     return census_of(self.alloc, self.bodies.as_slice()).ok();
                 }
-                Err(OperateFault::Refused(_)) => thread::yield_now(),
+                Err(OperateFault::Refused(_)) => self.hold_all(rt),
             }
         }
         unreachable!()
+    }
+
+    // Holds the threads that telling listed, as far as their bodies come while it looks for them. One that exited before it was told
+    // doesn't come.
+    fn hold_listed<R: Wait>(&mut self, rt: &R)
+        ensures { HoldsOn self.old self.new }
+    {
+        let mut looks = LOOKS;
+        for at in 0..self.places {
+            if at >= self.due.len() {
+                return;
+            }
+            let who = self.due[at];
+            looks = self.look_for(rt, who, looks);
+        }
+    }
+
+    // Takes the body of a thread out of its berth, where it isn't held: looks for it there as often as looks are left. Answers how many
+    // are left.
+    fn look_for<R: Wait>(&mut self, rt: &R, due: Live, looks: u32) -> u32
+        ensures { HoldsOn self.old self.new }
+    {
+        if due.place >= self.places || self.bodies.has(due.place) {
+            return looks;
+        }
+        for made in 0..looks {
+            let berth = self.shared.berth(due.place);
+            if let Ok((body, taken)) = berth.take(rt, due.name, due.place) {
+                self.keep(body, taken);
+                return looks - made;
+            }
+            pause();
+        }
+        0
     }
 
     // Holds each thread that is due.
@@ -377,35 +386,25 @@ impl<'a, N: Name, J: Errand> Coordinator<'a, N, J> {
         ensures { HoldsOn self.old self.new }
     {
         self.list_due(rt, false);
-        self.due.reverse();
-        let mut looks = LOOKS;
-        for _ in rt.forever() {
-            let Some(due) = self.due.pop() else {
+        for at in 0..self.places {
+            if at >= self.due.len() {
                 return;
-            };
-            looks = self.hold_at(rt, due, looks);
+            }
+            let who = self.due[at];
+            self.hold_at(rt, who);
         }
     }
 
-    // Takes the body of a thread out of its berth, where it isn't held: looks for it there as often as looks are left, and then waits
-    // asleep. Answers how many are left.
-    fn hold_at<R: Wait>(&mut self, rt: &R, due: Live, looks: u32) -> u32
+    // Takes the body of a thread out of its berth, where it isn't held: waits asleep until it is there.
+    fn hold_at<R: Wait>(&mut self, rt: &R, due: Live)
         ensures { HoldsOn self.old self.new }
     {
         if due.place >= self.places || self.bodies.has(due.place) {
-            return looks;
+            return;
         }
         let berth = self.shared.berth(due.place);
-        for made in 0..looks {
-            if let Ok((body, taken)) = berth.take(rt, due.name, due.place) {
-                self.keep(body, taken);
-                return looks - made;
-            }
-            pause();
-        }
         let (body, taken) = berth.hold(rt, due.name, due.place);
         self.keep(body, taken);
-        0
     }
 
     // Brings all held bodies back.

@@ -77,6 +77,7 @@ fn untold_of<N: Name, J: Errand>(
     armer: &Teller,
     places: usize,
     who: Live,
+    is_census: bool,
 ) -> Option<(Untold<J>, bool)>
     requires places { places ≡ length armer.now.seen.armed }
 {
@@ -87,9 +88,9 @@ fn untold_of<N: Name, J: Errand>(
     let has_more = desk.open_count() > 1 && desk.untold(who.name, number).is_some();
     let target = Target {
         place: who.place,
-        is_census: desk.open_kind()?,
+        is_census,
     };
-    let job = job_of(desk, number, who.name, !target.is_census);
+    let job = job_of(desk, number, who.name, !is_census);
     Some((
         Untold {
             name: who.name,
@@ -111,18 +112,16 @@ fn list_untold<N: Name, J: Errand>(
 ) -> bool
     requires places { places ≡ length armer.now.seen.armed }
 {
-    let mut above = 0;
+    let Some(is_census) = desk.open_kind() else {
+        return false;
+    };
+    desk.list_due(false, due);
     let mut has_more = false;
-    for _ in 0..places {
-        let Some(who) = desk.next_due(above) else {
-            return has_more;
-        };
-        above = who.name;
-        if due.len() >= due.capacity() || list.len() >= list.capacity() {
+    for who in due.as_slice() {
+        if list.len() >= list.capacity() {
             return true;
         }
-        due.push_reserved(who);
-        if let Some((untold, more)) = untold_of(desk, armer, places, who) {
+        if let Some((untold, more)) = untold_of(desk, armer, places, *who, is_census) {
             list.push_reserved(untold);
             has_more = has_more || more;
         }

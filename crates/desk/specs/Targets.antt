@@ -1,5 +1,5 @@
 -- How names stand to the open requests.
-use Rattle.std.specs.Prelude.{ℕ, List, [], ◌∷◌, Bool, ◌==◌, ◌&&◌, not, nat_lt, nat_le, true, false, find, Option, Some, None, if◌then◌else◌}
+use Rattle.std.specs.Prelude.{ℕ, List, [], ◌∷◌, Bool, ◌==◌, ◌&&◌, not, nat_lt, nat_le, true, false, find, filter, Option, Some, None, if◌then◌else◌}
 use Rattle.operations.specs.declared.Request.{Request}
 use Rattle.operations.specs.declared.Request.TheVariants.{Handshake, Census}
 use Rattle.std.specs.List.{list_any}
@@ -82,13 +82,18 @@ abbrev pub due_after : ℕ → List Current → List Live → Option Live
 due_after name cs [] = None
 due_after name cs (l ∷ ls) = if nat_lt name l.name && list_any (is_due_target l) cs then Some l else due_after name cs ls
 
--- for any open request
-abbrev pub next_due : State → ℕ → Option Live
-next_due s name = due_after name s.opened s.live
+-- the live threads that are due for one of the requests
+abbrev pub due_of : List Current → List Live → List Live
+due_of cs ls = filter (λ l. list_any (is_due_target l) cs) ls
 
 abbrev pub oldest : List Current → List Current
 oldest [] = []
 oldest (c ∷ cs) = c ∷ []
+
+-- the oldest alone, or all
+abbrev pub of_which : Bool → List Current → List Current
+of_which true cs = oldest cs
+of_which false cs = cs
 
 -- for the oldest open request
 abbrev pub next_awaited : State → ℕ → Option Live

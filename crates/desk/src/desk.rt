@@ -1,5 +1,5 @@
 //! The desk: what all threads ask of the coordinator, in one history.
-ghost use Rattle.std.specs.Prelude.{◌≡◌, ◌==◌, ◌&&◌, ℕ, ◌+◌, ◌<◌, ◌≤◌, ◌^◌, List, [], ◌∷◌, ◌++◌, length, true, false, nat_le, Some, None, IfOk, IfErr, IfSome, IfNone, OnOk, OnSome, map, option_map, OnErr, ◌≢◌, ◌⊎◌, vec_len, vec_capacity};
+ghost use Rattle.std.specs.Prelude.{◌≡◌, ◌==◌, ◌&&◌, ℕ, ◌+◌, ◌-◌, ◌<◌, ◌≤◌, ◌^◌, List, [], ◌∷◌, ◌++◌, length, take, true, false, nat_le, Some, None, IfOk, IfErr, IfSome, IfNone, OnOk, OnSome, map, option_map, OnErr, ◌≢◌, ◌⊎◌, vec_len, vec_capacity};
 ghost use Rattle.frames.specs.ImageView.{IsSettled};
 ghost use Rattle.frames.specs.BoardViews.{went_round, looked_at, slot_of, entry_stored, not_entrant, in_state};
 ghost use Rattle.frames.specs.declared.board_rule.EntryState.TheVariants.{Vacant};
@@ -13,7 +13,7 @@ ghost use Rattle.desk.specs.CodeBoard.{AreEntries, KeeperWeighs, LooksBelow, sto
 ghost use Rattle.desk.specs.Machine.{Current as CurrentOf, is_legal, is_taken, names_of, lawful, steps_of, is_open};
 ghost use Rattle.desk.specs.Refusals.{start_refused, ask_refused, ask_refused_if, open_refused, close_refused, install_refused, operate_refused, reclaim_refused, is_idle, AreSettled, are_all, MayAsk, MayInstall, MayOperate, MayStart, operate_said, chosen, holds_target};
 ghost use Rattle.desk.specs.Fields.{DeskSeen, at, Enters, EntersInstall, kept_before};
-ghost use Rattle.desk.specs.Targets.{standing, untold, progress, next_due, next_awaited, name_at, open_kind};
+ghost use Rattle.desk.specs.Targets.{standing, untold, progress, due_of, of_which, next_awaited, name_at, open_kind};
 ghost use Rattle.desk.specs.Once.{replies_of};
 ghost use Rattle.desk.specs.JobsFit.{jobs_fit, request_of, left_of, has_job, job_taken, jobs_closed, jobs_opened, is_asked_by};
 
@@ -30,7 +30,9 @@ use crate::lists::{
     targets_in,
 };
 use crate::log::{Log, Receipt, RoomFault, seen_as_ask};
-use crate::targets::{due_after, name_at, oldest, progress_in, standing_to, untold_in};
+use crate::targets::{
+    due_after, list_due, name_at, of_which, oldest, progress_in, standing_to, untold_in,
+};
 use board::{Board, Keeper, Spent, Weighed};
 use bodies::{Body, Name};
 use method_table::table::{FreeFault, Installed, InvalidateFault, MethodTable, RetireFault};
@@ -293,7 +295,10 @@ impl<N: Name, J: Errand> Desk<N, J> {
         };
         let number = self.next_number;
         let (seen, request) = seen_as_ask(number, request);
-        if let Err(back) = self.queue.push(number, request, Carried { due, jobs }) {
+        if let Err(back) = self
+            .queue
+            .push_tested(number, request, Carried { due, jobs })
+        {
             self.log.give_back(3 + steps);
             let Unqueued {
                 fault: _,
@@ -688,17 +693,19 @@ impl<N: Name, J: Errand> Desk<N, J> {
         progress_in(self.opened.as_slice(), self.next_name, name, last)
     }
 
-    /// The least name above this one, with its place, whose thread was live at the Open of an open request, is live, and has no Finish
-    /// for it, or whose census isn't operated.
+    /// Lists the threads that are live, were so at the Open of an open request, or of the oldest, and have no Finish for it, or whose
+    /// census isn't operated: in the order of their names, as far as the list has room.
     #[inline(always)]
-    pub fn next_due(&self, name: u64) -> Option<Live>
-        ensures { result ≡ next_due (at self.now) name }
+    pub fn list_due(&self, of_oldest: bool, list: &mut Vec<Live>)
+        ensures items { list.new.items ≡ list.old.items ++ take (vec_capacity list.old - vec_len list.old) (due_of (of_which of_oldest (at self.now).opened) (at self.now).live) }
+        ensures capacity { vec_capacity list.new ≡ vec_capacity list.old }
     {
         let _ = &self.log;
-        due_after(self.opened.as_slice(), self.live.as_slice(), name)
+        let opened = of_which(self.opened.as_slice(), of_oldest);
+        list_due(opened, self.live.as_slice(), list);
     }
 
-    /// The same for the oldest open request.
+    /// The least name above this one, with its place, whose thread is due for the oldest open request.
     #[inline(always)]
     pub fn next_awaited(&self, name: u64) -> Option<Live>
         ensures { result ≡ next_awaited (at self.now) name }

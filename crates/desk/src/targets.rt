@@ -1,10 +1,10 @@
 // How names stand to the open requests.
-ghost use Rattle.std.specs.Prelude.{◌≡◌, ◌&&◌, ◌<◌, List, map, IfSome};
+ghost use Rattle.std.specs.Prelude.{◌≡◌, ◌&&◌, ◌<◌, ◌++◌, ◌-◌, List, map, take, vec_capacity, vec_len, IfSome};
 ghost use Rattle.std.specs.List.{list_any};
 ghost use Rattle.operations.specs.Requests.{is_census};
 ghost use Rattle.desk.specs.Machine.{Current, names_of, place_of, has_census};
 ghost use Rattle.desk.specs.Rising.{AreRising};
-ghost use Rattle.desk.specs.Targets.{is_asked, is_owed, is_target_of, standing_at, standing_to, is_untold, is_told, is_undone, untold_in, progress_in, is_due_target, due_after, oldest, name_at};
+ghost use Rattle.desk.specs.Targets.{is_asked, is_owed, is_target_of, standing_at, standing_to, is_untold, is_told, is_undone, untold_in, progress_in, is_due_target, due_after, due_of, of_which, oldest, name_at};
 ghost use Rattle.desk.specs.Fields.{current_of};
 
 use crate::entries::{Live, Opened, Progress, Standing, Target};
@@ -236,6 +236,24 @@ pub fn due_after<J>(opened: &[Opened<J>], live: &[Live], name: u64) -> Option<Li
     None
 }
 
+/// Lists the live threads that are due for one of the requests, in their order, as far as the list has room.
+#[inline(always)]
+pub fn list_due<J>(opened: &[Opened<J>], live: &[Live], list: &mut Vec<Live>)
+    ensures items { list.new.items ≡ list.old.items ++ take (vec_capacity list.old - vec_len list.old) (due_of (map current_of opened.now) live.now) }
+    ensures capacity { vec_capacity list.new ≡ vec_capacity list.old }
+{
+    let mut rest = live;
+    while let Some((one, others)) = rest.split_first() {
+        if is_due(*one, opened) {
+            if list.len() >= list.capacity() {
+                return;
+            }
+            list.push_reserved(*one);
+        }
+        rest = others;
+    }
+}
+
 /// The oldest request alone.
 pub fn oldest<J>(opened: &[Opened<J>]) -> &[Opened<J>]
     ensures { map current_of result.now ≡ oldest (map current_of opened.now) }
@@ -245,4 +263,12 @@ pub fn oldest<J>(opened: &[Opened<J>]) -> &[Opened<J>]
     } else {
         &opened[..1]
     }
+}
+
+/// The oldest request alone, or all.
+#[inline(always)]
+pub fn of_which<J>(opened: &[Opened<J>], of_oldest: bool) -> &[Opened<J>]
+    ensures { map current_of result.now ≡ of_which of_oldest (map current_of opened.now) }
+{
+    if of_oldest { oldest(opened) } else { opened }
 }

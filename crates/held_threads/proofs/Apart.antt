@@ -1,10 +1,15 @@
 -- Bodies of different places are no more than there are places; and what becomes of them as one comes, goes or changes.
-use Rattle.std.proofs.Common.{◌≡◌, ◌≢◌, ◌<◌, ◌≤◌, ℕ, zero, suc, Bool, true, false, not, List, [], ◌∷◌, ◌++◌, Some, None, length, refl, sym, ap, ◌∙◌, subst, arith}
+use Rattle.std.proofs.Common.{◌≡◌, ◌≢◌, ◌<◌, ◌≤◌, ◌*◌, ◌%◌, ◌^◌, ℕ, zero, suc, Bool, true, false, not, List, [], ◌∷◌, ◌++◌, Some, None, length, refl, sym, ap, ◌∙◌, subst, arith}
 use Rattle.std.specs.Prelude.{◌==◌, ◌||◌, cond, filter, slice_get, slice_set}
 use Rattle.std.specs.List.{list_any, remove}
 use Rattle.std.proofs.lemmas.Bool.Decides.{nat_tests}
 use Rattle.bodies.specs.Bodies.{BodyView}
-use Rattle.held_threads.specs.Held.{is_held, AreHeld}
+use Rattle.held_threads.specs.Held.{is_held, AreHeld, AreAmong}
+use Rattle.std.proofs.lemmas.Nat.Bits.{bit_at_set_same, bit_at_set_other}
+use Rattle.std.specs.Int.{bit_at, w64}
+use Rattle.std.specs.Int.Bits.{bit_or}
+use mathlib.Core.Logic.{dite}
+use native.Mathlib.Decide.{ℕ_discrete}
 
 same : (a b : ℕ) → (a == b) ≡ true → a ≡ b
 same a b e = grind (arith, nat_tests)
@@ -160,6 +165,25 @@ held_front place (b ∷ xs) ys e = let q = or_false _ _ e in neither _ _ q.0 (he
 pub front : (n : ℕ) (xs ys : List BodyView) → AreHeld n (xs ++ ys) → AreHeld n xs
 front n [] ys h = tt
 front n (b ∷ xs) ys h = (h.0, h.1, h.2, held_front b.seat.place xs ys h.3, front n xs ys h.4)
+
+-- What the bits say of the places stays true.
+pub among_pushed : (bits : ℕ) (bs : List BodyView) (b : BodyView) → b.seat.place < 64 → AreAmong bits bs → AreAmong (bit_or bits (1 * 2 ^ b.seat.place % 2 ^ 64)) (bs ++ b ∷ [])
+among_pushed bits bs b low a place few clear = dite (ℕ_discrete b.seat.place place)
+    (λ e. absurd (let set : bit_at (bit_or bits (1 * 2 ^ b.seat.place % 2 ^ 64)) b.seat.place ≡ 1 = bit_at_set_same w64 bits b.seat.place low in
+    let zero_there : bit_at (bit_or bits (1 * 2 ^ b.seat.place % 2 ^ 64)) b.seat.place ≡ 0 = subst (λ p. bit_at (bit_or bits (1 * 2 ^ b.seat.place % 2 ^ 64)) p ≡ 0) (sym e) clear in omega (arith, set, zero_there)))
+    (λ ne. held_pushed place bs b (a place few (sym (bit_at_set_other w64 bits b.seat.place low place (λ e. ne (sym e))) ∙ clear)) ne)
+
+pub among_removed : (bits : ℕ) (bs : List BodyView) (i : ℕ) → AreAmong bits bs → AreAmong bits (remove bs i)
+among_removed bits bs i a place few clear = held_removed place bs i (a place few clear)
+
+pub among_set : (bits : ℕ) (bs : List BodyView) (i : ℕ) (b c : BodyView) → AreAmong bits bs → slice_get bs i ≡ Some b → c.seat.place ≡ b.seat.place → AreAmong bits (slice_set bs i c)
+among_set bits bs i b c a e p place few clear = held_set place bs i b c e p ∙ a place few clear
+
+pub among_front : (bits : ℕ) (xs ys : List BodyView) → AreAmong bits (xs ++ ys) → AreAmong bits xs
+among_front bits xs ys a place few clear = held_front place xs ys (a place few clear)
+
+pub among_none : (bits : ℕ) (xs : List BodyView) → xs ≡ [] → AreAmong bits xs
+among_none bits xs e place few clear = ap (is_held place) e
 
 pub last : (n : ℕ) (xs : List BodyView) (b : BodyView) → AreHeld n (xs ++ b ∷ []) → (0 < b.name) × (b.seat.stored ≢ 0)
 last n [] b h = (h.1, h.2)

@@ -9,7 +9,7 @@ use Rattle.bodies.specs.Bodies.{BodyView, IsPublished}
 use Rattle.thread_list.specs.Moves.{IsCleared, IsOperated}
 use Rattle.berths.specs.Berths.{Moved, Went}
 use Rattle.berths.specs.declared.room.BodyAct.TheVariants.{Released}
-use Rattle.held_threads.specs.Held.{is_held, AreHeld, AreEach}
+use Rattle.held_threads.specs.Held.{is_held, AreHeld, AreEach, AreAmong}
 use Rattle.held_threads.specs.Brought.{IsBrought}
 
 pub some_is : {A : Type 0} (x y : A) → Some x ≡ Some y → x ≡ y
@@ -84,6 +84,9 @@ each_held R n (a ∷ xs) (b ∷ bs) f e h =
       each_is_held R b.seat.place xs bs f e.1 ∙ subst (λ p. is_held p xs ≡ false) (sym k.1) h.3,
       each_held R n xs bs f e.1 h.4,
     )
+
+pub each_among : (R : BodyView → BodyView → Type 0) (bits : ℕ) (xs ys : List BodyView) → Keeps R → AreEach R xs ys → AreAmong bits xs → AreAmong bits ys
+each_among R bits xs ys f e a place few clear = each_is_held R place xs ys f e ∙ a place few clear
 
 pub published_keeps : Keeps IsPublished
 published_keeps a b p = (p.name_stays, p.place_stays, λ h e. (let m = p.some_moment in let s = p.stored_is in absurd (omega arith)))

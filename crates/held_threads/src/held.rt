@@ -27,18 +27,20 @@ use thread_list::Shared;
 pub struct Held<N: Name> {
     places: usize,
     bodies: Vec<Body<N>>,
+    /// A bit for each place of which a body came since there was none: where it isn't set, no body needs to be looked at.
+    came: u64,
 }
 
 impl<N: Name> Model for Held<N> {
     ghost use Rattle.std.specs.Prelude.{◌≡◌, ◌≤◌, List, vec_capacity};
     ghost use Rattle.bodies.specs.Bodies.{BodyView};
-    ghost use Rattle.held_threads.specs.Held.{AreHeld};
+    ghost use Rattle.held_threads.specs.Held.{AreHeld, AreAmong};
 
     ghost Value = { List BodyView };
 
     ghost view = { λ h. h.bodies.items };
 
-    ghost invariant = { λ h. (h.places ≡ N.board.places) × (h.places ≤ 64) × (h.places ≤ vec_capacity h.bodies) × AreHeld h.places h.bodies.items };
+    ghost invariant = { λ h. (h.places ≡ N.board.places) × (h.places ≤ 64) × (h.places ≤ vec_capacity h.bodies) × AreHeld h.places h.bodies.items × AreAmong h.came h.bodies.items };
 }
 
 /// A body on its way back into its berth. It isn't `Drop`, so it gets there. Contracts see the body.
@@ -145,7 +147,11 @@ impl<N: Name> Held<N> {
         ensures { IfOk result (λ h. h ≡ []) }
     {
         let bodies = Vec::with_capacity(alloc, places)?;
-        Ok(Held { places, bodies })
+        Ok(Held {
+            places,
+            bodies,
+            came: 0,
+        })
     }
 
     pub fn as_slice(&self) -> &[Body<N>]
@@ -170,7 +176,9 @@ impl<N: Name> Held<N> {
     pub fn has(&self, place: usize) -> bool
         ensures { result ≡ is_held place self.now }
     {
-        let _ = &self.places;
+        if place < 64 && self.came >> place & 1 == 0 {
+            return false;
+        }
         is_held(self.bodies.as_slice(), place)
     }
 
@@ -180,7 +188,8 @@ impl<N: Name> Held<N> {
         requires body { (0 < body.name) × (body.seat.stored ≢ 0) }
         ensures { self.new ≡ self.old ++ body ∷ [] }
     {
-        let _ = body.place();
+        let _ = &self.places;
+        self.came |= 1 << body.place();
         self.bodies.push_reserved(body);
     }
 
@@ -200,6 +209,9 @@ impl<N: Name> Held<N> {
         ensures none { IfNone result ((self.old ≡ []) × (self.new ≡ [])) }
     {
         let body = self.bodies.pop()?;
+        if self.bodies.is_empty() {
+            self.came = 0;
+        }
         Some(Loose { body })
     }
 

@@ -125,6 +125,19 @@ impl<T> Queue<T> {
                 load,
             });
         }
+        self.push_tested(number, request, load)
+    }
+
+    /// Puts a request last that was tested and may wait: it is refused for want of memory alone, and comes back then with its load, and
+    /// the queue stays as it was.
+    #[inline(always)]
+    pub fn push_tested(&mut self, number: u64, request: Request, load: T) -> Result<(), Unqueued<T>>
+        requires tested { MayWait (length self.old) request }
+        ensures ok { OnOk result (self.new ≡ self.old ++ record { number = number; request = request; load = load } ∷ []) }
+        ensures refused { IfErr result (λ back. back.fault ≡ QueueFault.NoMemory) }
+        ensures handed_back { IfErr result (λ back. (back.request ≡ request) × (back.load ≡ load)) }
+        ensures unchanged { OnErr result (self.new ≡ self.old) }
+    {
         if self.waiting.reserve(1).is_err() {
             return Err(Unqueued {
                 fault: QueueFault::NoMemory,

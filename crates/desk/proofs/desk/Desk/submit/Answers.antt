@@ -23,13 +23,13 @@ invariant_of-self-2 g c =
     let fit : jobs_fit g.J.Errand.whom g.J.Errand.asks c.args.request c.args.jobs.items ≡ true = search rules in
     let w : Waiting (Carried g.row.J.Denot) = record { number = i.next_number; request = c.args.request; load = record { due = c.in-Ok-targets_in.due; jobs = c.args.jobs } } in
     let carried : IsCarried g.J.Errand.whom w = record { number = low; due = search rules; distinct = targets_distinct c.args.request (search rules); jobs = fitting g.J.Errand.whom g.J.Errand.asks c.args.request c.args.jobs.items fit } in
-    let pushed : c.push.new.self ≡ i.queue ++ w ∷ [] = c.in_default-push.ensures.ok ∙ ap (λ (r : Request). i.queue ++ record { number = i.next_number; request = r; load = w.load } ∷ []) request in
+    let pushed : c.push_tested.new.self ≡ i.queue ++ w ∷ [] = c.in_default-push_tested.ensures.ok ∙ ap (λ (r : Request). i.queue ++ record { number = i.next_number; request = r; load = w.load } ∷ []) request in
     let entered : c.enter_ask.new.self.book.history ≡ i.log.book.history ++ entry.Ask i.next_number c.args.request ∷ [] = search rules in (
-      ask_keeps _ _ i.log.book c.enter_ask.new.self.book i.next_name i.next_number i.live.items i.queue c.push.new.self w i.opened.items i.codes.table m.0 refl pushed entered (search rules),
+      ask_keeps _ _ i.log.book c.enter_ask.new.self.book i.next_name i.next_number i.live.items i.queue c.push_tested.new.self w i.opened.items i.codes.table m.0 refl pushed entered (search rules),
       subst (AreCarried g.J.Errand.whom) (sym pushed) (carried_push g.J.Errand.whom i.queue w m.1 carried),
       m.2,
       m.3,
       m.4,
       m.5,
-      ask_has_room i.next_number i.queue c.push.new.self w i.opened.items i.log.lists c.enter_ask.new.self.lists (silent c.in-Ok-note.noted.count) m.6 pushed refl enough (search rules),
+      ask_has_room i.next_number i.queue c.push_tested.new.self w i.opened.items i.log.lists c.enter_ask.new.self.lists (silent c.in-Ok-note.noted.count) m.6 pushed refl enough (search rules),
     )

@@ -2,7 +2,7 @@ use Rattle.std.proofs.Common.{◌≡◌, ◌<◌, Some, List, refl, sym, subst, 
 use Rattle.std.specs.Prelude.{slice_get}
 use Rattle.std.proofs.lemmas.Option.{slice_get_read}
 use Rattle.bodies.specs.Bodies.{BodyView}
-use Rattle.held_threads.proofs.Apart.{known, changed}
+use Rattle.held_threads.proofs.Apart.{known, changed, among_set}
 use Rattle.held_threads.proofs.Each.{operated_keeps}
 use Rattle.held_threads.proofs.held.Held.serve.Goals as goal
 
@@ -12,7 +12,7 @@ invariant_of-self g c =
     let low : c.args.index < length bs = subst (λ (xs : List BodyView). c.args.index < length xs) (sym c.self.view_is) c.requires.index in
     let here : slice_get bs c.args.index ≡ Some c.index_mut.result.now = slice_get_read bs _ c.args.index c.index_mut.result.now refl low c.index_mut.ensures.value in
     let kept = operated_keeps _ c.index_mut.result.now c.serve_body.new.body c.serve_body.ensures.served in
-    (m.0, m.1, search rules, changed i.places bs c.args.index c.index_mut.result.now c.serve_body.new.body m.3 here kept.1 kept.0 (kept.2 (known i.places bs c.args.index c.index_mut.result.now m.3 here).1))
+    (m.0, m.1, search rules, changed i.places bs c.args.index c.index_mut.result.now c.serve_body.new.body m.3 here kept.1 kept.0 (kept.2 (known i.places bs c.args.index c.index_mut.result.now m.3 here).1), among_set i.came bs c.args.index c.index_mut.result.now c.serve_body.new.body m.4 here kept.1)
 
 pub returns : goal.returns
 returns g c =

@@ -2,14 +2,15 @@ use Rattle.std.proofs.Common.{◌≡◌, ◌<◌, Some, List, refl, sym, subst, 
 use Rattle.std.specs.Prelude.{slice_get}
 use Rattle.std.proofs.lemmas.Option.{slice_get_read}
 use Rattle.bodies.specs.Bodies.{BodyView}
-use Rattle.held_threads.proofs.Apart.{known, removed}
+use Rattle.held_threads.proofs.Apart.{known, removed, among_removed}
 use Rattle.held_threads.proofs.held.Held.take.Goals as goal
 
 pub invariant_of-self : goal.invariant_of-self
 invariant_of-self g c =
     let i = c.self.inside in let m = c.self.invariant in
     let k = removed i.places i.bodies.items c.args.index m.3 in
-    (m.0, m.1, search rules, search (rules, k))
+    let l = among_removed i.came i.bodies.items c.args.index m.4 in
+    (m.0, m.1, search rules, search (rules, k), search (rules, l))
 
 pub invariant_of-result : goal.invariant_of-result
 invariant_of-result g c =

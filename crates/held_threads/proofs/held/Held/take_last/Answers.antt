@@ -1,6 +1,6 @@
 use Rattle.std.proofs.Common.{◌≡◌, ◌++◌, ◌∷◌, [], subst, rules}
-use Rattle.held_threads.specs.Held.{AreHeld}
-use Rattle.held_threads.proofs.Apart.{front, last}
+use Rattle.held_threads.specs.Held.{AreHeld, AreAmong}
+use Rattle.held_threads.proofs.Apart.{front, last, among_front}
 use Rattle.held_threads.proofs.held.Held.take_last.Goals as goal
 
 pub invariant_of-result : goal.invariant_of-result
@@ -9,8 +9,8 @@ invariant_of-result g c =
     let whole : i.bodies.items ≡ c.pop.new.self.items ++ c.in_ok-body.body ∷ [] = search rules in
     last _ _ _ (subst (AreHeld i.places) whole c.self.invariant.3)
 
-pub invariant_of-self-2 : goal.invariant_of-self-2
-invariant_of-self-2 g c =
+pub invariant_of-self-else-is_empty : goal.invariant_of-self-else-is_empty
+invariant_of-self-else-is_empty g c =
     let i = c.self.inside in let m = c.self.invariant in
     let whole : i.bodies.items ≡ c.pop.new.self.items ++ c.in_ok-body.body ∷ [] = search rules in
-    (m.0, m.1, search rules, front _ _ _ (subst (AreHeld i.places) whole m.3))
+    (m.0, m.1, search rules, front _ _ _ (subst (AreHeld i.places) whole m.3), among_front _ _ _ (subst (AreAmong i.came) whole m.4))

@@ -1,5 +1,5 @@
 use Rattle.std.proofs.Common.{◌≡◌}
-use Rattle.coordinator.proofs.coordinator.Coordinator.hold_at.Given as goal
+use Rattle.coordinator.proofs.coordinator.Coordinator.look_for.Given as goal
 
 abbrev pub invariant-loop-made : goal.invariant-loop-made
 invariant-loop-made g l = l.self ≡ l.fn.self

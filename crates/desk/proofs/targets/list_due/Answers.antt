@@ -1,0 +1,33 @@
+use Rattle.std.proofs.Common.{◌≡◌, ◌++◌, ◌-◌, ℕ, suc, true, List, [], ◌∷◌, map, take, vec_capacity, vec_len, sym, ap, ◌∙◌, rules}
+use Rattle.std.specs.Prelude.{cond}
+use Rattle.std.specs.List.{list_any}
+use Rattle.std.proofs.lemmas.List.{append_assoc}
+use Rattle.desk.specs.declared.entries.Live.{Live}
+use Rattle.desk.specs.Machine.{Current}
+use Rattle.desk.specs.Targets.{is_due_target, due_of}
+use Rattle.desk.specs.Fields.{current_of}
+use Rattle.desk.proofs.targets.list_due.Goals as goal
+
+-- One that is due is the first of those that are.
+due_first : (cs : List Current) (one : Live) (others : List Live) → list_any (is_due_target one) cs ≡ true → due_of cs (one ∷ others) ≡ one ∷ due_of cs others
+due_first cs one others due = ap (λ b. cond b (one ∷ due_of cs others) (due_of cs others)) due
+
+-- It goes from the rest to the end.
+moved : (xs : List Live) (one : Live) (rest : List Live) (n k : ℕ) → n ≡ suc k → (xs ++ one ∷ []) ++ take k rest ≡ xs ++ take n (one ∷ rest)
+moved xs one rest n k e = append_assoc xs (one ∷ []) (take k rest) ∙ sym (ap (λ m. xs ++ take m (one ∷ rest)) e)
+
+pub loop-one-preserved-else-len-capacity : goal.loop-one-preserved-else-len-capacity
+loop-one-preserved-else-len-capacity g c =
+    let l = c.loop-one in let p = c.push_reserved in
+    let cs = map (current_of {J = g.row.J.Denot}) c.args.opened.now in
+    let one = c.in-Some.one.now in let others = c.in-Some.others.now in
+    let due : list_any (is_due_target one) cs ≡ true = sym c.is_due.ensures ∙ c.if-is_due.true in
+    let less : vec_capacity l.list - vec_len l.list ≡ suc (vec_capacity p.new.self - vec_len p.new.self) = search rules in
+    let pushed : p.new.self.items ≡ l.list.items ++ one ∷ [] = search rules in
+    let rest_is : l.rest.now ≡ one ∷ others = search rules in (
+      ap (λ xs. xs ++ take (vec_capacity p.new.self - vec_len p.new.self) (due_of cs others)) pushed
+          ∙ (moved l.list.items one (due_of cs others) (vec_capacity l.list - vec_len l.list) (vec_capacity p.new.self - vec_len p.new.self) less
+          ∙ (ap (λ rs. l.list.items ++ take (vec_capacity l.list - vec_len l.list) rs) (sym (ap (due_of cs) rest_is ∙ due_first cs one others due))
+          ∙ l.invariant.0)),
+      search rules,
+    )
