@@ -4,6 +4,7 @@ ghost use Rattle.frames.specs.ImageView.{IsCounted};
 ghost use Rattle.berths.specs.Berths.{acted, moved, number_of};
 
 use crate::due::Due;
+use crate::locking::locked;
 use crate::room::{BerthAct, BerthReceipt, BodyAct, BodyReceipt, Outing, Room};
 use board::Board;
 use bodies::{Body, Name, SpareSeat};
@@ -78,7 +79,7 @@ impl<N: Name, J: Errand> Berth<N, J> {
         ensures ok { IfOk result (λ r. r ≡ moved body BodyAct.Given) }
         ensures err { IfErr result (λ b. b ≡ body) }
     {
-        let mut room = self.room.lock(rt);
+        let mut room = locked(&self.room, rt);
         let receipt = room.give(body)?;
         let wanted = room.has_sleepers() && (!serves || room.is_marked());
         drop(room);
@@ -172,7 +173,7 @@ impl<N: Name, J: Errand> Berth<N, J> {
         ensures ok { IfOk result (λ r. r.0 ≡ moved body (BodyAct.Released operated)) }
         ensures err { IfErr result (λ b. b ≡ body) }
     {
-        let mut room = self.room.lock(rt);
+        let mut room = locked(&self.room, rt);
         let receipt = room.release(body, operated)?;
         let wanted = room.has_sleepers();
         Ok((receipt, wanted))
@@ -244,7 +245,7 @@ impl<N: Name, J: Errand> Berth<N, J> {
         ensures ok { IfOk result (λ r. r ≡ moved body (BodyAct.Released false)) }
         ensures err { IfErr result (λ r. (r.0 ≡ body) × IfSome r.1 (λ j. (J.whom j ≡ body.name) × (0 < J.number j))) }
     {
-        let mut room = self.room.lock(rt);
+        let mut room = locked(&self.room, rt);
         match room.job(body.name()) {
             Ok(job) => return Err((body, Some(job))),
             Err(_none) => {}
@@ -331,7 +332,7 @@ impl<N: Name, J: Errand> Berth<N, J> {
         ensures body { IfOk result (λ r. (r.0.name ≡ name) × (0 < r.0.name) × (r.0.seat.place ≡ place) × (r.0.seat.stored ≢ 0)) }
         ensures absent { IfErr result (λ r. r ≡ acted place name BerthAct.Absent) }
     {
-        self.room.lock(rt).take(name, place)
+        locked(&self.room, rt).take(name, place)
     }
 
     /// Takes the body of the name to serve it, with its oldest job, or the receipt that there was none, where the body is here; the
@@ -349,7 +350,7 @@ impl<N: Name, J: Errand> Berth<N, J> {
         ensures no_job { IfOk result (λ r. IfErr r.2 (λ b. (b.name ≡ name) × (b.act ≡ BerthAct.NoJob))) }
         ensures absent { IfErr result (λ r. r ≡ acted place name BerthAct.Absent) }
     {
-        let mut room = self.room.lock(rt);
+        let mut room = locked(&self.room, rt);
         let (body, receipt) = room.take(name, place)?;
         let job = room.job(name);
         Ok((body, receipt, job))
@@ -382,7 +383,7 @@ impl<N: Name, J: Errand> Berth<N, J> {
         ensures body { IfSome result (λ r. (r.0.name ≡ name) × (0 < r.0.name) × (r.0.seat.place ≡ place) × (r.0.seat.stored ≢ 0)) }
         ensures resumed { IfSome result (λ r. r.1 ≡ moved r.0 BodyAct.Resumed) }
     {
-        self.room.lock(rt).resume(name, place)
+        locked(&self.room, rt).resume(name, place)
     }
 
     /// Takes the body of the name out for its thread to go on, once it is here and nobody holds it. What was told to it stays.

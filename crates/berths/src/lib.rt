@@ -8,8 +8,10 @@
 
 mod berth;
 mod due;
+mod locking;
 mod room;
 
 pub use berth::Berth;
 pub use due::Due;
+pub use locking::locked;
 pub use room::{BerthAct, BerthReceipt, BodyAct, BodyReceipt, Holder, JOBS, Outing, Room};

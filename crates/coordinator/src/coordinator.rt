@@ -8,6 +8,7 @@ ghost use Rattle.coordinator.specs.Holding.{held_nothing};
 ghost use Rattle.coordinator.specs.Refused.{MayClose, not_closed};
 
 use crate::telling::Untold;
+use berths::locked;
 use bodies::Name;
 use desk::{CloseFault, Live, OpenFault, Receipt};
 use held_threads::{Held, Teller};
@@ -32,6 +33,8 @@ pub struct Coordinator<'a, N: Name, J: Errand> {
     pub(crate) operated: bool,
     pub(crate) untold: Vec<Untold<J>>,
     pub(crate) due: Vec<Live>,
+    /// A bit for each place whose thread had its body when it was told: it comes to a poll, and nobody need look into its berth before.
+    pub(crate) out: u64,
 }
 
 impl<'a, N: Name, J: Errand> Model for Coordinator<'a, N, J> {
@@ -76,6 +79,7 @@ impl<'a, N: Name, J: Errand> Coordinator<'a, N, J> {
             operated: false,
             untold,
             due,
+            out: 0,
         })
     }
 
@@ -134,7 +138,7 @@ impl<'a, N: Name, J: Errand> Coordinator<'a, N, J> {
         ensures closed { IfOk result (λ r. (r.1.entry ≡ Entry.Close r.0) × MayClose self.now number r.0) }
         ensures refused { IfErr result (not_closed self.now number) }
     {
-        let mut desk = self.shared.desk().lock(rt);
+        let mut desk = locked(self.shared.desk(), rt);
         let closed = match desk.close(number, self.bodies.as_slice()) {
             Ok(closed) => closed,
             Err(fault) => return Err(fault),

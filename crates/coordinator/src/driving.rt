@@ -11,7 +11,7 @@ ghost use Rattle.berths.specs.Berths.{acted};
 
 use crate::coordinator::Coordinator;
 use crate::faults::{DriveFault, Driven, OperateFault};
-use berths::{BerthAct, BerthReceipt, BodyReceipt};
+use berths::{BerthAct, BerthReceipt, BodyReceipt, locked};
 use bodies::{Name, census_of};
 use desk::{Desk, Live, Progress, Receipt};
 use held_threads::{Held, bring_back, serve_body};
@@ -159,7 +159,7 @@ impl<'a, N: Name, J: Errand> Coordinator<'a, N, J> {
         ensures empty { OnErr result ((s : DeskState) × (s.opened ≡ []) × (s.waiting ≡ [])) }
         ensures same { self.new ≡ self.old }
     {
-        let mut desk = self.shared.desk().lock(rt);
+        let mut desk = locked(self.shared.desk(), rt);
         let Some(is_census) = open_or_go_on(&mut desk)? else {
             return Ok(None);
         };
@@ -222,7 +222,11 @@ impl<'a, N: Name, J: Errand> Coordinator<'a, N, J> {
     // runs until then may wait for those that come after it. Answers how many spins are left.
     #[inline(always)]
     fn serve_due<R: Wait>(&self, rt: &R, who: Live, spins: u32, to_the_end: bool) -> u32 {
-        if who.place >= self.places || self.serve_at(rt, who).is_ok() {
+        if who.place >= self.places {
+            return spins;
+        }
+        let is_out = (self.out >> (who.place % 64)) & 1 == 1;
+        if !is_out && self.serve_at(rt, who).is_ok() {
             return spins;
         }
         self.serve_later(rt, who, spins, to_the_end)

@@ -7,7 +7,7 @@ ghost use Rattle.berths.specs.Berths.{acted};
 
 use crate::coordinator::Coordinator;
 use crate::faults::{TellFault, Told};
-use berths::BerthReceipt;
+use berths::{BerthReceipt, locked};
 use bodies::Name;
 use desk::{Desk, Live, Standing, Target};
 use held_threads::Teller;
@@ -68,6 +68,19 @@ pub struct Untold<J> {
     target: Target,
     number: u64,
     job: Option<J>,
+}
+
+impl<J> Untold<J> {
+    // The same, with the job, which is no longer here then.
+    #[inline(always)]
+    fn taken(&mut self) -> Untold<J> {
+        Untold {
+            name: self.name,
+            target: self.target,
+            number: self.number,
+            job: self.job.take(),
+        }
+    }
 }
 
 // The same of a live thread, and whether it is to be told more. None where it was told all, or the desk names a place that there isn't.
@@ -208,8 +221,8 @@ impl<'a, N: Name, J: Errand> Coordinator<'a, N, J> {
         }
     }
 
-    // Lists each thread that is due, and what it is to be told next, under one hold of the desk's lock, the least name last of the
-    // second. Answers whether any is to be told more.
+    // Lists each thread that is due, and what it is to be told next, under one hold of the desk's lock. Answers whether any is to be told
+    // more.
     fn list_untold<R: Wait>(&mut self, rt: &R) -> bool
         ensures { self.new ≡ self.old }
     {
@@ -222,27 +235,28 @@ impl<'a, N: Name, J: Errand> Coordinator<'a, N, J> {
         ensures { self.new ≡ self.old }
     {
         self.due.clear();
-        let has_more = list_untold(
+        self.out = 0;
+        list_untold(
             desk,
             &self.armer,
             self.places,
             &mut self.due,
             &mut self.untold,
-        );
-        self.untold.reverse();
-        has_more
+        )
     }
 
-    // Tells each thread of the list, the last first, and empties it.
+    // Tells each thread of the list, in the order of their names, and empties it.
     fn tell_listed<R: Wait>(&mut self, rt: &R)
         ensures { (self.new.held ≡ self.old.held) × (self.new.operated ≡ self.old.operated) }
     {
-        for _ in rt.forever() {
-            let Some(untold) = self.untold.pop() else {
-                return;
-            };
+        for at in 0..self.untold.len() {
+            if at >= self.untold.len() {
+                break;
+            }
+            let untold = self.untold[at].taken();
             self.tell_at(rt, untold);
         }
+        self.untold.clear();
     }
 
     // Tells a thread what was listed for it. Where its berth bears another name or none, the name is told as by `tell`.
@@ -266,6 +280,16 @@ impl<'a, N: Name, J: Errand> Coordinator<'a, N, J> {
         let _ = self.tell_with(rt, name, hand);
     }
 
+    // Notes whether the thread of the place has its body as it is told.
+    #[inline(always)]
+    fn note_out(&mut self, place: usize, is_out: bool)
+        ensures { self.new ≡ self.old }
+    {
+        if is_out {
+            self.out |= 1 << (place % 64);
+        }
+    }
+
     // The job in hand, or the mark of the census, goes into the berth, and the place is armed. Answers the receipt of the one or the
     // other. A job of another operation or for another name is dropped.
     #[inline(always)]
@@ -285,10 +309,11 @@ impl<'a, N: Name, J: Errand> Coordinator<'a, N, J> {
         ensures held { (self.new.held ≡ self.old.held) × (self.new.operated ≡ self.old.operated) }
     {
         let shared = self.shared;
-        let mut room = shared.berth(target.place).room().lock(rt);
+        let mut room = locked(shared.berth(target.place).room(), rt);
         if room.place() != target.place || number >= 1 << 40 {
             return None;
         }
+        self.note_out(target.place, !room.has_body(name));
         if target.is_census {
             return self.armer.mark(&mut room, shared.row(), name, number);
         }

@@ -119,6 +119,7 @@ pub fn leave(live: &mut Vec<Live>, name: u64)
 }
 
 /// Takes a name off the targets. No name stands there twice, so at most one goes, and those behind it move in one step.
+#[inline(always)]
 pub fn answered(names: &mut Vec<u64>, name: u64)
     requires { is_distinct names.old.items ≡ true }
     ensures { names.new.items ≡ others name names.old.items }
@@ -286,6 +287,7 @@ pub fn holds_target<N: Name>(request: &Request, bodies: &[Body<N>]) -> bool
     bodies.iter().any(|b| request.is_target(b.name()))
 }
 
+#[inline(always)]
 fn finish<J>(request: &mut Opened<J>, name: u64)
     requires left { 0 < request.old.left }
     requires due { is_distinct request.old.due.items ≡ true }
@@ -386,6 +388,7 @@ pub fn names_of(live: &[Live], alloc: Global) -> Result<Vec<u64>, AllocError>
 }
 
 // Takes the first job for the name out of the list, looked for one by one.
+#[inline(never)]
 fn take_first<J: Errand>(jobs: &mut VecDeque<J>, name: u64) -> Option<J>
     ensures job { IfSome result (λ j. J.whom j ≡ name) }
     ensures some { OnSome result (among name (map J.whom jobs.old.items) ≡ true) }
@@ -405,6 +408,7 @@ fn take_first<J: Errand>(jobs: &mut VecDeque<J>, name: u64) -> Option<J>
 
 // The same, where the front is looked at before the list is searched: jobs are mostly taken in the order in which they stand, and
 // the first is taken without moving another.
+#[inline(always)]
 fn take_of<J: Errand>(jobs: &mut VecDeque<J>, name: u64) -> Option<J>
     ensures job { IfSome result (λ j. J.whom j ≡ name) }
     ensures some { OnSome result (among name (map J.whom jobs.old.items) ≡ true) }
@@ -417,6 +421,7 @@ fn take_of<J: Errand>(jobs: &mut VecDeque<J>, name: u64) -> Option<J>
     take_first(jobs, name)
 }
 
+#[inline(always)]
 fn job_in<J: Errand>(request: &mut Opened<J>, name: u64) -> Option<J>
     ensures job { IfSome result (λ j. (J.whom j ≡ name) × (J.number j ≡ request.old.number)) }
     ensures some { OnSome result (among name (names_left J.whom request.old) ≡ true) }

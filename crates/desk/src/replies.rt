@@ -62,6 +62,7 @@ impl Replies {
     }
 
     /// Keeps room for one operation more with as many replies. Refused only for want of memory.
+    #[inline(always)]
     pub fn reserve(&mut self, replies: usize) -> Result<(), AllocError>
         ensures room { OnOk result ((0 < self.new.spare) × (replies ≤ self.new.places)) }
         ensures lists { self.new.lists ≡ self.old.lists }
@@ -71,6 +72,7 @@ impl Replies {
     }
 
     /// One operation more, which can have as many replies, in room that was kept.
+    #[inline(always)]
     pub fn add(&mut self, replies: usize)
         requires spare { 0 < self.old.spare }
         requires places { replies ≤ self.old.places }

@@ -14,7 +14,7 @@ ghost use Rattle.desk.specs.Refusals.{ask_refused, install_refused};
 
 use crate::hints::Hints;
 use crate::turns::Turn;
-use berths::{Berth, BodyAct, BodyReceipt};
+use berths::{Berth, BodyAct, BodyReceipt, locked};
 use board::Board;
 use bodies::{Body, Name};
 use desk::{CodeFault, Desk, NotLive, Receipt, Refused, live_names_rise};
@@ -154,7 +154,7 @@ impl<N: Name, J: Errand> Shared<N, J> {
         ensures refused { IfErr result (λ e. (s : DeskState) × (book : Book) × ask_refused s request (jobs_fit J.whom J.asks request jobs.items) book e.fault) }
         ensures handed_back { IfErr result (λ e. e.jobs ≡ jobs) }
     {
-        let mut desk = self.desk.lock(rt);
+        let mut desk = locked(&self.desk, rt);
         match desk.submit(request, jobs) {
             Ok(asked) => Ok(asked),
             Err(refused) => Err(refused),
@@ -224,7 +224,7 @@ impl<N: Name, J: Errand> Shared<N, J> {
         ensures ok { IfOk result (λ r. r.entry ≡ Entry.Finish done.op done.target done.reply) }
         ensures err { IfErr result (λ d. d ≡ done) }
     {
-        let mut desk = self.desk.lock(rt);
+        let mut desk = locked(&self.desk, rt);
         let receipt = desk.finish(body, done)?;
         Ok(receipt)
     }

@@ -1,6 +1,5 @@
 use Rattle.std.proofs.Common.{◌≡◌}
 use Rattle.coordinator.proofs.coordinator.Coordinator.tell_listed.Given as goal
 
-abbrev pub invariant-loop : goal.invariant-loop
-invariant-loop g l =
-    (goal.iterator-loop g).can_next l.iterator' × (goal.iterator-loop g).is_finite l.iterator' × (l.self.held ≡ l.fn.self.held) × (l.self.operated ≡ l.fn.self.operated)
+abbrev pub invariant-loop-at : goal.invariant-loop-at
+invariant-loop-at g l = (l.self.held ≡ l.fn.self.held) × (l.self.operated ≡ l.fn.self.operated)
