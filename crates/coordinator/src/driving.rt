@@ -24,11 +24,15 @@ use thread_list::Shared;
 pub const SPINS: u32 = 500;
 
 // How often of these for one thread, which is longer than a thread takes to its next poll: one that didn't come there may wait for
-// this very processor.
+// this very processor. It doesn't yield instead: a thread that has served itself may run on there for its slice.
 const PATIENCE: u32 = 250;
 
-// How often a census looks into berths for bodies that aren't there, with a pause after each look, before it sleeps.
+// How often a census looks into berths for bodies that aren't there before it sleeps.
 const LOOKS: u32 = 128;
+
+// After how many of these for one thread it yields between them, where it pauses before: that thread may wait for this very processor,
+// and each that has stopped leaves its own.
+const QUICK: u32 = 4;
 
 const PAUSE: u32 = 16;
 
@@ -380,7 +384,11 @@ impl<'a, N: Name, J: Errand> Coordinator<'a, N, J> {
                 self.keep(body, taken);
                 return looks - made;
             }
-            pause();
+            if made < QUICK {
+                pause();
+            } else {
+                thread::yield_now();
+            }
         }
         0
     }
@@ -419,13 +427,15 @@ impl<'a, N: Name, J: Errand> Coordinator<'a, N, J> {
         self.wake(wanted);
     }
 
-    // Wakes those that wait at the berths of these places.
+    // Wakes those that wait at the berths of these places, the last first: the next stop comes to the first of them first, and where it
+    // hasn't woken yet finds its body at once.
     fn wake(&self, wanted: u64) {
         let _ = &self.bodies;
         if wanted == 0 {
             return;
         }
-        for place in 0..self.places {
+        for behind in 0..self.places {
+            let place = self.places - 1 - behind;
             if (wanted >> place) & 1 == 1 {
                 self.shared.berth(place).wake();
             }
