@@ -437,7 +437,7 @@ impl<N: Name, J: Errand> Berth<N, J> {
         let mut slept = false;
         let mut looks: u32 = 0;
         for _ in rt.forever() {
-            let mut room = self.room.lock(rt);
+            let mut room = locked(&self.room, rt);
             if room.place() == place {
                 match room.serve(given) {
                     Ok((body, told, outing)) => {

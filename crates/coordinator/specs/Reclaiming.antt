@@ -6,20 +6,14 @@ use Rattle.method_table.specs.Codes.{id_of, unfreed}
 use Rattle.board.specs.declared.weighed.Weighed.{Weighed}
 use Rattle.board.specs.declared.weighed.Weighed.TheVariants.{NotLooked, Used as InUse, Clear}
 use Rattle.desk.specs.declared.entries.Entry.TheVariants as entry
-use Rattle.desk.specs.CodeBoard.{KeeperWeighs, LooksBelow}
-use Rattle.desk.specs.Fields.{DeskSeen, Enters, at}
+use Rattle.desk.specs.CodeBoard.{KeeperWeighs}
+use Rattle.desk.specs.Fields.{DeskSeen, Enters, LooksAtAll, at}
 use Rattle.desk.specs.Machine.{State, Book, Stands}
 use Rattle.desk.specs.JobsFit.{jobs_fit, request_of}
 use Rattle.desk.specs.Refusals.{reclaim_refused}
 use Rattle.desk.specs.declared.faults.ReclaimFault.{ReclaimFault}
 use Rattle.coordinator.specs.declared.faults.Reclaimed.{Reclaimed}
 use Rattle.coordinator.specs.declared.faults.Reclaimed.TheVariants.{Freed, Used, Late}
-
--- The keeper looked for the unfreed code of the serial at each place below this one, and nothing else of the desk changed.
-pub record LooksAtAll (serial places : ℕ) (old new : DeskSeen) : Type 0 where
-  pub looks : (code : Code) × (unfreed (at old).table.codes serial ≡ Some code) × LooksBelow (id_of code) places old.keeper new.keeper
-  pub book_stays : new.book ≡ old.book
-  pub sizes_stay : (new.slots ≡ old.slots) × (new.methods ≡ old.methods)
 
 -- The unfreed code of the serial was weighed from what the keeper knew, with this answer.
 abbrev pub WasWeighed : ℕ → ℕ → DeskSeen → DeskSeen → Weighed → Type 0

@@ -2,6 +2,9 @@
 use Rattle.std.specs.Prelude.{◌≢◌, ◌<◌, Option, Some, None, slice_get, ◌≡◌, ℕ, ◌+◌, ◌≤◌, true, List, [], ◌∷◌, ◌++◌, length, map, if◌then◌else◌}
 use Rattle.frames.specs.declared.board_rule.KeeperView.{KeeperView}
 use Rattle.method_table.specs.TableView.{TableView}
+use Rattle.method_table.specs.declared.Code.{Code}
+use Rattle.method_table.specs.Codes.{id_of, unfreed}
+use Rattle.desk.specs.CodeBoard.{LooksBelow}
 use Rattle.operations.specs.declared.queue.Waiting.{Waiting}
 use Rattle.frames.specs.declared.CodeId.{CodeId}
 use Rattle.operations.specs.Names.{is_distinct}
@@ -105,3 +108,10 @@ pub record EntersInstall (old new : DeskSeen) (replaced : Option CodeId) (code :
 abbrev pub IsIndex : {J : Type 0} → ℕ → List (Opened J) → Option ℕ → Type 0
 IsIndex n os None = (k : ℕ) (o : _) → slice_get os k ≡ Some o → o.number ≢ n
 IsIndex n os (Some i) = (i < length os) × ((k : ℕ) (o : _) → k < i → slice_get os k ≡ Some o → o.number ≢ n) × ((o : _) → slice_get os i ≡ Some o → o.number ≡ n)
+
+-- The keeper looked for the unfreed code of the serial at each place below this one, and nothing else of the desk changed.
+pub record LooksAtAll (serial places : ℕ) (old new : DeskSeen) : Type 0 where
+  pub looks : (code : Code) × (unfreed (at old).table.codes serial ≡ Some code) × LooksBelow (id_of code) places old.keeper new.keeper
+  pub book_stays : new.book ≡ old.book
+  pub sizes_stay : (new.slots ≡ old.slots) × (new.methods ≡ old.methods)
+  pub jobs_stay : new.jobs ≡ old.jobs

@@ -9,10 +9,10 @@ ghost use Rattle.board.specs.Boards.{first_keeper};
 ghost use Rattle.operations.specs.Asks.{reply};
 ghost use Rattle.method_table.specs.TableView.{install_fault, invalidate_fault, retire_fault, free_fault};
 ghost use Rattle.method_table.specs.Codes.{unfreed, id_of, in_use_for};
-ghost use Rattle.desk.specs.CodeBoard.{AreEntries, KeeperWeighs, LooksBelow, stored};
+ghost use Rattle.desk.specs.CodeBoard.{AreEntries, KeeperWeighs, stored};
 ghost use Rattle.desk.specs.Machine.{Current as CurrentOf, is_legal, is_taken, names_of, lawful, steps_of, is_open};
 ghost use Rattle.desk.specs.Refusals.{start_refused, ask_refused, ask_refused_if, open_refused, close_refused, install_refused, operate_refused, reclaim_refused, is_idle, AreSettled, are_all, MayAsk, MayInstall, MayOperate, MayStart, operate_said, chosen, holds_target};
-ghost use Rattle.desk.specs.Fields.{DeskSeen, at, Enters, EntersInstall, kept_before};
+ghost use Rattle.desk.specs.Fields.{DeskSeen, at, Enters, EntersInstall, LooksAtAll, kept_before};
 ghost use Rattle.desk.specs.Targets.{standing, untold, progress, due_of, of_which, next_awaited, name_at, open_kind};
 ghost use Rattle.desk.specs.Once.{replies_of};
 ghost use Rattle.desk.specs.JobsFit.{jobs_fit, request_of, left_of, has_job, job_taken, jobs_closed, jobs_opened, is_asked_by};
@@ -613,9 +613,7 @@ impl<N: Name, J: Errand> Desk<N, J> {
     ) -> Result<(), RetireFault>
         requires board { board.now ≡ N.board }
         requires places { places ≤ N.board.places }
-        ensures looks { OnOk result ((code : CodeOf) × (unfreed (at self.old).table.codes serial ≡ Some code) × LooksBelow (id_of code) places self.old.keeper self.new.keeper) }
-        ensures book { (self.new.book ≡ self.old.book) × (self.new.slots ≡ self.old.slots) × (self.new.methods ≡ self.old.methods) }
-        ensures jobs { self.new.jobs ≡ self.old.jobs }
+        ensures looks { OnOk result (LooksAtAll serial places self.old self.new) }
         ensures accepted { OnOk result (retire_fault (unfreed (at self.old).table.codes serial) ≡ None) }
         ensures err { IfErr result (λ e. (self.new ≡ self.old) × (retire_fault (unfreed (at self.old).table.codes serial) ≡ Some e)) }
     {

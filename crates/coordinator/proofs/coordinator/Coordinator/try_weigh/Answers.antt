@@ -1,8 +1,8 @@
 use Rattle.std.proofs.Common.{ℕ, Option, None, Some, sym, subst}
 use Rattle.std.specs.Prelude.{IfSome}
-use Rattle.desk.specs.Fields.{DeskSeen}
+use Rattle.desk.specs.Fields.{DeskSeen, LooksAtAll}
 use Rattle.coordinator.specs.declared.faults.Reclaimed.{Reclaimed}
-use Rattle.coordinator.specs.Reclaiming.{IsReclaimed, LooksAtAll, Frees}
+use Rattle.coordinator.specs.Reclaiming.{IsReclaimed, Frees}
 use Rattle.coordinator.proofs.coordinator.Coordinator.try_weigh.Goals as goal
 
 -- what became of the code where all places had just been looked at
@@ -12,8 +12,7 @@ reclaimed places serial before looked after looks (Some said) h = record { befor
 
 pub returns : goal.returns
 returns g c =
-    let before = c.deref_mut.result.now in let looked = c.deref_mut-2.result.now in let found = c.in-Ok.ensures in
-    let all : LooksAtAll c.args.serial c.self.inside.places before c.look_at_all.new.self = record { looks = found.looks; book_stays = found.book.0; sizes_stay = (found.book.1, found.book.2) } in
-    let here = subst (LooksAtAll c.args.serial c.self.inside.places before) (sym c.deref_mut-2.ensures.value) all in
+    let before = c.deref_mut.result.now in let looked = c.deref_mut-2.result.now in
+    let here = subst (LooksAtAll c.args.serial c.self.inside.places before) (sym c.deref_mut-2.ensures.value) c.in-Ok.ensures.looks in
     let whole = subst (λ n. LooksAtAll c.args.serial n before looked) c.self.invariant.2 here in
     reclaimed g.N.Name.board.places c.args.serial before looked _ whole c.weigh_and_free.result c.weigh_and_free.ensures
