@@ -245,6 +245,9 @@ impl<'a, N: Name, J: Errand> Coordinator<'a, N, J> {
         if left > 0 {
             return left;
         }
+        if self.serve_at(rt, who).is_ok() {
+            return 0;
+        }
         let number = self.awaited(rt, who.name);
         if number == 0 {
             return 0;

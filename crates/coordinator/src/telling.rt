@@ -313,7 +313,8 @@ impl<'a, N: Name, J: Errand> Coordinator<'a, N, J> {
         if room.place() != target.place || number >= 1 << 40 {
             return None;
         }
-        self.note_out(target.place, !room.has_body(name));
+        let is_out = !room.has_body(name) && !self.bodies.has(target.place);
+        self.note_out(target.place, is_out);
         if target.is_census {
             return self.armer.mark(&mut room, shared.row(), name, number);
         }
