@@ -17,20 +17,21 @@ use std::thread;
 // coordinator more than all else that it does for a thread.
 const YIELDS: u32 = 32;
 
-// With so many words more a berth fills two lines of the cache.
+// With so many words more, and the memory of the later jobs, the bell and the place beside them, there is more than a line of the cache
+// between what a stop changes in two berths.
 const APART: usize = 4;
 
 /// A room under a lock, and a bell that rings for those that wait for a change of it. Each call but `wake` takes this lock, and none
 /// another, and answers the receipt of what it did there, or what came out. Contracts see the place that it was made for.
 ///
-/// `give`, `release_quietly`, `bring` and `resume` try once in line, and only their further tries are a call: the first nearly always
-/// succeeds, and what a call of the loop answers would go through memory.
+/// `give`, `turn`, `release_quietly`, `bring` and `resume` try once in line, and only their further tries are a call: the first nearly
+/// always succeeds, and what a call of the loop answers would go through memory.
 #[derive(Drop)]
 pub struct Berth<N: Name, J: Errand> {
     place: usize,
     room: Mutex<Room<N, J>>,
     bell: Condvar,
-    /// Keeps the next berth out of the lines of this one: each is of another thread.
+    /// Keeps what changes in the next berth out of the lines of this one: each is of another thread.
     apart: [u64; APART],
 }
 
@@ -70,22 +71,15 @@ impl<N: Name, J: Errand> Berth<N, J> {
         }
     }
 
-    // A thread that comes to serve itself takes its body out again at once, and rings then: so nobody is woken to find the body here who
-    // would serve it in the thread's place, but for a census, which keeps the body.
     #[inline(always)]
-    fn try_give<R: Wait>(
-        &self,
-        rt: &R,
-        body: Body<N>,
-        serves: bool,
-    ) -> Result<BodyReceipt<N>, Body<N>>
+    fn try_give<R: Wait>(&self, rt: &R, body: Body<N>) -> Result<BodyReceipt<N>, Body<N>>
         requires body { (body.seat.stored ≢ 0) × (0 < body.name) }
         ensures ok { IfOk result (λ r. r ≡ moved body BodyAct.Given) }
         ensures err { IfErr result (λ b. b ≡ body) }
     {
         let mut room = locked(&self.room, rt);
         let receipt = room.give(body)?;
-        let wanted = room.has_sleepers() && (!serves || room.is_marked());
+        let wanted = room.has_sleepers();
         drop(room);
         self.ring(wanted);
         Ok(receipt)
@@ -97,39 +91,22 @@ impl<N: Name, J: Errand> Berth<N, J> {
         requires body { (body.seat.stored ≢ 0) × (0 < body.name) }
         ensures { result ≡ moved body BodyAct.Given }
     {
-        self.give_for(rt, body, false)
-    }
-
-    /// The body of a thread goes in that calls [`serve`](Berth::serve) next. It doesn't ring, but in a census: `serve` does.
-    #[inline(always)]
-    pub fn give_to_serve<R: Wait>(&self, rt: &R, body: Body<N>) -> BodyReceipt<N>
-        requires body { (body.seat.stored ≢ 0) × (0 < body.name) }
-        ensures { result ≡ moved body BodyAct.Given }
-    {
-        self.give_for(rt, body, true)
-    }
-
-    #[inline(always)]
-    fn give_for<R: Wait>(&self, rt: &R, body: Body<N>, serves: bool) -> BodyReceipt<N>
-        requires body { (body.seat.stored ≢ 0) × (0 < body.name) }
-        ensures { result ≡ moved body BodyAct.Given }
-    {
-        match self.try_give(rt, body, serves) {
+        match self.try_give(rt, body) {
             Ok(receipt) => receipt,
-            Err(back) => self.give_again(rt, back, serves),
+            Err(back) => self.give_again(rt, back),
         }
     }
 
     // The same after a try that failed: other threads run before each further one.
     #[inline(never)]
-    fn give_again<R: Wait>(&self, rt: &R, body: Body<N>, serves: bool) -> BodyReceipt<N>
+    fn give_again<R: Wait>(&self, rt: &R, body: Body<N>) -> BodyReceipt<N>
         requires body { (body.seat.stored ≢ 0) × (0 < body.name) }
         ensures { result ≡ moved body BodyAct.Given }
     {
         let mut body = body;
         for _ in rt.forever() {
             thread::yield_now();
-            match self.try_give(rt, body, serves) {
+            match self.try_give(rt, body) {
                 Ok(receipt) => return receipt,
                 Err(back) => body = back,
             }
@@ -421,9 +398,59 @@ impl<N: Name, J: Errand> Berth<N, J> {
         unreachable!()
     }
 
-    /// Takes the body that its thread gave out again, once it is here and no census keeps it, with its oldest job: yields between its
-    /// first looks, and sleeps before each further one. Answers also whether the thread slept or has woken another.
-    pub fn serve<R: Wait>(
+    // One try: it goes in and comes out under one hold of the lock, where no census keeps it. Else the receipt that it went in comes back.
+    #[inline(always)]
+    fn try_turn<R: Wait>(
+        &self,
+        rt: &R,
+        body: Body<N>,
+    ) -> Result<Result<(Body<N>, Option<Due<J>>, Outing<N>, bool), BodyReceipt<N>>, Body<N>>
+        requires body { (body.seat.stored ≢ 0) × (0 < body.name) }
+        ensures body { IfOk result (λ r. IfOk r (λ t. (t.0.name ≡ body.name) × (0 < t.0.name) × (t.0.seat.place ≡ body.seat.place) × (t.0.seat.stored ≢ 0))) }
+        ensures job { IfOk result (λ r. IfOk r (λ t. IfSome t.1 (λ j. (J.whom j ≡ body.name) × (0 < J.number j)))) }
+        ensures outing { IfOk result (λ r. IfOk r (λ t. (t.2.given ≡ moved body BodyAct.Given) × (t.2.out ≡ moved t.0 (BodyAct.Served (number_of J.number t.1))))) }
+        ensures kept { IfOk result (λ r. IfErr r (λ given. given ≡ moved body BodyAct.Given)) }
+        ensures err { IfErr result (λ b. b ≡ body) }
+    {
+        let mut room = locked(&self.room, rt);
+        if room.place() != body.place() {
+            return Err(body);
+        }
+        let given = room.give(body)?;
+        let served = room.serve(given);
+        let wanted = room.has_sleepers();
+        drop(room);
+        self.ring(wanted);
+        match served {
+            Ok((body, told, outing)) => Ok(Ok((body, told, outing, wanted))),
+            Err(given) => Ok(Err(given)),
+        }
+    }
+
+    /// A turn of a thread that has stopped: its body goes in, and comes out again to serve, with its oldest job, once no census keeps it.
+    /// Nobody finds it here in between to serve it in the thread's place. Answers also whether the thread slept or has woken another.
+    #[inline(always)]
+    pub fn turn<R: Wait>(&self, rt: &R, body: Body<N>) -> (Body<N>, Option<Due<J>>, Outing<N>, bool)
+        requires body { (body.seat.stored ≢ 0) × (0 < body.name) }
+        ensures body { (result.0.name ≡ body.name) × (0 < result.0.name) × (result.0.seat.place ≡ body.seat.place) × (result.0.seat.stored ≢ 0) }
+        ensures job { IfSome result.1 (λ j. (J.whom j ≡ body.name) × (0 < J.number j)) }
+        ensures outing { (result.2.given ≡ moved body BodyAct.Given) × (result.2.out ≡ moved result.0 (BodyAct.Served (number_of J.number result.1))) }
+    {
+        let place = body.place();
+        match self.try_turn(rt, body) {
+            Ok(Ok(turned)) => turned,
+            Ok(Err(given)) => self.serve(rt, place, given),
+            Err(back) => {
+                let given = self.give_again(rt, back);
+                self.serve(rt, place, given)
+            }
+        }
+    }
+
+    // Takes the body that its thread gave out again, once it is here and no census keeps it, with its oldest job: yields between its first
+    // looks, and sleeps before each further one.
+    #[inline(never)]
+    fn serve<R: Wait>(
         &self,
         rt: &R,
         place: usize,

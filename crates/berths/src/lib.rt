@@ -8,6 +8,7 @@
 
 mod berth;
 mod due;
+mod jobs;
 mod locking;
 mod room;
 

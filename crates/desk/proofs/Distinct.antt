@@ -1,6 +1,6 @@
 -- Lists in which no name stands twice.
-use Rattle.std.proofs.Common.{◌≡◌, ◌≢◌, ℕ, zero, suc, ◌<◌, Bool, true, false, not, cond, List, [], ◌∷◌, length, get_or, refl, sym, ap, ◌∙◌, arith}
-use Rattle.std.specs.Prelude.{◌&&◌, ◌||◌, ◌==◌, filter}
+use Rattle.std.proofs.Common.{◌≡◌, ◌≢◌, ℕ, zero, suc, ◌<◌, ◌≤◌, ◌+◌, Bool, true, false, not, cond, List, [], ◌∷◌, length, get_or, refl, sym, ap, ◌∙◌, arith}
+use Rattle.std.specs.Prelude.{◌&&◌, ◌||◌, ◌==◌, filter, drop}
 use Rattle.std.specs.List.{remove}
 use Rattle.std.proofs.lemmas.Bool.{and_parts, eq-eqb, ne_eqb}
 use Rattle.operations.specs.declared.Request.{Request}
@@ -70,3 +70,19 @@ none_among name (x ∷ xs) none =
 pub targets_distinct : (r : Request) → are_targets r ≡ true → is_distinct (targets_of r) ≡ true
 targets_distinct Census h = refl
 targets_distinct (Handshake targets ask) h = (and_parts _ (is_distinct targets) h).1
+
+-- what is left behind the first few, without the one at its place
+pub drop_remove : (ns : List ℕ) (g i j : ℕ) → g ≤ length ns → j ≡ g + i → drop g (remove ns j) ≡ remove (drop g ns) i
+drop_remove ns zero i j low is = let same : j ≡ i = omega arith in ap (remove ns) same
+drop_remove [] (suc g) i j low is = absurd (omega arith)
+drop_remove (x ∷ xs) (suc g) i zero low is = absurd (omega arith)
+drop_remove (x ∷ xs) (suc g) i (suc j) low is = drop_remove xs g i j (omega arith) (omega arith)
+
+-- where the first behind the first few is the name, those behind it are the others
+pub first_off : (name : ℕ) (ns : List ℕ) (g j d : ℕ) → j ≡ g + 1 → is_distinct (drop g ns) ≡ true → g < length ns → get_or ns g d ≡ name → drop j ns ≡ others name (drop g ns)
+first_off name [] g j d is h low here = absurd (omega arith)
+first_off name (x ∷ xs) zero zero d is h low here = absurd (omega arith)
+first_off name (x ∷ xs) zero (suc zero) d is h low here = one_off name 0 (x ∷ xs) h (omega arith) here
+first_off name (x ∷ xs) zero (suc (suc j)) d is h low here = absurd (omega arith)
+first_off name (x ∷ xs) (suc g) zero d is h low here = absurd (omega arith)
+first_off name (x ∷ xs) (suc g) (suc j) d is h low here = first_off name xs g j d (omega arith) h (omega arith) here

@@ -10,3 +10,4 @@ pub mod Replies
 pub mod Spans
 pub mod Unfolded
 pub mod Requested
+pub mod Names

@@ -25,11 +25,11 @@ use crate::faults::{
 };
 use crate::lists::{
     OPEN, are_all, asks_it, finish_at, fit_their_request, holds_target, index_of, is_census,
-    is_census_open, is_idle, is_least, job_of, jobs_fit, keep_live, least_free, leave, lives,
-    make_room, may_close, may_finish, may_open_more, names_of, operate_at, place_chosen, steps_of,
-    targets_in,
+    is_census_open, is_idle, is_least, job_of, jobs_fit, least_free, leave, lives, make_room,
+    may_close, may_finish, may_open_more, names_of, operate_at, place_chosen, steps_of,
 };
 use crate::log::{Log, Receipt, RoomFault, seen_as_ask};
+use crate::names::{Due, Names};
 use crate::targets::{
     due_after, list_due, name_at, of_which, oldest, progress_in, standing_to, untold_in,
 };
@@ -53,14 +53,14 @@ pub const LAST: u64 = (1 << 40) - 1;
 pub struct Desk<N: Name, J: Errand> {
     alloc: Global,
     opened: Vec<Opened<J>>,
-    log: Log<N>,
     live: Vec<Live>,
+    log: Log<N>,
     places: usize,
     next_name: u64,
     next_number: u64,
     queue: Queue<Carried<J>>,
     /// The memory of the list of who was due for the request that was closed last: the next to be submitted takes it.
-    spare: Vec<u64>,
+    spare: Names,
     codes: Codes<N>,
 }
 
@@ -107,7 +107,7 @@ impl<N: Name, J: Errand> Desk<N, J> {
             next_number: 1,
             queue: Queue::new(alloc),
             opened,
-            spare: Vec::new(alloc),
+            spare: Names::new(alloc),
             codes: Codes::new(table, keeper, board),
             log: Log::new(alloc),
         })
@@ -278,8 +278,8 @@ impl<N: Name, J: Errand> Desk<N, J> {
                 jobs,
             }),
         }
-        let spare = mem::replace(&mut self.spare, Vec::new(self.alloc));
-        let Ok(due) = targets_in(spare, &request) else {
+        let spare = mem::replace(&mut self.spare, Names::new(self.alloc));
+        let Ok(due) = spare.of_targets(&request) else {
             self.log.give_back(3 + steps);
             return Err(Refused {
                 fault: AskFault::NoMemory,
@@ -355,14 +355,14 @@ impl<N: Name, J: Errand> Desk<N, J> {
             load,
         } = first;
         let Carried { mut due, jobs } = load;
-        keep_live(&mut due, self.live.as_slice());
+        due.keep_live(self.live.as_slice());
         let left = steps_of(&request);
         self.opened.push_reserved(Opened {
             number,
             request,
             before: self.next_name,
             left,
-            due,
+            due: Due::of(due),
             operated: false,
             jobs: VecDeque::from_vec(jobs),
         });
@@ -437,7 +437,7 @@ impl<N: Name, J: Errand> Desk<N, J> {
             operated: _,
             jobs,
         } = self.opened.remove(place);
-        self.spare = due;
+        self.spare = due.into_names();
         self.log.give_back(left);
         Ok((
             number,

@@ -1,4 +1,5 @@
 //! Entries of the history, and what the desk keeps of them.
+use crate::names::{Due, Names};
 use frames::CodeId;
 use operations::Request;
 use std::collections::VecDeque;
@@ -65,21 +66,21 @@ pub enum Entry {
 /// What a waiting request carries: its jobs, and a list of its targets of which those that aren't live go at the Open.
 #[derive(Drop)]
 pub struct Carried<J> {
-    pub due: Vec<u64>,
+    pub due: Names,
     pub jobs: Vec<J>,
 }
 
-/// An open request.
+/// An open request. What a Finish touches comes first.
 #[derive(Drop)]
 pub struct Opened<J> {
     pub number: u64,
-    pub request: Request,
-    /// The name that was given out next at the Open: a thread with a lesser name was live then, if it is live now.
-    pub before: u64,
     /// How many Finish entries, or whether an Operate entry, is kept for it.
     pub left: usize,
     /// The targets that were live at the Open and have no Finish.
-    pub due: Vec<u64>,
+    pub due: Due,
+    pub request: Request,
+    /// The name that was given out next at the Open: a thread with a lesser name was live then, if it is live now.
+    pub before: u64,
     pub operated: bool,
     /// Those that weren't taken, in the order of the targets, in which they are taken mostly.
     pub jobs: VecDeque<J>,

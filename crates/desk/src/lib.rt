@@ -12,6 +12,7 @@ mod kept;
 mod law;
 mod lists;
 mod log;
+mod names;
 mod replies;
 mod requests;
 mod targets;

@@ -1,11 +1,11 @@
 // Steps on the desk's lists.
-ghost use Rattle.std.specs.Prelude.{◌≡◌, ◌&&◌, ◌==◌, ◌<◌, ◌≤◌, ◌+◌, ℕ, length, true, false, not, map, Some, None, IfOk, vec_capacity, vec_len, IfSome, IfNone, OnSome, OnErr, slice_get, slice_index, slice_set};
+ghost use Rattle.std.specs.Prelude.{◌≡◌, ◌&&◌, ◌==◌, ◌<◌, ◌≤◌, ℕ, length, true, false, map, Some, None, IfOk, vec_capacity, vec_len, IfSome, IfNone, OnSome, slice_get, slice_set};
 ghost use Rattle.std.specs.List.{list_any, list_all};
 ghost use Rattle.operations.specs.Names.{among, is_distinct};
 ghost use Rattle.operations.specs.Requests.{is_census, are_targets};
 ghost use Rattle.desk.specs.declared.entries.Opened.{Opened as OpenedOf};
 ghost use Rattle.desk.specs.declared.entries.Live.{Live as LiveOf};
-ghost use Rattle.desk.specs.Machine.{names_of, is_live, is_taken, without, others, live_of, none_live, has_census, awaits_census, may_open_more, may_close, finished, as_operated, is_due, is_least, targets_of, steps_of};
+ghost use Rattle.desk.specs.Machine.{names_of, is_live, is_taken, without, has_census, awaits_census, may_open_more, may_close, finished, as_operated, is_due, is_least, steps_of};
 ghost use Rattle.desk.specs.Refusals.{has_body, are_all, chosen, holds_target};
 ghost use Rattle.desk.specs.JobsFit.{same_ask, asks_it, are_for, jobs_fit, request_of, without_first};
 ghost use Rattle.desk.specs.Fields.{asked_of, current_of, names_left, IsIndex};
@@ -59,49 +59,6 @@ pub fn taken(live: &[Live], place: usize) -> bool
     live.iter().any(|l| l.place == place)
 }
 
-// Where a name stands among these, looked for one by one.
-#[tactic(auto, using(crate::proofs::Distinct::none_among))]
-fn first_place(names: &[u64], name: u64) -> Option<usize>
-    ensures some { IfSome result (λ i. (i < length names.now) × (slice_index names.now i ≡ name)) }
-    ensures none { IfNone result (among name names.now ≡ false) }
-{
-    for place in 0..names.len() {
-        if names[place] == name {
-            return Some(place);
-        }
-    }
-    None
-}
-
-// Where a name stands among these: first tried as far behind the first as it is greater, where it stands in a list of threads that
-// started one after another, then looked for by halves, since most lists of names rise, and then one by one.
-#[inline(always)]
-fn place_among(names: &[u64], name: u64) -> Option<usize>
-    ensures some { IfSome result (λ i. (i < length names.now) × (slice_index names.now i ≡ name)) }
-    ensures none { IfNone result (among name names.now ≡ false) }
-{
-    if names.is_empty() {
-        return None;
-    }
-    let behind = name.saturating_sub(names[0]);
-    if behind < names.len() as u64 && names[behind as usize] == name {
-        return Some(behind as usize);
-    }
-    match names.binary_search(&name) {
-        Ok(place) if names[place] == name => Some(place),
-        _ => first_place(names, name),
-    }
-}
-
-/// Whether a name is among these.
-#[tactic(auto, using(operations::proofs::Names::listed_at))]
-#[inline(always)]
-pub fn is_among(names: &[u64], name: u64) -> bool
-    ensures { result ≡ among name names.now }
-{
-    place_among(names, name).is_some()
-}
-
 /// Whether there is memory for one name more, where there is for its image.
 pub fn make_room(live: &mut Vec<Live>, has_image: bool) -> bool
     ensures items { live.new.items ≡ live.old.items }
@@ -116,31 +73,6 @@ pub fn leave(live: &mut Vec<Live>, name: u64)
     ensures capacity { vec_capacity live.new ≡ vec_capacity live.old }
 {
     live.retain(|l| l.name != name);
-}
-
-/// Takes a name off the targets. No name stands there twice, so at most one goes, and those behind it move in one step.
-#[inline(always)]
-pub fn answered(names: &mut Vec<u64>, name: u64)
-    requires { is_distinct names.old.items ≡ true }
-    ensures { names.new.items ≡ others name names.old.items }
-{
-    if let Some(place) = place_among(names.as_slice(), name) {
-        names.remove(place);
-    }
-}
-
-/// Keeps the live targets.
-pub fn keep_live(names: &mut Vec<u64>, live: &[Live])
-    ensures { names.new.items ≡ live_of live.now names.old.items }
-{
-    names.retain(|x| lives(live, *x));
-}
-
-/// Whether no target is live.
-pub fn all_gone(names: &[u64], live: &[Live]) -> bool
-    ensures { result ≡ none_live live.now names.now }
-{
-    names.iter().all(|x| !lives(live, *x))
 }
 
 /// The least place that no live name has.
@@ -166,18 +98,6 @@ pub fn is_census(request: &Request) -> bool
         Request::Census => true,
         Request::Handshake { .. } => false,
     }
-}
-
-/// A list of its targets, in the memory of this one, whose names go. Refused only where that is too small and there is no more.
-pub fn targets_in(mut names: Vec<u64>, request: &Request) -> Result<Vec<u64>, AllocError>
-    ensures ok { IfOk result (λ v. v.items ≡ targets_of request.now) }
-    ensures err { OnErr result (vec_capacity names < length (targets_of request.now)) }
-{
-    names.clear();
-    if let Request::Handshake { targets, .. } = request {
-        names.extend_from_slice(targets.as_slice())?;
-    }
-    Ok(names)
 }
 
 /// How many entries it makes between its Open and its Close at most.
@@ -241,7 +161,7 @@ pub fn may_close<J>(request: &Opened<J>, live: &[Live]) -> bool
     if is_census(&request.request) {
         request.operated
     } else {
-        all_gone(request.due.as_slice(), live)
+        request.due.are_gone(live)
     }
 }
 
@@ -250,7 +170,7 @@ pub fn may_close<J>(request: &Opened<J>, live: &[Live]) -> bool
 pub fn may_finish<J>(request: &Opened<J>, live: &[Live], name: u64) -> bool
     ensures { result ≡ (is_due name (current_of request.now) && is_live name live.now) }
 {
-    is_among(request.due.as_slice(), name) && lives(live, name)
+    request.due.has(name) && lives(live, name)
 }
 
 /// Whether no open request with a lesser number is due for the name.
@@ -260,7 +180,7 @@ pub fn is_least<J>(opened: &[Opened<J>], number: u64, name: u64) -> bool
 {
     let mut rest = opened;
     while let Some((one, others)) = rest.split_first() {
-        if one.number < number && is_among(one.due.as_slice(), name) {
+        if one.number < number && one.due.has(name) {
             return false;
         }
         rest = others;
@@ -294,7 +214,7 @@ fn finish<J>(request: &mut Opened<J>, name: u64)
     ensures step { current_of request.new ≡ finished name (current_of request.old) }
     ensures jobs { request.new.jobs ≡ request.old.jobs }
 {
-    answered(&mut request.due, name);
+    request.due.take_off(name);
     request.left -= 1;
 }
 

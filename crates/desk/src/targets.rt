@@ -8,7 +8,8 @@ ghost use Rattle.desk.specs.Targets.{is_asked, is_owed, is_target_of, standing_a
 ghost use Rattle.desk.specs.Fields.{current_of};
 
 use crate::entries::{Live, Opened, Progress, Standing, Target};
-use crate::lists::{found_at, is_among, is_census, is_census_open};
+use crate::lists::{found_at, is_census, is_census_open};
+use crate::names::is_among;
 use operations::Request;
 
 /// Where the name is live.
@@ -73,7 +74,7 @@ fn is_owed<J>(request: &Opened<J>, name: u64) -> bool
     if is_census(&request.request) {
         !request.operated
     } else {
-        is_among(request.due.as_slice(), name)
+        request.due.has(name)
     }
 }
 

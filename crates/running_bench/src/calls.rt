@@ -45,8 +45,8 @@ fn turns_of<'a, N: Name, J: Errand, R: Wait>(
 ) -> (Mutator<'a, N, J>, bool) {
     match plan.kind {
         Kind::Native => crossings(rt, thread, plan.turns),
-        Kind::Interpreted => interpreted_pairs(thread, plan.turns),
         Kind::BackEdge => back_edges(thread, plan.turns),
+        Kind::Interpreted => interpreted_pairs(thread, plan.turns),
         Kind::Call => hinted_pairs(shared, thread, plan.turns),
         Kind::Deep => stacks(shared, thread, plan.turns, plan.arg),
         Kind::Publish => publications(shared, thread, plan.turns, plan.arg),

@@ -140,8 +140,7 @@ fn take_turn<N: Name, J: Errand, R: Wait>(
 {
     let place = body.place();
     let berth = shared.berth_of(&body);
-    let given = berth.give_to_serve(rt, body);
-    let (mut body, told, outing, changed) = berth.serve(rt, place, given);
+    let (mut body, told, outing, changed) = berth.turn(rt, body);
     body.publish(shared.board());
     let job = match told {
         Some(job) => job,

@@ -6,7 +6,7 @@ use Rattle.thread_list.proofs.turns.take_turn.Goals as goal
 
 pub returns-clause-turn : goal.returns-clause-turn
 returns-clause-turn g c =
-    let e = g.J.Errand in let s = c.serve-body in let job = c.in-Some.job in let done = c.serve-receipt in
+    let e = g.J.Errand in let s = c.turn-body in let job = c.in-Some.job in let done = c.serve-receipt in
     let is : s.result.2.out ≡ moved s.result.0 (Served (e.number job)) = s.ensures.outing.1 ∙ ap (λ o. moved s.result.0 (Served (number_of e.number o))) c.in-Some.is in
     let some : 0 < e.number job = search rules in
     let for_it : e.whom job ≡ c.args.body.name = search rules in

@@ -21,7 +21,7 @@ invariant_of-self-2 g c =
     let enough : length (targets_of c.args.request) ≤ c.in-Ok-note.noted.count = omega (arith, c.in-Ok-note.ensures.noted.1) in
     let low : 0 < i.next_number = (let n = m.6.count in omega arith) in
     let fit : jobs_fit g.J.Errand.whom g.J.Errand.asks c.args.request c.args.jobs.items ≡ true = search rules in
-    let w : Waiting (Carried g.row.J.Denot) = record { number = i.next_number; request = c.args.request; load = record { due = c.in-Ok-targets_in.due; jobs = c.args.jobs } } in
+    let w : Waiting (Carried g.row.J.Denot) = record { number = i.next_number; request = c.args.request; load = record { due = c.in-Ok-of_targets.due; jobs = c.args.jobs } } in
     let carried : IsCarried g.J.Errand.whom w = record { number = low; due = search rules; distinct = targets_distinct c.args.request (search rules); jobs = fitting g.J.Errand.whom g.J.Errand.asks c.args.request c.args.jobs.items fit } in
     let pushed : c.push_tested.new.self ≡ i.queue ++ w ∷ [] = c.in_default-push_tested.ensures.ok ∙ ap (λ (r : Request). i.queue ++ record { number = i.next_number; request = r; load = w.load } ∷ []) request in
     let entered : c.enter_ask.new.self.book.history ≡ i.log.book.history ++ entry.Ask i.next_number c.args.request ∷ [] = search rules in (
