@@ -6,6 +6,7 @@ use std::process::Abort;
 
 mod codes;
 mod counts;
+mod jobs;
 mod requests;
 mod stacks;
 mod states;
@@ -42,14 +43,9 @@ fn play_range<P: Player>(rt: &impl Abort, alloc: Global, player: &mut P, range: 
 // The steps with the number in place of each `#`.
 fn filled(rt: &impl Abort, alloc: Global, steps: &str, number: u64) -> String {
     let number = told(rt, alloc, number);
-    let mut filled = String::new(alloc);
-    for (place, part) in steps.split('#').enumerate() {
-        if place > 0 {
-            add(rt, &mut filled, number.as_str());
-        }
-        add(rt, &mut filled, part);
-    }
-    filled
+    steps
+        .replace(alloc, '#', number.as_str())
+        .expect(rt, "no memory")
 }
 
 fn play_steps<P: Player>(rt: &impl Abort, alloc: Global, player: &mut P, steps: &str) {
@@ -94,6 +90,13 @@ fn compare(rt: &impl Abort, step: &str, answer: String, expected: &str) {
 
 fn add(rt: &impl Abort, text: &mut String, more: &str) {
     text.push_str(more).expect(rt, "no memory");
+}
+
+fn joined(rt: &impl Abort, start: String, end: String) -> String {
+    let mut both = start;
+    add(rt, &mut both, " ");
+    add(rt, &mut both, end.as_str());
+    both
 }
 
 fn told<T: Debug + Drop>(rt: &impl Abort, alloc: Global, value: T) -> String {

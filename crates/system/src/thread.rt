@@ -184,10 +184,8 @@ impl Thread {
         if let Some(refusal) = self.frame_refusal() {
             return Err(refusal);
         }
-        match self.image.push(Frame { method, code }) {
-            Ok(()) => Ok(Answer::Entered),
-            Err(_) => unreachable!(),
-        }
+        self.image.put(Frame { method, code });
+        Ok(Answer::Entered)
     }
 
     // The first of the tests that all acts have in common that fails.
@@ -432,10 +430,8 @@ impl Thread {
         if self.image.depth() == 0 {
             return Err(Refusal::EmptyStack);
         }
-        match self.image.pop() {
-            Ok(_) => self.crosses(),
-            Err(_) => unreachable!(),
-        }
+        let _ = self.image.take_top();
+        self.crosses()
     }
 
     // The callback of a handshake, once for each target, on a published stack: of the least one that waits for it. (JEP 312)

@@ -23,3 +23,11 @@ pub mod Determined
 pub mod DeterminedRows
 pub mod Followed
 pub mod FollowedRows
+pub mod DeskPlaces
+pub mod DeskOrder
+pub mod DeskOpened
+pub mod DeskSteps
+pub mod DeskRuns
+pub mod DeskRefusals
+pub mod DeskTargets
+pub mod DeskUntold

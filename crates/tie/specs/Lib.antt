@@ -8,3 +8,7 @@ pub mod WorkedRuns
 pub mod Determined
 pub mod Followed
 pub mod PollSamples
+pub mod DeskOf
+pub mod DeskRefusals
+pub mod DeskSamples
+pub mod DeskTargets

@@ -1,9 +1,12 @@
-//! The tie between the core and the running words: a world of the core, seen as words and views, meets the rules by which the
-//! running tables are proved, and each accepted event changes it by just the steps that those rules let a seat make.
+//! The tie between the core and what running threads share. A world of the core, seen as words and views, meets the rules by which the
+//! running tables are proved, and each accepted event changes it by just the steps that those rules let a seat make. Seen as the state of
+//! the desk, it is the state after a legal history, and each accepted event appends just its entries.
 #![tactic(auto)]
 
 pub mod board_laws;
 pub mod board_samples;
+pub mod desk_laws;
+pub mod desk_samples;
 pub mod followed_runs;
 pub mod poll_row;
 pub mod poll_samples;

@@ -44,6 +44,33 @@ fn cells_go_by_slot_and_a_census_by_serial(rt: HostRuntime) {
 }
 
 #[test]
+fn an_index_of_two_codes_is_full(rt: HostRuntime) {
+    let mut index = Index::new(rt.alloc(), 2).expect(&rt, "no memory");
+    index.add(2, 1);
+    index.add(1, 2);
+    let census = index.census(rt.alloc());
+    is_census(&rt, rt.alloc(), census, "[(1, 2), (2, 1)]");
+}
+
+// The slot of a code without activations goes to a later code.
+#[test]
+fn a_slot_is_placed_again(rt: HostRuntime) {
+    let mut index = DenseIndex::new(rt.alloc(), 2).expect(&rt, "no memory");
+    index.place(0, 1);
+    index.add(0, 1, 2);
+    index.place(1, 2);
+    index.add(1, 2, 1);
+    let census = index.census(rt.alloc());
+    is_census(&rt, rt.alloc(), census, "[(1, 2), (2, 1)]");
+    index.add(0, 1, -2);
+    index.place(0, 3);
+    index.add(0, 3, 1);
+    let census = index.census(rt.alloc());
+    is_census(&rt, rt.alloc(), census, "[(2, 1), (3, 1)]");
+    assert!(rt; index.count(0, 1) == 0);
+}
+
+#[test]
 fn too_many_slots_are_refused(rt: HostRuntime) {
     assert!(rt; Index::new(rt.alloc(), usize::MAX).is_err());
     assert!(rt; DenseIndex::new(rt.alloc(), usize::MAX).is_err());

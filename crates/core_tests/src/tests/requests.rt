@@ -1,17 +1,9 @@
-// Of `operations`: requests that wait, asks and jobs.
-ghost use Rattle.std.specs.Prelude.{◌≡◌, length};
-ghost use Rattle.frames.specs.ImageView.{IsSettled};
-
-use super::{Player, add, number_at, play, told};
-use frames::image::Image;
-use operations::job::{Call, Done, Errand, Job, Query};
+// Of `operations`: requests that wait.
+use super::{Player, joined, number_at, play, told};
 use operations::queue::{Queue, QueueFault, Unqueued, Waiting};
 use operations::{Ask, Kind, Request, Targets};
 use std::alloc::Global;
 use std::process::Abort;
-use std::sync::Arc;
-use std::sync::atomic::{AtomicU64, Ordering};
-use std::test::Fail;
 
 // A queue, and the names of the handshake that comes next.
 #[derive(Drop)]
@@ -92,7 +84,7 @@ fn told_of_unqueued(rt: &impl Abort, alloc: Global, back: Unqueued<u64>) -> Stri
         load,
     } = back;
     let fault = told(rt, alloc, (fault, load));
-    joined(rt, fault, asked(rt, alloc, request).as_str())
+    joined(rt, fault, asked(rt, alloc, request))
 }
 
 fn popped(rt: &impl Abort, alloc: Global, queue: &mut Queue<u64>) -> String {
@@ -109,14 +101,7 @@ fn told_of_waiting(rt: &impl Abort, alloc: Global, oldest: Waiting<u64>) -> Stri
         load,
     } = oldest;
     let number = told(rt, alloc, (number, load));
-    joined(rt, number, asked(rt, alloc, request).as_str())
-}
-
-fn joined(rt: &impl Abort, start: String, end: &str) -> String {
-    let mut both = start;
-    add(rt, &mut both, " ");
-    add(rt, &mut both, end);
-    both
+    joined(rt, number, asked(rt, alloc, request))
 }
 
 fn copied(rt: &impl Abort, alloc: Global, request: &Request) -> String {
@@ -215,93 +200,4 @@ fn want_of_memory_hands_back(rt: HostRuntime) {
         }
     }
     assert!(rt; queue.len() == 19);
-}
-
-// The frames 0:1, 1:i, 0:1, published.
-fn three_frames(rt: &impl Abort, alloc: Global) -> Image
-    ensures { IsSettled result }
-{
-    let mut image = Image::new(alloc).expect(rt, "no memory");
-    play(
-        rt,
-        alloc,
-        &mut image,
-        "\
-push 0 0 1 => Ok(()); push 1 => Ok(()); push 0 0 1 => Ok(()); begin => Ok(())
-next => Some(Change { code: CodeId { slot: 0, serial: 1 }, by: 2 })",
-    );
-    end_publication(rt, &mut image);
-    image
-}
-
-fn end_publication(rt: &impl Abort, image: &mut Image)
-    ensures { IsSettled image.new }
-{
-    match image.end() {
-        Ok(()) => {}
-        Err(_) => panic!(rt; "not ended"),
-    }
-}
-
-fn are_replies(rt: &impl Abort, image: &Image, replies: [u64; 4]) {
-    let [depth, count, other_count, top] = replies;
-    assert!(rt; Ask::Depth.reply_on(image) == depth);
-    assert!(rt; Ask::CountOf(1).reply_on(image) == count);
-    assert!(rt; Ask::CountOf(2).reply_on(image) == other_count);
-    assert!(rt; Ask::Top.reply_on(image) == top);
-}
-
-#[test]
-fn asks_are_answered(rt: HostRuntime) {
-    let mut image = three_frames(&rt, rt.alloc());
-    are_replies(&rt, &image, [3, 2, 0, 1]);
-    assert!(rt; image.pop().is_ok());
-    are_replies(&rt, &image, [2, 1, 0, 0]);
-}
-
-// Runs an errand under another number. It knows the trait alone.
-fn run_errand<J: Errand>(rt: &impl Abort, errand: J, image: &Image) -> Done
-    requires { IsSettled image.now }
-    ensures { J.may_answer errand image.now result.reply }
-{
-    assert!(rt; errand.op_of() == 0);
-    assert!(rt; errand.target_of() == 9);
-    assert!(rt; errand.ask_of() == Ask::Depth);
-    errand.numbered(5).run_on(image)
-}
-
-#[test]
-fn a_query_answers_itself(rt: HostRuntime) {
-    let image = three_frames(&rt, rt.alloc());
-    let done = run_errand(&rt, Query::new(9, Ask::Depth), &image);
-    assert!(rt; done.op() == 5 && done.target() == 9);
-    assert!(rt; done.ask() == Ask::Depth && done.reply() == 3);
-    let counted = Query::new(9, Ask::CountOf(1)).run_on(&image);
-    assert!(rt; counted.op() == 0 && counted.reply() == 2);
-}
-
-#[test]
-fn a_callback_keeps_what_it_captured(rt: HostRuntime) -> Result<(), Fail> {
-    let image = three_frames(&rt, rt.alloc());
-    let calls = Arc::new(rt.alloc(), AtomicU64::new(0)).expect(&rt, "no memory");
-    let theirs = Arc::try_clone(&calls).expect(&rt, "no memory");
-    let call: Call = Box::new(
-        rt.alloc(),
-        move |image: &Image| -> u64
-            ensures { result ≡ length image.now.frames }
-        {
-            theirs.fetch_add(1, Ordering::SeqCst);
-            image.depth() as u64
-        },
-    )?;
-    let job = Job::new(9, Ask::Depth, call);
-    assert!(rt; job.op() == 0 && job.target() == 9);
-    assert!(rt; job.ask() == Ask::Depth);
-    assert!(rt; calls.load(Ordering::SeqCst) == 0);
-    let done = run_errand(&rt, job, &image);
-    assert!(rt; done.op() == 5 && done.target() == 9);
-    assert!(rt; done.ask() == Ask::Depth);
-    assert!(rt; done.reply() == 3);
-    assert!(rt; calls.load(Ordering::SeqCst) == 1);
-    Ok(())
 }

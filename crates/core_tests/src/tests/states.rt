@@ -74,17 +74,17 @@ fn states_are_those_of_the_table(rt: HostRuntime) -> Result<(), Fail> {
 }
 
 fn tell_allowed(rt: &impl Abort, state: State, row: &mut String) {
-    tell_if(rt, is_safe(state), " safe", row);
-    tell_if(rt, may_publish(state), " publishes", row);
-    tell_if(rt, may_cross(state), " crosses", row);
-    tell_if(rt, is_in_java(state), " in_java", row);
-    tell_if(rt, is_in_vm(state), " in_vm", row);
-    tell_if(rt, is_serving(state), " serves", row);
-}
-
-fn tell_if(rt: &impl Abort, allowed: bool, word: &str, row: &mut String) {
-    if allowed {
-        add(rt, row, word);
+    for (is_allowed, word) in [
+        (is_safe(state), " safe"),
+        (may_publish(state), " publishes"),
+        (may_cross(state), " crosses"),
+        (is_in_java(state), " in_java"),
+        (is_in_vm(state), " in_vm"),
+        (is_serving(state), " serves"),
+    ] {
+        if is_allowed {
+            add(rt, row, word);
+        }
     }
 }
 

@@ -60,6 +60,6 @@ impl Errand for Query {
     #[inline(always)]
     fn run_on(self, image: &Image) -> Done {
         let Query { op, target, ask } = self;
-        Done::of(op, target, ask, ask.reply_on(image))
+        Done::of(op, target, ask, image, ask.reply_on(image))
     }
 }

@@ -8,7 +8,7 @@ use crate::Ask;
 use frames::image::Image;
 use std::marker::Model;
 
-/// What a job gave. It is made by running the job, and in no other way.
+/// What an errand gave. It is made by an errand's run alone, with what the ask says of the image that it ran on.
 #[derive(Drop, Debug)]
 pub struct Done {
     op: u64,
@@ -40,12 +40,7 @@ impl Job {
             call,
         } = self;
         let reply = called(call, image);
-        Done {
-            op,
-            target,
-            ask,
-            reply,
-        }
+        Done::of(op, target, ask, image, reply)
     }
 }
 
@@ -58,14 +53,20 @@ fn called(mut call: Call, image: &Image) -> u64
 }
 
 impl Done {
-    pub(super) fn of(op: u64, target: u64, ask: Ask, reply: u64) -> Done
-        ensures { result ≡ record { op = op; target = target; ask = ask; reply = reply } }
+    // The one maker: of a reply that is what the ask says of a settled image.
+    #[inline(always)]
+    pub(super) fn of(op: u64, target: u64, ask: Ask, image: &Image, answered: u64) -> Done
+        requires settled { IsSettled image.now }
+        requires told { answered ≡ reply ask image.now.frames }
+        ensures fields { result ≡ record { op = op; target = target; ask = ask; reply = answered } }
+        ensures reply { result.reply ≡ reply ask image.now.frames }
     {
+        let _ = image;
         Done {
             op,
             target,
             ask,
-            reply,
+            reply: answered,
         }
     }
 

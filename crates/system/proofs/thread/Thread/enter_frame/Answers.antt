@@ -19,7 +19,7 @@ returns c = λ t same.
         state = same.state;
         held = same.held;
         published = same.published;
-        image = with_frames c.args.self.now.image c.push.new.self t (t.stack ++ frame ∷ []) same.image c.requires.closed (stack_is c.args.self.now.image c.push.new.self (c.args.self.now.image.frames ++ frame ∷ []) (t.stack ++ frame ∷ []) (ap (λ s. s ++ frame ∷ []) same.image.frames) c.in-Ok.ensures.ok);
+        image = with_frames c.args.self.now.image c.put.new.self t (t.stack ++ frame ∷ []) same.image c.requires.closed (stack_is c.args.self.now.image c.put.new.self (c.args.self.now.image.frames ++ frame ∷ []) (t.stack ++ frame ∷ []) (ap (λ s. s ++ frame ∷ []) same.image.frames) c.put.ensures);
       },
-      record { name = refl; counted = c.in-Ok.ensures.ok.counted_stay; marks_are = refl; moments_are = refl },
+      record { name = refl; counted = c.put.ensures.counted_stay; marks_are = refl; moments_are = refl },
     )

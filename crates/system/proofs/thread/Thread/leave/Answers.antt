@@ -16,7 +16,7 @@ some_frame (f ∷ fs) n e h = refl
 pub returns : goal.returns
 returns c = λ w t same poll.
     let old : Kept = c.args.self.now in
-    let mid : Kept = record old { image = c.pop.new.self } in
+    let mid : Kept = record old { image = c.take_top.new.self } in
     let some : is_empty t.stack ≡ false = some_frame t.stack c.depth.result (ap length (sym same.image.frames) ∙ sym c.depth.ensures.value) c.if-depth-eq0.false in
     let java = java_is t.state (ap is_in_java (sym same.state) ∙ c.requires.java) in
     let same_mid : SameThread mid (popped t) = record {
@@ -24,8 +24,8 @@ returns c = λ w t same poll.
       state = same.state;
       held = same.held;
       published = same.published;
-      image = with_frames old.image c.pop.new.self t (take (length t.stack - 1) t.stack) same.image c.requires.closed (stack_is old.image c.pop.new.self c.pop.new.self.frames (take (length t.stack - 1) t.stack) (take_front old.image.frames c.pop.new.self.frames c.in-Ok.field-0 c.in-Ok.ensures.ok.0 ∙ ap (λ s. take (length s - 1) s) same.image.frames) c.in-Ok.ensures.ok.1);
+      image = with_frames old.image c.take_top.new.self t (take (length t.stack - 1) t.stack) same.image c.requires.closed (stack_is old.image c.take_top.new.self c.take_top.new.self.frames (take (length t.stack - 1) t.stack) (take_front old.image.frames c.take_top.new.self.frames c.take_top.result c.take_top.ensures.popped ∙ ap (λ s. take (length s - 1) s) same.image.frames) c.take_top.ensures.left);
     } in
     rw some (polled_before old mid c.crosses.new.self w.requests t (popped t) c.crosses.result java
-    (record { name = refl; counted = c.in-Ok.ensures.ok.1.counted_stay; marks_are = refl; moments_are = refl })
+    (record { name = refl; counted = c.take_top.ensures.left.counted_stay; marks_are = refl; moments_are = refl })
     (c.crosses.ensures w.requests (popped t) same_mid poll))

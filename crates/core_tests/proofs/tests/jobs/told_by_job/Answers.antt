@@ -1,7 +1,7 @@
 use Rattle.std.proofs.Common.{rules, refl}
 use Rattle.operations.proofs.Boxed.{answered}
-use Rattle.core_tests.proofs.tests.requests.a_callback_keeps_what_it_captured.OwnLists as own
-use Rattle.core_tests.proofs.tests.requests.a_callback_keeps_what_it_captured.Goals as goal
+use Rattle.core_tests.proofs.tests.jobs.told_by_job.OwnLists as own
+use Rattle.core_tests.proofs.tests.jobs.told_by_job.Goals as goal
 
 pub new-job-requires-clause-answers : goal.new-job-requires-clause-answers
 new-job-requires-clause-answers g c = λ i r s w.

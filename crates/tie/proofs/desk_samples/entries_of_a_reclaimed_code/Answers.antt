@@ -1,0 +1,6 @@
+-- Both sides compute to the same.
+use Rattle.std.specs.Prelude.{refl}
+use Rattle.tie.proofs.desk_samples.entries_of_a_reclaimed_code.Goals as goal
+
+pub returns : goal.returns
+returns c = refl
