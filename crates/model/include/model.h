@@ -1,6 +1,6 @@
 /* The model of a safepoint and handshake coordinator, stepped line by line (libmodel.a).
 
-   A line is an event, as docs/LINES.md spells it, without its newline. Its answer is the one that `monitor replay` gives after the
+   A line is an event, as docs/start/LINES.md spells it, without its newline. Its answer is the one that `monitor replay` gives after the
    same `size` and the same lines, without its newline: proved of the Rattle side. A line that spells nothing is answered `bad line`,
    and so is `size`: model_new has done it. What the C side must keep, nothing checks:
 

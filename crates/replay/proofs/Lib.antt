@@ -2,7 +2,6 @@ pub mod Lists
 pub mod Cuts
 pub mod Ends
 pub mod Numbers
-pub mod Lookup
 pub mod Replies
 pub mod Streams
 pub mod Growth
@@ -11,4 +10,5 @@ pub mod Feeds
 pub mod Whole
 pub mod Taking
 pub mod Spellings
+pub mod Keys
 pub mod Reading

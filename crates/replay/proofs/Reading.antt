@@ -1,6 +1,6 @@
 -- A line spells a command exactly where it is its spelling.
 use Rattle.std.proofs.Common.{◌≡◌, ℕ, ◌^◌, ◌<◌, ◌∙◌, sym, Bool, true, false, List, [], ◌∷◌, ◌++◌, length, Option, Some, None, refl, ap, subst, cond, arith, map}
-use Rattle.std.specs.Prelude.{nat_le, decimal, codes, bytes_eq, find, option_map, option_and_then}
+use Rattle.std.specs.Prelude.{nat_le, decimal, codes, bytes_eq, option_map, option_and_then}
 use Rattle.std.specs.List.{AllByRecursion}
 use Rattle.std.proofs.lemmas.Option.{same_Some, option_and_then_some}
 use Rattle.std.proofs.lemmas.Slice.Eq.{bytes_eq-Decides}
@@ -19,9 +19,10 @@ use Rattle.replay.specs.declared.keywords.Word.TheVariants.{Size, Start, At, Ent
 use Rattle.replay.specs.declared.keywords.AskWord.{AskWord}
 use Rattle.replay.specs.declared.keywords.AskWord.TheVariants as ask
 use Rattle.replay.specs.Words.{words, spaced, number}
-use Rattle.replay.specs.Keywords.{word_text, keywords, word_of, ask_text, ask_of, act_text}
+use Rattle.replay.specs.Keywords.{word_text, word_of, ask_text, ask_of, act_text}
 use Rattle.replay.specs.Grammar.{took, none_after, last_number, numbers, alone, of_one, of_two, entered, enter_of, close_of, size_of, handshake, asked, asking, of_word, of_words, command_of}
 use Rattle.replay.specs.Spelling.{act_numbers, ask_words, request_words, event_words, command_words, request_numbers, event_numbers, command_numbers, AreSmall, IsSpelledBy}
+use Rattle.replay.proofs.Keys.{find_passes, keyword_is, act_word}
 use Rattle.replay.proofs.Spellings.{IsWord, decimal_word, number_of_decimal, decimal_of_number, spaced_words, words_spaced, decimals_words}
 
 -- The words are those of the command, and its numbers are small.
@@ -155,15 +156,6 @@ asked_reads ask.Census args c h =
     let none = none_reads (command.Do (event.Ask Census)) c args h in
     subst (λ (z : Command). Spells (codes "ask" ∷ codes "census" ∷ args) z) none.1 (record { words = ap (λ z. codes "ask" ∷ codes "census" ∷ z) none.0; small = tt })
 
--- What is found passes the test.
-find_passes : {A : Type 0} (p : A → Bool) (xs : List A) (x : A) → find p xs ≡ Some x → p x ≡ true
-find_passes p [] x h = absurd (cc h)
-find_passes {A = A} p (y ∷ ys) x h = by_test (p y) refl h (find_passes p ys x)
-  where
-    by_test : (b : Bool) → p y ≡ b → cond b (Some y) (find p ys) ≡ Some x → (find p ys ≡ Some x → p x ≡ true) → p x ≡ true
-    by_test true e k more = ap p (sym (same_Some y x k)) ∙ e
-    by_test false e k more = more k
-
 asking_reads : (args : List (List ℕ)) (c : Command) → asking args ≡ Some c → Spells (codes "ask" ∷ args) c
 asking_reads [] c h = absurd (cc h)
 asking_reads (first ∷ args) c h = option_and_then_some (λ word. asked word args) (ask_of first) c h (λ word e f.
@@ -197,7 +189,7 @@ word_reads Resolve args c listed h = one_reads event.Resolve (codes "resolve") a
 words_read : (ws : List (List ℕ)) (c : Command) → of_words ws ≡ Some c → Spells ws c
 words_read [] c h = absurd (cc h)
 words_read (first ∷ args) c h = option_and_then_some (λ word. of_word word args) (word_of first) c h (λ word e f.
-    let is : first ≡ word_text word = (bytes_eq-Decides first (word_text word)).0 (find_passes (λ w. bytes_eq first (word_text w)) keywords word e) in
+    let is = keyword_is first word e in
     subst (λ (z : List ℕ). Spells (z ∷ args) c) (sym is) (word_reads word args c (ap word_of (sym is) ∙ e) f))
 
 pub spelled : (line : List ℕ) (c : Command) → command_of line ≡ Some c → IsSpelledBy line c
@@ -281,9 +273,6 @@ event_back (event.Resolve n) h = one_read event.Resolve n h.0
 command_back : (c : Command) → AreSmall (command_numbers c) → of_words (command_words c) ≡ Some c
 command_back (command.Size x y z) h = size_back x y z h.0 h.1.0 h.1.1.0
 command_back (command.Do e) h = event_back e h
-
-act_word : (deed : Act) → IsWord (act_text deed)
-act_word deed = elim deed as (λ k. IsWord (act_text k)) [ act.Begin ↦ refl | act.Change ↦ refl | act.End ↦ refl | act.Wake ↦ refl | act.Cross ↦ refl | act.Enter m c ↦ refl | act.Leave ↦ refl | act.Edge ↦ refl | act.ToVm ↦ refl | act.FromVm ↦ refl | act.ToNative ↦ refl | act.Block ↦ refl | act.Exit ↦ refl | act.Take ↦ refl | act.Finish ↦ refl | act.Clear ↦ refl | act.Hold ↦ refl | act.Release ↦ refl | act.Stack ↦ refl ]
 
 request_are_words : (request : Request) → AreSmall (request_numbers request) → AllByRecursion IsWord (request_words request)
 request_are_words Census h = (refl, tt)

@@ -23,7 +23,7 @@ use Rattle.system.specs.Step.{code_or_none, install_in}
 use Rattle.system.specs.Verdict.{accepted, unless◌refuse◌then◌}
 use Rattle.system.specs.Threads.{Thread}
 use Rattle.system.specs.World.{World}
-use Rattle.system.proofs.CaseOfEvent.{Simple, by_cases, each_kind}
+use Rattle.system.proofs.CaseOfEvent.{by_cases, each_kind}
 use Rattle.system.proofs.EventCases.{Cases}
 use Rattle.system.proofs.Outcomes.{Moves, ByMove, ByPoll}
 use Rattle.replay.specs.declared.engine.Reply.{Reply}

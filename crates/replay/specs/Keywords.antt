@@ -1,10 +1,9 @@
 -- The keywords.
-use Rattle.std.specs.Prelude.{◌≡◌, ℕ, codes, bytes_eq, find, List, [], ◌∷◌, Option}
+use Rattle.std.specs.Prelude.{ℕ, codes, bytes_eq, find, List, [], ◌∷◌, Option, None, option_map}
 use Rattle.system.specs.declared.events.Act.{Act}
 use Rattle.system.specs.declared.events.Act.TheVariants as act
 use Rattle.replay.specs.declared.keywords.Word.{Word}
 use Rattle.replay.specs.declared.keywords.Word.TheVariants.{Size, Start, At, Enter, Install, Invalidate, Round, Look, Weigh, Free, Ask, Open, Tell, Operate, Close, Count, State, Resolve}
-use Rattle.replay.specs.declared.keywords.Keyword.{Keyword}
 use Rattle.replay.specs.declared.keywords.AskWord.{AskWord}
 use Rattle.replay.specs.declared.keywords.AskWord.TheVariants as ask
 
@@ -63,10 +62,10 @@ keywords =
 abbrev pub word_of : List ℕ → Option Word
 word_of text = find (λ word. bytes_eq text (word_text word)) keywords
 
--- The texts of a table are those of its keywords.
-abbrev pub AreSpelled : List Keyword → Type 0
-AreSpelled [] = Unit {0}
-AreSpelled (k ∷ ks) = (k.text.now ≡ word_text k.word) × AreSpelled ks
+-- The keyword that words begin with, and the words after it.
+abbrev pub begun : List (List ℕ) → Option (Word × List (List ℕ))
+begun [] = None
+begun (first ∷ args) = option_map (λ word. (word, args)) (word_of first)
 
 -- What may stand behind `ask`.
 abbrev pub ask_text : AskWord → List ℕ

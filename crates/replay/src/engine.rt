@@ -19,6 +19,9 @@ pub enum Reply {
 }
 
 /// Does what a line says, and replies. Before the first size that is accepted there is no system.
+///
+/// It stands in the caller, so that neither the event nor the answer goes through memory.
+#[inline(always)]
 pub fn obey(
     system: &mut Option<System>,
     alloc: Global,
@@ -59,6 +62,7 @@ fn size(
     }
 }
 
+#[inline(always)]
 fn event_reply(
     system: &mut Option<System>,
     alloc: Global,

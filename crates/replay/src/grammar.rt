@@ -4,8 +4,8 @@ ghost use Rattle.replay.specs.Room.{is_handshake};
 ghost use Rattle.replay.specs.Words.{words_after};
 ghost use Rattle.replay.specs.Grammar.{command_of, of_word, size_of, enter_of, close_of, asking, handshake, alone, of_one, of_two, numbers};
 
-use crate::keywords::{AskWord, Word, ask_of, word_of};
-use crate::words::{cut, is_end, last, next};
+use crate::keywords::{AskWord, Word, ask_of, first_word};
+use crate::words::{cut, is_end, last, next, place};
 use operations::{Ask, Request, Targets};
 use std::alloc::{AllocError, Global};
 use system::events::{Act, Event};
@@ -29,11 +29,13 @@ pub fn parse(alloc: Global, line: &[u8]) -> Result<Option<Command>, AllocError>
     if line.len() > LONGEST {
         return Ok(None);
     }
-    let (first, tail) = cut(line);
-    match word_of(first) {
-        None => Ok(None),
-        Some(Word::Ask) => asking(alloc, tail),
-        Some(word) => Ok(plain(word, tail)),
+    let Some((word, end)) = first_word(line) else {
+        return Ok(None);
+    };
+    let (_, tail) = line.split_at(end);
+    match word {
+        Word::Ask => asking(alloc, tail),
+        word => Ok(plain(word, tail)),
     }
 }
 
@@ -45,7 +47,7 @@ fn plain(word: Word, tail: &[u8]) -> Option<Command>
     match word {
         Word::Size => size(tail),
         Word::Start => alone(Event::Start, tail),
-        Word::At(act) => Some(Command::Do(Event::At(last(tail)? as usize, act))),
+        Word::At(act) => Some(Command::Do(Event::At(place(tail)? as usize, act))),
         Word::Enter => enter(tail),
         Word::Install => Some(Command::Do(Event::Install(last(tail)?))),
         Word::Invalidate => Some(Command::Do(Event::Invalidate(last(tail)?))),

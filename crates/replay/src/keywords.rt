@@ -1,7 +1,9 @@
 // The keywords of lines.
-ghost use Rattle.std.specs.Prelude.{◌≡◌, bytes_eq, find, map};
-ghost use Rattle.replay.specs.Keywords.{word_of, word_text, ask_of, AreSpelled};
+ghost use Rattle.std.specs.Prelude.{◌≡◌, ◌≤◌, length, drop, option_map, IfSome};
+ghost use Rattle.replay.specs.Words.{words, words_after};
+ghost use Rattle.replay.specs.Keywords.{word_of, begun, ask_of};
 
+use crate::words::find;
 use system::events::Act;
 
 /// What a line begins with. An act that needs nothing but its place is its own keyword.
@@ -36,212 +38,165 @@ pub(crate) enum AskWord {
     Census,
 }
 
-/// A keyword with its spelling.
-struct Keyword {
-    text: &'static [u8],
-    word: Word,
+/// The keyword that begins the line, and where it ends. Most have five, four, six or seven letters and a space behind them, so those places
+/// are looked at before any space is searched.
+#[inline(always)]
+pub(crate) fn first_word(line: &[u8]) -> Option<(Word, usize)>
+    ensures begun { option_map (λ it. (it.0, words_after (drop it.1 line.now))) result ≡ begun (words line.now) }
+    ensures bound { IfSome result (λ it. it.1 ≤ length line.now) }
+{
+    if line.len() > 5 && line[5] == b' ' {
+        if let Some(word) = of_five(&line[..5]) {
+            return Some((word, 5));
+        }
+    }
+    if line.len() > 4 && line[4] == b' ' {
+        if let Some(word) = of_four(&line[..4]) {
+            return Some((word, 4));
+        }
+    }
+    if line.len() > 6 && line[6] == b' ' {
+        if let Some(word) = of_six(&line[..6]) {
+            return Some((word, 6));
+        }
+    }
+    if line.len() > 7 && line[7] == b' ' {
+        if let Some(word) = of_seven(&line[..7]) {
+            return Some((word, 7));
+        }
+    }
+    any_word(line)
 }
 
-// The keywords by their length, the commoner ones first.
-static THREE: [Keyword; 2] = [
-    Keyword {
-        text: b"end",
-        word: Word::At(Act::End),
-    },
-    Keyword {
-        text: b"ask",
-        word: Word::Ask,
-    },
-];
+/// The same, of any length, and where nothing stands behind it.
+#[inline(never)]
+fn any_word(line: &[u8]) -> Option<(Word, usize)>
+    ensures begun { option_map (λ it. (it.0, words_after (drop it.1 line.now))) result ≡ begun (words line.now) }
+    ensures bound { IfSome result (λ it. it.1 ≤ length line.now) }
+{
+    let end = find(b' ', line);
+    match word_of(&line[..end]) {
+        None => None,
+        Some(word) => Some((word, end)),
+    }
+}
 
-static FOUR: [Keyword; 11] = [
-    Keyword {
-        text: b"edge",
-        word: Word::At(Act::Edge),
-    },
-    Keyword {
-        text: b"wake",
-        word: Word::At(Act::Wake),
-    },
-    Keyword {
-        text: b"take",
-        word: Word::At(Act::Take),
-    },
-    Keyword {
-        text: b"tell",
-        word: Word::Tell,
-    },
-    Keyword {
-        text: b"hold",
-        word: Word::At(Act::Hold),
-    },
-    Keyword {
-        text: b"tovm",
-        word: Word::At(Act::ToVm),
-    },
-    Keyword {
-        text: b"open",
-        word: Word::Open,
-    },
-    Keyword {
-        text: b"look",
-        word: Word::Look,
-    },
-    Keyword {
-        text: b"free",
-        word: Word::Free,
-    },
-    Keyword {
-        text: b"exit",
-        word: Word::At(Act::Exit),
-    },
-    Keyword {
-        text: b"size",
-        word: Word::Size,
-    },
-];
-
-static FIVE: [Keyword; 13] = [
-    Keyword {
-        text: b"enter",
-        word: Word::Enter,
-    },
-    Keyword {
-        text: b"leave",
-        word: Word::At(Act::Leave),
-    },
-    Keyword {
-        text: b"begin",
-        word: Word::At(Act::Begin),
-    },
-    Keyword {
-        text: b"cross",
-        word: Word::At(Act::Cross),
-    },
-    Keyword {
-        text: b"clear",
-        word: Word::At(Act::Clear),
-    },
-    Keyword {
-        text: b"close",
-        word: Word::Close,
-    },
-    Keyword {
-        text: b"block",
-        word: Word::At(Act::Block),
-    },
-    Keyword {
-        text: b"count",
-        word: Word::Count,
-    },
-    Keyword {
-        text: b"stack",
-        word: Word::At(Act::Stack),
-    },
-    Keyword {
-        text: b"start",
-        word: Word::Start,
-    },
-    Keyword {
-        text: b"state",
-        word: Word::State,
-    },
-    Keyword {
-        text: b"round",
-        word: Word::Round,
-    },
-    Keyword {
-        text: b"weigh",
-        word: Word::Weigh,
-    },
-];
-
-static SIX: [Keyword; 3] = [
-    Keyword {
-        text: b"change",
-        word: Word::At(Act::Change),
-    },
-    Keyword {
-        text: b"finish",
-        word: Word::At(Act::Finish),
-    },
-    Keyword {
-        text: b"fromvm",
-        word: Word::At(Act::FromVm),
-    },
-];
-
-static SEVEN: [Keyword; 4] = [
-    Keyword {
-        text: b"release",
-        word: Word::At(Act::Release),
-    },
-    Keyword {
-        text: b"operate",
-        word: Word::Operate,
-    },
-    Keyword {
-        text: b"install",
-        word: Word::Install,
-    },
-    Keyword {
-        text: b"resolve",
-        word: Word::Resolve,
-    },
-];
-
-static EIGHT: [Keyword; 1] = [Keyword {
-    text: b"tonative",
-    word: Word::At(Act::ToNative),
-}];
-
-static TEN: [Keyword; 1] = [Keyword {
-    text: b"invalidate",
-    word: Word::Invalidate,
-}];
-
-/// The keyword of the text.
-pub(crate) fn word_of(text: &[u8]) -> Option<Word>
+/// The keyword of the text. Each length has a function of its own, which looks at a byte once.
+fn word_of(text: &[u8]) -> Option<Word>
     ensures { result ≡ word_of text.now }
 {
     match text.len() {
-        3 => among(&THREE, text),
-        4 => among(&FOUR, text),
-        5 => among(&FIVE, text),
-        6 => among(&SIX, text),
-        7 => among(&SEVEN, text),
-        8 => among(&EIGHT, text),
-        10 => among(&TEN, text),
+        3 => of_three(text),
+        4 => of_four(text),
+        5 => of_five(text),
+        6 => of_six(text),
+        7 => of_seven(text),
+        8 => of_eight(text),
+        10 => of_ten(text),
         _ => None,
     }
 }
 
-/// The one of the keywords that is spelled so.
-fn among(keywords: &[Keyword], text: &[u8]) -> Option<Word>
-    requires { AreSpelled keywords.now }
-    ensures { result ≡ find (λ word. bytes_eq text.now (word_text word)) (map (λ k. k.word) keywords.now) }
+fn of_three(text: &[u8]) -> Option<Word>
+    requires { length text.now ≡ 3 }
+    ensures { result ≡ word_of text.now }
 {
-    for keyword in keywords {
-        if is_same(text, keyword.text) {
-            return Some(keyword.word);
-        }
+    match text {
+        b"end" => Some(Word::At(Act::End)),
+        b"ask" => Some(Word::Ask),
+        _ => None,
     }
-    None
 }
 
-// Two spellings. They are short, and mostly differ at the first byte.
-fn is_same(one: &[u8], other: &[u8]) -> bool
-    ensures { result ≡ bytes_eq one.now other.now }
+#[inline(always)]
+fn of_four(text: &[u8]) -> Option<Word>
+    requires { length text.now ≡ 4 }
+    ensures { result ≡ word_of text.now }
 {
-    if one.len() != other.len() {
-        return false;
+    match text {
+        b"edge" => Some(Word::At(Act::Edge)),
+        b"wake" => Some(Word::At(Act::Wake)),
+        b"take" => Some(Word::At(Act::Take)),
+        b"tell" => Some(Word::Tell),
+        b"hold" => Some(Word::At(Act::Hold)),
+        b"tovm" => Some(Word::At(Act::ToVm)),
+        b"open" => Some(Word::Open),
+        b"look" => Some(Word::Look),
+        b"free" => Some(Word::Free),
+        b"exit" => Some(Word::At(Act::Exit)),
+        b"size" => Some(Word::Size),
+        _ => None,
     }
-    for i in 0..one.len() {
-        if one[i] != other[i] {
-            return false;
-        }
+}
+
+#[inline(always)]
+fn of_five(text: &[u8]) -> Option<Word>
+    requires { length text.now ≡ 5 }
+    ensures { result ≡ word_of text.now }
+{
+    match text {
+        b"enter" => Some(Word::Enter),
+        b"leave" => Some(Word::At(Act::Leave)),
+        b"begin" => Some(Word::At(Act::Begin)),
+        b"cross" => Some(Word::At(Act::Cross)),
+        b"clear" => Some(Word::At(Act::Clear)),
+        b"close" => Some(Word::Close),
+        b"block" => Some(Word::At(Act::Block)),
+        b"count" => Some(Word::Count),
+        b"stack" => Some(Word::At(Act::Stack)),
+        b"start" => Some(Word::Start),
+        b"state" => Some(Word::State),
+        b"round" => Some(Word::Round),
+        b"weigh" => Some(Word::Weigh),
+        _ => None,
     }
-    true
+}
+
+#[inline(always)]
+fn of_six(text: &[u8]) -> Option<Word>
+    requires { length text.now ≡ 6 }
+    ensures { result ≡ word_of text.now }
+{
+    match text {
+        b"change" => Some(Word::At(Act::Change)),
+        b"finish" => Some(Word::At(Act::Finish)),
+        b"fromvm" => Some(Word::At(Act::FromVm)),
+        _ => None,
+    }
+}
+
+#[inline(always)]
+fn of_seven(text: &[u8]) -> Option<Word>
+    requires { length text.now ≡ 7 }
+    ensures { result ≡ word_of text.now }
+{
+    match text {
+        b"release" => Some(Word::At(Act::Release)),
+        b"operate" => Some(Word::Operate),
+        b"install" => Some(Word::Install),
+        b"resolve" => Some(Word::Resolve),
+        _ => None,
+    }
+}
+
+fn of_eight(text: &[u8]) -> Option<Word>
+    requires { length text.now ≡ 8 }
+    ensures { result ≡ word_of text.now }
+{
+    match text {
+        b"tonative" => Some(Word::At(Act::ToNative)),
+        _ => None,
+    }
+}
+
+fn of_ten(text: &[u8]) -> Option<Word>
+    requires { length text.now ≡ 10 }
+    ensures { result ≡ word_of text.now }
+{
+    match text {
+        b"invalidate" => Some(Word::Invalidate),
+        _ => None,
+    }
 }
 
 /// What the word behind `ask` asks for.

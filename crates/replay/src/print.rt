@@ -234,6 +234,7 @@ fn put_code_state(text: &mut Vec<u8>, state: CodeState) -> Result<(), AllocError
     }
 }
 
+#[inline(always)]
 fn put_answer(text: &mut Vec<u8>, answer: &Answer) -> Result<(), AllocError>
     ensures text { OnOk result (text.new.items ≡ text.old.items ++ answer_text answer.now) }
     ensures grows { is_short answer.now ≡ true → OnOk result (vec_len text.new ≤ vec_len text.old + 96) }
@@ -292,6 +293,7 @@ pub(crate) fn is_short_reply(reply: &Reply) -> bool
 }
 
 /// Puts the line of text for a reply behind the text.
+#[inline(always)]
 pub fn put_reply(text: &mut Vec<u8>, reply: &Reply) -> Result<(), AllocError>
     ensures text { OnOk result (text.new.items ≡ text.old.items ++ (reply_text reply.now ++ 10 ∷ [])) }
     ensures grows { is_short_reply reply.now ≡ true → OnOk result (vec_len text.new ≤ vec_len text.old + 97) }

@@ -90,14 +90,14 @@ fn put_short(waits: &mut Vec<u8>, said: &Reply)
 
 /// The same of a list, which joins what waits once it is whole.
 #[cold]
-fn put_long(text: &mut Vec<u8>, waits: &mut Vec<u8>, said: &Reply) -> Result<(), AllocError>
-    ensures text { OnOk result (waits.new.items ≡ waits.old.items ++ (reply_text said.now ++ 10 ∷ [])) }
+fn put_long(text: &mut Vec<u8>, waits: &mut Vec<u8>, said: Reply) -> Result<(), AllocError>
+    ensures text { OnOk result (waits.new.items ≡ waits.old.items ++ (reply_text said ++ 10 ∷ [])) }
     ensures none { OnErr result (waits.new.items ≡ waits.old.items) }
     ensures text_kept { vec_capacity text.old ≤ vec_capacity text.new }
     ensures waits_kept { vec_capacity waits.old ≤ vec_capacity waits.new }
 {
     text.clear();
-    put_reply(text, said)?;
+    put_reply(text, &said)?;
     waits.extend_from_slice(text)
 }
 
@@ -124,7 +124,7 @@ fn turn(
         put_short(waits, &said);
         Ok(())
     } else {
-        put_long(text, waits, &said)
+        put_long(text, waits, said)
     }
 }
 

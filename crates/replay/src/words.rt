@@ -4,7 +4,7 @@ ghost use Rattle.replay.specs.Words.{words, words_after, is_nil};
 ghost use Rattle.replay.specs.Scanned.{first_at, digits_from, begins_well};
 ghost use Rattle.replay.specs.Grammar.{took, last_number};
 
-use memchr::memchr;
+use memchr::memchr_iter;
 
 /// The greatest number of a line.
 const GREATEST: u64 = 1_099_511_627_775;
@@ -22,12 +22,12 @@ pub(crate) fn find(byte: u8, bytes: &[u8]) -> usize
     bytes.len()
 }
 
-/// Where the line that begins the bytes ends, or the length.
+/// Where the line that begins the bytes ends, or the length. It mostly ends within the 32 bytes that an iterator looks at first.
 pub(crate) fn find_end(bytes: &[u8]) -> usize
     ensures at { result ≡ first_at 10 bytes.now }
     ensures bound { result ≤ length bytes.now }
 {
-    match memchr(b'\n', bytes) {
+    match memchr_iter(b'\n', bytes).next() {
         Some(at) => at,
         None => bytes.len(),
     }
@@ -56,13 +56,14 @@ fn digits(bytes: &[u8]) -> Option<(u64, &[u8])>
 {
     let mut value = 0u64;
     for (i, b) in bytes.iter().enumerate() {
-        if *b == b' ' {
-            return Some((value, &bytes[i..]));
-        }
         if *b < b'0' || b'9' < *b {
-            return None;
+            return if *b == b' ' {
+                Some((value, &bytes[i..]))
+            } else {
+                None
+            };
         }
-        value = value * 10 + (*b - b'0') as u64;
+        value = value * 10 + (*b as u64 - b'0' as u64);
         if value > GREATEST {
             return None;
         }
@@ -76,8 +77,8 @@ fn begins_well(bytes: &[u8]) -> bool
 {
     match bytes {
         [] => false,
-        [b] => *b != b' ',
-        [b, c, ..] => *b != b' ' && (*c == b' ' || *b != b'0'),
+        [b'0', c, ..] => *c == b' ',
+        [b, ..] => *b != b' ',
     }
 }
 
@@ -102,4 +103,18 @@ pub(crate) fn last(tail: &[u8]) -> Option<u64>
 {
     let (n, rest) = next(tail)?;
     if is_end(rest) { Some(n) } else { None }
+}
+
+/// The same number, where it is that of a place: those have mostly one digit or two, which are read at once.
+#[inline(always)]
+pub(crate) fn place(tail: &[u8]) -> Option<u64>
+    ensures { result ≡ last_number (words_after tail.now) }
+{
+    if tail.len() == 2 && b'0' <= tail[1] && tail[1] <= b'9' {
+        return Some(tail[1] as u64 - b'0' as u64);
+    }
+    if tail.len() == 3 && b'1' <= tail[1] && tail[1] <= b'9' && b'0' <= tail[2] && tail[2] <= b'9' {
+        return Some((tail[1] as u64 - b'0' as u64) * 10 + (tail[2] as u64 - b'0' as u64));
+    }
+    last(tail)
 }

@@ -211,6 +211,7 @@ fn expect_last_line(rt: &impl Abort, alloc: Global, end: &str, answer: &str) {
 fn the_last_line_needs_no_newline(rt: HostRuntime) -> Result<(), Fail> {
     expect_last_line(&rt, rt.alloc(), "exit 0", "refused StackNotEmpty\n");
     expect_last_line(&rt, rt.alloc(), "lea", "bad line\n");
+    expect_last_line(&rt, rt.alloc(), "edge 0", "go\n");
     expect_last_line(&rt, rt.alloc(), "exit 0\n", "refused StackNotEmpty\n");
     expect_last_line(&rt, rt.alloc(), "", "");
     Ok(())

@@ -1,3 +1,4 @@
 pub mod LinesTold
+pub mod DrawnMore
 pub mod BytesTold
 pub mod MarksAdded

@@ -1,11 +1,12 @@
 -- Marks of bytes as they come are the marks of the lines that the bytes are cut into.
-use Rattle.std.proofs.Common.{◌≡◌, ℕ, ◌∙◌, sym, Bool, true, false, List, [], ◌∷◌, ◌++◌, take, length, refl, ap, cond, zero, suc, Option, None}
+use Rattle.std.proofs.Common.{◌≡◌, ℕ, ◌∙◌, sym, Bool, true, false, List, [], ◌∷◌, ◌++◌, take, refl, ap, cond, zero, suc, Option, None}
 use Rattle.std.specs.Prelude.{◌==◌}
 use Rattle.system.specs.World.{World}
 use Rattle.replay.specs.Words.{lines, onto_first}
 use Rattle.replay.specs.Text.{after_line}
 use Rattle.std.proofs.lemmas.List.{append-nil}
-use Rattle.run_picture.specs.Marks.{Told, told_line, told_lines}
+use Rattle.run_picture.specs.Told.{Told}
+use Rattle.run_picture.specs.Marks.{told_line, told_lines}
 use Rattle.run_picture.specs.Reading.{told_from}
 
 -- What is kept of the beginning is enough.
@@ -55,8 +56,3 @@ told_onto world tail (b ∷ bytes) = by_byte (b == 10) refl (told_onto (after_li
 
 pub told_all : (bytes : List ℕ) → told_from None [] bytes ≡ told_lines None (lines bytes)
 told_all bytes = told_onto None [] bytes
-
--- There is a mark for each line.
-pub one_each : (world : Option World) (ls : List (List ℕ)) → length (told_lines world ls) ≡ length ls
-one_each world [] = refl
-one_each world (l ∷ ls) = ap suc (one_each (after_line world (take 1025 l)) ls)

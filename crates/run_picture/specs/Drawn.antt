@@ -1,10 +1,10 @@
 -- The text of a picture, as far as marks go.
-use Rattle.std.specs.Prelude.{◌≡◌, ◌+◌, ℕ, List, [], ◌∷◌, ◌++◌, codes, decimal}
-use Rattle.run_picture.specs.declared.looks.Outcome.{Outcome}
-use Rattle.run_picture.specs.declared.looks.Outcome.TheVariants as outcome
-use Rattle.run_picture.specs.declared.looks.Shape.{Shape}
-use Rattle.run_picture.specs.declared.looks.Shape.TheVariants as shape
-use Rattle.run_picture.specs.Marks.{Told}
+use Rattle.std.specs.Prelude.{◌≡◌, ℕ, List, [], ◌∷◌, ◌++◌, codes, decimal}
+use Rattle.run_picture.specs.declared.shapes.Outcome.{Outcome}
+use Rattle.run_picture.specs.declared.shapes.Outcome.TheVariants as outcome
+use Rattle.run_picture.specs.declared.shapes.Shape.{Shape}
+use Rattle.run_picture.specs.declared.shapes.Shape.TheVariants as shape
+use Rattle.run_picture.specs.Told.{Told, Shown}
 
 abbrev pub outcome_text : Outcome → List ℕ
 outcome_text outcome.Bad = codes "bad"
@@ -15,56 +15,76 @@ abbrev pub shape_text : Shape → List ℕ
 shape_text shape.BadLine = codes "badline"
 shape_text shape.Refusal = codes "refusal"
 shape_text shape.Step = codes "step"
-shape_text shape.Change = codes "change"
-shape_text shape.Stop = codes "stop"
-shape_text shape.Callback = codes "callback"
-shape_text shape.Told = codes "told"
 shape_text shape.Cleared = codes "cleared"
-shape_text shape.Look = codes "look"
-shape_text shape.Weighing = codes "weighing"
+shape_text shape.Started = codes "started"
+shape_text shape.Exited = codes "exited"
+shape_text shape.Change = codes "change"
+shape_text shape.NoChange = codes "nochange"
+shape_text shape.Go = codes "go"
+shape_text shape.Left = codes "left"
+shape_text shape.Stop = codes "stop"
+shape_text shape.Entered = codes "entered"
+shape_text shape.WrongMethod = codes "wrongmethod"
+shape_text shape.Callback = codes "callback"
+shape_text shape.Stack = codes "stack"
+shape_text shape.Code = codes "code"
+shape_text shape.NoCode = codes "nocode"
+shape_text shape.Covered = codes "covered"
+shape_text shape.Late = codes "late"
+shape_text shape.NotLooked = codes "notlooked"
+shape_text shape.Used = codes "used"
+shape_text shape.Retired = codes "retired"
+shape_text shape.Asked = codes "asked"
+shape_text shape.Opened = codes "opened"
+shape_text shape.Closed = codes "closed"
+shape_text shape.Told = codes "told"
+shape_text shape.Gone = codes "gone"
+shape_text shape.Counted = codes "counted"
+shape_text shape.Count = codes "count"
+shape_text shape.State = codes "state"
 
--- What stands before and behind the title of the mark of a line.
-abbrev pub mark_head : ℕ → Outcome → List ℕ
-mark_head line outcome = codes "<g id='line" ++ (decimal line ++ (codes "' class='" ++ (outcome_text outcome ++ codes "'><title>")))
+-- What stands before and behind the title of the mark of a line: its classes say what came of the line, and the kind of the answer.
+abbrev pub mark_head : ℕ → Outcome → Shape → List ℕ
+mark_head line outcome shape =
+    codes "<g id='line" ++ (decimal line ++ (codes "' class='" ++ (outcome_text outcome ++ (codes " " ++ (shape_text shape ++ codes "'><title>")))))
 
 abbrev pub mark_tail : Shape → ℕ → ℕ → List ℕ
 mark_tail shape x y = codes "</title><use href='#" ++ (shape_text shape ++ (codes "' x='" ++ (decimal x ++ (codes "' y='" ++ (decimal y ++ codes "'/></g>\n")))))
 
--- The mark of a line, as some shape at some place.
-pub record IsMark (line : ℕ) (told : Told) (text : List ℕ) : Type 0 where
-  pub shape : Shape
+-- The mark of a line, at some place.
+pub record IsMark (shown : Shown) (text : List ℕ) : Type 0 where
   pub x : ℕ
   pub y : ℕ
-  pub spelled : text ≡ mark_head line told.outcome ++ told.title ++ mark_tail shape x y
+  pub spelled : text ≡ mark_head shown.line shown.told.outcome shown.told.shape ++ shown.told.title ++ mark_tail shown.told.shape x y
 
 -- The mark of a line, and what follows it.
-pub record MarkThen (line : ℕ) (told : Told) (Rest : List ℕ → Type 0) (text : List ℕ) : Type 0 where
+pub record MarkThen (shown : Shown) (Rest : List ℕ → Type 0) (text : List ℕ) : Type 0 where
   pub mark : List ℕ
   pub more : List ℕ
-  pub is : IsMark line told mark
+  pub is : IsMark shown mark
   pub rest : Rest more
   pub whole : text ≡ mark ++ more
 
--- The marks, each numbered as its line, the first as this one, and nothing else.
-abbrev pub AreMarks : ℕ → List Told → List ℕ → Type 0
-AreMarks line [] text = text ≡ []
-AreMarks line (told ∷ all) text = MarkThen line told (λ more. AreMarks (line + 1) all more) text
+-- The marks, each with the number of its line, and nothing else.
+abbrev pub AreMarks : List Shown → List ℕ → Type 0
+AreMarks [] text = text ≡ []
+AreMarks (shown ∷ all) text = MarkThen shown (λ more. AreMarks all more) text
 
 -- The text grows by the mark.
-pub record AddsMark (line : ℕ) (told : Told) (old new : List ℕ) : Type 0 where
+pub record AddsMark (shown : Shown) (old new : List ℕ) : Type 0 where
   pub mark : List ℕ
-  pub is : IsMark line told mark
+  pub is : IsMark shown mark
   pub whole : new ≡ old ++ mark
 
 -- The text grows by these marks.
-pub record AddsMarks (line : ℕ) (all : List Told) (old new : List ℕ) : Type 0 where
+pub record AddsMarks (all : List Shown) (old new : List ℕ) : Type 0 where
   pub marks : List ℕ
-  pub are : AreMarks line all marks
+  pub are : AreMarks all marks
   pub whole : new ≡ old ++ marks
 
 -- A picture: what stands behind the marks, the marks, and the end.
-pub record IsPicture (all : List Told) (text : List ℕ) : Type 0 where
+pub record IsPicture (all : List Shown) (text : List ℕ) : Type 0 where
   pub behind : List ℕ
   pub marks : List ℕ
-  pub are : AreMarks 1 all marks
+  pub are : AreMarks all marks
   pub whole : text ≡ behind ++ marks ++ codes "</svg>\n"

@@ -1,5 +1,7 @@
-pub mod Faults
+pub mod Told
 pub mod Marks
-pub mod Reading
 pub mod Drawn
+pub mod Runs
+pub mod Reading
+pub mod Faults
 pub mod Outcome

@@ -1,16 +1,27 @@
--- What the marks of lines tell.
-use Rattle.std.specs.Prelude.{ℕ, List, [], ◌∷◌, ◌++◌, Option, ◌&&◌, nat_le, ◌==◌, if◌then◌else◌, take, codes}
+-- What the mark of a line tells.
+use Rattle.std.specs.Prelude.{ℕ, List, [], ◌∷◌, ◌++◌, map, Option, None, Some, ◌&&◌, nat_le, ◌==◌, if◌then◌else◌, take, codes}
 use Rattle.std.specs.List.{flat_map}
+use Rattle.system.specs.declared.answers.Answer.{Answer}
 use Rattle.system.specs.declared.answers.Answer.TheVariants as answer
+use Rattle.system.specs.declared.events.Act.{Act}
+use Rattle.system.specs.declared.events.Act.TheVariants as act
+use Rattle.system.specs.declared.events.Event.{Event}
+use Rattle.system.specs.declared.events.Event.TheVariants as event
 use Rattle.system.specs.World.{World}
 use Rattle.replay.specs.declared.engine.Reply.{Reply}
 use Rattle.replay.specs.declared.engine.Reply.TheVariants.{BadLine, BadSize, Answered}
+use Rattle.replay.specs.declared.grammar.Command.{Command}
+use Rattle.replay.specs.declared.grammar.Command.TheVariants.{Size, Do}
 use Rattle.replay.specs.Grammar.{command_of}
 use Rattle.replay.specs.Printed.{reply_text}
 use Rattle.replay.specs.Text.{reply_to, after_line}
-use Rattle.run_picture.specs.declared.looks.Outcome.{Outcome}
-use Rattle.run_picture.specs.declared.looks.Outcome.TheVariants as outcome
-use Rattle.run_picture.specs.declared.marks.Mark.{Mark}
+use Rattle.run_picture.specs.declared.shapes.Outcome.{Outcome}
+use Rattle.run_picture.specs.declared.shapes.Outcome.TheVariants as outcome
+use Rattle.run_picture.specs.declared.shapes.Shape.{Shape}
+use Rattle.run_picture.specs.declared.shapes.Shape.TheVariants as shape
+use Rattle.run_picture.specs.declared.shapes.Deed.{Deed}
+use Rattle.run_picture.specs.declared.shapes.Deed.TheVariants as deed
+use Rattle.run_picture.specs.Told.{Told}
 
 -- What came of a line with this reply.
 abbrev pub outcome_of : Reply → Outcome
@@ -18,6 +29,68 @@ outcome_of BadLine = outcome.Bad
 outcome_of BadSize = outcome.Refused
 outcome_of (Answered (answer.Refused why)) = outcome.Refused
 outcome_of (Answered other) = outcome.Accepted
+
+-- What a line asks for, where the kind of its answer isn't in the answer alone.
+abbrev pub deed_of_act : Act → Deed
+deed_of_act act.Clear = deed.Clear
+deed_of_act act.Leave = deed.Leave
+deed_of_act other = deed.Other
+
+abbrev pub deed_of_event : Event → Deed
+deed_of_event (event.At place act) = deed_of_act act
+deed_of_event other = deed.Other
+
+abbrev pub deed_of : Option Command → Deed
+deed_of None = deed.Other
+deed_of (Some (Size x y z)) = deed.Other
+deed_of (Some (Do event)) = deed_of_event event
+
+-- A Clear is a kind of its own among what is done.
+abbrev pub done_shape : Deed → Shape
+done_shape deed.Clear = shape.Cleared
+done_shape deed.Leave = shape.Step
+done_shape deed.Other = shape.Step
+
+-- A Leave that goes on is one among what goes on.
+abbrev pub go_shape : Deed → Shape
+go_shape deed.Clear = shape.Go
+go_shape deed.Leave = shape.Left
+go_shape deed.Other = shape.Go
+
+-- The kind of an answer.
+abbrev pub shape_of_answer : Deed → Answer → Shape
+shape_of_answer deed answer.Done = done_shape deed
+shape_of_answer deed (answer.Thread n p) = shape.Started
+shape_of_answer deed (answer.Exited n) = shape.Exited
+shape_of_answer deed (answer.Changed s by) = shape.Change
+shape_of_answer deed answer.NoChange = shape.NoChange
+shape_of_answer deed answer.Go = go_shape deed
+shape_of_answer deed (answer.Stop n) = shape.Stop
+shape_of_answer deed answer.Entered = shape.Entered
+shape_of_answer deed answer.WrongMethod = shape.WrongMethod
+shape_of_answer deed (answer.Reply n) = shape.Callback
+shape_of_answer deed (answer.Frames fs) = shape.Stack
+shape_of_answer deed (answer.Code s) = shape.Code
+shape_of_answer deed answer.NoCode = shape.NoCode
+shape_of_answer deed answer.Clear = shape.Covered
+shape_of_answer deed answer.Late = shape.Late
+shape_of_answer deed (answer.NotLooked p) = shape.NotLooked
+shape_of_answer deed (answer.Used n) = shape.Used
+shape_of_answer deed answer.Retired = shape.Retired
+shape_of_answer deed (answer.Asked n) = shape.Asked
+shape_of_answer deed (answer.Opened n k) = shape.Opened
+shape_of_answer deed (answer.Closed n) = shape.Closed
+shape_of_answer deed answer.Told = shape.Told
+shape_of_answer deed answer.Gone = shape.Gone
+shape_of_answer deed (answer.Census cs) = shape.Counted
+shape_of_answer deed (answer.Count n) = shape.Count
+shape_of_answer deed (answer.State s) = shape.State
+shape_of_answer deed (answer.Refused why) = shape.Refusal
+
+abbrev pub shape_of : Deed → Reply → Shape
+shape_of deed BadLine = shape.BadLine
+shape_of deed BadSize = shape.Refusal
+shape_of deed (Answered answer) = shape_of_answer deed answer
 
 -- A byte as text of XML: one that isn't printable ASCII is a question mark.
 abbrev pub escaped_byte : ℕ → List ℕ
@@ -31,26 +104,18 @@ escaped_byte b =
 abbrev pub title_of : List ℕ → Reply → List ℕ
 title_of line reply = flat_map escaped_byte line ++ 10 ∷ (reply_text reply ++ 10 ∷ [])
 
--- What a mark tells.
-pub record Told : Type 0 where
-  pub outcome : Outcome
-  pub title : List ℕ
-
-abbrev pub told_of : Mark → Told
-told_of mark = record { outcome = mark.outcome; title = mark.title.items }
-
-abbrev pub told_by : List ℕ → Reply → Told
-told_by line reply = record { outcome = outcome_of reply; title = title_of line reply }
+abbrev pub told_by : List ℕ → Deed → Reply → Told
+told_by line deed reply = record { outcome = outcome_of reply; shape = shape_of deed reply; title = title_of line reply }
 
 -- What the mark of a line tells, in the world of the lines before.
 abbrev pub told_line : Option World → List ℕ → Told
-told_line world line = told_by line (reply_to world (command_of line))
+told_line world line = told_by line (deed_of (command_of line)) (reply_to world (command_of line))
 
 -- A line as far as it matters: one of more than 1024 bytes is bad.
 abbrev pub enough : List ℕ → List ℕ
 enough line = take 1025 line
 
--- A mark for each line, in their order.
+-- What each line tells, in their order.
 abbrev pub told_lines : Option World → List (List ℕ) → List Told
 told_lines world [] = []
 told_lines world (line ∷ lines) = told_line world (enough line) ∷ told_lines (after_line world (enough line)) lines

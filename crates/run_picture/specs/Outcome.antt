@@ -1,31 +1,50 @@
 -- What a whole call read and wrote.
-use Rattle.std.specs.Prelude.{◌≡◌, ℕ, List, Option, Result, Ok, Err}
+use Rattle.std.specs.Prelude.{◌≡◌, ◌++◌, ℕ, List, Option, Result, Ok, Err, string_bytes}
 use Rattle.std.specs.Io.KnownBytes.{Appends}
 use Rattle.replay.specs.declared.stream.ReplayFault.{ReplayFault}
 use Rattle.replay.specs.declared.stream.ReplayFault.TheVariants.{WriteFailed}
 use Rattle.replay.specs.Known.{AppendsPart}
-use Rattle.run_picture.specs.Marks.{Told}
+use Rattle.run_picture.specs.declared.picture.Asked.{Asked}
+use Rattle.run_picture.specs.declared.picture.Form.{Form}
+use Rattle.run_picture.specs.declared.picture.Form.TheVariants.{Picture, Page}
+use Rattle.run_picture.specs.Told.{Shown}
 use Rattle.run_picture.specs.Reading.{Marked}
 use Rattle.run_picture.specs.Drawn.{IsPicture}
 
--- All was read, and the picture of it, which has a mark for each line, was written.
-pub record DrewAll (left left' got got' : Option (List ℕ)) : Type 0 where
-  pub told : List Told
+-- A page holds a picture: something stands before it, and something behind it.
+pub record HoldsPicture (picture page : List ℕ) : Type 0 where
+  pub head : List ℕ
+  pub tail : List ℕ
+  pub whole : page ≡ head ++ picture ++ tail
+
+-- A page of a picture with these marks.
+pub record IsPage (shown : List Shown) (page : List ℕ) : Type 0 where
+  pub picture : List ℕ
+  pub is : IsPicture shown picture
+  pub held : HoldsPicture picture page
+
+abbrev pub IsForm : Form → List Shown → List ℕ → Type 0
+IsForm Picture shown text = IsPicture shown text
+IsForm Page shown text = IsPage shown text
+
+-- All was read, and the part that was asked for, which has a mark for each line of it, was written as it was asked for.
+pub record DrewAll (asked : Asked) (left left' got got' : Option (List ℕ)) : Type 0 where
+  pub shown : List Shown
   pub text : List ℕ
-  pub marked : Marked left left' told
-  pub picture : IsPicture told text
+  pub marked : Marked left left' asked.part shown
+  pub picture : IsForm asked.form shown text
   pub written : Appends got got' text
 
--- All was read, and a beginning of the picture of it was written.
-pub record DrewPart (left left' got got' : Option (List ℕ)) : Type 0 where
-  pub told : List Told
+-- All was read, and a beginning of that was written.
+pub record DrewSome (asked : Asked) (left left' got got' : Option (List ℕ)) : Type 0 where
+  pub shown : List Shown
   pub text : List ℕ
-  pub marked : Marked left left' told
-  pub picture : IsPicture told text
+  pub marked : Marked left left' asked.part shown
+  pub picture : IsForm asked.form shown text
   pub written : AppendsPart got got' text
 
--- What was written, by what is answered: the picture, a beginning of it, or nothing.
-abbrev pub Drew : {A : Type 0} → Result A ReplayFault → Option (List ℕ) → Option (List ℕ) → Option (List ℕ) → Option (List ℕ) → Type 0
-Drew (Ok x) left left' got got' = DrewAll left left' got got'
-Drew (Err WriteFailed) left left' got got' = DrewPart left left' got got'
-Drew (Err fault) left left' got got' = got' ≡ got
+-- What was written, by what is answered: all, a beginning, or nothing.
+abbrev pub Drew : {A : Type 0} → Asked → Result A ReplayFault → Option (List ℕ) → Option (List ℕ) → Option (List ℕ) → Option (List ℕ) → Type 0
+Drew asked (Ok x) left left' got got' = DrewAll asked left left' got got'
+Drew asked (Err WriteFailed) left left' got got' = DrewSome asked left left' got got'
+Drew asked (Err fault) left left' got got' = got' ≡ got

@@ -1,26 +1,27 @@
-// Where things stand in a picture, in pixels. It grows sideways with the lines, and downwards with the lanes.
+// Where things stand in a picture, in pixels. It is made of panels side by side, each with the names of lanes at its left.
 ghost use Rattle.std.specs.Prelude.{◌<◌};
 
-use crate::looks::{Group, Lane};
 use crate::run::Run;
+use run_lanes::looks::{Group, LINES, Lane};
+use run_lanes::painted::Painted;
+
+/// The width of a panel.
+pub const PANEL: u64 = 1200;
 
 /// Where the first lane begins, under the title, the legend and the numbers of the lines.
-pub const TOP: u64 = 128;
+pub const TOP: u64 = 156;
 
 /// The room for the names of lanes.
-const LEFT: u64 = 96;
+pub const LEFT: u64 = 104;
 
-/// The least width, for the legend.
-const LEAST_WIDTH: u64 = 1180;
+/// The room right of the last line of a panel.
+const RIGHT: u64 = 8;
 
-/// Up to so many lines each has its text under its mark, and the marks stand apart enough for it.
-const FEW: u64 = 80;
+/// Up to so many lines the marks stand apart enough for all texts.
+const FEW: u64 = 200;
 
 /// Up to so many lines the marks stand apart enough to be told by their shapes without a magnifier.
 const SOME: u64 = 600;
-
-/// The room for the texts of lines.
-const TEXTS: u64 = 120;
 
 const GAP: u64 = 10;
 
@@ -28,36 +29,98 @@ const GAP: u64 = 10;
 pub fn pitch(group: Group) -> u64 {
     match group {
         Group::Lines => 26,
-        Group::Places => 44,
+        Group::Places => 52,
         Group::Operations | Group::Codes => 28,
+    }
+}
+
+/// How many lanes the groups have.
+#[derive(Clone, Copy, Drop)]
+pub struct Extent {
+    pub operations: u64,
+    pub places: u64,
+    pub codes: u64,
+}
+
+impl Extent {
+    // There is this lane.
+    fn cover(&mut self, lane: Lane) {
+        let lanes = (lane.row as u64).saturating_add(1);
+        match lane.group {
+            Group::Lines => {}
+            Group::Operations => self.operations = self.operations.max(lanes),
+            Group::Places => self.places = self.places.max(lanes),
+            Group::Codes => self.codes = self.codes.max(lanes),
+        }
+    }
+
+    fn of(run: &Run) -> Extent {
+        let mut extent = Extent {
+            operations: 0,
+            places: 0,
+            codes: 0,
+        };
+        extent.cover_painted(&run.lanes.painted);
+        for mark in &run.marks {
+            extent.cover(mark.spot.lane);
+            if let Some(lane) = mark.spot.tie {
+                extent.cover(lane);
+            }
+        }
+        extent
+    }
+
+    fn cover_painted(&mut self, painted: &Painted) {
+        for span in &painted.spans {
+            self.cover(span.lane);
+        }
+        for life in &painted.lives {
+            self.cover(life.lane);
+        }
+    }
+
+    /// How many lanes a group has.
+    pub fn lanes(&self, group: Group) -> u64 {
+        match group {
+            Group::Lines => 1,
+            Group::Operations => self.operations,
+            Group::Places => self.places,
+            Group::Codes => self.codes,
+        }
     }
 }
 
 /// The sizes that say where all else stands.
 #[derive(Clone, Copy, Drop)]
 pub struct Layout {
+    /// The number of the first line that is drawn.
+    pub first: u64,
+    /// How many lines are drawn.
     pub lines: u64,
-    pub operations: u64,
-    pub places: u64,
-    pub codes: u64,
+    pub extent: Extent,
+    /// The room for the texts of lines.
+    texts: u64,
 }
 
 impl Layout {
-    pub fn of(run: &Run) -> Layout {
+    /// The layout of a run, whose longest text of a line has so many letters.
+    pub fn of(run: &Run, letters: u64) -> Layout {
+        let first = match run.marks.first() {
+            Some(mark) => mark.line,
+            None => run.part.from,
+        };
         Layout {
+            first,
             lines: run.marks.len() as u64,
-            operations: run.lanes.operations.len() as u64,
-            places: run.lanes.threads.len() as u64,
-            codes: run.lanes.codes.len() as u64,
+            extent: Extent::of(run),
+            texts: letters.saturating_mul(5).saturating_add(20),
         }
     }
 
-    /// Whether each line has its text under its mark.
-    pub fn has_texts(&self) -> bool {
-        self.lines <= FEW
-    }
-
-    fn step(&self) -> u64 {
+    /// How far the marks of two lines stand apart.
+    pub fn step(&self) -> u64
+        ensures { 0 < result }
+    {
         if self.lines <= FEW {
             22
         } else if self.lines <= SOME {
@@ -74,16 +137,63 @@ impl Layout {
         if self.lines <= SOME { 10 } else { 20 }
     }
 
-    /// How many lines lie between two places where the names of lanes are told again.
-    pub fn named(&self) -> u64
+    /// How many lines a panel has.
+    pub fn columns(&self) -> u64
         ensures { 0 < result }
     {
-        if self.lines <= SOME { 100 } else { 160 }
+        if self.lines <= FEW {
+            49
+        } else if self.lines <= SOME {
+            90
+        } else {
+            155
+        }
+    }
+
+    // How many lines stand before this one.
+    fn before(&self, line: u64) -> u64 {
+        line.saturating_sub(self.first)
+    }
+
+    /// The panel of a line, counted from 0.
+    pub fn panel(&self, line: u64) -> u64 {
+        self.before(line) / self.columns()
+    }
+
+    /// How many panels there are.
+    pub fn panels(&self) -> u64 {
+        let last = self.lines.saturating_sub(1);
+        (last / self.columns()).saturating_add(1)
+    }
+
+    /// The first line of a panel.
+    pub fn first_of(&self, panel: u64) -> u64 {
+        panel
+            .saturating_mul(self.columns())
+            .saturating_add(self.first)
     }
 
     /// Where a line's mark stands.
     pub fn x(&self, line: u64) -> u64 {
-        line.saturating_mul(self.step()).saturating_add(LEFT)
+        let column = self.before(line) % self.columns();
+        let left = self.panel(line).saturating_mul(PANEL);
+        column
+            .saturating_mul(self.step())
+            .saturating_add(left)
+            .saturating_add(LEFT)
+    }
+
+    /// Where what ends at a line ends: one step behind the line before it.
+    pub fn end(&self, line: u64) -> u64 {
+        self.x(line.saturating_sub(1)).saturating_add(self.step())
+    }
+
+    /// Where the lines of a panel end.
+    pub fn right(&self, panel: u64) -> u64 {
+        panel
+            .saturating_add(1)
+            .saturating_mul(PANEL)
+            .saturating_sub(RIGHT)
     }
 
     /// Where a lane begins.
@@ -106,32 +216,34 @@ impl Layout {
     // Where a group begins: below the groups before it.
     fn top(&self, group: Group) -> u64 {
         let operations = below(TOP, 1, Group::Lines);
-        let places = below(operations, self.operations, Group::Operations);
+        let places = below(operations, self.extent.operations, Group::Operations);
         match group {
             Group::Lines => TOP,
             Group::Operations => operations,
             Group::Places => places,
-            Group::Codes => below(places, self.places, Group::Places),
+            Group::Codes => below(places, self.extent.places, Group::Places),
         }
     }
 
     /// Where the last lane ends.
     pub fn bottom(&self) -> u64 {
-        below(self.top(Group::Codes), self.codes, Group::Codes)
+        below(self.top(Group::Codes), self.extent.codes, Group::Codes)
     }
 
     pub fn height(&self) -> u64 {
-        let texts = if self.has_texts() { TEXTS } else { 20 };
-        self.bottom().saturating_add(texts)
+        self.bottom().saturating_add(self.texts)
     }
 
     pub fn width(&self) -> u64 {
-        let right = self.x(self.lines).saturating_add(90);
-        if right < LEAST_WIDTH {
-            LEAST_WIDTH
-        } else {
-            right
-        }
+        self.panels().saturating_mul(PANEL)
+    }
+}
+
+/// The lane of this number of a group.
+pub fn lane(group: Group, row: u64) -> Lane {
+    match usize::try_from(row) {
+        Ok(row) => Lane { group, row },
+        Err(_) => LINES,
     }
 }
 

@@ -1,21 +1,23 @@
-//! A picture of a run: lines of events in, an SVG out, over the caller's devices.
+//! A picture of a run: lines of events in, an SVG or a page out, over the caller's devices.
 #![tactic(auto)]
 
-mod codes;
+mod answers;
 mod drawing;
 mod fault;
 mod layout;
 mod legend;
-mod looks;
 mod marks;
+mod names;
+mod page;
 mod painting;
+mod part;
 mod picture;
 mod reading;
-mod requests;
-mod rows;
 mod run;
-mod subject;
-mod threads;
+mod shapes;
+mod words;
 
 pub use fault::Fault;
-pub use picture::draw_run;
+pub use part::{Part, WHOLE};
+pub use picture::{Asked, Form, draw_run};
+pub use words::read_words;

@@ -1,40 +1,22 @@
-// A mark for each line: what came of it, its text, and where it is drawn.
+// A mark for each line that is drawn: what came of it, its text, and where it stands.
 ghost use Rattle.std.specs.Prelude.{◌≡◌, ◌++◌, ◌∷◌, [], OnOk, IfOk};
 ghost use Rattle.replay.specs.Printed.{reply_text};
-ghost use Rattle.run_picture.specs.Marks.{outcome_of, escaped_byte, title_of};
+ghost use Rattle.run_picture.specs.Marks.{escaped_byte, title_of};
 
-use crate::looks::{Lane, Outcome, Shape};
+use crate::shapes::{Outcome, Shape};
 use replay::engine::Reply;
 use replay::print::put_reply;
+use run_lanes::lanes::Spot;
 use std::alloc::{AllocError, Global};
-use system::answers::Answer;
-
-/// Where a mark is drawn, as what, and to which lane a thin line leads from there.
-#[derive(Clone, Copy, Drop)]
-pub struct Spot {
-    pub lane: Lane,
-    pub shape: Shape,
-    pub tie: Option<Lane>,
-}
 
 /// The mark of a line. Its title is the line and the line that answers it, as text of XML.
 #[derive(Drop)]
 pub struct Mark {
+    pub line: u64,
     pub outcome: Outcome,
+    pub shape: Shape,
     pub title: Vec<u8>,
     pub spot: Spot,
-}
-
-/// What came of a line with this reply.
-pub fn outcome_of(reply: &Reply) -> Outcome
-    ensures { result ≡ outcome_of reply.now }
-{
-    match reply {
-        Reply::BadLine => Outcome::Bad,
-        Reply::BadSize => Outcome::Refused,
-        Reply::Answered(Answer::Refused(_)) => Outcome::Refused,
-        Reply::Answered(_) => Outcome::Accepted,
-    }
 }
 
 /// Puts a byte into the text of XML; one that isn't printable ASCII is a question mark there.

@@ -1,15 +1,17 @@
 // Bytes in, a run out: cut into lines, each done and answered by the core, as `monitor replay` does.
-ghost use Rattle.std.specs.Prelude.{◌≡◌, ◌<◌, ◌∷◌, [], None, map, vec_len, IfOk, OnOk};
-ghost use Rattle.run_picture.specs.Marks.{told_of};
+ghost use Rattle.std.specs.Prelude.{◌≡◌, ◌<◌, ◌≤◌, ◌+◌, ◌^◌, ◌∷◌, [], None, length, vec_len, IfOk, OnOk};
+ghost use Rattle.run_picture.specs.Runs.{seen, shown_by};
 ghost use Rattle.run_picture.specs.Reading.{Read, Noted, Finished, Marked, FailedReads};
 
+use crate::part::Part;
 use crate::run::Run;
-use crate::subject::Subject;
+use crate::shapes::deed_of;
 use replay::device::Source;
 use replay::engine::obey;
 use replay::grammar::parse;
 use replay::held::Held;
 use replay::stream::ReplayFault;
+use run_lanes::subject::Subject;
 use std::alloc::{AllocError, Global};
 use system::System;
 
@@ -28,21 +30,25 @@ struct Reading {
 }
 
 impl Reading {
-    fn new(alloc: Global) -> Reading
+    fn new(alloc: Global, part: Part) -> Reading
         ensures system { result.system ≡ None }
         ensures held { result.held ≡ [] }
+        ensures part { result.run.part ≡ part }
+        ensures lines { result.run.lines ≡ 0 }
         ensures marks { result.run.marks.items ≡ [] }
     {
         Reading {
             system: None,
             held: Held::new(),
-            run: Run::new(alloc),
+            run: Run::new(alloc, part),
         }
     }
 
     /// One byte more.
     fn take(&mut self, alloc: Global, byte: u8) -> Result<(), AllocError>
-        ensures { OnOk result (Read self.old.system self.old.held (map told_of self.old.run.marks.items) (byte ∷ []) self.new.system self.new.held (map told_of self.new.run.marks.items)) }
+        requires few { self.old.run.lines < 2 ^ 62 }
+        ensures read { OnOk result (Read self.old.system self.old.held (seen self.old.run) (byte ∷ []) self.new.system self.new.held (seen self.new.run)) }
+        ensures few { OnOk result (self.new.run.lines ≤ self.old.run.lines + 1) }
     {
         if byte == b'\n' {
             self.end_line(alloc)?;
@@ -54,20 +60,26 @@ impl Reading {
 
     /// The line that is held has ended.
     fn end_line(&mut self, alloc: Global) -> Result<(), AllocError>
-        ensures noted { OnOk result (Noted self.old.system self.old.held (map told_of self.old.run.marks.items) self.new.system (map told_of self.new.run.marks.items)) }
+        requires few { self.old.run.lines < 2 ^ 62 }
+        ensures noted { OnOk result (Noted self.old.system self.old.held (seen self.old.run) self.new.system (seen self.new.run)) }
         ensures held { OnOk result (self.new.held ≡ []) }
+        ensures lines { OnOk result (self.new.run.lines ≡ self.old.run.lines + 1) }
     {
         let command = parse(alloc, self.held.as_slice())?;
-        let subject = Subject::of(&command);
+        let deed = deed_of(&command);
+        let subject = Subject::of(alloc, &command)?;
         let reply = obey(&mut self.system, alloc, command)?;
-        self.run.note(alloc, self.held.as_slice(), subject, &reply)?;
+        self.run
+            .note(alloc, self.held.as_slice(), deed, subject, &reply)?;
         self.held.clear();
         Ok(())
     }
 
     /// The bytes, one after another.
     fn take_all(&mut self, alloc: Global, bytes: &[u8]) -> Result<(), AllocError>
-        ensures { OnOk result (Read self.old.system self.old.held (map told_of self.old.run.marks.items) bytes.now self.new.system self.new.held (map told_of self.new.run.marks.items)) }
+        requires few { self.old.run.lines + length bytes.now < 2 ^ 62 }
+        ensures read { OnOk result (Read self.old.system self.old.held (seen self.old.run) bytes.now self.new.system self.new.held (seen self.new.run)) }
+        ensures few { OnOk result (self.new.run.lines ≤ self.old.run.lines + length bytes.now) }
     {
         for byte in bytes {
             self.take(alloc, *byte)?;
@@ -77,26 +89,28 @@ impl Reading {
 
     /// The input has ended. A last line without a newline is a line.
     fn finish(mut self, alloc: Global) -> Result<Run, AllocError>
-        ensures { IfOk result (λ run. Finished self.system self.held (map told_of self.run.marks.items) (map told_of run.marks.items)) }
+        requires few { self.run.lines < 2 ^ 62 }
+        ensures { IfOk result (λ run. Finished self.system self.held (seen self.run) (seen run)) }
     {
-        if !self.held.is_empty() {
-            self.end_line(alloc)?;
+        if self.held.is_empty() {
+            return Ok(self.run);
         }
+        self.end_line(alloc)?;
         Ok(self.run)
     }
 }
 
-/// Reads all there is. Of a line that is too long only the beginning is kept.
-pub fn read_run<R: Source>(alloc: Global, source: &mut R) -> Result<Run, ReplayFault>
+/// Reads all there is, and keeps the marks of a part. Of a line that is too long only the beginning is kept.
+pub fn read_run<R: Source>(alloc: Global, source: &mut R, part: Part) -> Result<Run, ReplayFault>
     requires source { R.failures source.old ≡ 0 }
     requires unread { R.reads source.old ≡ 0 }
-    ensures marked { IfOk result (λ run. Marked (R.left source.old) (R.left source.new) (map told_of run.marks.items)) }
+    ensures marked { IfOk result (λ run. Marked (R.left source.old) (R.left source.new) part (shown_by run.marks.items)) }
     ensures failed { FailedReads result (R.reads source.new) (R.failures source.new) }
 {
     let Ok(mut block) = new_block(alloc) else {
         return Err(ReplayFault::NoMemory);
     };
-    let mut reading = Reading::new(alloc);
+    let mut reading = Reading::new(alloc, part);
     for turn in 0..READS {
         let Ok(n) = source.read(&mut block) else {
             return Err(ReplayFault::ReadFailed);
@@ -116,7 +130,7 @@ pub fn read_run<R: Source>(alloc: Global, source: &mut R) -> Result<Run, ReplayF
 }
 
 fn new_block(alloc: Global) -> Result<Vec<u8>, AllocError>
-    ensures { IfOk result (λ block. 0 < vec_len block) }
+    ensures { IfOk result (λ block. vec_len block ≡ 65536) }
 {
     Ok(vec![in alloc; 0u8; BLOCK]?)
 }

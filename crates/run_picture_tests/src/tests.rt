@@ -1,7 +1,7 @@
 // Whole pictures, over devices that give and take little, or fail.
 use replay::device::{FromReader, IntoWriter};
 use replay::stream::ReplayFault;
-use run_picture::draw_run;
+use run_picture::{Asked, Form, Part, WHOLE, draw_run, read_words};
 use std::alloc::Global;
 use std::io::{self, Read, Write};
 use std::test::Fail;
@@ -54,6 +54,11 @@ impl Write for Basin {
     }
 }
 
+const PICTURE: Asked = Asked {
+    form: Form::Picture,
+    part: WHOLE,
+};
+
 // What is answered, and what was written, where reads and writes take so many bytes and these calls fail.
 fn drawn(
     alloc: Global,
@@ -61,6 +66,17 @@ fn drawn(
     step: usize,
     bad_read: usize,
     bad_write: usize,
+) -> (Result<(), ReplayFault>, Vec<u8>) {
+    drawn_as(alloc, input, step, bad_read, bad_write, PICTURE)
+}
+
+fn drawn_as(
+    alloc: Global,
+    input: &[u8],
+    step: usize,
+    bad_read: usize,
+    bad_write: usize,
+    asked: Asked,
 ) -> (Result<(), ReplayFault>, Vec<u8>) {
     let mut source = Drip {
         rest: input,
@@ -78,6 +94,7 @@ fn drawn(
         alloc,
         &mut FromReader::new(&mut source),
         &mut IntoWriter::new(&mut sink),
+        asked,
     );
     (outcome, sink.got)
 }
@@ -105,29 +122,29 @@ fn each_line_has_one_mark(rt: HostRuntime) -> Result<(), Fail> {
     let (outcome, text) = drawn(rt.alloc(), HANDSHAKE, 1_000_000, 0, 0);
     assert!(rt; outcome == Ok(()));
     assert!(rt; count(&text, b"<g id='line") == 24);
-    assert!(rt; count(&text, b"class='accepted'><title>") == 22);
+    assert!(rt; count(&text, b"class='accepted ") == 22);
     assert!(rt;
         has(
             &text,
-            b"<g id='line12' class='refused'><title>hold 0\nrefused NotTold\n</title><use href='#refusal'"
+            b"<g id='line12' class='refused refusal'><title>hold 0\nrefused NotTold\n</title><use href='#refusal'"
         )
     );
     assert!(rt;
         has(
             &text,
-            b"<g id='line16' class='accepted'><title>change 0\nchange 1 +1\n</title><use href='#change'"
+            b"<g id='line16' class='accepted change'><title>change 0\nchange 1 +1\n</title><use href='#change'"
         )
     );
     assert!(rt;
         has(
             &text,
-            b"<g id='line18' class='accepted'><title>finish 0\nreply 1\n</title><use href='#callback'"
+            b"<g id='line18' class='accepted callback'><title>finish 0\nreply 1\n</title><use href='#callback'"
         )
     );
     assert!(rt;
         has(
             &text,
-            b"<g id='line24' class='bad'><title>start 7\nbad line\n</title><use href='#badline'"
+            b"<g id='line24' class='bad badline'><title>start 7\nbad line\n</title><use href='#badline'"
         )
     );
     assert!(rt; text.as_slice().ends_with(b"</g>\n</svg>\n"));
@@ -137,37 +154,37 @@ fn each_line_has_one_mark(rt: HostRuntime) -> Result<(), Fail> {
 #[test]
 fn lanes_show_states_in_colours(rt: HostRuntime) -> Result<(), Fail> {
     let (_, text) = drawn(rt.alloc(), HANDSHAKE, 1_000_000, 0, 0);
-    // One step is 22 pixels, and line 9 stands at 294: native from line 9 to line 21.
+    // One step is 22 pixels, and line 9 stands at 280: native from line 9 to line 21.
     assert!(rt;
         has(
             &text,
-            b"<rect class='native' x='294' y='217' width='264' height='15'/>"
+            b"<rect class='native' x='280' y='245' width='264' height='15'/>"
         )
     );
     // Held from line 14 to line 20, and a publication from line 15 to line 17.
     assert!(rt;
         has(
             &text,
-            b"<rect class='held' x='404' y='213' width='132' height='4'/>"
+            b"<rect class='held' x='390' y='241' width='132' height='4'/>"
         )
     );
     assert!(rt;
         has(
             &text,
-            b"<rect class='publishing' x='426' y='233' width='44' height='6'/>"
+            b"<rect class='publishing' x='412' y='261' width='44' height='6'/>"
         )
     );
     // The operation is open from line 11 to line 23, and the code in use up to the end.
     assert!(rt;
         has(
             &text,
-            b"<rect class='handshake' x='338' y='176' width='264' height='12'/>"
+            b"<rect class='handshake' x='324' y='204' width='264' height='12'/>"
         )
     );
     assert!(rt;
         has(
             &text,
-            b"<rect class='inuse' x='250' y='268' width='396' height='12'/>"
+            b"<rect class='inuse' x='236' y='304' width='396' height='12'/>"
         )
     );
     Ok(())
@@ -220,5 +237,93 @@ fn a_write_that_fails_leaves_a_beginning(rt: HostRuntime) -> Result<(), Fail> {
     let (outcome, text) = drawn(rt.alloc(), HANDSHAKE, 10, 0, 3);
     assert!(rt; outcome == Err(ReplayFault::WriteFailed));
     assert!(rt; text.as_slice() == b"<svg xmlns='http://w".as_slice());
+    Ok(())
+}
+
+#[test]
+fn a_part_has_the_state_that_the_lines_before_left(rt: HostRuntime) -> Result<(), Fail> {
+    let asked = Asked {
+        form: Form::Picture,
+        part: Part {
+            from: 15,
+            end: Some(18),
+        },
+    };
+    let (outcome, text) = drawn_as(rt.alloc(), HANDSHAKE, 1_000_000, 0, 0, asked);
+    assert!(rt; outcome == Ok(()));
+    assert!(rt; count(&text, b"<g id='line") == 3);
+    assert!(rt;
+        has(
+            &text,
+            b"<g id='line17' class='accepted step'><title>end 0\nok\n</title>"
+        )
+    );
+    assert!(rt; has(&text, b">lines 15 to 17 of 24, 0 refused, 0 bad;"));
+    // Native and held since before the part, and after it: from its first line to behind its last.
+    assert!(rt;
+        has(
+            &text,
+            b"<rect class='native' x='104' y='245' width='66' height='15'/>"
+        )
+    );
+    assert!(rt;
+        has(
+            &text,
+            b"<rect class='held' x='104' y='241' width='66' height='4'/>"
+        )
+    );
+    Ok(())
+}
+
+#[test]
+fn a_page_holds_the_picture(rt: HostRuntime) -> Result<(), Fail> {
+    let (_, picture) = drawn(rt.alloc(), HANDSHAKE, 1_000_000, 0, 0);
+    let asked = Asked {
+        form: Form::Page,
+        part: WHOLE,
+    };
+    let (outcome, page) = drawn_as(rt.alloc(), HANDSHAKE, 1_000_000, 0, 0, asked);
+    assert!(rt; outcome == Ok(()));
+    assert!(rt; page.as_slice().starts_with(b"<!DOCTYPE html>\n"));
+    assert!(rt; page.as_slice().ends_with(b"</html>\n"));
+    assert!(rt; has(&page, &picture));
+    Ok(())
+}
+
+// What is asked for by these words: whether a page, the first line, and the first one behind the last.
+fn asked_by(alloc: Global, words: &[&str]) -> Result<Option<(bool, u64, Option<u64>)>, Fail> {
+    let mut all = Vec::new(alloc);
+    for word in words {
+        all.push(String::from_str(alloc, word)?)?;
+    }
+    Ok(match read_words(&all) {
+        None => None,
+        Some(asked) => Some((asked.form == Form::Page, asked.part.from, asked.part.end)),
+    })
+}
+
+#[test]
+fn words_ask_for_a_form_and_a_part(rt: HostRuntime) -> Result<(), Fail> {
+    let alloc = rt.alloc();
+    assert!(rt; asked_by(alloc, &[])? == Some((false, 1, None)));
+    assert!(rt; asked_by(alloc, &["--html"])? == Some((true, 1, None)));
+    assert!(rt; asked_by(alloc, &["--from", "7"])? == Some((false, 7, None)));
+    assert!(rt; asked_by(alloc, &["--to", "7"])? == Some((false, 1, Some(8))));
+    assert!(rt;
+        asked_by(alloc, &["--html", "--from", "3", "--to", "1099511627775"])?
+            == Some((true, 3, Some(1_099_511_627_776)))
+    );
+    Ok(())
+}
+
+#[test]
+fn other_words_are_bad(rt: HostRuntime) -> Result<(), Fail> {
+    let alloc = rt.alloc();
+    assert!(rt; asked_by(alloc, &["run"])?.is_none());
+    assert!(rt; asked_by(alloc, &["--from"])?.is_none());
+    for number in ["", "0", "01", "+1", "-1", "1 ", "1099511627776", "x"] {
+        assert!(rt; asked_by(alloc, &["--from", number])?.is_none());
+        assert!(rt; asked_by(alloc, &["--to", number])?.is_none());
+    }
     Ok(())
 }

@@ -16,6 +16,10 @@ fn code_of(alloc: Global, text: &[u8]) -> Result<Code, ScriptFault> {
     check(alloc, &script)
 }
 
+fn expect(rt: &impl Abort, found: &str, wanted: &str) {
+    assert!(rt; found == wanted, "{found}, and not {wanted}");
+}
+
 // The text of a row: its parts have bars between them, and `3*vm` is `vm` three times.
 fn text_of(rt: &impl Abort, alloc: Global, row: &str) -> Vec<u8> {
     let mut text = Vec::new(alloc);

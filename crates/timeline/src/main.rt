@@ -2,13 +2,13 @@
 #![tactic(auto)]
 
 use replay::device::{FromReader, IntoWriter};
-use run_picture::{Fault, draw_run};
+use run_picture::{Fault, draw_run, read_words};
 use std::env;
 use std::process::ExitCode;
 
-/// `timeline` reads lines on standard input, as `monitor replay` does, and writes an SVG picture of the run on standard output.
-/// The status is 0 when all is drawn, 1 for a fault and 2 for any word behind the program's name. A fault is told on standard
-/// error, in one line.
+/// `timeline [--html] [--from N] [--to M]` reads lines on standard input, as `monitor replay` does, and writes an SVG picture of the
+/// run on standard output, or with `--html` a page with the picture, from line N to line M where they are told. The status is 0 when
+/// all is drawn, 1 for a fault and 2 for other words. A fault is told on standard error, in one line.
 fn main(rt: HostRuntime) -> ExitCode {
     match draw(&rt) {
         Ok(()) => ExitCode::SUCCESS,
@@ -20,18 +20,21 @@ fn main(rt: HostRuntime) -> ExitCode {
 }
 
 fn draw(rt: &HostRuntime) -> Result<(), Fault> {
-    if has_words(rt) {
+    let Some(asked) = read_words(&words(rt)?) else {
         return Err(Fault::BadWords);
-    }
+    };
     let mut source = FromReader::new(rt.stdin());
     let mut sink = IntoWriter::new(rt.stdout());
-    Ok(draw_run(rt.alloc(), &mut source, &mut sink)?)
+    Ok(draw_run(rt.alloc(), &mut source, &mut sink, asked)?)
 }
 
-// Whether there is a word behind the program's name.
-fn has_words(rt: &HostRuntime) -> bool {
-    match env::args(rt) {
-        Ok(words) => words.count() > 1,
-        Err(_) => true,
+// The words behind the program's name.
+fn words(rt: &HostRuntime) -> Result<Vec<String>, Fault> {
+    let Ok(words) = env::args(rt) else {
+        return Err(Fault::BadWords);
+    };
+    match words.skip(1).collect(rt.alloc()) {
+        Ok(words) => Ok(words),
+        Err(_) => Err(Fault::NoMemory),
     }
 }

@@ -71,6 +71,7 @@ enter 0 => bad line
 enter 0 0 0 0 => bad line
 enter 0 0  => bad line
 enter 0 0 i => bad line
+enter 0 1 99999999999999999999 => bad line
 look 1 => bad line
 look 1 0 0 => bad line
 ask => bad line

@@ -1,7 +1,7 @@
 // Memory that is refused. With each growth refused in turn, these show that a text is answered as ever or with NoMemory, and that a
 // run has made a beginning of its marks, and makes the others once memory is there again.
 use super::scripts::line_of;
-use super::{LOOP_OF_CALLS, code_of};
+use super::{LOOP_OF_CALLS, code_of, expect};
 use interp::{Mark, Outcome, Runner, Tape};
 use std::alloc::Global;
 use std::process::Abort;
@@ -19,7 +19,7 @@ fn refusals(rt: &impl Abort, alloc: Global, text: &str, wanted: &str) -> u8 {
     if line.as_str() == "no memory" {
         return 1;
     }
-    assert!(rt; line.as_str() == wanted, "{line}, and not {wanted}");
+    expect(rt, line.as_str(), wanted);
     0
 }
 
@@ -63,19 +63,28 @@ fn refused_after(rt: &impl Abort, runner: &mut Runner<'_>, tape: &mut Tape) -> O
     refused
 }
 
-#[test]
-fn refused_memory_leaves_a_beginning(rt: HostRuntime) -> Result<(), Fail> {
-    let code = code_of(rt.alloc(), TWO_TURNS.as_bytes()).ok();
-    let Some(Ok(mut runner)) = code.as_ref().map(|code| Runner::new(rt.alloc(), code)) else {
-        println!(rt; "refused before the run")?;
-        return Ok(());
-    };
-    let mut tape = Tape::new(rt.alloc());
-    match refused_after(&rt, &mut runner, &mut tape) {
-        None => println!(rt; "no growth was refused")?,
-        Some(marks) => println!(rt; "refused after {marks} marks")?,
-    }
+// What that came to. Once memory is there again, the run makes all of its marks.
+fn refused_and_finished(rt: &impl Abort, alloc: Global, runner: &mut Runner<'_>) -> Option<u64> {
+    let mut tape = Tape::new(alloc);
+    let refused = refused_after(rt, runner, &mut tape);
     assert!(rt; matches!(runner.run(&mut tape, 100), Outcome::Finished));
     assert!(rt; tape.marks.as_slice() == MARKS_OF_TWO_TURNS.as_slice());
+    refused
+}
+
+// None where memory was refused before the run.
+fn run_two_turns(rt: &impl Abort, alloc: Global) -> Option<Option<u64>> {
+    let code = code_of(alloc, TWO_TURNS.as_bytes()).ok()?;
+    let mut runner = Runner::new(alloc, &code).ok()?;
+    Some(refused_and_finished(rt, alloc, &mut runner))
+}
+
+#[test]
+fn refused_memory_leaves_a_beginning(rt: HostRuntime) -> Result<(), Fail> {
+    match run_two_turns(&rt, rt.alloc()) {
+        None => println!(rt; "refused before the run")?,
+        Some(None) => println!(rt; "no growth was refused")?,
+        Some(Some(marks)) => println!(rt; "refused after {marks} marks")?,
+    }
     Ok(())
 }

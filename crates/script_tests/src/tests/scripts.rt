@@ -1,5 +1,5 @@
 // What no clause says of scripts: the printed lines, and that `serde_json`'s reading of a text is the one that is meant.
-use super::{LOOP_OF_CALLS, code_of, text_of};
+use super::{LOOP_OF_CALLS, code_of, expect, text_of};
 use script::{Code, Place};
 use std::alloc::{AllocError, Global};
 use std::process::Abort;
@@ -15,7 +15,7 @@ pub fn line_of(alloc: Global, text: &[u8]) -> Result<String, AllocError> {
 
 pub fn expect_line(rt: &impl Abort, alloc: Global, text: &[u8], line: &str) {
     let found = line_of(alloc, text).expect(rt, "memory");
-    assert!(rt; found.as_str() == line, "{found}, and not {line}");
+    expect(rt, found.as_str(), line);
 }
 
 // Each text of a table comes to the line behind it.
@@ -112,23 +112,32 @@ fn code_is_flat(rt: HostRuntime) -> Result<(), Fail> {
     }
     let wanted =
         "0.0 Action(Call(1))\n0.1 Action(Native)\n0.2 Edge { turns: 3, start: 0, level: 0 }\n1.0 Action(Tick)\n";
-    assert!(rt; text.as_str() == wanted, "{text}");
+    expect(&rt, text.as_str(), wanted);
     Ok(())
+}
+
+fn deep_place(alloc: Global) -> Result<Place, AllocError> {
+    let mut place = Place::document(alloc);
+    place.enter(2)?;
+    place.enter(0)?;
+    place.enter(3)?;
+    Ok(place)
+}
+
+fn add_place(rt: &impl Abort, text: &mut String, place: &Place) {
+    write!(text, "{place} ").expect(rt, "memory");
 }
 
 #[test]
 fn places_are_lists_of_numbers(rt: HostRuntime) -> Result<(), Fail> {
     let mut text = String::new(rt.alloc());
-    let mut place = Place::document(rt.alloc());
-    write!(text, "{place}")?;
-    place.enter(2)?;
-    place.enter(0)?;
-    place.enter(3)?;
-    write!(text, " {place}")?;
+    add_place(&rt, &mut text, &Place::document(rt.alloc()));
+    let mut place = deep_place(rt.alloc())?;
+    add_place(&rt, &mut text, &place);
     place.leave();
-    write!(text, " {place} {:?}", place.numbers())?;
-    let place = Place::new(place.into_numbers());
-    write!(text, " {place}")?;
-    assert!(rt; text.as_str() == "- 2.0.3 2.0 [2, 0] 2.0", "{text}");
+    add_place(&rt, &mut text, &place);
+    assert!(rt; place.numbers() == [2, 0].as_slice());
+    add_place(&rt, &mut text, &Place::new(place.into_numbers()));
+    expect(&rt, text.as_str(), "- 2.0.3 2.0 2.0 ");
     Ok(())
 }

@@ -1,11 +1,11 @@
-use Rattle.std.proofs.Common.{List, map, subst}
+use Rattle.std.proofs.Common.{List, subst}
 use Rattle.run_picture.specs.declared.marks.Mark.{Mark}
-use Rattle.run_picture.specs.Marks.{told_of}
+use Rattle.run_picture.specs.Runs.{shown_by}
 use Rattle.run_picture.specs.Drawn.{AddsMarks}
 use Rattle.run_picture.proofs.MarksAdded.{whole_picture}
 use Rattle.run_picture.proofs.drawing.draw.Goals as goal
 
 pub returns : goal.returns
-returns c = whole_picture (map told_of c.args.run.now.marks.items) c.put_behind.new.text.items c.put_marks.new.text.items c.extend_from_slice.new.self.items
-    (subst (λ (z : List Mark). AddsMarks 1 (map told_of z) c.put_behind.new.text.items c.put_marks.new.text.items) c.deref.ensures.value c.in_ok-put_marks.ensures)
+returns c = whole_picture (shown_by c.args.run.now.marks.items) c.put_behind.new.text.items c.put_marks.new.text.items c.extend_from_slice.new.self.items
+    (subst (λ (z : List Mark). AddsMarks (shown_by z) c.put_behind.new.text.items c.put_marks.new.text.items) c.deref-2.ensures.value c.in_ok-put_marks.ensures)
     c.in_ok-extend_from_slice.ensures.items

@@ -1,7 +1,10 @@
-use Rattle.std.proofs.Common.{map, take}
-use Rattle.run_picture.specs.Marks.{told_of}
+use Rattle.std.proofs.Common.{◌+◌, ◌≤◌, take}
+use Rattle.run_picture.specs.Runs.{seen}
 use Rattle.run_picture.specs.Reading.{Read}
 use Rattle.run_picture.proofs.reading.Reading.take_all.Given as goal
 
 abbrev pub invariant-loop-byte : goal.invariant-loop-byte
-invariant-loop-byte l = Read l.fn.self.system l.fn.self.held (map told_of l.fn.self.run.marks.items) (take l.byte-index l.bytes) l.self.system l.self.held (map told_of l.self.run.marks.items)
+invariant-loop-byte l = record {
+  read : Read l.fn.self.system l.fn.self.held (seen l.fn.self.run) (take l.byte-index l.bytes) l.self.system l.self.held (seen l.self.run);
+  few : l.self.run.lines ≤ l.fn.self.run.lines + l.byte-index;
+}

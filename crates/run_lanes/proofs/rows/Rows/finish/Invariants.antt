@@ -1,0 +1,5 @@
+use Rattle.std.proofs.Common.{◌≡◌}
+use Rattle.run_lanes.proofs.rows.Rows.finish.Given as goal
+
+abbrev pub invariant-loop-row : goal.invariant-loop-row
+invariant-loop-row l = l.painted.lives.items ≡ l.fn.painted.lives.items

@@ -1,0 +1,12 @@
+//! What the lanes of a run show: the states of threads, the operations and the codes, line by line.
+#![tactic(auto)]
+
+mod codes;
+pub mod lanes;
+pub mod looks;
+pub mod painted;
+mod requests;
+mod rows;
+mod served;
+pub mod subject;
+mod threads;

@@ -1,0 +1,215 @@
+// Rows of one group of lanes.
+ghost use Rattle.std.specs.Prelude.{◌≡◌, ◌≢◌, ◌++◌, [], length, OnOk, Some, option_map, option_and_then, unwrap_or, slice_get, slice_set};
+ghost use Rattle.std.specs.List.{flat_map, position};
+ghost use Rattle.run_lanes.specs.declared.rows.Row.{Row as RowOf};
+ghost use Rattle.run_lanes.specs.Painted.{drawn_span};
+ghost use Rattle.run_lanes.specs.Rows.{shows, is_vacant, vacant_row, wide, bar_in, number_in};
+
+use crate::looks::{Group, Lane, Paint};
+use crate::painted::{Painted, Span};
+use std::alloc::{AllocError, Global};
+
+/// So many lines lie between the beginnings of two names on one row, so that names have room.
+const APART: u64 = 8;
+
+/// What a row shows now: of which thread, operation or code, in which colour, from which line on.
+#[derive(Clone, Copy, Drop)]
+struct Row {
+    number: u64,
+    paint: Option<Paint>,
+    since: u64,
+    /// The line at which the number came.
+    begun: u64,
+}
+
+const BLANK: Row = Row {
+    number: 0,
+    paint: None,
+    since: 0,
+    begun: 0,
+};
+
+impl Row {
+    // Whether it shows nothing, and a name that begins at the line has room on it.
+    fn is_vacant(&self, at: u64) -> bool
+        ensures { result ≡ is_vacant at self.now }
+    {
+        self.paint.is_none() && at.saturating_sub(self.begun) >= APART
+    }
+}
+
+/// The rows of a group.
+#[derive(Drop)]
+pub(crate) struct Rows {
+    group: Group,
+    rows: Vec<Row>,
+}
+
+impl Rows {
+    pub(crate) fn new(alloc: Global, group: Group) -> Rows
+        ensures group { result.group ≡ group }
+        ensures rows { result.rows.items ≡ [] }
+    {
+        Rows {
+            group,
+            rows: Vec::new(alloc),
+        }
+    }
+
+    /// How many rows were used.
+    pub(crate) fn len(&self) -> usize
+        ensures { result ≡ length self.now.rows.items }
+    {
+        self.rows.len()
+    }
+
+    pub(crate) fn lane(&self, row: usize) -> Lane
+        ensures { result ≡ record { group = self.now.group; row = row } }
+    {
+        Lane {
+            group: self.group,
+            row,
+        }
+    }
+
+    /// The row that shows the thread, the operation or the code of this number.
+    pub(crate) fn find(&self, number: u64) -> Option<usize>
+        ensures { result ≡ position (λ row. shows row number) self.now.rows.items }
+    {
+        self.rows
+            .iter()
+            .position(|row| row.paint.is_some() && row.number == number)
+    }
+
+    fn first_vacant(&self, at: u64) -> Option<usize>
+        ensures { result ≡ position (is_vacant at) self.now.rows.items }
+    {
+        self.rows.iter().position(|row| row.is_vacant(at))
+    }
+
+    /// The least row that shows nothing, and on which a name that begins at the line has room.
+    pub(crate) fn vacant(&self, at: u64) -> usize
+        ensures { result ≡ vacant_row at self.now.rows.items }
+    {
+        match self.first_vacant(at) {
+            Some(row) => row,
+            None => self.rows.len(),
+        }
+    }
+
+    /// The number that a row shows, if any.
+    pub(crate) fn number(&self, row: usize) -> Option<u64>
+        ensures { result ≡ option_and_then (λ row. number_in row.number row.paint) (slice_get self.now.rows.items row) }
+    {
+        let row = self.rows.get(row)?;
+        row.paint?;
+        Some(row.number)
+    }
+
+    /// The line at which the row began to show what it shows.
+    pub(crate) fn begun(&self, row: usize) -> u64
+        ensures { result ≡ unwrap_or (option_map (λ row. row.begun) (slice_get self.now.rows.items row)) 0 }
+    {
+        match self.rows.get(row) {
+            Some(row) => row.begun,
+            None => 0,
+        }
+    }
+
+    /// From this line on the row shows this. What it showed till then is a span.
+    pub(crate) fn begin(
+        &mut self,
+        painted: &mut Painted,
+        row: usize,
+        number: u64,
+        paint: Paint,
+        at: u64,
+    ) -> Result<(), AllocError>
+        ensures group { self.new.group ≡ self.old.group }
+        ensures first { painted.new.first ≡ painted.old.first }
+        ensures lives { painted.new.lives.items ≡ painted.old.lives.items }
+        ensures begun { OnOk result ((kept : RowOf) → slice_get (wide row self.old.rows.items) row ≡ Some kept → self.new.rows.items ≡ slice_set (wide row self.old.rows.items) row (record { number = number; paint = Some paint; since = at; begun = at })) }
+        ensures bar { OnOk result ((kept : RowOf) → slice_get (wide row self.old.rows.items) row ≡ Some kept → painted.new.spans.items ≡ painted.old.spans.items ++ flat_map (drawn_span painted.old.first) (bar_in (record { group = self.old.group; row = row }) kept.since at kept.paint)) }
+    {
+        widen(&mut self.rows, row)?;
+        let lane = self.lane(row);
+        let Some(kept) = self.rows.get_mut(row) else {
+            return Ok(());
+        };
+        let before = *kept;
+        kept.number = number;
+        kept.paint = Some(paint);
+        kept.since = at;
+        kept.begun = at;
+        end_bar(painted, lane, before, at)
+    }
+
+    /// From this line on the row is in this colour, or shows nothing. What it showed till then is a span.
+    pub(crate) fn turn(
+        &mut self,
+        painted: &mut Painted,
+        row: usize,
+        paint: Option<Paint>,
+        at: u64,
+    ) -> Result<(), AllocError>
+        ensures group { self.new.group ≡ self.old.group }
+        ensures lives { painted.new.lives.items ≡ painted.old.lives.items }
+        ensures first { painted.new.first ≡ painted.old.first }
+        ensures same { OnOk result ((kept : RowOf) → slice_get (wide row self.old.rows.items) row ≡ Some kept → kept.paint ≡ paint → (self.new.rows.items ≡ wide row self.old.rows.items) × (painted.new.spans.items ≡ painted.old.spans.items)) }
+        ensures turned { OnOk result ((kept : RowOf) → slice_get (wide row self.old.rows.items) row ≡ Some kept → kept.paint ≢ paint → self.new.rows.items ≡ slice_set (wide row self.old.rows.items) row (record kept { paint = paint; since = at })) }
+        ensures bar { OnOk result ((kept : RowOf) → slice_get (wide row self.old.rows.items) row ≡ Some kept → kept.paint ≢ paint → painted.new.spans.items ≡ painted.old.spans.items ++ flat_map (drawn_span painted.old.first) (bar_in (record { group = self.old.group; row = row }) kept.since at kept.paint)) }
+    {
+        widen(&mut self.rows, row)?;
+        let lane = self.lane(row);
+        let Some(kept) = self.rows.get_mut(row) else {
+            return Ok(());
+        };
+        if kept.paint == paint {
+            return Ok(());
+        }
+        let before = *kept;
+        kept.paint = paint;
+        kept.since = at;
+        end_bar(painted, lane, before, at)
+    }
+
+    /// The lines end: what the rows show is spans.
+    pub(crate) fn finish(&mut self, painted: &mut Painted, at: u64) -> Result<(), AllocError>
+        ensures lives { painted.new.lives.items ≡ painted.old.lives.items }
+    {
+        for row in 0..self.rows.len() {
+            self.turn(painted, row, None, at)?;
+        }
+        Ok(())
+    }
+}
+
+// There is this row.
+fn widen(rows: &mut Vec<Row>, row: usize) -> Result<(), AllocError>
+    ensures { OnOk result (rows.new.items ≡ wide row rows.old.items) }
+{
+    if row < rows.len() {
+        return Ok(());
+    }
+    match row.checked_add(1) {
+        Some(all) => rows.resize(all, BLANK),
+        None => Err(AllocError),
+    }
+}
+
+// What the row showed ends before this line.
+fn end_bar(painted: &mut Painted, lane: Lane, row: Row, at: u64) -> Result<(), AllocError>
+    ensures first { painted.new.first ≡ painted.old.first }
+    ensures lives { painted.new.lives.items ≡ painted.old.lives.items }
+    ensures spans { OnOk result (painted.new.spans.items ≡ painted.old.spans.items ++ flat_map (drawn_span painted.old.first) (bar_in lane row.since at row.paint)) }
+{
+    match row.paint {
+        None => Ok(()),
+        Some(paint) => painted.add_span(Span {
+            lane,
+            paint,
+            from: row.since,
+            to: at,
+        }),
+    }
+}

@@ -1,0 +1,77 @@
+// How far each thread is with the operations that are open. They are told, done and cleared in the order of their numbers.
+ghost use Rattle.std.specs.Prelude.{◌≡◌, ℕ, [], Some, OnOk, slice_get, slice_set};
+ghost use Rattle.run_lanes.specs.declared.served.Served.{Served as ServedOf};
+ghost use Rattle.run_lanes.specs.Served.{fresh, served_at, wide};
+
+use std::alloc::{AllocError, Global};
+
+/// The greatest numbers of operations that a thread was told, whose callback it ran, and of which it is cleared; 0 before the first.
+#[derive(Clone, Copy, Drop)]
+pub(crate) struct Served {
+    pub(crate) told: u64,
+    pub(crate) done: u64,
+    pub(crate) cleared: u64,
+}
+
+const FRESH: Served = Served {
+    told: 0,
+    done: 0,
+    cleared: 0,
+};
+
+/// The same of the threads at all places.
+#[derive(Drop)]
+pub(crate) struct AllServed {
+    places: Vec<Served>,
+}
+
+impl AllServed {
+    pub(crate) fn new(alloc: Global) -> AllServed
+        ensures { result.places.items ≡ [] }
+    {
+        AllServed {
+            places: Vec::new(alloc),
+        }
+    }
+
+    /// How far the thread at a place is.
+    pub(crate) fn at(&self, place: usize) -> Served
+        ensures { result ≡ served_at self.now.places.items place }
+    {
+        match self.places.get(place) {
+            Some(served) => *served,
+            None => FRESH,
+        }
+    }
+
+    /// A thread starts at the place.
+    pub(crate) fn start(&mut self, place: usize) -> Result<(), AllocError>
+        ensures { OnOk result ((kept : ServedOf) → slice_get (wide place self.old.places.items) place ≡ Some kept → self.new.places.items ≡ slice_set (wide place self.old.places.items) place fresh) }
+    {
+        widen(&mut self.places, place)?;
+        self.set(place, FRESH);
+        Ok(())
+    }
+
+    /// The thread at the place is so far.
+    pub(crate) fn set(&mut self, place: usize, served: Served)
+        ensures { (kept : ServedOf) → slice_get self.old.places.items place ≡ Some kept → self.new.places.items ≡ slice_set self.old.places.items place served }
+    {
+        if let Some(kept) = self.places.get_mut(place) {
+            *kept = served;
+        }
+    }
+}
+
+// There is this place.
+fn widen(places: &mut Vec<Served>, place: usize) -> Result<(), AllocError>
+    ensures { OnOk result (places.new.items ≡ wide place places.old.items) }
+{
+    if place < places.len() {
+        return Ok(());
+    }
+    match place.checked_add(1) {
+        Some(all) => places.resize(all, FRESH),
+        None => Err(AllocError),
+    }
+}

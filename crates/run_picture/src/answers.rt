@@ -1,0 +1,178 @@
+// The texts of lines with their answers, under the lanes, and the depths of stacks under the bars of threads.
+use crate::layout::Layout;
+use crate::marks::Mark;
+use crate::painting::put;
+use run_lanes::looks::Group;
+use std::alloc::{AllocError, Global};
+
+/// So many letters of a line are written, and of an answer.
+const LETTERS: u64 = 26;
+
+/// So far apart are the beginnings of two texts.
+const APART: u64 = 10;
+
+// The line and its answer, of the title of a mark: what stands before its first newline, and between that and the second.
+fn parts_of(title: &[u8]) -> (&[u8], &[u8]) {
+    let Some(end) = title.iter().position(|byte| *byte == b'\n') else {
+        return (title, b"");
+    };
+    match (title.get(..end), title.get(end.saturating_add(1)..)) {
+        (Some(line), Some(answer)) => (line, before_newline(answer)),
+        _ => (title, b""),
+    }
+}
+
+fn before_newline(text: &[u8]) -> &[u8] {
+    match text.split_last() {
+        Some((last, before)) => { if *last == b'\n' { before } else { text } }
+        None => text,
+    }
+}
+
+// How many letters the text of XML has, where it isn't longer than what is written of it, and where that ends.
+fn measured(text: &[u8]) -> (u64, usize) {
+    let mut letters = 0u64;
+    let mut is_named = false;
+    for (i, byte) in text.iter().enumerate() {
+        if is_named {
+            is_named = *byte != b';';
+        } else if letters >= LETTERS {
+            return (letters, i);
+        } else {
+            letters = letters.saturating_add(1);
+            is_named = *byte == b'&';
+        }
+    }
+    (letters, text.len())
+}
+
+fn put_cut(text: &mut Vec<u8>, piece: &[u8]) -> Result<(), AllocError> {
+    let (_, end) = measured(piece);
+    match piece.get(..end) {
+        Some(shown) => text.extend_from_slice(shown)?,
+        None => text.extend_from_slice(piece)?,
+    }
+    if end < piece.len() {
+        put(text, "..")?;
+    }
+    Ok(())
+}
+
+/// How many letters the longest text of a line has.
+pub fn longest(marks: &[Mark]) -> u64 {
+    let mut most = 0u64;
+    for mark in marks {
+        let (line, answer) = parts_of(&mark.title);
+        let (said, _) = measured(line);
+        let (answered, _) = measured(answer);
+        most = most.max(said.saturating_add(answered).saturating_add(4));
+    }
+    most
+}
+
+fn put_text(
+    alloc: Global,
+    text: &mut Vec<u8>,
+    mark: &Mark,
+    x: u64,
+    y: u64,
+) -> Result<(), AllocError> {
+    let outcome = mark.outcome;
+    let piece = format!(in alloc;
+        "<text class='line {outcome}' transform='translate({x} {y}) rotate(60)'>"
+    )?;
+    put(text, piece.as_str())?;
+    let (line, answer) = parts_of(&mark.title);
+    put_cut(text, line)?;
+    put(text, " <tspan class='answer'>")?;
+    put_cut(text, answer)?;
+    put(text, "</tspan></text>\n")
+}
+
+/// The lines with their answers, under their marks, where there is room behind the one before.
+pub fn put_texts(
+    alloc: Global,
+    text: &mut Vec<u8>,
+    layout: &Layout,
+    marks: &[Mark],
+) -> Result<(), AllocError> {
+    let y = layout.bottom().saturating_add(8);
+    let mut free = 0u64;
+    for mark in marks {
+        let x = layout.x(mark.line).saturating_sub(3);
+        if free <= x {
+            put_text(alloc, text, mark, x, y)?;
+            free = x.saturating_add(APART);
+        }
+    }
+    Ok(())
+}
+
+// How wide a number is.
+fn width(number: u32) -> u64 {
+    if number < 10 {
+        7
+    } else if number < 100 {
+        12
+    } else {
+        17
+    }
+}
+
+/// Where the next depth has room, by place.
+#[derive(Drop)]
+struct Free {
+    places: Vec<u64>,
+}
+
+impl Free {
+    fn new(alloc: Global, places: u64) -> Result<Free, AllocError> {
+        let mut all = Vec::new(alloc);
+        for _ in 0..places {
+            all.push(0u64)?;
+        }
+        Ok(Free { places: all })
+    }
+
+    // Whether there is room from here on for so much. Then it is taken.
+    fn take(&mut self, place: usize, x: u64, width: u64) -> bool {
+        match self.places.get_mut(place) {
+            Some(free) if *free <= x => {
+                *free = x.saturating_add(width);
+                true
+            }
+            _ => false,
+        }
+    }
+}
+
+fn put_depth(
+    alloc: Global,
+    text: &mut Vec<u8>,
+    layout: &Layout,
+    mark: &Mark,
+    depth: u32,
+) -> Result<(), AllocError> {
+    let x = layout.x(mark.line).saturating_add(3);
+    let y = layout.y(mark.spot.lane).saturating_add(46);
+    let piece = format!(in alloc; "<text class='depth' x='{x}' y='{y}'>{depth}</text>\n")?;
+    put(text, piece.as_str())
+}
+
+/// How many frames a thread has, under its bar, where a line changes that and there is room.
+pub fn put_depths(
+    alloc: Global,
+    text: &mut Vec<u8>,
+    layout: &Layout,
+    marks: &[Mark],
+) -> Result<(), AllocError> {
+    let mut free = Free::new(alloc, layout.extent.lanes(Group::Places))?;
+    for mark in marks {
+        if let Some(depth) = mark.spot.depth {
+            if free.take(mark.spot.lane.row, layout.x(mark.line), width(depth)) {
+                put_depth(alloc, text, layout, mark, depth)?;
+            }
+        }
+    }
+    Ok(())
+}

@@ -1,0 +1,220 @@
+// What came of lines, and the shapes of their marks: one for each kind of answer.
+ghost use Rattle.std.specs.Prelude.{◌≡◌, Some};
+ghost use Rattle.run_picture.specs.Drawn.{outcome_text, shape_text};
+ghost use Rattle.run_picture.specs.Marks.{deed_of, deed_of_event, deed_of_act, outcome_of, shape_of, shape_of_answer, done_shape, go_shape};
+
+use replay::engine::Reply;
+use replay::grammar::Command;
+use std::fmt;
+use system::answers::Answer;
+use system::events::{Act, Event};
+
+/// What came of a line.
+#[derive(Clone, Copy, PartialEq, Eq, Drop)]
+pub enum Outcome {
+    /// It is no line.
+    Bad,
+    Refused,
+    Accepted,
+}
+
+impl fmt::Display for Outcome {
+    ghost output = { λ outcome. Some (outcome_text outcome) };
+
+    fn fmt<W: fmt::Write>(&self, f: &mut fmt::Formatter<W>) -> fmt::Result {
+        match self {
+            Outcome::Bad => write!(f, "bad"),
+            Outcome::Refused => write!(f, "refused"),
+            Outcome::Accepted => write!(f, "accepted"),
+        }
+    }
+}
+
+/// The shape of a mark: the kind of the answer to its line.
+#[derive(Clone, Copy, Drop)]
+pub enum Shape {
+    BadLine,
+    Refusal,
+    Step,
+    Cleared,
+    Started,
+    Exited,
+    Change,
+    NoChange,
+    Go,
+    Left,
+    Stop,
+    Entered,
+    WrongMethod,
+    Callback,
+    Stack,
+    Code,
+    NoCode,
+    Covered,
+    Late,
+    NotLooked,
+    Used,
+    Retired,
+    Asked,
+    Opened,
+    Closed,
+    Told,
+    Gone,
+    Counted,
+    Count,
+    State,
+}
+
+impl fmt::Display for Shape {
+    ghost output = { λ shape. Some (shape_text shape) };
+
+    fn fmt<W: fmt::Write>(&self, f: &mut fmt::Formatter<W>) -> fmt::Result {
+        match self {
+            Shape::BadLine => write!(f, "badline"),
+            Shape::Refusal => write!(f, "refusal"),
+            Shape::Step => write!(f, "step"),
+            Shape::Cleared => write!(f, "cleared"),
+            Shape::Started => write!(f, "started"),
+            Shape::Exited => write!(f, "exited"),
+            Shape::Change => write!(f, "change"),
+            Shape::NoChange => write!(f, "nochange"),
+            Shape::Go => write!(f, "go"),
+            Shape::Left => write!(f, "left"),
+            Shape::Stop => write!(f, "stop"),
+            Shape::Entered => write!(f, "entered"),
+            Shape::WrongMethod => write!(f, "wrongmethod"),
+            Shape::Callback => write!(f, "callback"),
+            Shape::Stack => write!(f, "stack"),
+            Shape::Code => write!(f, "code"),
+            Shape::NoCode => write!(f, "nocode"),
+            Shape::Covered => write!(f, "covered"),
+            Shape::Late => write!(f, "late"),
+            Shape::NotLooked => write!(f, "notlooked"),
+            Shape::Used => write!(f, "used"),
+            Shape::Retired => write!(f, "retired"),
+            Shape::Asked => write!(f, "asked"),
+            Shape::Opened => write!(f, "opened"),
+            Shape::Closed => write!(f, "closed"),
+            Shape::Told => write!(f, "told"),
+            Shape::Gone => write!(f, "gone"),
+            Shape::Counted => write!(f, "counted"),
+            Shape::Count => write!(f, "count"),
+            Shape::State => write!(f, "state"),
+        }
+    }
+}
+
+/// What a line asks for, as far as the shape of its mark depends on it beside the answer.
+#[derive(Clone, Copy, Drop)]
+pub enum Deed {
+    Clear,
+    Leave,
+    Other,
+}
+
+/// What the line of a command asks for.
+pub fn deed_of(command: &Option<Command>) -> Deed
+    ensures { result ≡ deed_of command.now }
+{
+    match command {
+        None => Deed::Other,
+        Some(Command::Size(_, _, _)) => Deed::Other,
+        Some(Command::Do(event)) => deed_of_event(event),
+    }
+}
+
+fn deed_of_event(event: &Event) -> Deed
+    ensures { result ≡ deed_of_event event.now }
+{
+    match event {
+        Event::At(_, act) => deed_of_act(*act),
+        _ => Deed::Other,
+    }
+}
+
+fn deed_of_act(act: Act) -> Deed
+    ensures { result ≡ deed_of_act act }
+{
+    match act {
+        Act::Clear => Deed::Clear,
+        Act::Leave => Deed::Leave,
+        _ => Deed::Other,
+    }
+}
+
+/// What came of a line with this reply.
+pub fn outcome_of(reply: &Reply) -> Outcome
+    ensures { result ≡ outcome_of reply.now }
+{
+    match reply {
+        Reply::BadLine => Outcome::Bad,
+        Reply::BadSize => Outcome::Refused,
+        Reply::Answered(Answer::Refused(_)) => Outcome::Refused,
+        Reply::Answered(_) => Outcome::Accepted,
+    }
+}
+
+/// The shape for a line that asks for this and has this reply.
+pub fn shape_of(deed: Deed, reply: &Reply) -> Shape
+    ensures { result ≡ shape_of deed reply.now }
+{
+    match reply {
+        Reply::BadLine => Shape::BadLine,
+        Reply::BadSize => Shape::Refusal,
+        Reply::Answered(answer) => shape_of_answer(deed, answer),
+    }
+}
+
+// The shape where the answer is that it is done.
+fn done_shape(deed: Deed) -> Shape
+    ensures { result ≡ done_shape deed }
+{
+    match deed {
+        Deed::Clear => Shape::Cleared,
+        Deed::Leave | Deed::Other => Shape::Step,
+    }
+}
+
+// The shape where the answer is to go on.
+fn go_shape(deed: Deed) -> Shape
+    ensures { result ≡ go_shape deed }
+{
+    match deed {
+        Deed::Leave => Shape::Left,
+        Deed::Clear | Deed::Other => Shape::Go,
+    }
+}
+
+fn shape_of_answer(deed: Deed, answer: &Answer) -> Shape
+    ensures { result ≡ shape_of_answer deed answer.now }
+{
+    match answer {
+        Answer::Done => done_shape(deed),
+        Answer::Thread(_, _) => Shape::Started,
+        Answer::Exited(_) => Shape::Exited,
+        Answer::Changed(_, _) => Shape::Change,
+        Answer::NoChange => Shape::NoChange,
+        Answer::Go => go_shape(deed),
+        Answer::Stop(_) => Shape::Stop,
+        Answer::Entered => Shape::Entered,
+        Answer::WrongMethod => Shape::WrongMethod,
+        Answer::Reply(_) => Shape::Callback,
+        Answer::Frames(_) => Shape::Stack,
+        Answer::Code(_) => Shape::Code,
+        Answer::NoCode => Shape::NoCode,
+        Answer::Clear => Shape::Covered,
+        Answer::Late => Shape::Late,
+        Answer::NotLooked(_) => Shape::NotLooked,
+        Answer::Used(_) => Shape::Used,
+        Answer::Retired => Shape::Retired,
+        Answer::Asked(_) => Shape::Asked,
+        Answer::Opened(_, _) => Shape::Opened,
+        Answer::Closed(_) => Shape::Closed,
+        Answer::Told => Shape::Told,
+        Answer::Gone => Shape::Gone,
+        Answer::Census(_) => Shape::Counted,
+        Answer::Count(_) => Shape::Count,
+        Answer::State(_) => Shape::State,
+        Answer::Refused(_) => Shape::Refusal,
+    }
+}
