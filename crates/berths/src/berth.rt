@@ -1,24 +1,26 @@
 //! A berth: where a thread's body is while the thread doesn't own itself.
-ghost use Rattle.std.specs.Prelude.{◌≡◌, ◌≢◌, ◌<◌, ◌^◌, [], false, OnOk, IfOk, IfErr, IfSome};
+ghost use Rattle.std.specs.Prelude.{◌≡◌, ◌≢◌, ◌⊎◌, ◌<◌, ◌^◌, [], false, OnOk, IfOk, IfErr, IfSome};
 ghost use Rattle.frames.specs.ImageView.{IsCounted};
-ghost use Rattle.berths.specs.Berths.{acted, moved, number_of};
+ghost use Rattle.berths.specs.Berths.{acted, moved};
+ghost use Rattle.berths.specs.Turns.{ComesOut, TriesTurn};
 
 use crate::due::Due;
 use crate::locking::locked;
-use crate::room::{BerthAct, BerthReceipt, BodyAct, BodyReceipt, Outing, Room};
+use crate::outgoing::{Outgoing, OutgoingSeat};
+use crate::room::{BerthAct, BerthReceipt, BodyAct, BodyReceipt, Outing, Room, SeatReceipt};
 use board::Board;
-use bodies::{Body, Name, SpareSeat};
+use bodies::{Body, Name};
 use operations::job::Errand;
 use std::marker::Model;
-use std::sync::{Condvar, Mutex, Wait};
+use std::sync::{Condvar, Mutex, MutexGuard, Wait};
 use std::thread;
 
 // How often a thread that has stopped yields before it sleeps: a stop is mostly over within that, and who has to be woken costs the
 // coordinator more than all else that it does for a thread.
 const YIELDS: u32 = 32;
 
-// With so many words more, and the memory of the later jobs, the bell and the place beside them, there is more than a line of the cache
-// between what a stop changes in two berths.
+// What a stop changes lies at the front of `room`. Behind that come the list of the later jobs, at its end, then the bell, so many words,
+// and the place of the next berth: more than a line of the cache before the room of that one.
 const APART: usize = 4;
 
 /// A room under a lock, and a bell that rings for those that wait for a change of it. Each call but `wake` takes this lock, and none
@@ -43,6 +45,26 @@ impl<N: Name, J: Errand> Model for Berth<N, J> {
     ghost view = { λ b. b.place };
 }
 
+/// What came out of a berth for a thread that has stopped.
+pub struct CameOut<N: Name, J: Errand> {
+    pub body: Outgoing<N>,
+    /// The oldest job that was told to it.
+    pub told: Option<Due<J>>,
+    /// That the body went in, and came out.
+    pub outing: Outing<N>,
+    /// Whether the thread slept or has woken another.
+    pub changed: bool,
+}
+
+// What one try of a turn comes to.
+enum Tried<N: Name, J: Errand> {
+    CameOut(CameOut<N, J>),
+    // The body went in, and a census keeps it.
+    Kept(BodyReceipt<N>),
+    // It didn't go in.
+    Refused(Body<N>),
+}
+
 impl<N: Name, J: Errand> Berth<N, J> {
     /// The berth of this room.
     pub fn new(room: Room<N, J>) -> Berth<N, J>
@@ -59,7 +81,6 @@ impl<N: Name, J: Errand> Berth<N, J> {
     /// The room under its lock.
     #[inline(always)]
     pub fn room(&self) -> &Mutex<Room<N, J>> {
-        let _ = &self.bell;
         &self.room
     }
 
@@ -69,6 +90,14 @@ impl<N: Name, J: Errand> Berth<N, J> {
         if wanted {
             self.bell.notify_all();
         }
+    }
+
+    // Sleeps until the bell rings. It notes itself under the lock that it gives up, so no ring from then on is missed.
+    fn sleep<R: Wait>(&self, rt: &R, room: MutexGuard<'_, Room<N, J>>) {
+        let mut room = room;
+        room.note_sleeper(true);
+        let mut room = self.bell.wait(rt, room);
+        room.note_sleeper(false);
     }
 
     #[inline(always)]
@@ -97,7 +126,7 @@ impl<N: Name, J: Errand> Berth<N, J> {
         }
     }
 
-    // The same after a try that failed: other threads run before each further one.
+    // Tries further, after a try that failed: other threads run before each.
     #[inline(never)]
     fn give_again<R: Wait>(&self, rt: &R, body: Body<N>) -> BodyReceipt<N>
         requires body { (body.seat.stored ≢ 0) × (0 < body.name) }
@@ -171,7 +200,7 @@ impl<N: Name, J: Errand> Berth<N, J> {
         receipt
     }
 
-    /// The same without a ring. Answers also whether one waits, whom [`wake`](Berth::wake) wakes then.
+    /// A held body goes back, and nobody is woken. Answers also whether one waits, whom [`wake`](Berth::wake) wakes then.
     #[inline(always)]
     pub fn release_quietly<R: Wait>(
         &self,
@@ -188,7 +217,7 @@ impl<N: Name, J: Errand> Berth<N, J> {
         }
     }
 
-    // The same after a try that failed: other threads run before each further one.
+    // Tries further, after a try that failed: other threads run before each.
     #[inline(never)]
     fn release_again<R: Wait>(
         &self,
@@ -212,87 +241,85 @@ impl<N: Name, J: Errand> Berth<N, J> {
 
     /// Wakes those that wait for a change.
     pub fn wake(&self) {
-        let _ = &self.place;
         self.bell.notify_all();
     }
 
+    // The error of a try is the body alone, where the berth doesn't take it.
     #[inline(always)]
     fn try_bring<R: Wait>(
         &self,
         rt: &R,
         body: Body<N>,
-    ) -> Result<BodyReceipt<N>, (Body<N>, Option<Due<J>>)>
+    ) -> Result<Result<BodyReceipt<N>, (Outgoing<N>, Due<J>)>, Body<N>>
         requires body { (body.seat.stored ≢ 0) × (0 < body.name) }
-        ensures ok { IfOk result (λ r. r ≡ moved body (BodyAct.Released false)) }
-        ensures err { IfErr result (λ r. (r.0 ≡ body) × IfSome r.1 (λ j. (J.whom j ≡ body.name) × (0 < J.number j))) }
+        ensures ok { IfOk result (λ r. IfOk r (λ back. back
+            ≡ moved body (BodyAct.Released false))) }
+        ensures told { IfOk result (λ r. IfErr r (λ t. (t.0 ≡ body) × (J.whom t.1 ≡ body.name)
+            × (0 < J.number t.1))) }
+        ensures err { IfErr result (λ b. b ≡ body) }
     {
         let mut room = locked(&self.room, rt);
-        match room.job(body.name()) {
-            Ok(job) => return Err((body, Some(job))),
-            Err(_none) => {}
+        if let Ok(job) = room.job(body.name()) {
+            return Ok(Err((Outgoing::of(body), job)));
         }
-        match room.release(body, false) {
-            Ok(receipt) => {
-                let wanted = room.has_sleepers();
-                drop(room);
-                self.ring(wanted);
-                Ok(receipt)
-            }
-            Err(back) => Err((back, None)),
-        }
+        let receipt = room.release(body, false)?;
+        let wanted = room.has_sleepers();
+        drop(room);
+        self.ring(wanted);
+        Ok(Ok(receipt))
     }
 
     /// A body that was taken out to serve goes back. Where its thread was told more meanwhile it doesn't, and comes back with the oldest
     /// job.
     #[inline(always)]
-    pub fn bring<R: Wait>(&self, rt: &R, body: Body<N>) -> Result<BodyReceipt<N>, (Body<N>, Due<J>)>
+    pub fn bring<R: Wait>(
+        &self,
+        rt: &R,
+        body: Body<N>,
+    ) -> Result<BodyReceipt<N>, (Outgoing<N>, Due<J>)>
         requires body { (body.seat.stored ≢ 0) × (0 < body.name) }
         ensures ok { IfOk result (λ r. r ≡ moved body (BodyAct.Released false)) }
-        ensures told { IfErr result (λ r. (r.0 ≡ body) × (J.whom r.1 ≡ body.name) × (0 < J.number r.1)) }
+        ensures told { IfErr result (λ r. (r.0 ≡ body) × (J.whom r.1 ≡ body.name)
+            × (0 < J.number r.1)) }
     {
         match self.try_bring(rt, body) {
-            Ok(receipt) => Ok(receipt),
-            Err((back, told)) => match told {
-                Some(job) => Err((back, job)),
-                None => self.bring_again(rt, back),
-            },
+            Ok(brought) => brought,
+            Err(back) => self.bring_again(rt, back),
         }
     }
 
-    // The same after a try that failed: other threads run before each further one.
+    // Tries further, after a try that failed: other threads run before each.
     #[inline(never)]
     fn bring_again<R: Wait>(
         &self,
         rt: &R,
         body: Body<N>,
-    ) -> Result<BodyReceipt<N>, (Body<N>, Due<J>)>
+    ) -> Result<BodyReceipt<N>, (Outgoing<N>, Due<J>)>
         requires body { (body.seat.stored ≢ 0) × (0 < body.name) }
         ensures ok { IfOk result (λ r. r ≡ moved body (BodyAct.Released false)) }
-        ensures told { IfErr result (λ r. (r.0 ≡ body) × (J.whom r.1 ≡ body.name) × (0 < J.number r.1)) }
+        ensures told { IfErr result (λ r. (r.0 ≡ body) × (J.whom r.1 ≡ body.name)
+            × (0 < J.number r.1)) }
     {
         let mut body = body;
         for _ in rt.forever() {
             thread::yield_now();
             match self.try_bring(rt, body) {
-                Ok(receipt) => return Ok(receipt),
-                Err((back, told)) => match told {
-                    Some(job) => return Err((back, job)),
-                    None => body = back,
-                },
+                Ok(brought) => return brought,
+                Err(back) => body = back,
             }
         }
         unreachable!()
     }
 
     /// The seat and the poller come out for a thread that starts in this place, once no thread has them.
-    pub fn start<R: Wait>(&self, rt: &R, place: usize) -> SpareSeat<N>
-        ensures { result.seat.place ≡ place }
+    pub fn start<R: Wait>(&self, rt: &R, place: usize) -> (OutgoingSeat<N>, SeatReceipt<N>)
+        ensures { (result.1 ≡ result.0) × (result.0.seat.place ≡ place) }
     {
         for _ in rt.forever() {
             let mut room = self.room.lock(rt);
             if room.place() == place {
-                if let Some(pair) = room.start() {
-                    return pair;
+                if let Some(started) = room.start() {
+                    return started;
                 }
             }
             drop(room);
@@ -301,45 +328,47 @@ impl<N: Name, J: Errand> Berth<N, J> {
         unreachable!()
     }
 
-    /// Takes the body of the name to be held, where it is here; the error is the receipt that it wasn't.
+    /// Takes the body of the name to be held, where it is here and something is told to its thread; the error is the receipt that it wasn't
+    /// here, or that nothing was told.
     #[inline(always)]
     pub fn take<R: Wait>(
         &self,
         rt: &R,
         name: u64,
         place: usize,
-    ) -> Result<(Body<N>, BodyReceipt<N>), BerthReceipt<N>>
+    ) -> Result<(Outgoing<N>, BodyReceipt<N>), BerthReceipt<N>>
         ensures held { IfOk result (λ r. r.1 ≡ moved r.0 BodyAct.Held) }
-        ensures body { IfOk result (λ r. (r.0.name ≡ name) × (0 < r.0.name) × (r.0.seat.place ≡ place) × (r.0.seat.stored ≢ 0)) }
-        ensures absent { IfErr result (λ r. r ≡ acted place name BerthAct.Absent) }
+        ensures body { IfOk result (λ r. (r.0.name ≡ name) × (0 < r.0.name)
+            × (r.0.seat.place ≡ place) × (r.0.seat.stored ≢ 0)) }
+        ensures left { IfErr result (λ r. (r ≡ acted place name BerthAct.Absent)
+            ⊎ (r ≡ acted place name BerthAct.NothingTold)) }
     {
         locked(&self.room, rt).take(name, place)
     }
 
-    /// Takes the body of the name to serve it, with its oldest job, or the receipt that there was none, where the body is here; the
-    /// error is the receipt that it wasn't.
+    /// Takes the body of the name to serve it, with its oldest job, where both are here; the error is the receipt that the body wasn't, or
+    /// that there was no job.
     #[inline(always)]
     pub fn take_told<R: Wait>(
         &self,
         rt: &R,
         name: u64,
         place: usize,
-    ) -> Result<(Body<N>, BodyReceipt<N>, Result<Due<J>, BerthReceipt<N>>), BerthReceipt<N>>
+    ) -> Result<(Outgoing<N>, BodyReceipt<N>, Due<J>), BerthReceipt<N>>
         ensures held { IfOk result (λ r. r.1 ≡ moved r.0 BodyAct.Held) }
-        ensures body { IfOk result (λ r. (r.0.name ≡ name) × (0 < r.0.name) × (r.0.seat.place ≡ place) × (r.0.seat.stored ≢ 0)) }
-        ensures job { IfOk result (λ r. IfOk r.2 (λ j. (J.whom j ≡ name) × (0 < J.number j))) }
-        ensures no_job { IfOk result (λ r. IfErr r.2 (λ b. (b.name ≡ name) × (b.act ≡ BerthAct.NoJob))) }
-        ensures absent { IfErr result (λ r. r ≡ acted place name BerthAct.Absent) }
+        ensures body { IfOk result (λ r. (r.0.name ≡ name) × (0 < r.0.name)
+            × (r.0.seat.place ≡ place) × (r.0.seat.stored ≢ 0)) }
+        ensures job { IfOk result (λ r. (J.whom r.2 ≡ name) × (0 < J.number r.2)) }
+        ensures left { IfErr result (λ r. (r ≡ acted place name BerthAct.Absent)
+            ⊎ (r ≡ acted place name BerthAct.NoJob)) }
     {
-        let mut room = locked(&self.room, rt);
-        let (body, receipt) = room.take(name, place)?;
-        let job = room.job(name);
-        Ok((body, receipt, job))
+        locked(&self.room, rt).take_told(name, place)
     }
 
-    /// Takes the body of the name to be held, once it is here.
-    pub fn hold<R: Wait>(&self, rt: &R, name: u64, place: usize) -> (Body<N>, BodyReceipt<N>)
-        ensures body { (result.0.name ≡ name) × (0 < result.0.name) × (result.0.seat.place ≡ place) × (result.0.seat.stored ≢ 0) }
+    /// Takes the body of the name to be held, once it is here and something is told to its thread.
+    pub fn hold<R: Wait>(&self, rt: &R, name: u64, place: usize) -> (Outgoing<N>, BodyReceipt<N>)
+        ensures body { (result.0.name ≡ name) × (0 < result.0.name) × (result.0.seat.place ≡ place)
+            × (result.0.seat.stored ≢ 0) }
         ensures held { result.1 ≡ moved result.0 BodyAct.Held }
     {
         for _ in rt.forever() {
@@ -347,9 +376,7 @@ impl<N: Name, J: Errand> Berth<N, J> {
             if let Ok(held) = room.take(name, place) {
                 return held;
             }
-            room.note_sleeper(true);
-            let mut room = self.bell.wait(rt, room);
-            room.note_sleeper(false);
+            self.sleep(rt, room);
         }
         unreachable!()
     }
@@ -360,8 +387,9 @@ impl<N: Name, J: Errand> Berth<N, J> {
         rt: &R,
         name: u64,
         place: usize,
-    ) -> Option<(Body<N>, BodyReceipt<N>)>
-        ensures body { IfSome result (λ r. (r.0.name ≡ name) × (0 < r.0.name) × (r.0.seat.place ≡ place) × (r.0.seat.stored ≢ 0)) }
+    ) -> Option<(Outgoing<N>, BodyReceipt<N>)>
+        ensures body { IfSome result (λ r. (r.0.name ≡ name) × (0 < r.0.name)
+            × (r.0.seat.place ≡ place) × (r.0.seat.stored ≢ 0)) }
         ensures resumed { IfSome result (λ r. r.1 ≡ moved r.0 BodyAct.Resumed) }
     {
         locked(&self.room, rt).resume(name, place)
@@ -369,8 +397,9 @@ impl<N: Name, J: Errand> Berth<N, J> {
 
     /// Takes the body of the name out for its thread to go on, once it is here and nobody holds it. What was told to it stays.
     #[inline(always)]
-    pub fn resume<R: Wait>(&self, rt: &R, name: u64, place: usize) -> (Body<N>, BodyReceipt<N>)
-        ensures body { (result.0.name ≡ name) × (0 < result.0.name) × (result.0.seat.place ≡ place) × (result.0.seat.stored ≢ 0) }
+    pub fn resume<R: Wait>(&self, rt: &R, name: u64, place: usize) -> (Outgoing<N>, BodyReceipt<N>)
+        ensures body { (result.0.name ≡ name) × (0 < result.0.name) × (result.0.seat.place ≡ place)
+            × (result.0.seat.stored ≢ 0) }
         ensures resumed { result.1 ≡ moved result.0 BodyAct.Resumed }
     {
         match self.try_resume(rt, name, place) {
@@ -379,11 +408,17 @@ impl<N: Name, J: Errand> Berth<N, J> {
         }
     }
 
-    // The same after a try that failed: it sleeps until the bell rings. It looks once more under the lock under which it notes itself, so
-    // that a change since that try isn't missed.
+    // Sleeps until the bell rings, after a try that failed. It looks once more under the lock under which it notes itself, so that a
+    // change since that try isn't missed.
     #[inline(never)]
-    fn await_resume<R: Wait>(&self, rt: &R, name: u64, place: usize) -> (Body<N>, BodyReceipt<N>)
-        ensures body { (result.0.name ≡ name) × (0 < result.0.name) × (result.0.seat.place ≡ place) × (result.0.seat.stored ≢ 0) }
+    fn await_resume<R: Wait>(
+        &self,
+        rt: &R,
+        name: u64,
+        place: usize,
+    ) -> (Outgoing<N>, BodyReceipt<N>)
+        ensures body { (result.0.name ≡ name) × (0 < result.0.name) × (result.0.seat.place ≡ place)
+            × (result.0.seat.stored ≢ 0) }
         ensures resumed { result.1 ≡ moved result.0 BodyAct.Resumed }
     {
         for _ in rt.forever() {
@@ -391,56 +426,53 @@ impl<N: Name, J: Errand> Berth<N, J> {
             if let Some(resumed) = room.resume(name, place) {
                 return resumed;
             }
-            room.note_sleeper(true);
-            let mut room = self.bell.wait(rt, room);
-            room.note_sleeper(false);
+            self.sleep(rt, room);
         }
         unreachable!()
     }
 
-    // One try: it goes in and comes out under one hold of the lock, where no census keeps it. Else the receipt that it went in comes back.
+    // One try: it goes in and comes out under one hold of the lock, where no census keeps it.
     #[inline(always)]
-    fn try_turn<R: Wait>(
-        &self,
-        rt: &R,
-        body: Body<N>,
-    ) -> Result<Result<(Body<N>, Option<Due<J>>, Outing<N>, bool), BodyReceipt<N>>, Body<N>>
+    fn try_turn<R: Wait>(&self, rt: &R, body: Body<N>) -> Tried<N, J>
         requires body { (body.seat.stored ≢ 0) × (0 < body.name) }
-        ensures body { IfOk result (λ r. IfOk r (λ t. (t.0.name ≡ body.name) × (0 < t.0.name) × (t.0.seat.place ≡ body.seat.place) × (t.0.seat.stored ≢ 0))) }
-        ensures job { IfOk result (λ r. IfOk r (λ t. IfSome t.1 (λ j. (J.whom j ≡ body.name) × (0 < J.number j)))) }
-        ensures outing { IfOk result (λ r. IfOk r (λ t. (t.2.given ≡ moved body BodyAct.Given) × (t.2.out ≡ moved t.0 (BodyAct.Served (number_of J.number t.1))))) }
-        ensures kept { IfOk result (λ r. IfErr r (λ given. given ≡ moved body BodyAct.Given)) }
-        ensures err { IfErr result (λ b. b ≡ body) }
+        ensures { TriesTurn J.number J.whom J.asks body result }
     {
         let mut room = locked(&self.room, rt);
         if room.place() != body.place() {
-            return Err(body);
+            return Tried::Refused(body);
         }
-        let given = room.give(body)?;
+        let given = match room.give(body) {
+            Ok(given) => given,
+            Err(back) => return Tried::Refused(back),
+        };
         let served = room.serve(given);
-        let wanted = room.has_sleepers();
+        let changed = room.has_sleepers();
         drop(room);
-        self.ring(wanted);
+        self.ring(changed);
         match served {
-            Ok((body, told, outing)) => Ok(Ok((body, told, outing, wanted))),
-            Err(given) => Ok(Err(given)),
+            Ok((body, told, outing)) => Tried::CameOut(CameOut {
+                body,
+                told,
+                outing,
+                changed,
+            }),
+            Err(given) => Tried::Kept(given),
         }
     }
 
     /// A turn of a thread that has stopped: its body goes in, and comes out again to serve, with its oldest job, once no census keeps it.
-    /// Nobody finds it here in between to serve it in the thread's place. Answers also whether the thread slept or has woken another.
+    /// Nobody finds it here in between to serve it in the thread's place.
     #[inline(always)]
-    pub fn turn<R: Wait>(&self, rt: &R, body: Body<N>) -> (Body<N>, Option<Due<J>>, Outing<N>, bool)
+    pub fn turn<R: Wait>(&self, rt: &R, body: Body<N>) -> CameOut<N, J>
         requires body { (body.seat.stored ≢ 0) × (0 < body.name) }
-        ensures body { (result.0.name ≡ body.name) × (0 < result.0.name) × (result.0.seat.place ≡ body.seat.place) × (result.0.seat.stored ≢ 0) }
-        ensures job { IfSome result.1 (λ j. (J.whom j ≡ body.name) × (0 < J.number j)) }
-        ensures outing { (result.2.given ≡ moved body BodyAct.Given) × (result.2.out ≡ moved result.0 (BodyAct.Served (number_of J.number result.1))) }
+        ensures given { result.outing.given ≡ moved body BodyAct.Given }
+        ensures out { ComesOut J.number J.whom J.asks body.name body.seat.place result }
     {
         let place = body.place();
         match self.try_turn(rt, body) {
-            Ok(Ok(turned)) => turned,
-            Ok(Err(given)) => self.serve(rt, place, given),
-            Err(back) => {
+            Tried::CameOut(out) => out,
+            Tried::Kept(given) => self.serve(rt, place, given),
+            Tried::Refused(back) => {
                 let given = self.give_again(rt, back);
                 self.serve(rt, place, given)
             }
@@ -450,15 +482,9 @@ impl<N: Name, J: Errand> Berth<N, J> {
     // Takes the body that its thread gave out again, once it is here and no census keeps it, with its oldest job: yields between its first
     // looks, and sleeps before each further one.
     #[inline(never)]
-    fn serve<R: Wait>(
-        &self,
-        rt: &R,
-        place: usize,
-        given: BodyReceipt<N>,
-    ) -> (Body<N>, Option<Due<J>>, Outing<N>, bool)
-        ensures body { (result.0.name ≡ given.body.name) × (0 < result.0.name) × (result.0.seat.place ≡ place) × (result.0.seat.stored ≢ 0) }
-        ensures job { IfSome result.1 (λ j. (J.whom j ≡ given.body.name) × (0 < J.number j)) }
-        ensures outing { (result.2.given ≡ given) × (result.2.out ≡ moved result.0 (BodyAct.Served (number_of J.number result.1))) }
+    fn serve<R: Wait>(&self, rt: &R, place: usize, given: BodyReceipt<N>) -> CameOut<N, J>
+        ensures given { result.outing.given ≡ given }
+        ensures out { ComesOut J.number J.whom J.asks given.body.name place result }
     {
         let mut given = given;
         let mut slept = false;
@@ -471,7 +497,12 @@ impl<N: Name, J: Errand> Berth<N, J> {
                         let wanted = room.has_sleepers();
                         drop(room);
                         self.ring(wanted);
-                        return (body, told, outing, slept || wanted);
+                        return CameOut {
+                            body,
+                            told,
+                            outing,
+                            changed: slept || wanted,
+                        };
                     }
                     Err(back) => given = back,
                 }
@@ -482,9 +513,7 @@ impl<N: Name, J: Errand> Berth<N, J> {
                 thread::yield_now();
                 continue;
             }
-            room.note_sleeper(true);
-            let mut room = self.bell.wait(rt, room);
-            room.note_sleeper(false);
+            self.sleep(rt, room);
             slept = true;
         }
         unreachable!()
@@ -494,13 +523,11 @@ impl<N: Name, J: Errand> Berth<N, J> {
     /// body is here.
     pub fn wait_for<R: Wait>(&self, rt: &R, name: u64, number: u64) -> bool {
         for _ in rt.forever() {
-            let mut room = self.room.lock(rt);
+            let room = self.room.lock(rt);
             if !room.awaits(name, number) {
                 return room.has_body(name);
             }
-            room.note_sleeper(true);
-            let mut room = self.bell.wait(rt, room);
-            room.note_sleeper(false);
+            self.sleep(rt, room);
         }
         unreachable!()
     }

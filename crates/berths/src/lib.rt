@@ -2,17 +2,22 @@
 //! and what the thread is told.
 //!
 //! A room takes a body, or gives it, by name and place alone, and answers each time with a receipt that only it can make. What was told
-//! to a thread leaves its room as a job that has to be run or handed on (`Due`). Each call of a `Berth` takes the lock of its room once
-//! in each try, and no other.
+//! to a thread leaves its room as a job that has to be run or handed on (`Due`), and what it answers has to be entered (`Answered`). A body
+//! comes out as one that has to be taken in hand (`Outgoing`), and a seat as one that has to get a body (`OutgoingSeat`). Each call of a
+//! `Berth` takes the lock of its room once in each try, and no other.
 #![tactic(auto)]
 
 mod berth;
 mod due;
 mod jobs;
 mod locking;
+mod outgoing;
 mod room;
 
-pub use berth::Berth;
-pub use due::Due;
-pub use locking::locked;
-pub use room::{BerthAct, BerthReceipt, BodyAct, BodyReceipt, Holder, JOBS, Outing, Room};
+pub use berth::{Berth, CameOut};
+pub use due::{Answered, Due, Recorder};
+pub use locking::{Guarded, Laid, locked};
+pub use outgoing::{Hand, Outgoing, OutgoingSeat};
+pub use room::{
+    BerthAct, BerthReceipt, BodyAct, BodyReceipt, Holder, JOBS, Outing, Room, SeatReceipt, ToldJob,
+};

@@ -1,14 +1,15 @@
 -- Lists in which no name stands twice.
 use Rattle.std.proofs.Common.{◌≡◌, ◌≢◌, ℕ, zero, suc, ◌<◌, ◌≤◌, ◌+◌, Bool, true, false, not, cond, List, [], ◌∷◌, length, get_or, refl, sym, ap, ◌∙◌, arith}
-use Rattle.std.specs.Prelude.{◌&&◌, ◌||◌, ◌==◌, filter, drop}
+use Rattle.std.specs.Prelude.{◌&&◌, ◌||◌, ◌==◌, nat_le, filter, drop}
 use Rattle.std.specs.List.{remove}
 use Rattle.std.proofs.lemmas.Bool.{and_parts, eq-eqb, ne_eqb}
+use Rattle.std.proofs.lemmas.Bool.Decides.{nat_tests}
 use Rattle.operations.specs.declared.Request.{Request}
 use Rattle.operations.specs.declared.Request.TheVariants.{Handshake, Census}
 use Rattle.operations.specs.Names.{among, is_distinct}
 use Rattle.operations.specs.Requests.{are_targets}
 use Rattle.operations.proofs.Names.{listed_at}
-use Rattle.desk.specs.Machine.{others, targets_of}
+use Rattle.desk.specs.Machine.{others, steps_of, targets_of}
 
 or_none : (a b : Bool) → (a || b) ≡ false → (a ≡ false) × (b ≡ false)
 or_none false b h = (refl, h)
@@ -70,6 +71,14 @@ none_among name (x ∷ xs) none =
 pub targets_distinct : (r : Request) → are_targets r ≡ true → is_distinct (targets_of r) ≡ true
 targets_distinct Census h = refl
 targets_distinct (Handshake targets ask) h = (and_parts _ (is_distinct targets) h).1
+
+-- there are few of them, and so few entries between the Open and the Close
+pub few_steps : (r : Request) → are_targets r ≡ true → steps_of r ≤ 64
+few_steps Census h = omega arith
+few_steps (Handshake targets ask) h = at_most (length targets) (and_parts _ (is_distinct targets) h).0
+  where
+    at_most : (n : ℕ) → nat_le n 64 ≡ true → n ≤ 64
+    at_most n h = grind (arith, nat_tests)
 
 -- what is left behind the first few, without the one at its place
 pub drop_remove : (ns : List ℕ) (g i j : ℕ) → g ≤ length ns → j ≡ g + i → drop g (remove ns j) ≡ remove (drop g ns) i

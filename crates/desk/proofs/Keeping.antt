@@ -27,7 +27,8 @@ use Rattle.desk.specs.Fields.{IsKept, AreFit, AreDistinct, state_of, asked_of, c
 use Rattle.desk.proofs.Fewer.{filter_le, filter_less}
 use Rattle.desk.proofs.Distinct.{distinct_part}
 use Rattle.desk.proofs.CodeEntries.{unfreed_parts}
-use Rattle.desk.proofs.OpenLists.{open_at, none_at, set_at, removed_at, needs_at, needs_without, fit_of, fit_at, fit_push, fit_without, needs_push, distinct_of, distinct_at, distinct_push, distinct_without}
+use Rattle.desk.specs.Refusals.{front_is}
+use Rattle.desk.proofs.OpenLists.{front_at, open_at, none_at, set_at, removed_at, needs_at, needs_without, fit_of, fit_at, fit_push, fit_without, needs_push, distinct_of, distinct_at, distinct_push, distinct_without}
 
 after_from-push : (s : State) (h : List Entry) (e : Entry) → after_from s (h ++ e ∷ []) ≡ step (after_from s h) e
 after_from-push s [] e = refl
@@ -326,7 +327,7 @@ installs_keep b b' nn num method live q os t t' r id k table free serial may is 
         let fault : invalidate_fault (Some c) ≡ None = rw used refl in
         let less = left_invalidate c fault in
         let room = code_room b nn num c.serial live q os t c k table u in
-        let mid : Book = record { history = b.history ++ Invalidate c.serial ∷ []; reserved = b.reserved - 1 } in
+        let mid : Book = record { history = b.history ++ Invalidate c.serial ∷ []; reserved = b.reserved - 1; gone = b.gone } in
         let after_left = code_keeps b mid (Invalidate c.serial) nn num c.serial live q os t (with_codes t (with_state t.codes c.serial state.NotEntrant)) c state.NotEntrant k table u refl (ap is_none (ap invalidate_fault u ∙ fault)) refl (sym less) refl (omega arith) in
         let serials : a.serial ≡ c.serial = (let both : a ≡ id_of c = cc in ap (λ (d : CodeId). d.serial) both) in
         install_keeps mid b' nn num method live q os (with_codes t (with_state t.codes c.serial state.NotEntrant)) t' id after_left (slot_left t table method c e ∙ free) (serial ∙ ap (λ n. n + 1) (sym (long_left t table method c e))) (none_left t table method c e)
@@ -350,11 +351,12 @@ installs_are_legal nn num method live q os t r id table free serial may is = by 
 
 pub enters_install : {J : Type 0} (d d' : DeskSeen) (nn num method : ℕ) (live : List Live) (q : List (Waiting (Carried J))) (os : List (Opened J)) (t : TableView) (replaced : Option CodeId) (id : CodeId) (r : Stands) → at d ≡ state_of nn live num q os t
     → IsTable t → free_slot t.codes t.slots ≡ Some id.slot → id.serial ≡ next_serial t.codes → install_fault t method ≡ None → replaced ≡ option_map id_of (in_use_for t.codes method)
-    → d'.book.history ≡ d.book.history ++ install_entries replaced id method → r ≡ stands (length d.book.history + kept_before replaced) (Install id method) → d'.slots ≡ d.slots → d'.methods ≡ d.methods → EntersInstall d d' replaced id method r
-enters_install d d' nn num method live q os t replaced id r is table free serial may old history receipt slots methods = record {
+    → d'.book.history ≡ d.book.history ++ install_entries replaced id method → r ≡ stands (length d.book.history + kept_before replaced) (Install id method) → d'.book.gone ≡ d.book.gone → d'.slots ≡ d.slots → d'.methods ≡ d.methods → EntersInstall d d' replaced id method r
+enters_install d d' nn num method live q os t replaced id r is table free serial may old history receipt gone slots methods = record {
   legal_is = ap (λ (s : State). legal_from s (install_entries replaced id method)) is ∙ installs_are_legal nn num method live q os t replaced id table free serial may old;
   history_is = history;
   receipt_is = receipt;
+  gone_stays = gone;
   sizes_stay = (slots, methods);
 }
 
@@ -377,8 +379,8 @@ left_free c h = by c.state h
     by state.Freed h = cc
 
 pub enters_by : (d d' : DeskSeen) (s : State) (e : Entry) (r : Stands) → at d ≡ s → lawful s e ≡ true → d'.book.history ≡ d.book.history ++ e ∷ [] → r ≡ stands (length d.book.history) e
-    → d'.slots ≡ d.slots → d'.methods ≡ d.methods → Enters d d' e r
-enters_by d d' s e r is may history receipt slots methods = record { lawful_is = ap (λ (t : State). lawful t e) is ∙ may; history_is = history; receipt_is = receipt; sizes_stay = (slots, methods) }
+    → d'.book.gone ≡ d.book.gone → d'.slots ≡ d.slots → d'.methods ≡ d.methods → Enters d d' e r
+enters_by d d' s e r is may history receipt gone slots methods = record { lawful_is = ap (λ (t : State). lawful t e) is ∙ may; history_is = history; receipt_is = receipt; gone_stays = gone; sizes_stay = (slots, methods) }
 
 -- a Finish is lawful, or not
 pub finish_is : {J : Type 0} (n name reply nn num i : ℕ) (live : List Live) (q : List (Waiting (Carried J))) (os : List (Opened J)) (o : Opened J) (t : TableView) (b least : Bool)
@@ -391,9 +393,9 @@ pub finish_not : {J : Type 0} (n name reply nn num : ℕ) (live : List Live) (q 
     → IsIndex n os None → lawful (state_of nn live num q os t) (Finish n name reply) ≡ false
 finish_not n name reply nn num live q os t none = ap (λ x. (passes (is_due name) x && is_live name live) && is_least n name (map current_of os)) (none_at n os none)
 
-pub may_operate_is : {J : Type 0} (a b o : Opened J) → a ≡ o → b ≡ o → is_census a.request ≡ true → b.operated ≡ false → may_operate (current_of o) ≡ true
-may_operate_is a b o p q census fresh =
-    both_true _ _ (ap (λ (z : Opened _). is_census z.request) (sym p) ∙ census) (ap not (ap (λ (z : Opened _). z.operated) (sym q) ∙ fresh))
+-- the oldest that may be operated
+pub may_operate_is : {J : Type 0} (os : List (Opened J)) (o : Opened J) → front_is (λ c. is_census c.request) (map current_of os) true → front_is (λ c. c.operated) (map current_of os) false → slice_get os 0 ≡ Some o → may_operate (current_of o) ≡ true
+may_operate_is os o census fresh here = both_true _ _ (front_at (λ c. is_census c.request) true os o census here) (ap not (front_at (λ c. c.operated) false os o fresh here))
 
 pub new_keeps : {J : Type 0} (whom : J → ℕ) (b : Book) (nn num : ℕ) (live : List Live) (q : List (Waiting (Carried J))) (os : List (Opened J)) (t : TableView) → b.history ≡ [] → nn ≡ 1 → num ≡ 1 → live ≡ [] → q ≡ [] → os ≡ [] → t.codes ≡ []
     → IsKept t.slots t.methods b (state_of nn live num q os t) × AreCarried whom q

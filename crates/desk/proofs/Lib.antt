@@ -15,3 +15,5 @@ pub mod JobsLeft
 pub mod Listed
 pub mod Distinct
 pub mod Unfolding
+pub mod Walks
+pub mod Pending

@@ -13,7 +13,7 @@ use Rattle.desk.specs.declared.entries.Carried.{Carried}
 use Rattle.desk.specs.declared.entries.Opened.{Opened}
 use Rattle.desk.specs.Machine.{Current, awaits_census, may_open_more, is_open, open_of, passes, at_number, without_number, needs_of_opened}
 use Rattle.desk.specs.JobsFit.{asks_it, is_asked_by}
-use Rattle.desk.specs.Refusals.{oldest_of, chosen}
+use Rattle.desk.specs.Refusals.{oldest_of, chosen, front_is}
 use Rattle.desk.proofs.Newest.{same_at}
 use Rattle.desk.specs.Fields.{asked_of, current_of, IsIndex, AreFit, AreDistinct, due_of}
 
@@ -133,6 +133,15 @@ open_is n (suc i) (x ∷ os) o is h = or_true (x.number == n) (is_open n (map cu
 pub oldest_is : {J : Type 0} (os : List (Opened J)) (o : Opened J) → slice_get os 0 ≡ Some o → oldest_of (map current_of os) ≡ Some (current_of o)
 oldest_is [] o h = cc
 oldest_is (x ∷ os) o h = let same : x ≡ o = cc in ap (λ (z : Opened _). Some (current_of z)) same
+
+-- what is tested of the oldest
+pub front_there : {J : Type 0} (test : Current → Bool) (b : Bool) (os : List (Opened J)) → front_is test (map current_of os) b → 0 < length os
+front_there test b [] h = grind (arith)
+front_there test b (x ∷ os) h = omega arith
+
+pub front_at : {J : Type 0} (test : Current → Bool) (b : Bool) (os : List (Opened J)) (o : Opened J) → front_is test (map current_of os) b → slice_get os 0 ≡ Some o → test (current_of o) ≡ b
+front_at test b [] o h here = cc
+front_at test b (x ∷ os) o h here = let same : x ≡ o = cc in ap (λ (z : Opened _). test (current_of z)) (sym same) ∙ h
 
 -- the one at the place is chosen
 abbrev pub IsChosen : {J : Type 0} → Option ℕ → List (Opened J) → ℕ → Type 0

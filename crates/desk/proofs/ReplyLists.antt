@@ -1,6 +1,6 @@
 -- The lists of replies and the history.
-use Rattle.std.proofs.Common.{◌≡◌, ◌≢◌, ℕ, zero, suc, ◌+◌, ◌-◌, ◌<◌, List, [], ◌∷◌, ◌++◌, Bool, true, false, cond, Option, Some, None, length, refl, sym, ap, ◌∙◌, arith, get_or, get_or-set_same, get_or-set_other}
-use Rattle.std.proofs.lemmas.List.{append-nil}
+use Rattle.std.proofs.Common.{◌≡◌, ◌≢◌, ℕ, zero, suc, ◌+◌, ◌-◌, ◌<◌, ◌≤◌, List, drop, [], ◌∷◌, ◌++◌, Bool, true, false, cond, Option, Some, None, length, refl, sym, ap, ◌∙◌, arith, get_or, get_or-set_same, get_or-set_other}
+use Rattle.std.proofs.lemmas.List.{append-nil, get_or-drop}
 use Rattle.std.specs.Prelude.{◌==◌, slice_set}
 use Rattle.std.proofs.lemmas.Bool.{eq-eqb, ne_eqb, eqb-true, eqb-false}
 use Rattle.desk.specs.declared.entries.Entry.{Entry}
@@ -20,8 +20,8 @@ replies_same : (n : ℕ) (h : List Entry) (e : Entry) → reply_in n e ≡ None 
 replies_same n h e none = replies_push n h e ∙ ap (λ o. replies_of n h ++ with_reply o []) none ∙ append-nil (replies_of n h)
 
 -- an entry without a reply
-pub same_lists : (h : List Entry) (lists : List Said) (e : Entry) → AreReplies h lists → ((n : ℕ) → reply_in n e ≡ None) → AreReplies (h ++ e ∷ []) lists
-same_lists h lists e are none n = are n ∙ sym (replies_same n h e (none n))
+pub same_lists : (gone : ℕ) (h : List Entry) (lists : List Said) (e : Entry) → AreReplies gone h lists → ((n : ℕ) → reply_in n e ≡ None) → AreReplies gone (h ++ e ∷ []) lists
+same_lists gone h lists e are none n low = are n low ∙ sym (replies_same n h e (none n))
 
 get_said : (k : ℕ) (lists : List Said) (list : Said) → list.said ≡ [] → (get_or (lists ++ list ∷ []) k nothing_said).said ≡ (get_or lists k nothing_said).said
 get_said zero [] list e = e
@@ -30,12 +30,12 @@ get_said zero (x ∷ xs) list e = refl
 get_said (suc k) (x ∷ xs) list e = get_said k xs list e
 
 -- one operation more, without replies
-pub more_lists : (h : List Entry) (lists : List Said) (list : Said) (e : Entry) → AreReplies h lists → list.said ≡ [] → ((n : ℕ) → reply_in n e ≡ None) → AreReplies (h ++ e ∷ []) (lists ++ list ∷ [])
-more_lists h lists list e are empty none n = by (n == 0) ∙ same_lists h lists e are none n
+pub more_lists : (gone : ℕ) (h : List Entry) (lists : List Said) (list : Said) (e : Entry) → AreReplies gone h lists → list.said ≡ [] → ((n : ℕ) → reply_in n e ≡ None) → AreReplies gone (h ++ e ∷ []) (lists ++ list ∷ [])
+more_lists gone h lists list e are empty none n low = by (n - gone) ((n - gone) == 0) ∙ same_lists gone h lists e are none n low
   where
-    by : (b : Bool) → (cond b nothing_said (get_or (lists ++ list ∷ []) (n - 1) nothing_said)).said ≡ (cond b nothing_said (get_or lists (n - 1) nothing_said)).said
-    by true = refl
-    by false = get_said (n - 1) lists list empty
+    by : (k : ℕ) (b : Bool) → (cond b nothing_said (get_or (lists ++ list ∷ []) (k - 1) nothing_said)).said ≡ (cond b nothing_said (get_or lists (k - 1) nothing_said)).said
+    by k true = refl
+    by k false = get_said (k - 1) lists list empty
 
 -- where the list of a number stands
 pub at_here : (n : ℕ) (lists : List Said) (x : Said) → 0 < n → n - 1 < length lists → of_number n (slice_set lists (n - 1) x) ≡ x
@@ -73,19 +73,19 @@ no_reply : (n op name reply : ℕ) → n ≢ op → reply_in n (Finish op name r
 no_reply n op name reply ne = ap (λ b. cond b (Some (name, reply)) None) (ne_eqb op n (λ e. ne (sym e)))
 
 -- a Finish with its reply
-pub said_lists : (h : List Entry) (lists : List Said) (x : Said) (op name reply : ℕ) → AreReplies h lists → 0 < op → op - 1 < length lists → x.said ≡ (of_number op lists).said ++ (name, reply) ∷ []
-    → AreReplies (h ++ Finish op name reply ∷ []) (slice_set lists (op - 1) x)
-said_lists h lists x op name reply are low is_in more n = by (n == op) refl
+pub said_lists : (gone : ℕ) (h : List Entry) (lists : List Said) (x : Said) (op name reply : ℕ) → AreReplies gone h lists → 0 < op - gone → op - gone - 1 < length lists → x.said ≡ (of_number (op - gone) lists).said ++ (name, reply) ∷ []
+    → AreReplies gone (h ++ Finish op name reply ∷ []) (slice_set lists (op - gone - 1) x)
+said_lists gone h lists x op name reply are low is_in more n behind = by (n == op) refl
   where
-    by : (b : Bool) → (n == op) ≡ b → (of_number n (slice_set lists (op - 1) x)).said ≡ replies_of n (h ++ Finish op name reply ∷ [])
+    by : (b : Bool) → (n == op) ≡ b → (of_number (n - gone) (slice_set lists (op - gone - 1) x)).said ≡ replies_of n (h ++ Finish op name reply ∷ [])
     by true e =
         let same : n ≡ op = eqb-true n op e in
-        ap (λ k. (of_number k (slice_set lists (op - 1) x)).said) same ∙ ap (λ (s : Said). s.said) (at_here op lists x low is_in) ∙ more
-        ∙ ap (λ k. (of_number k lists).said ++ (name, reply) ∷ []) (sym same) ∙ ap (λ l. l ++ (name, reply) ∷ []) (are n)
+        ap (λ k. (of_number (k - gone) (slice_set lists (op - gone - 1) x)).said) same ∙ ap (λ (s : Said). s.said) (at_here (op - gone) lists x low is_in) ∙ more
+        ∙ ap (λ k. (of_number (k - gone) lists).said ++ (name, reply) ∷ []) (sym same) ∙ ap (λ l. l ++ (name, reply) ∷ []) (are n behind)
         ∙ sym (replies_push n h (Finish op name reply) ∙ ap (λ o. replies_of n h ++ with_reply o []) (finish_reply n op name reply same))
     by false e =
         let ne = eqb-false n op e in
-        ap (λ (s : Said). s.said) (at_other n op lists x low ne) ∙ are n ∙ sym (replies_same n h (Finish op name reply) (no_reply n op name reply ne))
+        ap (λ (s : Said). s.said) (at_other (n - gone) (op - gone) lists x low (λ same. ne (omega arith))) ∙ are n behind ∙ sym (replies_same n h (Finish op name reply) (no_reply n op name reply ne))
 
 -- it has room for one reply less
 pub less_room : (lists : List Said) (x : Said) (op : ℕ) → 0 < op → op - 1 < length lists → x.room + 1 ≡ (of_number op lists).room → HasLess op lists (slice_set lists (op - 1) x)
@@ -93,3 +93,16 @@ less_room lists x op low is_in less = record {
   here = ap (λ (s : Said). s.room + 1) (at_here op lists x low is_in) ∙ less;
   others = λ n ne. ap (λ (s : Said). s.room) (at_other n op lists x low ne);
 }
+
+-- the lists of the first operations are dropped
+dropped : (n gone last : ℕ) (lists : List Said) → gone ≤ last → last < n → of_number (n - last) (drop (last - gone) lists) ≡ of_number (n - gone) lists
+dropped n gone last lists more behind =
+    let k : (last - gone) + (n - last - 1) ≡ n - gone - 1 = omega arith in
+    read_here (n - last) (drop (last - gone) lists) (omega arith) ∙ get_or-drop (last - gone) lists (n - last - 1) nothing_said ∙ ap (λ m. get_or lists m nothing_said) k ∙ sym (read_here (n - gone) lists (omega arith))
+
+pub forgotten_lists : (gone last : ℕ) (h h' : List Entry) (lists lists' : List Said) → AreReplies gone h lists → gone ≤ last → h' ≡ h → lists' ≡ drop (last - gone) lists → AreReplies last h' lists'
+forgotten_lists gone last h h' lists lists' are more same is n behind =
+    ap (λ l. (of_number (n - last) l).said) is ∙ ap (λ (s : Said). s.said) (dropped n gone last lists more behind) ∙ are n (omega arith) ∙ ap (replies_of n) (sym same)
+
+pub forgotten_rooms : (n gone last : ℕ) (lists lists' : List Said) → gone ≤ last → last < n → lists' ≡ drop (last - gone) lists → (of_number (n - last) lists').room ≡ (of_number (n - gone) lists).room
+forgotten_rooms n gone last lists lists' more behind is = ap (λ l. (of_number (n - last) l).room) is ∙ ap (λ (s : Said). s.room) (dropped n gone last lists more behind)

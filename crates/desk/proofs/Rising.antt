@@ -9,7 +9,7 @@ use Rattle.desk.specs.declared.entries.Live.{Live}
 use Rattle.desk.specs.Machine.{State, step, lawful, start, after_from, legal_from, after, is_legal, names_of}
 use Rattle.desk.specs.Rising.{AreRising, LiveNamesRise}
 
-abbrev AllBelow : ℕ → List ℕ → Type 0
+abbrev pub AllBelow : ℕ → List ℕ → Type 0
 AllBelow next [] = Unit {0}
 AllBelow next (n ∷ ns) = (n < next) × AllBelow next ns
 
@@ -17,22 +17,22 @@ record Named (next : ℕ) (ls : List Live) : Type 0 where
   rising : AreRising 0 (names_of ls)
   below : AllBelow next (names_of ls)
 
-and_true : (a b : Bool) → (a && b) ≡ true → (a ≡ true) × (b ≡ true)
+pub and_true : (a b : Bool) → (a && b) ≡ true → (a ≡ true) × (b ≡ true)
 and_true true b e = (refl, e)
 and_true false b e = cc
 
-same : (a b : ℕ) → (a == b) ≡ true → a ≡ b
+pub same : (a b : ℕ) → (a == b) ≡ true → a ≡ b
 same a b e = grind (arith, nat_tests)
 
-rising_push : (least n : ℕ) (ns : List ℕ) → AreRising least ns → AllBelow n ns → least ≤ n → AreRising least (ns ++ n ∷ [])
+pub rising_push : (least n : ℕ) (ns : List ℕ) → AreRising least ns → AllBelow n ns → least ≤ n → AreRising least (ns ++ n ∷ [])
 rising_push least n [] r b low = (low, tt)
 rising_push least n (x ∷ ns) r b low = (r.0, rising_push (x + 1) n ns r.1 b.1 (let k = b.0 in omega arith))
 
-below_push : (n : ℕ) (ns : List ℕ) → AllBelow n ns → AllBelow (n + 1) (ns ++ n ∷ [])
+pub below_push : (n : ℕ) (ns : List ℕ) → AllBelow n ns → AllBelow (n + 1) (ns ++ n ∷ [])
 below_push n [] b = (omega arith, tt)
 below_push n (x ∷ ns) b = ((let k = b.0 in omega arith), below_push n ns b.1)
 
-rising_from : (a b : ℕ) (ns : List ℕ) → a ≤ b → AreRising b ns → AreRising a ns
+pub rising_from : (a b : ℕ) (ns : List ℕ) → a ≤ b → AreRising b ns → AreRising a ns
 rising_from a b [] le r = tt
 rising_from a b (x ∷ ns) le r = ((let k = r.0 in omega arith), r.1)
 

@@ -1,10 +1,10 @@
 -- What is said in the spans of one list, through each change of it.
-use Rattle.std.proofs.Common.{◌≡◌, ℕ, zero, suc, ◌+◌, ◌-◌, ◌<◌, ◌≤◌, List, [], ◌∷◌, ◌++◌, map, length, take, drop, get_or, refl, sym, ap, ◌∙◌, subst, arith, length-drop, length-append}
-use Rattle.std.proofs.lemmas.List.{drop-append-le, take-append-le, drop-set-lt, drop-set-add, take-set-le, take_more_set, length-map, map-append}
+use Rattle.std.proofs.Common.{◌≡◌, ◌≢◌, ℕ, zero, suc, ◌+◌, ◌-◌, ◌<◌, ◌≤◌, List, [], ◌∷◌, ◌++◌, map, length, take, drop, get_or, refl, sym, ap, ◌∙◌, subst, arith, length-drop, length-append}
+use Rattle.std.proofs.lemmas.List.{drop-drop, drop-map, drop-append-le, take-append-le, drop-set-lt, drop-set-add, take-set-le, take_more_set, length-map, map-append}
 use Rattle.std.specs.Prelude.{slice_set}
 use Rattle.desk.specs.declared.replies.Span.{Span}
 use Rattle.desk.specs.Replies.{Said, nothing_said}
-use Rattle.desk.specs.Spans.{said_in, AreBehind, silent, answered}
+use Rattle.desk.specs.Spans.{said_in, AreBehind, silent, answered, earlier}
 
 abbrev end_of : Span → ℕ
 end_of s = s.start + (s.said + s.room)
@@ -17,7 +17,7 @@ said_more all more s is_in =
     (ap (take s.said) (drop-append-le s.start all more (omega arith)) ∙ take-append-le s.said (drop s.start all) more (omega arith))
 
 from_to : (ss : List Span) (from to : ℕ) → AreBehind from ss to → from ≤ to
-from_to [] from to h = h
+from_to [] from to h = omega (arith, h)
 from_to (s ∷ ss) from to h = let r = from_to ss (end_of s) to h.1 in let l = h.0 in omega arith
 
 lists_more : (ss : List Span) (from : ℕ) (all more : List (ℕ × ℕ)) → AreBehind from ss (length all) → map (said_in (all ++ more)) ss ≡ map (said_in all) ss
@@ -29,7 +29,7 @@ abbrev fresh : ℕ → ℕ → Span
 fresh start room = record { start = start; said = 0; room = room }
 
 behind_push : (ss : List Span) (from to room : ℕ) → AreBehind from ss to → AreBehind from (ss ++ fresh to room ∷ []) (to + room)
-behind_push [] from to room h = (h, omega arith)
+behind_push [] from to room h = (sym h, omega arith)
 behind_push (s ∷ ss) from to room h = (h.0, behind_push ss (end_of s) to room h.1)
 
 pub behind_more : (all all' more : List (ℕ × ℕ)) (ss ss' : List Span) (start room : ℕ) → AreBehind 0 ss (length all) → start ≡ length all → length more ≡ room → all' ≡ all ++ more → ss' ≡ ss ++ fresh start room ∷ [] → AreBehind 0 ss' (length all')
@@ -45,7 +45,7 @@ lists_push all all' more ss ss' start room h all_is is =
 -- each span is within the list
 span_in : (ss : List Span) (from to k : ℕ) (d : Span) → AreBehind from ss to → k < length ss → (from ≤ (get_or ss k d).start) × (end_of (get_or ss k d) ≤ to)
 span_in [] from to k d h low = absurd (omega arith)
-span_in (s ∷ ss) from to zero d h low = (h.0, from_to ss (end_of s) to h.1)
+span_in (s ∷ ss) from to zero d h low = (omega (arith, h.0), from_to ss (end_of s) to h.1)
 span_in (s ∷ ss) from to (suc k) d h low = let r = span_in ss (end_of s) to k d h.1 (omega arith) in let l = h.0 in (omega (arith, r.0), r.1)
 
 get_lists : (all : List (ℕ × ℕ)) (ss : List Span) (k : ℕ) (d : Span) (e : Said) → k < length ss → get_or (map (said_in all) ss) k e ≡ said_in all (get_or ss k d)
@@ -113,8 +113,65 @@ lists_set (y ∷ ss) from to all (suc k) x s h e low is room =
 pub behind_set : (ss : List Span) (from to k : ℕ) (s : Span) → AreBehind from ss to → k < length ss → s ≡ get_or ss k s → 0 < s.room → AreBehind from (slice_set ss k (next s)) to
 behind_set [] from to k s h low is room = absurd (omega arith)
 behind_set (y ∷ ss) from to zero s h low is room =
-    let first : from ≤ s.start = subst (λ (z : Span). from ≤ z.start) (sym is) h.0 in
+    let first : s.start ≡ from = subst (λ (z : Span). z.start ≡ from) (sym is) h.0 in
     let rest : AreBehind (end_of s) ss to = subst (λ (z : Span). AreBehind (end_of z) ss to) (sym is) h.1 in
     let same : end_of s ≡ s.start + (s.said + 1 + (s.room - 1)) = omega arith in
     (first, subst (λ n. AreBehind n ss to) same rest)
 behind_set (y ∷ ss) from to (suc k) s h low is room = (h.0, behind_set ss (end_of y) to k s h.1 (omega arith) is room)
+
+-- the first spans are dropped, and with them the places before the others
+behind_drop : (ss : List Span) (from to k : ℕ) (d : Span) → AreBehind from ss to → k < length ss → AreBehind (get_or ss k d).start (drop k ss) to
+behind_drop [] from to k d h low = absurd (omega arith)
+behind_drop (s ∷ ss) from to zero d h low = (refl, h.1)
+behind_drop (s ∷ ss) from to (suc k) d h low = behind_drop ss (end_of s) to k d h.1 (omega arith)
+
+behind_earlier : (ss : List Span) (from to less : ℕ) → AreBehind from ss to → less ≤ from → AreBehind (from - less) (map (earlier less) ss) (to - less)
+behind_earlier [] from to less h low = omega (arith, h)
+behind_earlier (s ∷ ss) from to less h low =
+    let first : s.start ≡ from = h.0 in
+    let same : end_of s - less ≡ end_of (earlier less s) = omega arith in
+    (omega arith, subst (λ n. AreBehind n (map (earlier less) ss) (to - less)) same (behind_earlier ss (end_of s) to less h.1 (omega arith)))
+
+said_earlier : (all : List (ℕ × ℕ)) (less : ℕ) (s : Span) → less ≤ s.start → said_in (drop less all) (earlier less s) ≡ said_in all s
+said_earlier all less s low =
+    let e : less + (s.start - less) ≡ s.start = omega arith in
+    ap (λ (k : List (ℕ × ℕ)). record { said = take s.said k; room = s.room }) (drop-drop (s.start - less) less all ∙ ap (λ n. drop n all) e)
+
+lists_earlier : (ss : List Span) (from to less : ℕ) (all : List (ℕ × ℕ)) → AreBehind from ss to → less ≤ from → map (said_in (drop less all)) (map (earlier less) ss) ≡ map (said_in all) ss
+lists_earlier [] from to less all h low = refl
+lists_earlier (s ∷ ss) from to less all h low =
+    let first : s.start ≡ from = h.0 in
+    (λ i. said_earlier all less s (omega arith) i ∷ lists_earlier ss (end_of s) to less all h.1 (omega arith) i)
+
+-- the span that is read there, and all that lies behind it
+pub dropped_behind : (ss ss' : List Span) (all all' : List (ℕ × ℕ)) (k : ℕ) (s : Span) → AreBehind 0 ss (length all) → k < length ss → s ≡ get_or ss k s
+    → ss' ≡ map (earlier s.start) (drop k ss) → all' ≡ drop s.start all → AreBehind 0 ss' (length all')
+dropped_behind ss ss' all all' k s h low read is all_is =
+    let from : AreBehind s.start (drop k ss) (length all) = subst (λ (z : Span). AreBehind z.start (drop k ss) (length all)) (sym read) (behind_drop ss 0 (length all) k s h low) in
+    let there = behind_earlier (drop k ss) s.start (length all) s.start from (omega arith) in
+    let long : length all - s.start ≡ length all' = sym (length-drop s.start all) ∙ ap (λ (l : List (ℕ × ℕ)). length l) (sym all_is) in
+    subst (λ n. AreBehind 0 ss' n) long (subst (λ (l : List Span). AreBehind 0 l (length all - s.start)) (sym is) (subst (λ n. AreBehind n (map (earlier s.start) (drop k ss)) (length all - s.start)) (omega arith) there))
+
+pub dropped_lists : (ss ss' : List Span) (all all' : List (ℕ × ℕ)) (k : ℕ) (s : Span) → AreBehind 0 ss (length all) → k < length ss → s ≡ get_or ss k s
+    → ss' ≡ map (earlier s.start) (drop k ss) → all' ≡ drop s.start all → map (said_in all') ss' ≡ drop k (map (said_in all) ss)
+dropped_lists ss ss' all all' k s h low read is all_is =
+    let from : AreBehind s.start (drop k ss) (length all) = subst (λ (z : Span). AreBehind z.start (drop k ss) (length all)) (sym read) (behind_drop ss 0 (length all) k s h low) in
+    (λ i. map (said_in (all_is i)) (is i)) ∙ lists_earlier (drop k ss) s.start (length all) s.start all from (omega arith) ∙ sym (drop-map (said_in all) k ss)
+
+pub dropped_starts : (ss ss' : List Span) (to k : ℕ) (s : Span) → AreBehind 0 ss to → k < length ss → s ≡ get_or ss k s → ss' ≡ drop k ss
+    → (j : ℕ) (d : Span) → j < length ss' → s.start ≤ (get_or ss' j d).start
+dropped_starts ss ss' to k s h low read is j d in_it =
+    let from : AreBehind s.start ss' to = subst (λ (l : List Span). AreBehind s.start l to) (sym is) (subst (λ (z : Span). AreBehind z.start (drop k ss) to) (sym read) (behind_drop ss 0 to k s h low)) in
+    (span_in ss' s.start to j d from in_it).0
+
+-- an element that a loop hasn't come to is the one that was there
+not_reached : {X : Type 0} (f : X → X) (xs : List X) (k : ℕ) (d : X) → k < length xs → get_or (map f (take k xs) ++ drop k xs) k d ≡ get_or xs k d
+not_reached f [] k d low = absurd (omega arith)
+not_reached f (x ∷ xs) zero d low = refl
+not_reached f (x ∷ xs) (suc k) d low = not_reached f xs k d (omega arith)
+
+pub mapped_so_far : {X : Type 0} (f : X → X) (xs ys : List X) (k : ℕ) (x : X) → k < length xs → ys ≡ map f (take k xs) ++ drop k xs → x ≡ get_or ys k x → get_or xs k x ≡ x
+mapped_so_far f xs ys k x low is read = sym (not_reached f xs k x low) ∙ ap (λ (l : List _). get_or l k x) (sym is) ∙ sym read
+
+pub dropped_below : (all : List (ℕ × ℕ)) (ss : List Span) (lists : List Said) (k n : ℕ) → map (said_in all) ss ≡ lists → k ≤ length lists → n ≡ length ss → k ≢ n → k < length ss
+dropped_below all ss lists k n is low len ne = let l = ap (λ (l : List Said). length l) is in let m = length-map ss (said_in all) in omega arith

@@ -1,6 +1,6 @@
 -- A history of what a log keeps, with one entry more.
-use Rattle.std.proofs.Common.{◌≡◌, ℕ, ◌+◌, List, [], ◌∷◌, ◌++◌, length, refl, sym, ap, ◌∙◌, arith, length-append}
-use Rattle.std.proofs.lemmas.List.{append-nil}
+use Rattle.std.proofs.Common.{◌≡◌, ℕ, ◌+◌, ◌-◌, List, [], ◌∷◌, ◌++◌, length, refl, sym, ap, ◌∙◌, arith, length-append}
+use Rattle.std.proofs.lemmas.List.{append-nil, append_assoc}
 use Rattle.operations.specs.declared.Request.{Request}
 use Rattle.desk.specs.declared.entries.Entry.{Entry}
 use Rattle.desk.specs.declared.entries.Entry.TheVariants.{Start, Exit, Ask, Open, Finish, Operate, Close, Install, Invalidate, Retire, Free}
@@ -70,3 +70,14 @@ with_ask ks ks' rs rs' n r is more whole = (λ i. unfolded (is i) (more i)) ∙ 
 pub more_asks : (ks ks' : List Kept) (rs rs' : List Request) (n : ℕ) (r : Request) → ks' ≡ ks ++ kept.Asked n ∷ [] → rs' ≡ rs ++ r ∷ [] → asks ks ≡ length rs → asks ks' ≡ length rs'
 more_asks ks ks' rs rs' n r is more whole =
     let a = ap asks is in let b = asks_push ks (kept.Asked n) in let c : length rs' ≡ length (rs ++ r ∷ []) = ap (λ (l : List Request). length l) more in omega (arith, length-append rs (r ∷ []))
+
+-- the whole, of which a first part was forgotten, with one entry more
+pub behind_past : (past h h' : List Entry) (e : Entry) → h' ≡ h ++ e ∷ [] → past ++ h' ≡ (past ++ h) ++ e ∷ []
+behind_past past h h' e is = ap (λ l. past ++ l) is ∙ sym (append_assoc past h (e ∷ []))
+
+-- how long it is
+pub whole_length : (past : List Entry) (ks : List Kept) (rs : List Request) → asks ks ≡ length rs → length (past ++ unfolded ks rs) ≡ length past + length ks
+whole_length past ks rs e = let l = unfolded_length ks rs e in omega (arith, length-append past (unfolded ks rs))
+
+pub kept_length : (past : List Entry) (ks : List Kept) (rs : List Request) → asks ks ≡ length rs → length (past ++ unfolded ks rs) - length past ≡ length ks
+kept_length past ks rs e = let l = whole_length past ks rs e in omega arith

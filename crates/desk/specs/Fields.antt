@@ -85,6 +85,7 @@ pub record Enters (old new : DeskSeen) (entry : Entry) (receipt : Stands) : Type
   pub lawful_is : lawful (at old) entry ≡ true
   pub history_is : new.book.history ≡ old.book.history ++ entry ∷ []
   pub receipt_is : receipt ≡ stands (length old.book.history) entry
+  pub gone_stays : new.book.gone ≡ old.book.gone
   pub sizes_stay : (new.slots ≡ old.slots) × (new.methods ≡ old.methods)
 
 -- The entries of an install: where a code in use is replaced its Invalidate, and then the Install.
@@ -102,6 +103,7 @@ pub record EntersInstall (old new : DeskSeen) (replaced : Option CodeId) (code :
   pub legal_is : legal_from (at old) (install_entries replaced code method) ≡ true
   pub history_is : new.book.history ≡ old.book.history ++ install_entries replaced code method
   pub receipt_is : receipt ≡ stands (length old.book.history + kept_before replaced) (Install code method)
+  pub gone_stays : new.book.gone ≡ old.book.gone
   pub sizes_stay : (new.slots ≡ old.slots) × (new.methods ≡ old.methods)
 
 -- where the open request of the number stands

@@ -11,3 +11,7 @@ pub mod Spans
 pub mod Unfolded
 pub mod Requested
 pub mod Names
+pub mod Forgotten
+pub mod Pending
+pub mod Finishing
+pub mod Weighings

@@ -233,10 +233,20 @@ pub record Stands : Type 0 where
 abbrev pub stands : ℕ → Entry → Stands
 stands k e = record { place = k; entry = e }
 
--- the entries, and for how many more room is kept
+-- what was forgotten: how many of the first entries are stored no more, and up to which operation the replies
+pub record Gone : Type 0 where
+  pub entries : ℕ
+  pub operations : ℕ
+
+-- the entries, for how many more room is kept, and what was forgotten of them
 pub record Book : Type 0 where
   pub history : List Entry
   pub reserved : ℕ
+  pub gone : Gone
+
+-- how many entries are stored
+abbrev pub entries_kept : Book → ℕ
+entries_kept b = length b.history - b.gone.entries
 
 -- whether more entries fit in a history of these lengths
 abbrev pub has_room : ℕ → ℕ → ℕ → Bool

@@ -24,7 +24,7 @@ use Rattle.desk.specs.declared.faults.CodeFault.{CodeFault}
 use Rattle.desk.specs.declared.faults.CodeFault.TheVariants as code
 use Rattle.desk.specs.declared.log.RoomFault.{RoomFault}
 use Rattle.desk.specs.declared.log.RoomFault.TheVariants as room
-use Rattle.desk.specs.Machine.{State, Current, Book, is_taken, has_room, has_census, may_open_more, may_close, steps_of, open_of}
+use Rattle.desk.specs.Machine.{State, Current, Book, is_taken, has_room, entries_kept, has_census, may_open_more, may_close, steps_of, open_of}
 use Rattle.operations.specs.Requests.{is_census}
 
 abbrev pub AllTaken : State → ℕ → Type 0
@@ -34,7 +34,7 @@ abbrev pub HasFree : State → ℕ → Type 0
 HasFree s places = (k : ℕ) × (k < places) × (is_taken k s.live ≡ false)
 
 abbrev pub room_for : Book → ℕ → Bool
-room_for b more = has_room (length b.history) b.reserved more
+room_for b more = has_room (entries_kept b) b.reserved more
 
 -- no test refuses a start: what is left is want of memory
 abbrev pub MayStart : State → ℕ → Book → Type 0
@@ -104,6 +104,10 @@ install_refused s m b code.NoMemory = MayInstall s m b
 abbrev pub start_fault : RoomFault → StartFault
 start_fault room.HistoryFull = start.HistoryFull
 start_fault room.NoMemory = start.NoMemory
+
+abbrev pub ask_fault : RoomFault → AskFault
+ask_fault room.HistoryFull = ask.HistoryFull
+ask_fault room.NoMemory = ask.NoMemory
 
 abbrev pub has_body : ℕ → List BodyView → Bool
 has_body name bs = list_any (λ b. b.name == name) bs

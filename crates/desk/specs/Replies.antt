@@ -1,7 +1,7 @@
 -- The replies of each operation, and the room that is kept for those that can still come.
-use Rattle.std.specs.Prelude.{◌≡◌, ◌≢◌, ℕ, ◌+◌, ◌-◌, ◌≤◌, ◌==◌, List, [], ◌∷◌, length, get_or, if◌then◌else◌}
+use Rattle.std.specs.Prelude.{◌≡◌, ◌≢◌, ℕ, ◌+◌, ◌-◌, ◌<◌, ◌≤◌, ◌==◌, nat_le, List, [], ◌∷◌, length, get_or, if◌then◌else◌}
 use Rattle.desk.specs.declared.entries.Entry.{Entry}
-use Rattle.desk.specs.Machine.{Asked, Current, Book, targets_of}
+use Rattle.desk.specs.Machine.{Asked, Current, Gone, Book, targets_of}
 use Rattle.desk.specs.Once.{replies_of}
 
 -- the names with their replies of an operation, and for how many more there is room
@@ -12,7 +12,7 @@ pub record Said : Type 0 where
 abbrev pub nothing_said : Said
 nothing_said = record { said = []; room = 0 }
 
--- what contracts see of a log: its book, what was said to each operation from 1 on, for how many more operations there is room, for
+-- what contracts see of a log: its book, what was said to each operation behind those whose replies were forgotten, for how many more operations there is room, for
 -- how many more replies, and the names that were noted of the request that is entered next
 pub record Logged : Type 0 where
   pub book : Book
@@ -25,9 +25,13 @@ pub record Logged : Type 0 where
 abbrev pub of_number : ℕ → List Said → Said
 of_number n lists = if n == 0 then nothing_said else get_or lists (n - 1) nothing_said
 
--- the lists are those of the history, by operation
-abbrev pub AreReplies : List Entry → List Said → Type 0
-AreReplies history lists = (n : ℕ) → (of_number n lists).said ≡ replies_of n history
+-- the lists are those of the history, by operation, of all operations behind those whose replies were forgotten
+abbrev pub AreReplies : ℕ → List Entry → List Said → Type 0
+AreReplies gone history lists = (n : ℕ) → gone < n → (of_number (n - gone) lists).said ≡ replies_of n history
+
+-- the replies of an operation, and none where they were forgotten
+abbrev pub replies_kept : ℕ → Book → List (ℕ × ℕ)
+replies_kept n b = if nat_le n b.gone.operations then [] else replies_of n b.history
 
 -- one operation has room for one reply less, the others for as many as before
 pub record HasLess (op : ℕ) (old new : List Said) : Type 0 where
@@ -43,7 +47,7 @@ abbrev pub owed_opened : ℕ → List Current → ℕ
 owed_opened n [] = 0
 owed_opened n (c ∷ cs) = (if c.number == n then length c.due else 0) + owed_opened n cs
 
--- each number that was given out has its list, with room for all replies that can still come
-pub record HaveRoom (next_number : ℕ) (waiting : List Asked) (opened : List Current) (lists : List Said) : Type 0 where
-  pub count : length lists + 1 ≡ next_number
-  pub enough : (n : ℕ) → owed_waiting n waiting + owed_opened n opened ≤ (of_number n lists).room
+-- each number that was given out has its list, but for those whose replies were forgotten, with room for all replies that can still come
+pub record HaveRoom (gone : Gone) (next_number : ℕ) (waiting : List Asked) (opened : List Current) (lists : List Said) : Type 0 where
+  pub count : gone.operations + length lists + 1 ≡ next_number
+  pub enough : (n : ℕ) → owed_waiting n waiting + owed_opened n opened ≤ (of_number (n - gone.operations) lists).room

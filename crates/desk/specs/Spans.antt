@@ -1,5 +1,5 @@
 -- The replies of all operations, which lie behind one another in one list: a span of it for each operation.
-use Rattle.std.specs.Prelude.{ℕ, ◌+◌, ◌-◌, ◌≤◌, List, [], ◌∷◌, ◌++◌, take, drop}
+use Rattle.std.specs.Prelude.{◌≡◌, ℕ, ◌+◌, ◌-◌, List, [], ◌∷◌, ◌++◌, take, drop}
 use Rattle.desk.specs.declared.replies.Span.{Span}
 use Rattle.desk.specs.Replies.{Said}
 
@@ -7,10 +7,11 @@ use Rattle.desk.specs.Replies.{Said}
 abbrev pub said_in : List (ℕ × ℕ) → Span → Said
 said_in all s = record { said = take s.said (drop s.start all); room = s.room }
 
--- The spans begin at a place or later, each behind the one before it, and end at another place or before.
+-- The spans begin at a place, each where the one before it ends, and the last one ends at another place: between the two nothing is left
+-- over.
 abbrev pub AreBehind : ℕ → List Span → ℕ → Type 0
-AreBehind from [] to = from ≤ to
-AreBehind from (s ∷ ss) to = (from ≤ s.start) × AreBehind (s.start + (s.said + s.room)) ss to
+AreBehind from [] to = from ≡ to
+AreBehind from (s ∷ ss) to = (s.start ≡ from) × AreBehind (s.start + (s.said + s.room)) ss to
 
 -- what contracts see of the block: what was said to each operation, for how many more operations there is room, and for how many more
 -- replies
@@ -26,3 +27,7 @@ silent room = record { said = []; room = room }
 -- one reply more
 abbrev pub answered : ℕ × ℕ → Said → Said
 answered reply s = record { said = s.said ++ reply ∷ []; room = s.room - 1 }
+
+-- the span where as many places before it are dropped
+abbrev pub earlier : ℕ → Span → Span
+earlier less s = record { start = s.start - less; said = s.said; room = s.room }

@@ -35,7 +35,9 @@ impl<N: Name> Model for Codes<N> {
 
     ghost view = { λ c. record { table = c.table; keeper = c.keeper.seen } };
 
-    ghost invariant = { λ c. (c.keeper.board ≡ N.board) × (N.board.slots ≡ c.table.slots) × AreEntries c.table c.keeper.seen };
+    ghost invariant = { λ c. (c.keeper.board ≡ N.board)
+        × (N.board.slots ≡ c.table.slots)
+        × AreEntries c.table c.keeper.seen };
 }
 
 fn id_of(code: Code) -> CodeId
@@ -47,11 +49,30 @@ fn id_of(code: Code) -> CodeId
     }
 }
 
+// The code of the serial, where it is not entrant.
+fn find_not_entrant(table: &MethodTable, serial: u64) -> Result<Code, RetireFault>
+    ensures sound { IsTable table.now }
+    ensures code { IfOk result (λ code. unfreed table.now.codes serial ≡ Some code) }
+    ensures state { IfOk result (λ code. code.state ≡ NotEntrant) }
+    ensures accepted { OnOk result (retire_fault (unfreed table.now.codes serial) ≡ None) }
+    ensures refused { IfErr result (λ fault.
+        retire_fault (unfreed table.now.codes serial) ≡ Some fault) }
+{
+    let Some(code) = table.find(serial) else {
+        return Err(RetireFault::Unknown);
+    };
+    match code.state {
+        CodeState::NotEntrant => Ok(code),
+        CodeState::InUse | CodeState::Zombie | CodeState::Freed => Err(RetireFault::NotNotEntrant),
+    }
+}
+
 // The entry of a vacant slot says that the new code is in use; before that, the entry of the code that it replaces says that it isn't
 // entrant.
 fn store_new(keeper: &mut Keeper, board: &Board, installed: Installed)
     requires board { keeper.old.board ≡ board.now }
-    requires old { IfSome installed.replaced (λ old. (old.slot < keeper.old.board.slots) × IsIn keeper.old.seen old InUse) }
+    requires old { IfSome installed.replaced (λ old.
+        (old.slot < keeper.old.board.slots) × IsIn keeper.old.seen old InUse) }
     requires slot { installed.code.slot < keeper.old.board.slots }
     requires vacant { (slot_of keeper.old.seen installed.code.slot).state ≡ Vacant }
     requires later { (slot_of keeper.old.seen installed.code.slot).serial < installed.code.serial }
@@ -71,7 +92,8 @@ fn store_vacant(keeper: &mut Keeper, board: &Board, id: CodeId)
     requires slot { id.slot < keeper.old.board.slots }
     requires code { IsIn keeper.old.seen id Zombie }
     ensures board { keeper.new.board ≡ keeper.old.board }
-    ensures entry { keeper.new.seen ≡ entry_stored keeper.old.seen id (in_state (slot_of keeper.old.seen id.slot) Vacant) }
+    ensures entry { keeper.new.seen
+        ≡ entry_stored keeper.old.seen id (in_state (slot_of keeper.old.seen id.slot) Vacant) }
 {
     keeper.free(board, id);
 }
@@ -108,7 +130,6 @@ impl<N: Name> Codes<N> {
     pub fn refusal(&self, method: u64) -> Option<InstallFault>
         ensures { result ≡ install_fault self.now.table method }
     {
-        let _ = &self.keeper;
         self.table.refusal(method)
     }
 
@@ -117,14 +138,22 @@ impl<N: Name> Codes<N> {
     pub fn install(&mut self, board: &Board, method: u64) -> Result<Installed, InstallFault>
         requires board { board.now ≡ N.board }
         ensures sound { OnOk result (IsTable self.old.table) }
-        ensures slot { IfOk result (λ r. free_slot self.old.table.codes self.old.table.slots ≡ Some r.code.slot) }
+        ensures slot { IfOk result (λ r.
+            free_slot self.old.table.codes self.old.table.slots ≡ Some r.code.slot) }
         ensures bound { IfOk result (λ r. r.code.slot < N.board.slots) }
         ensures serial { IfOk result (λ r. r.code.serial ≡ next_serial self.old.table.codes) }
-        ensures replaced { IfOk result (λ r. r.replaced ≡ option_map id_of (in_use_for self.old.table.codes method)) }
-        ensures codes { IfOk result (λ r. self.new.table ≡ with_codes self.old.table (with_code (without_use self.old.table.codes (in_use_for self.old.table.codes method)) method r.code.slot)) }
-        ensures entry { IfOk result (λ r. self.new.keeper ≡ stored r.replaced self.old.keeper r.code) }
+        ensures replaced { IfOk result (λ r.
+            r.replaced ≡ option_map id_of (in_use_for self.old.table.codes method)) }
+        ensures codes { IfOk result (λ r.
+            self.new.table ≡ with_codes self.old.table
+            (with_code
+            (without_use self.old.table.codes (in_use_for self.old.table.codes method))
+            method r.code.slot)) }
+        ensures entry { IfOk result (λ r.
+            self.new.keeper ≡ stored r.replaced self.old.keeper r.code) }
         ensures accepted { OnOk result (install_fault self.old.table method ≡ None) }
-        ensures refused { IfErr result (λ fault. install_fault self.old.table method ≡ reason fault) }
+        ensures refused { IfErr result (λ fault.
+            install_fault self.old.table method ≡ reason fault) }
         ensures unchanged { OnErr result (self.new ≡ self.old) }
     {
         let _slots = self.table.slots();
@@ -137,11 +166,18 @@ impl<N: Name> Codes<N> {
     pub fn invalidate(&mut self, board: &Board, serial: u64) -> Result<CodeId, InvalidateFault>
         requires board { board.now ≡ N.board }
         ensures sound { OnOk result (IsTable self.old.table) }
-        ensures code { IfOk result (λ id. (code : CodeOf) × IsCodeOf self.old serial code × (id ≡ id_of code)) }
-        ensures codes { OnOk result (self.new.table ≡ with_codes self.old.table (with_state self.old.table.codes serial NotEntrant)) }
-        ensures entry { IfOk result (λ id. self.new.keeper ≡ entry_stored self.old.keeper id (not_entrant id self.old.keeper.moment)) }
-        ensures accepted { OnOk result (invalidate_fault (unfreed self.old.table.codes serial) ≡ None) }
-        ensures refused { IfErr result (λ fault. invalidate_fault (unfreed self.old.table.codes serial) ≡ Some fault) }
+        ensures code { IfOk result (λ id.
+            (code : CodeOf) × IsCodeOf self.old serial code × (id ≡ id_of code)) }
+        ensures codes { OnOk result
+            (self.new.table
+            ≡ with_codes self.old.table (with_state self.old.table.codes serial NotEntrant)) }
+        ensures entry { IfOk result (λ id.
+            self.new.keeper
+            ≡ entry_stored self.old.keeper id (not_entrant id self.old.keeper.moment)) }
+        ensures accepted { OnOk result
+            (invalidate_fault (unfreed self.old.table.codes serial) ≡ None) }
+        ensures refused { IfErr result (λ fault.
+            invalidate_fault (unfreed self.old.table.codes serial) ≡ Some fault) }
         ensures unchanged { OnErr result (self.new ≡ self.old) }
     {
         let Some(code) = self.table.find(serial) else {
@@ -156,9 +192,11 @@ impl<N: Name> Codes<N> {
     /// Begins the next moment.
     pub fn round(&mut self, board: &Board) -> Result<(), Spent>
         requires board { board.now ≡ N.board }
-        ensures ok { OnOk result (self.new.keeper ≡ went_round self.old.keeper self.old.keeper.moment) }
+        ensures ok { OnOk result
+            (self.new.keeper ≡ went_round self.old.keeper self.old.keeper.moment) }
         ensures accepted { OnOk result (nat_le (2 ^ 40) (self.old.keeper.moment + 1) ≡ false) }
-        ensures spent { OnErr result ((self.new.keeper ≡ self.old.keeper) × (2 ^ 40 ≤ self.old.keeper.moment + 1)) }
+        ensures spent { OnErr result
+            ((self.new.keeper ≡ self.old.keeper) × (2 ^ 40 ≤ self.old.keeper.moment + 1)) }
         ensures table { self.new.table ≡ self.old.table }
     {
         if self.keeper.is_last_moment() {
@@ -171,18 +209,19 @@ impl<N: Name> Codes<N> {
     pub fn look(&mut self, board: &Board, serial: u64, place: usize) -> Result<bool, RetireFault>
         requires board { board.now ≡ N.board }
         requires place { place < N.board.places }
-        ensures step { IfOk result (λ past. (code : CodeOf) × IsCodeOf self.old serial code × (found : ℕ) × (self.new.keeper ≡ looked_at self.old.keeper (id_of code) place found) × (past ≡ is_past (slot_of self.old.keeper code.slot).left found)) }
+        ensures step { IfOk result (λ past.
+            (code : CodeOf)
+            × IsCodeOf self.old serial code
+            × (found : ℕ)
+            × (self.new.keeper ≡ looked_at self.old.keeper (id_of code) place found)
+            × (past ≡ is_past (slot_of self.old.keeper code.slot).left found)) }
         ensures table { self.new.table ≡ self.old.table }
         ensures accepted { OnOk result (retire_fault (unfreed self.old.table.codes serial) ≡ None) }
-        ensures refused { IfErr result (λ fault. retire_fault (unfreed self.old.table.codes serial) ≡ Some fault) }
+        ensures refused { IfErr result (λ fault.
+            retire_fault (unfreed self.old.table.codes serial) ≡ Some fault) }
         ensures unchanged { OnErr result (self.new ≡ self.old) }
     {
-        let Some(code) = self.table.find(serial) else {
-            return Err(RetireFault::Unknown);
-        };
-        let CodeState::NotEntrant = code.state else {
-            return Err(RetireFault::NotNotEntrant);
-        };
+        let code = find_not_entrant(&self.table, serial)?;
         Ok(self.keeper.look(board, id_of(code), place))
     }
 
@@ -196,18 +235,17 @@ impl<N: Name> Codes<N> {
     ) -> Result<(), RetireFault>
         requires board { board.now ≡ N.board }
         requires places { places ≤ N.board.places }
-        ensures looks { OnOk result ((code : CodeOf) × IsCodeOf self.old serial code × LooksBelow (id_of code) places self.old.keeper self.new.keeper) }
+        ensures looks { OnOk result
+            ((code : CodeOf)
+            × IsCodeOf self.old serial code
+            × LooksBelow (id_of code) places self.old.keeper self.new.keeper) }
         ensures table { self.new.table ≡ self.old.table }
         ensures accepted { OnOk result (retire_fault (unfreed self.old.table.codes serial) ≡ None) }
-        ensures refused { IfErr result (λ fault. retire_fault (unfreed self.old.table.codes serial) ≡ Some fault) }
+        ensures refused { IfErr result (λ fault.
+            retire_fault (unfreed self.old.table.codes serial) ≡ Some fault) }
         ensures unchanged { OnErr result (self.new ≡ self.old) }
     {
-        let Some(code) = self.table.find(serial) else {
-            return Err(RetireFault::Unknown);
-        };
-        let CodeState::NotEntrant = code.state else {
-            return Err(RetireFault::NotNotEntrant);
-        };
+        let code = find_not_entrant(&self.table, serial)?;
         look_below(&mut self.keeper, board, id_of(code), places);
         Ok(())
     }
@@ -216,17 +254,16 @@ impl<N: Name> Codes<N> {
     pub fn weigh(&mut self, board: &Board, serial: u64) -> Result<Weighed, RetireFault>
         requires board { board.now ≡ N.board }
         ensures sound { OnOk result (IsTable self.old.table) }
-        ensures step { IfOk result (λ said. (code : CodeOf) × IsCodeOf self.old serial code × Weighs N.board.places serial (id_of code) self.old self.new said) }
+        ensures step { IfOk result (λ said.
+            (code : CodeOf)
+            × IsCodeOf self.old serial code
+            × Weighs N.board.places serial (id_of code) self.old self.new said) }
         ensures accepted { OnOk result (retire_fault (unfreed self.old.table.codes serial) ≡ None) }
-        ensures refused { IfErr result (λ fault. retire_fault (unfreed self.old.table.codes serial) ≡ Some fault) }
+        ensures refused { IfErr result (λ fault.
+            retire_fault (unfreed self.old.table.codes serial) ≡ Some fault) }
         ensures unchanged { OnErr result (self.new ≡ self.old) }
     {
-        let Some(code) = self.table.find(serial) else {
-            return Err(RetireFault::Unknown);
-        };
-        let CodeState::NotEntrant = code.state else {
-            return Err(RetireFault::NotNotEntrant);
-        };
+        let code = find_not_entrant(&self.table, serial)?;
         let id = id_of(code);
         let said = self.keeper.weigh(board, id);
         if let Weighed::Clear = said {
@@ -240,11 +277,17 @@ impl<N: Name> Codes<N> {
     pub fn free(&mut self, board: &Board, serial: u64) -> Result<CodeId, FreeFault>
         requires board { board.now ≡ N.board }
         ensures sound { OnOk result (IsTable self.old.table) }
-        ensures code { IfOk result (λ id. (code : CodeOf) × IsCodeOf self.old serial code × (id ≡ id_of code)) }
-        ensures codes { OnOk result (self.new.table ≡ with_codes self.old.table (with_state self.old.table.codes serial Freed)) }
-        ensures entry { IfOk result (λ id. self.new.keeper ≡ entry_stored self.old.keeper id (in_state (slot_of self.old.keeper id.slot) Vacant)) }
+        ensures code { IfOk result (λ id.
+            (code : CodeOf) × IsCodeOf self.old serial code × (id ≡ id_of code)) }
+        ensures codes { OnOk result
+            (self.new.table
+            ≡ with_codes self.old.table (with_state self.old.table.codes serial Freed)) }
+        ensures entry { IfOk result (λ id.
+            self.new.keeper ≡ entry_stored self.old.keeper id
+            (in_state (slot_of self.old.keeper id.slot) Vacant)) }
         ensures accepted { OnOk result (free_fault (unfreed self.old.table.codes serial) ≡ None) }
-        ensures refused { IfErr result (λ fault. free_fault (unfreed self.old.table.codes serial) ≡ Some fault) }
+        ensures refused { IfErr result (λ fault.
+            free_fault (unfreed self.old.table.codes serial) ≡ Some fault) }
         ensures unchanged { OnErr result (self.new ≡ self.old) }
     {
         let Some(code) = self.table.find(serial) else {
@@ -267,7 +310,6 @@ impl<N: Name> Codes<N> {
     pub fn is_last_moment(&self) -> bool
         ensures { result ≡ nat_le (2 ^ 40) (self.now.keeper.moment + 1) }
     {
-        let _ = &self.table;
         self.keeper.is_last_moment()
     }
 
@@ -275,15 +317,9 @@ impl<N: Name> Codes<N> {
     pub fn weigh_fault(&self, serial: u64) -> Option<RetireFault>
         ensures { result ≡ retire_fault (unfreed self.now.table.codes serial) }
     {
-        let _ = &self.keeper;
-        let Some(code) = self.table.find(serial) else {
-            return Some(RetireFault::Unknown);
-        };
-        match code.state {
-            CodeState::NotEntrant => None,
-            CodeState::InUse | CodeState::Zombie | CodeState::Freed => Some(
-                RetireFault::NotNotEntrant,
-            ),
+        match find_not_entrant(&self.table, serial) {
+            Ok(_) => None,
+            Err(fault) => Some(fault),
         }
     }
 }

@@ -4,18 +4,32 @@
 //! refused and changes nothing. The type keeps that the history is legal and that all that the desk keeps is the state after it.
 #![tactic(auto)]
 
+// A law without a body reads a field (`let _ = &self.log;`), so that its proof sees what the type keeps.
+
+mod asking;
 mod codes;
 mod desk;
 mod entries;
 mod faults;
+mod finished;
+mod finishing;
+mod forgetting;
+mod installing;
 mod kept;
 mod law;
 mod lists;
 mod log;
 mod names;
+mod open_requests;
+mod opening;
+mod operating;
+mod past;
+mod reclaiming;
 mod replies;
 mod requests;
 mod targets;
+mod threads;
+mod weighing;
 
 pub use desk::Desk;
 pub use entries::{Entry, Live, Progress, Standing, Target};
@@ -23,5 +37,7 @@ pub use faults::{
     AskFault, CloseFault, CodeFault, NotLive, NotReclaimed, OpenFault, OperateFault, ReclaimFault,
     Refused, StartFault,
 };
+pub use finished::Finished;
 pub use law::{at_most_once, live_names_rise};
 pub use log::Receipt;
+pub use weighing::Weighing;

@@ -1,12 +1,13 @@
 // Steps on the desk's lists.
 ghost use Rattle.std.specs.Prelude.{◌≡◌, ◌&&◌, ◌==◌, ◌<◌, ◌≤◌, ℕ, length, true, false, map, Some, None, IfOk, vec_capacity, vec_len, IfSome, IfNone, OnSome, slice_get, slice_set};
-ghost use Rattle.std.specs.List.{list_any, list_all};
+ghost use Rattle.std.specs.List.{list_all};
 ghost use Rattle.operations.specs.Names.{among, is_distinct};
 ghost use Rattle.operations.specs.Requests.{is_census, are_targets};
 ghost use Rattle.desk.specs.declared.entries.Opened.{Opened as OpenedOf};
 ghost use Rattle.desk.specs.declared.entries.Live.{Live as LiveOf};
 ghost use Rattle.desk.specs.Machine.{names_of, is_live, is_taken, without, has_census, awaits_census, may_open_more, may_close, finished, as_operated, is_due, is_least, steps_of};
 ghost use Rattle.desk.specs.Refusals.{has_body, are_all, chosen, holds_target};
+ghost use Rattle.desk.specs.Pending.{first_waiting, least_open};
 ghost use Rattle.desk.specs.JobsFit.{same_ask, asks_it, are_for, jobs_fit, request_of, without_first};
 ghost use Rattle.desk.specs.Fields.{asked_of, current_of, names_left, IsIndex};
 
@@ -26,7 +27,8 @@ pub const OPEN: usize = 4;
 /// then looked for by halves. None is missed, since live names rise.
 #[inline(always)]
 pub fn found_at(live: &[Live], name: u64) -> Option<usize>
-    ensures { IfSome result (λ i. (l : LiveOf) × (slice_get live.now i ≡ Some l) × (l.name ≡ name)) }
+    ensures { IfSome result (λ i.
+        (l : LiveOf) × (slice_get live.now i ≡ Some l) × (l.name ≡ name)) }
 {
     if live.is_empty() {
         return None;
@@ -111,17 +113,17 @@ pub fn steps_of(request: &Request) -> usize
 }
 
 /// Whether a census is open.
-pub fn has_census<J>(opened: &[Opened<J>]) -> bool
-    ensures { result ≡ list_any (λ o. is_census o.request) opened.now }
-{
-    opened.iter().any(|o| is_census(&o.request))
-}
-
-/// Whether a census is open.
 pub fn is_census_open<J>(opened: &[Opened<J>]) -> bool
     ensures { result ≡ has_census (map current_of opened.now) }
 {
-    has_census(opened)
+    let mut rest = opened;
+    while let Some((one, others)) = rest.split_first() {
+        if is_census(&one.request) {
+            return true;
+        }
+        rest = others;
+    }
+    false
 }
 
 /// Whether the oldest request that waits is a census.
@@ -132,6 +134,37 @@ fn awaits_census<J>(queue: &Queue<Carried<J>>) -> bool
         Some(first) => is_census(&first.request),
         None => false,
     }
+}
+
+// The number of the oldest request that waits, and where none waits the next.
+fn first_waiting<J>(queue: &Queue<Carried<J>>, next: u64) -> u64
+    ensures { result ≡ first_waiting next (map asked_of queue.now) }
+{
+    match queue.front() {
+        Some(first) => first.number,
+        None => next,
+    }
+}
+
+// The least number of the open requests and this one.
+fn least_open<J>(opened: &[Opened<J>], least: u64) -> u64
+    ensures { result ≡ least_open least (map current_of opened.now) }
+{
+    let mut least = least;
+    let mut rest = opened;
+    while let Some((one, others)) = rest.split_first() {
+        least = least.min(one.number);
+        rest = others;
+    }
+    least
+}
+
+/// The least number of a request that is open or waits, and where there is none the next.
+pub fn least_pending<J>(queue: &Queue<Carried<J>>, opened: &[Opened<J>], next: u64) -> u64
+    ensures { result
+        ≡ least_open (first_waiting next (map asked_of queue.now)) (map current_of opened.now) }
+{
+    least_open(opened, first_waiting(queue, next))
 }
 
 /// Whether one more may be opened: up to four handshakes are open, or one census alone.
@@ -190,7 +223,12 @@ pub fn is_least<J>(opened: &[Opened<J>], number: u64, name: u64) -> bool
 
 /// Where the open request of the number stands, and without a number the oldest.
 pub fn place_chosen<J>(opened: &[Opened<J>], number: Option<u64>) -> Option<usize>
-    ensures some { IfSome result (λ i. (i < length opened.now) × ((o : OpenedOf J) → slice_get opened.now i ≡ Some o → IsIndex o.number opened.now (Some i) × (chosen number (map current_of opened.now) ≡ Some (current_of o)))) }
+    ensures some { IfSome result (λ i.
+        (i < length opened.now)
+        × ((o : OpenedOf J)
+        → slice_get opened.now i ≡ Some o
+        → IsIndex o.number opened.now (Some i)
+        × (chosen number (map current_of opened.now) ≡ Some (current_of o)))) }
     ensures none { IfNone result (chosen number (map current_of opened.now) ≡ None) }
 {
     match number {
@@ -230,18 +268,29 @@ fn operate<J>(request: &mut Opened<J>)
 /// A Finish of the name.
 #[inline(always)]
 pub fn finish_at<J>(opened: &mut Vec<Opened<J>>, place: usize, name: u64)
-    requires { (place < length opened.old.items) × ((o : OpenedOf J) → slice_get opened.old.items place ≡ Some o → (0 < o.left) × (is_distinct o.due.items ≡ true)) }
-    ensures step { (o : OpenedOf J) → slice_get opened.old.items place ≡ Some o → (after : OpenedOf J) × (current_of after ≡ finished name (current_of o)) × (opened.new.items ≡ slice_set opened.old.items place after) × (after.jobs ≡ o.jobs) }
-    ensures capacity { (vec_capacity opened.new ≡ vec_capacity opened.old) × (length opened.new.items ≡ length opened.old.items) }
+    requires { (place < length opened.old.items)
+        × ((o : OpenedOf J) → slice_get opened.old.items place ≡ Some o → (0 < o.left)
+        × (is_distinct o.due.items ≡ true)) }
+    ensures step { (o : OpenedOf J) → slice_get opened.old.items place ≡ Some o → (after : OpenedOf J)
+        × (current_of after ≡ finished name (current_of o))
+        × (opened.new.items ≡ slice_set opened.old.items place after)
+        × (after.jobs ≡ o.jobs) }
+    ensures capacity { (vec_capacity opened.new ≡ vec_capacity opened.old)
+        × (length opened.new.items ≡ length opened.old.items) }
 {
     finish(&mut opened[place], name);
 }
 
 /// The census is operated.
 pub fn operate_at<J>(opened: &mut Vec<Opened<J>>, place: usize)
-    requires { (place < length opened.old.items) × ((o : OpenedOf J) → slice_get opened.old.items place ≡ Some o → 0 < o.left) }
-    ensures step { (o : OpenedOf J) → slice_get opened.old.items place ≡ Some o → (after : OpenedOf J) × (current_of after ≡ as_operated (current_of o)) × (opened.new.items ≡ slice_set opened.old.items place after) × (after.jobs ≡ o.jobs) }
-    ensures capacity { (vec_capacity opened.new ≡ vec_capacity opened.old) × (length opened.new.items ≡ length opened.old.items) }
+    requires { (place < length opened.old.items)
+        × ((o : OpenedOf J) → slice_get opened.old.items place ≡ Some o → 0 < o.left) }
+    ensures step { (o : OpenedOf J) → slice_get opened.old.items place ≡ Some o → (after : OpenedOf J)
+        × (current_of after ≡ as_operated (current_of o))
+        × (opened.new.items ≡ slice_set opened.old.items place after)
+        × (after.jobs ≡ o.jobs) }
+    ensures capacity { (vec_capacity opened.new ≡ vec_capacity opened.old)
+        × (length opened.new.items ≡ length opened.old.items) }
 {
     operate(&mut opened[place]);
 }
@@ -346,7 +395,8 @@ fn job_in<J: Errand>(request: &mut Opened<J>, name: u64) -> Option<J>
     ensures job { IfSome result (λ j. (J.whom j ≡ name) × (J.number j ≡ request.old.number)) }
     ensures some { OnSome result (among name (names_left J.whom request.old) ≡ true) }
     ensures none { IfNone result (among name (names_left J.whom request.old) ≡ false) }
-    ensures left { names_left J.whom request.new ≡ without_first name (names_left J.whom request.old) }
+    ensures left { names_left J.whom request.new
+        ≡ without_first name (names_left J.whom request.old) }
     ensures same { current_of request.new ≡ current_of request.old }
 {
     match take_of(&mut request.jobs, name) {
@@ -455,7 +505,8 @@ fn all_ask<J: Errand>(jobs: &[J], ask: Ask) -> bool
 /// Whether a handshake of the jobs' targets, with the ask of the first, has good targets, and the jobs fit it. The number of jobs is
 /// tested first, so that at most 64 are compared with one another.
 pub fn fit_their_request<J: Errand>(jobs: &[J]) -> bool
-    ensures fits { IfSome (request_of J.whom J.asks jobs.now) (λ asked. result ≡ (are_targets asked && jobs_fit J.whom J.asks asked jobs.now)) }
+    ensures fits { IfSome (request_of J.whom J.asks jobs.now) (λ asked.
+        result ≡ (are_targets asked && jobs_fit J.whom J.asks asked jobs.now)) }
     ensures bound { result ≡ true → length jobs.now ≤ 64 }
 {
     match jobs.split_first() {
@@ -470,11 +521,25 @@ pub fn fit_their_request<J: Errand>(jobs: &[J]) -> bool
 #[inline(always)]
 pub fn job_of<J: Errand>(opened: &mut Vec<Opened<J>>, place: usize, name: u64) -> Option<J>
     requires { place < length opened.old.items }
-    ensures job { IfSome result (λ j. (J.whom j ≡ name) × ((o : OpenedOf J) → slice_get opened.old.items place ≡ Some o → J.number j ≡ o.number)) }
-    ensures some { OnSome result ((o : OpenedOf J) → slice_get opened.old.items place ≡ Some o → among name (names_left J.whom o) ≡ true) }
-    ensures none { IfNone result ((o : OpenedOf J) → slice_get opened.old.items place ≡ Some o → among name (names_left J.whom o) ≡ false) }
-    ensures step { (o : OpenedOf J) → slice_get opened.old.items place ≡ Some o → (after : OpenedOf J) × (current_of after ≡ current_of o) × (opened.new.items ≡ slice_set opened.old.items place after) × (names_left J.whom after ≡ without_first name (names_left J.whom o)) }
-    ensures room { (length opened.new.items ≡ length opened.old.items) × (vec_capacity opened.new ≡ vec_capacity opened.old) }
+    ensures job { IfSome result (λ j.
+        (J.whom j ≡ name)
+        × ((o : OpenedOf J)
+        → slice_get opened.old.items place ≡ Some o
+        → J.number j ≡ o.number)) }
+    ensures some { OnSome result
+        ((o : OpenedOf J)
+        → slice_get opened.old.items place ≡ Some o
+        → among name (names_left J.whom o) ≡ true) }
+    ensures none { IfNone result
+        ((o : OpenedOf J)
+        → slice_get opened.old.items place ≡ Some o
+        → among name (names_left J.whom o) ≡ false) }
+    ensures step { (o : OpenedOf J) → slice_get opened.old.items place ≡ Some o → (after : OpenedOf J)
+        × (current_of after ≡ current_of o)
+        × (opened.new.items ≡ slice_set opened.old.items place after)
+        × (names_left J.whom after ≡ without_first name (names_left J.whom o)) }
+    ensures room { (length opened.new.items ≡ length opened.old.items)
+        × (vec_capacity opened.new ≡ vec_capacity opened.old) }
 {
     job_in(&mut opened[place], name)
 }

@@ -1,7 +1,8 @@
 //! The replies of all operations, in one block, so that an operation needs no memory of its own.
-ghost use Rattle.std.specs.Prelude.{◌≡◌, ◌+◌, ◌<◌, ◌≤◌, ◌⊎◌, ◌++◌, ◌∷◌, [], length, replicate, get_or, slice_set, IfOk, OnOk, IfSome, IfNone, vec_len, vec_capacity};
+ghost use Rattle.std.specs.Prelude.{◌≡◌, ℕ, ◌+◌, ◌<◌, ◌≤◌, ◌⊎◌, ◌++◌, ◌∷◌, [], length, map, drop, replicate, get_or, slice_set, IfOk, OnOk, IfSome, IfNone, vec_len, vec_capacity};
 ghost use Rattle.desk.specs.Replies.{nothing_said};
-ghost use Rattle.desk.specs.Spans.{silent, answered};
+ghost use Rattle.desk.specs.Spans.{silent, answered, earlier};
+ghost use Rattle.desk.specs.declared.replies.Span.{Span as SpanOf};
 
 use std::alloc::{AllocError, Global};
 use std::marker::Model;
@@ -43,6 +44,33 @@ fn fill(all: &mut Vec<(u64, u64)>, places: usize)
     }
 }
 
+// Drops the first of a list, which keeps its memory.
+fn drop_first<T: Copy>(list: &mut Vec<T>, count: usize)
+    requires { count ≤ vec_len list.old }
+    ensures items { list.new.items ≡ drop count list.old.items }
+{
+    let kept = list.len() - count;
+    list.copy_within(count.., 0);
+    list.truncate(kept);
+}
+
+// Spans that begin so much earlier, since as many places before them are dropped.
+fn shift(spans: &mut Vec<Span>, less: usize)
+    requires { (k : ℕ) (s : SpanOf)
+        → k < length spans.old.items
+        → less ≤ (get_or spans.old.items k s).start }
+    ensures { spans.new.items ≡ map (earlier less) spans.old.items }
+{
+    for place in 0..spans.len() {
+        let Span { start, said, room } = spans[place];
+        spans[place] = Span {
+            start: start - less,
+            said,
+            room,
+        };
+    }
+}
+
 impl Replies {
     pub fn new(alloc: Global) -> Replies
         ensures { result.lists ≡ [] }
@@ -57,7 +85,6 @@ impl Replies {
     pub fn len(&self) -> usize
         ensures { result ≡ length self.now.lists }
     {
-        let _ = &self.all;
         self.spans.len()
     }
 
@@ -92,7 +119,9 @@ impl Replies {
     pub fn push(&mut self, place: usize, name: u64, reply: u64)
         requires place { place < length self.old.lists }
         requires room { 0 < (get_or self.old.lists place nothing_said).room }
-        ensures { self.new.lists ≡ slice_set self.old.lists place (answered (name, reply) (get_or self.old.lists place nothing_said)) }
+        ensures { self.new.lists
+            ≡ slice_set self.old.lists place
+            (answered (name, reply) (get_or self.old.lists place nothing_said)) }
     {
         let Span { start, said, room } = self.spans[place];
         self.all[start + said] = (name, reply);
@@ -103,10 +132,27 @@ impl Replies {
         };
     }
 
+    /// Forgets the first operations. Their memory is kept for others.
+    pub fn forget(&mut self, count: usize)
+        requires { count ≤ length self.old.lists }
+        ensures { self.new.lists ≡ drop count self.old.lists }
+    {
+        if count == self.spans.len() {
+            self.all.clear();
+            self.spans.clear();
+            return;
+        }
+        let from = self.spans[count].start;
+        drop_first(&mut self.spans, count);
+        drop_first(&mut self.all, from);
+        shift(&mut self.spans, from);
+    }
+
     /// The names and replies of the operation that stands at a place. Refused only for want of memory.
     pub fn copied(&self, alloc: Global, place: usize) -> Result<Vec<(u64, u64)>, AllocError>
         requires { place < length self.now.lists }
-        ensures { IfOk result (λ list. list.items ≡ (get_or self.now.lists place nothing_said).said) }
+        ensures { IfOk result (λ list.
+            list.items ≡ (get_or self.now.lists place nothing_said).said) }
     {
         let Span {
             start,

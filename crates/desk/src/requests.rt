@@ -32,7 +32,8 @@ impl Model for Requests {
 
     ghost view = { λ r. record { list = requests_of r.asked.items r.names.items; spare = vec_capacity r.asked - vec_len r.asked; noted = drop r.used r.names.items } };
 
-    ghost invariant = { λ r. (r.used ≡ names_taken r.asked.items) × (r.used ≤ length r.names.items) };
+    ghost invariant = { λ r. (r.used ≡ names_taken r.asked.items)
+        × (r.used ≤ length r.names.items) };
 }
 
 impl Noted {
@@ -47,8 +48,11 @@ impl Noted {
 // Puts the names of a request to the end. Refused only for want of memory.
 #[inline(always)]
 fn put(names: &mut Vec<u64>, request: &Request) -> Result<Noted, AllocError>
-    ensures items { names.new.items ≡ names.old.items ++ (if is_ok result then targets_of request.now else []) }
-    ensures noted { IfOk result (λ noted. (request_of noted (targets_of request.now) ≡ request.now) × (noted.count ≡ length (targets_of request.now))) }
+    ensures items { names.new.items
+        ≡ names.old.items ++ (if is_ok result then targets_of request.now else []) }
+    ensures noted { IfOk result (λ noted.
+        (request_of noted (targets_of request.now) ≡ request.now)
+        × (noted.count ≡ length (targets_of request.now))) }
 {
     match request {
         Request::Handshake { targets, ask } => {
@@ -82,7 +86,10 @@ impl Requests {
     pub fn note(&mut self, request: &Request) -> Result<Noted, AllocError>
         ensures list { self.new.list ≡ self.old.list }
         ensures spare { OnOk result (0 < self.new.spare) }
-        ensures noted { IfOk result (λ noted. (request_of noted self.new.noted ≡ request.now) × (noted.count ≡ length (targets_of request.now)) × (noted.count ≤ length self.new.noted)) }
+        ensures noted { IfOk result (λ noted.
+            (request_of noted self.new.noted ≡ request.now)
+            × (noted.count ≡ length (targets_of request.now))
+            × (noted.count ≤ length self.new.noted)) }
     {
         self.names.truncate(self.used);
         self.asked.reserve(1)?;
@@ -97,5 +104,14 @@ impl Requests {
     {
         self.used += noted.count;
         self.asked.push_reserved(noted);
+    }
+
+    /// Drops all requests. Their memory is kept for others.
+    pub fn clear(&mut self)
+        ensures { self.new.list ≡ [] }
+    {
+        self.names.clear();
+        self.asked.clear();
+        self.used = 0;
     }
 }

@@ -240,7 +240,9 @@ pub fn due_after<J>(opened: &[Opened<J>], live: &[Live], name: u64) -> Option<Li
 /// Lists the live threads that are due for one of the requests, in their order, as far as the list has room.
 #[inline(always)]
 pub fn list_due<J>(opened: &[Opened<J>], live: &[Live], list: &mut Vec<Live>)
-    ensures items { list.new.items ≡ list.old.items ++ take (vec_capacity list.old - vec_len list.old) (due_of (map current_of opened.now) live.now) }
+    ensures items { list.new.items
+        ≡ list.old.items ++ take (vec_capacity list.old - vec_len list.old)
+        (due_of (map current_of opened.now) live.now) }
     ensures capacity { vec_capacity list.new ≡ vec_capacity list.old }
 {
     let mut rest = live;

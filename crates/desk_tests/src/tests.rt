@@ -1,5 +1,6 @@
 //! The desk in one thread. A test is a table of calls, and a row of it has a call with its argument, and what the call gives: a name, a
-//! number, a serial, how many there are, or 1 where it gives nothing; and 0 where it is refused.
+//! number, a serial, how many there are, or 1 where it gives nothing; and 0 where it is refused, but `full` where it is since the history is
+//! full.
 //!
 //! Why a call is refused, and what it enters and answers else, its contract says for each state. No clause says that there is memory, nor
 //! what another place's moment and a count are found to be. So a table has each call where it is to succeed, and the limits: as many
@@ -12,7 +13,7 @@ ghost use Rattle.board.specs.Boards.{first_keeper, first_seat};
 ghost use Rattle.poll.specs.Rows.{first_poller};
 ghost use Rattle.frames.specs.ImageView.{IsSettled};
 
-use self::calls::{NO_MEMORY, called};
+use self::calls::{HISTORY_FULL, NO_MEMORY, called};
 use self::made::{first_body, small_board, small_desk, small_row};
 use board::{Board, Keeper, ThreadSeat};
 use bodies::{Body, Name};
@@ -130,12 +131,69 @@ free 1 = 1
 install 0 = 3
 ";
 
-// A history of as many entries as it may have takes no more.
+// A history takes no entry past the most that it may have: one more thread starts and exits, and then none.
 const FULL: &str = "\
-pass 500000 = 1
-start 0 = 0
-install 0 = 0
-census 0 = 0
+pass 499999 = 499999
+census 0 = full
+pass 1 = 500000
+start 0 = full
+install 0 = full
+census 0 = full
+";
+
+// What is closed is forgotten, and not what is open or waits: it is answered and closed as before.
+const FORGOTTEN: &str = "\
+start 0 = 1
+handshake 0 = 1
+handshake 0 = 2
+handshake 0 = 3
+open 0 = 1
+open 0 = 2
+answer 1 = 1
+answer 2 = 1
+close 1 = 1
+forget 0 = 1
+replies 1 = 0
+kept 1 = 0
+replies 2 = 1
+kept 2 = 2
+open 0 = 3
+close 2 = 2
+answer 3 = 1
+forget 0 = 1
+kept 2 = 0
+kept 3 = 2
+close 3 = 3
+handshake 0 = 4
+forget 0 = 1
+kept 3 = 0
+open 0 = 4
+answer 4 = 1
+kept 4 = 2
+close 0 = 4
+forget 0 = 1
+kept 4 = 0
+exit 1 = 1
+start 0 = 2
+";
+
+// A history that is full goes on once it is forgotten: three times as many entries are made as it may have.
+const GOES_ON: &str = "\
+pass 500000 = 500000
+start 0 = full
+install 0 = full
+census 0 = full
+forget 0 = 1
+pass 500000 = 1000000
+start 0 = full
+forget 0 = 1
+pass 500000 = 1500000
+start 0 = full
+forget 0 = 1
+start 0 = 1500001
+install 0 = 1
+census 0 = 1
+open 0 = 1
 ";
 
 // The tables, by name, since what is called with a `Brand` takes no text.
@@ -147,6 +205,8 @@ enum Table {
     Reclaimed,
     Over,
     Full,
+    Forgotten,
+    GoesOn,
 }
 
 impl Table {
@@ -158,6 +218,8 @@ impl Table {
             Table::Reclaimed => RECLAIMED,
             Table::Over => OVER,
             Table::Full => FULL,
+            Table::Forgotten => FORGOTTEN,
+            Table::GoesOn => GOES_ON,
         }
     }
 }
@@ -178,6 +240,9 @@ fn word_at(line: &str, before: usize) -> &str {
 }
 
 fn number_of(word: &str) -> u64 {
+    if word == "full" {
+        return HISTORY_FULL;
+    }
     let mut number: u64 = 0;
     for digit in word.bytes() {
         number = number
@@ -318,5 +383,17 @@ fn a_code_is_installed_over_another(rt: HostRuntime) -> Result<(), Fail> {
 #[test]
 fn a_full_history_takes_no_entry(rt: HostRuntime) -> Result<(), Fail> {
     check(&rt, rt.alloc(), Table::Full)?;
+    Ok(())
+}
+
+#[test]
+fn what_is_forgotten_has_no_replies(rt: HostRuntime) -> Result<(), Fail> {
+    check(&rt, rt.alloc(), Table::Forgotten)?;
+    Ok(())
+}
+
+#[test]
+fn a_full_history_that_is_forgotten_goes_on(rt: HostRuntime) -> Result<(), Fail> {
+    check(&rt, rt.alloc(), Table::GoesOn)?;
     Ok(())
 }

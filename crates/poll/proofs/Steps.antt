@@ -8,11 +8,11 @@ use Rattle.atomic_table.proofs.Lists.{at_set, set_else}
 use Rattle.thread_state.specs.declared.poll_rule.Deed.TheVariants.{Store}
 use Rattle.thread_state.specs.declared.poll_rule.Arming.{Arming}
 use Rattle.thread_state.specs.declared.poll_rule.Watching.{Watching}
-use Rattle.thread_state.specs.PollRule.{PlaceState, IsPlaceKept, IsPollKept, PollStep, loads, stores, exchanges, armed_with, polled, exchanged}
+use Rattle.thread_state.specs.PollRule.{PlaceState, IsPlaceKept, IsPollKept, PollStep, RowStep, loads, stores, exchanges, armed_with, polled, exchanged}
 use Rattle.thread_state.proofs.PollSteps.{found_is, row_step_keeps}
 use Rattle.poll.specs.declared.views.Watch.{Watch}
 use Rattle.poll.specs.declared.views.Watch.TheVariants.{Armer, Poller, Ended}
-use Rattle.poll.specs.Rows.{IsRow, IsSeatedAt, IsMet, IsLive, arming_of, ended_of, watching_of, watching_or, watching_at, cleared_of, word_at, words_of, place_of, Polls, Clears, Arms, IsArmer, IsPoller, stamp_of, IsToldBy, IsTold, IsLatest}
+use Rattle.poll.specs.Rows.{IsRow, IsSeatedAt, IsMet, IsLive, arming_of, ended_of, watching_of, watching_or, watching_at, cleared_of, word_at, words_of, place_of, PollerSteps, Polls, Clears, Arms, IsArmer, IsPoller, stamp_of, IsToldBy, IsTold, IsLatest}
 
 abbrev pub Whole : Type 0
 Whole = State (Unit {0}) Watch
@@ -83,18 +83,52 @@ its_place places s id w t r at = let was : get_elem? s.views (suc w.place) ≡ s
     ap (λ o. place (get_or s.words (word_at w.place) 0) (get_or r.arming.armed w.place 0) (cleared_of r.ended w.place (watching_or w.place o).cleared)) was
     ∙ ap (place (get_or s.words (word_at w.place) 0) (get_or r.arming.armed w.place 0)) (r.live id w t at w.cleared)
 
--- a step of the poller w, after which it knows w'
-poller_steps : (places : ℕ) (s : Whole) (id : ℕ) (c : List (ℕ × Unit {0})) (w w' : Watching) (k k' n : ℕ) (r : IsRow places s) → get_elem? s.views id ≡ some (Poller w k) → stamps s.views < k' → IsToldBy (set s.words (word_at w.place) n) w'.place w'.last → w'.place ≡ w.place → w.place < places
-    → PollStep w.place w'.last (place (get_or s.words (word_at w.place) 0) (get_or r.arming.armed w.place 0) w.cleared) (place n (get_or r.arming.armed w.place 0) w'.cleared)
-    → IsRow places (stepped s (word_at w.place) n id c (Poller w' k') keeps)
-poller_steps places s id c w w' k k' n r at later told same low made =
-    let mine : id ≡ suc w.place = r.seated id (Poller w k) at in
-    let armed : ℕ = get_or r.arming.armed w.place 0 in
-    let here : get_elem? (set s.views id (Poller w' k')) (suc w.place) ≡ some (Poller w' k') = subst (λ j. get_elem? (set s.views id (Poller w' k')) j ≡ some (Poller w' k')) mine (set_found s.views id (Poller w k) (Poller w' k') at) in
-    let word : get_or (set s.words (word_at w.place) n) (word_at w.place) 0 ≡ n = get_or-set_same s.words (word_at w.place) n 0 (subst (λ k. word_at w.place < k) (sym r.words_at) (omega arith)) in
-    let after : place_of (set s.words (word_at w.place) n) r.arming r.ended (set s.views id (Poller w' k')) w.place ≡ place n armed w'.cleared
-    = ap (λ x. place x armed (cleared_of r.ended w.place (watching_at (set s.views id (Poller w' k')) w.place).cleared)) word
-    ∙ (ap (λ o. place n armed (cleared_of r.ended w.place (watching_or w.place o).cleared)) here ∙ ap (place n armed) (r.live id w k at w'.cleared)) in record {
+-- a step of the poller w, which knows w' afterwards and leaves the number n in its word
+module _ (places : ℕ) (s : Whole) (id : ℕ) (w w' : Watching) (k k' n : ℕ) (r : IsRow places s) (at : get_elem? s.views id ≡ some (Poller w k)) (low : w.place < places) where
+  -- the row before and after
+  abbrev old_row : ℕ → PlaceState
+  old_row = place_of s.words r.arming r.ended s.views
+
+  abbrev new_row : ℕ → PlaceState
+  new_row = place_of (set s.words (word_at w.place) n) r.arming r.ended (set s.views id (Poller w' k'))
+
+  -- its place afterwards
+  place_after : new_row w.place ≡ place n (get_or r.arming.armed w.place 0) w'.cleared
+  place_after =
+      let armed : ℕ = get_or r.arming.armed w.place 0 in
+      let mine : id ≡ suc w.place = r.seated id (Poller w k) at in
+      let here : get_elem? (set s.views id (Poller w' k')) (suc w.place) ≡ some (Poller w' k') = subst (λ j. get_elem? (set s.views id (Poller w' k')) j ≡ some (Poller w' k')) mine (set_found s.views id (Poller w k) (Poller w' k') at) in
+      let word : get_or (set s.words (word_at w.place) n) (word_at w.place) 0 ≡ n = get_or-set_same s.words (word_at w.place) n 0 (subst (λ k. word_at w.place < k) (sym r.words_at) (omega arith)) in
+      ap (λ x. place x armed (cleared_of r.ended w.place (watching_at (set s.views id (Poller w' k')) w.place).cleared)) word
+      ∙ (ap (λ o. place n armed (cleared_of r.ended w.place (watching_or w.place o).cleared)) here ∙ ap (place n armed) (r.live id w k at w'.cleared))
+
+  module _ (made : PollStep w.place w'.last (place (get_or s.words (word_at w.place) 0) (get_or r.arming.armed w.place 0) w.cleared) (place n (get_or r.arming.armed w.place 0) w'.cleared)) where
+    steps_row : RowStep places w.place w'.last old_row new_row
+    steps_row = let mine : id ≡ suc w.place = r.seated id (Poller w k) at in record {
+      in_range = low;
+      step = subst (λ t. PollStep w.place w'.last (old_row w.place) t) (sym place_after) (subst (λ t. PollStep w.place w'.last t (place n (get_or r.arming.armed w.place 0) w'.cleared)) (sym (its_place places s id w k r at)) made);
+      others = λ q ne. ap (λ x. place x (get_or r.arming.armed q 0) (cleared_of r.ended q (watching_at (set s.views id (Poller w' k')) q).cleared)) (get_or-set_other s.words (word_at w.place) (word_at q) n 0 (λ e. ne (omega arith)))
+          ∙ ap (λ o. place (get_or s.words (word_at q) 0) (get_or r.arming.armed q 0) (cleared_of r.ended q (watching_or q o).cleared)) (set_else s.views id (suc q) (Poller w' k') (λ e. ne (omega arith)));
+    }
+
+    row_kept : IsPollKept places new_row
+    row_kept = row_step_keeps places w.place w'.last old_row new_row steps_row r.kept
+
+    poller_made : PollerSteps w w'
+    poller_made = record {
+      places = places;
+      before = old_row;
+      after = new_row;
+      kept_before = r.kept;
+      step = steps_row;
+      kept_after = row_kept;
+      cleared_before = ap (λ (t : PlaceState). t.cleared) (its_place places s id w k r at);
+      cleared_after = ap (λ (t : PlaceState). t.cleared) place_after;
+    }
+
+    poller_steps : (c : List (ℕ × Unit {0})) → stamps s.views < k' → IsToldBy (set s.words (word_at w.place) n) w'.place w'.last → w'.place ≡ w.place
+        → IsRow places (stepped s (word_at w.place) n id c (Poller w' k') keeps)
+    poller_steps c later told same = let mine : id ≡ suc w.place = r.seated id (Poller w k) at in record {
       arming = r.arming;
       ended = r.ended;
       stamp = r.stamp;
@@ -104,12 +138,7 @@ poller_steps places s id c w w' k k' n r at later told same low made =
       armed_at = r.armed_at;
       words_at = length-set s.words (word_at w.place) n ∙ r.words_at;
       live = λ j u t e. ⊎_elim (λ h. subst (IsLive r.ended) (sym same ∙ ap (λ v. (watching_of 0 v).place) h.1) (r.live id w k at)) (λ h. r.live j u t h.1) (at_set s.views id j (Poller w' k') (Poller u t) e);
-      kept = row_step_keeps places w.place w'.last (place_of s.words r.arming r.ended s.views) (place_of (set s.words (word_at w.place) n) r.arming r.ended (set s.views id (Poller w' k'))) record {
-        in_range = low;
-        step = subst (λ t. PollStep w.place w'.last (place_of s.words r.arming r.ended s.views w.place) t) (sym after) (subst (λ t. PollStep w.place w'.last t (place n armed w'.cleared)) (sym (its_place places s id w k r at)) made);
-        others = λ q ne. ap (λ x. place x (get_or r.arming.armed q 0) (cleared_of r.ended q (watching_at (set s.views id (Poller w' k')) q).cleared)) (get_or-set_other s.words (word_at w.place) (word_at q) n 0 (λ e. ne (omega arith)))
-            ∙ ap (λ o. place (get_or s.words (word_at q) 0) (get_or r.arming.armed q 0) (cleared_of r.ended q (watching_or q o).cleared)) (set_else s.views id (suc q) (Poller w' k') (λ e. ne (omega arith)));
-      } r.kept;
+      kept = row_kept;
       told = told_after s.views (set s.words (word_at w.place) n) id (Poller w k) (Poller w' k') at later told;
     }
 
@@ -122,12 +151,13 @@ met places s id w k r at low =
 polls_at : (places slots id : ℕ) (me : Me (Unit {0}) Watch) → IsPoller me.0 → (watching_of 0 me.0).place < places
     → Allows (IsRow places) slots id me (word_at (watching_of 0 me.0).place) (λ n. n) (Polls (step slots (word_at (watching_of 0 me.0).place) 0 0 none) me)
 polls_at places slots id me is low s r _ at _ = let w : Watching = watching_of 0 me.0 in let x : ℕ = get_or s.words (word_at w.place) 0 in let k : ℕ = stamp_of me.0 in let at' : get_elem? s.views id ≡ some (Poller w k) = at ∙ ap some is in let below = stamp_by s.views id (Poller w k) at' in
-    let here : word_at w.place < length s.words = subst (λ n. word_at w.place < n) (sym r.words_at) (omega arith) in (
+    let here : word_at w.place < length s.words = subst (λ n. word_at w.place < n) (sym r.words_at) (omega arith) in
+    let made : PollStep w.place (polled w x).last (place x (get_or r.arming.armed w.place 0) w.cleared) (place x (get_or r.arming.armed w.place 0) w.cleared) = loads (place x (get_or r.arming.armed w.place 0) w.cleared) in (
       Poller (polled w x) (suc (stamps s.views)),
       keeps,
       tt,
-      poller_steps places s id me.1 w (polled w x) k (suc (stamps s.views)) x r at' (omega arith) (get_or-set_same s.words (word_at w.place) x 0 here) refl low (loads (place x (get_or r.arming.armed w.place 0) w.cleared)),
-      (refl, omega arith, met places s id w k r at' low),
+      poller_steps places s id w (polled w x) k (suc (stamps s.views)) x r at' low made me.1 (omega arith) (get_or-set_same s.words (word_at w.place) x 0 here) refl,
+      (refl, omega arith, met places s id w k r at' low, poller_made places s id w (polled w x) k (suc (stamps s.views)) x r at' low made),
     )
 
 pub polls : (places slots id i : ℕ) (me : Me (Unit {0}) Watch) → IsPoller me.0 → i ≡ word_at (watching_of 0 me.0).place → i < words_of places
@@ -137,12 +167,13 @@ polls places slots id i me is here low = subst (λ k. Allows (IsRow places) slot
 clears_at : (places slots id n : ℕ) (me : Me (Unit {0}) Watch) → IsPoller me.0 → (watching_of 0 me.0).place < places → n ≢ 0
     → Allows (IsRow places) slots id me (word_at (watching_of 0 me.0).place) (λ x. either (eqb x n) 0 x) (Clears (step slots (word_at (watching_of 0 me.0).place) n 0 none) me)
 clears_at places slots id n me is low some_n s r _ at _ = let w : Watching = watching_of 0 me.0 in let x : ℕ = get_or s.words (word_at w.place) 0 in let k : ℕ = stamp_of me.0 in let at' : get_elem? s.views id ≡ some (Poller w k) = at ∙ ap some is in let below = stamp_by s.views id (Poller w k) at' in
-    let here : word_at w.place < length s.words = subst (λ n. word_at w.place < n) (sym r.words_at) (omega arith) in (
+    let here : word_at w.place < length s.words = subst (λ n. word_at w.place < n) (sym r.words_at) (omega arith) in let y : ℕ = either (eqb x n) 0 x in
+    let made : PollStep w.place (exchanged w n x).last (place x (get_or r.arming.armed w.place 0) w.cleared) (place y (get_or r.arming.armed w.place 0) (exchanged w n x).cleared) = exchanges (place x (get_or r.arming.armed w.place 0) w.cleared) n some_n in (
       Poller (exchanged w n x) (suc (stamps s.views)),
       keeps,
       tt,
-      poller_steps places s id me.1 w (exchanged w n x) k (suc (stamps s.views)) (either (eqb x n) 0 x) r at' (omega arith) (get_or-set_same s.words (word_at w.place) (either (eqb x n) 0 x) 0 here) refl low (exchanges (place x (get_or r.arming.armed w.place 0) w.cleared) n some_n),
-      (refl, omega arith, met places s id w k r at' low),
+      poller_steps places s id w (exchanged w n x) k (suc (stamps s.views)) y r at' low made me.1 (omega arith) (get_or-set_same s.words (word_at w.place) y 0 here) refl,
+      (refl, omega arith, met places s id w k r at' low, poller_made places s id w (exchanged w n x) k (suc (stamps s.views)) y r at' low made),
     )
 
 pub clears : (places slots id i n : ℕ) (me : Me (Unit {0}) Watch) → IsPoller me.0 → i ≡ word_at (watching_of 0 me.0).place → i < words_of places → n ≢ 0
@@ -166,7 +197,14 @@ arms_at places slots id p n me is low later s r _ at _ =
     let there : (q : ℕ) → get_elem? views (suc q) ≡ get_elem? s.views (suc q) = λ q. set_else s.views id (suc q) (Armer b [] k') (λ e. omega arith) in
     let after : place_of (set s.words (word_at p) n) b [] views p ≡ place n n (watching_at s.views p).cleared
     = ap (λ x. place x (get_or b.armed p 0) (watching_at views p).cleared) (get_or-set_same s.words (word_at p) n 0 (subst (λ k. word_at p < k) (sym r.words_at) (omega arith)))
-    ∙ (ap (λ x. place n x (watching_at views p).cleared) (get_or-set_same a.armed p n 0 (subst (λ k. p < k) (sym wide) low)) ∙ ap (λ o. place n n (watching_or p o).cleared) (there p)) in (
+    ∙ (ap (λ x. place n x (watching_at views p).cleared) (get_or-set_same a.armed p n 0 (subst (λ k. p < k) (sym wide) low)) ∙ ap (λ o. place n n (watching_or p o).cleared) (there p)) in
+    let made : RowStep places p (Store p n) (place_of s.words a [] s.views) (place_of (set s.words (word_at p) n) b [] views) = record {
+      in_range = low;
+      step = subst (λ t. PollStep p (Store p n) (place_of s.words a [] s.views p) t) (sym after) (stores (place_of s.words a [] s.views p) n later);
+      others = λ q ne. ap (λ x. place x (get_or b.armed q 0) (watching_at views q).cleared) (get_or-set_other s.words (word_at p) (word_at q) n 0 (λ e. ne (omega arith)))
+          ∙ (ap (λ x. place (get_or s.words (word_at q) 0) x (watching_at views q).cleared) (get_or-set_other a.armed p q n 0 ne) ∙ ap (λ o. place (get_or s.words (word_at q) 0) (get_or a.armed q 0) (watching_or q o).cleared) (there q));
+    } in
+    let kept_after : IsPollKept places (place_of (set s.words (word_at p) n) b [] views) = row_step_keeps places p (Store p n) (place_of s.words a [] s.views) (place_of (set s.words (word_at p) n) b [] views) made kept in (
       Armer b [] k',
       keeps,
       tt,
@@ -180,15 +218,27 @@ arms_at places slots id p n me is low later s r _ at _ =
         armed_at = length-set a.armed p n ∙ wide;
         words_at = length-set s.words (word_at p) n ∙ r.words_at;
         live = λ j u t e c. refl;
-        kept = row_step_keeps places p (Store p n) (place_of s.words a [] s.views) (place_of (set s.words (word_at p) n) b [] views) record {
-          in_range = low;
-          step = subst (λ t. PollStep p (Store p n) (place_of s.words a [] s.views p) t) (sym after) (stores (place_of s.words a [] s.views p) n later);
-          others = λ q ne. ap (λ x. place x (get_or b.armed q 0) (watching_at views q).cleared) (get_or-set_other s.words (word_at p) (word_at q) n 0 (λ e. ne (omega arith)))
-              ∙ (ap (λ x. place (get_or s.words (word_at q) 0) x (watching_at views q).cleared) (get_or-set_other a.armed p q n 0 ne) ∙ ap (λ o. place (get_or s.words (word_at q) 0) (get_or a.armed q 0) (watching_or q o).cleared) (there q));
-        } kept;
+        kept = kept_after;
         told = told_after s.views (set s.words (word_at p) n) id (Armer a [] k) (Armer b [] k') at' (omega arith) (get_or-set_same s.words (word_at p) n 0 (subst (λ m. word_at p < m) (sym r.words_at) (omega arith)));
       },
-      (p, refl, refl, let below = stamp_by s.views id (Armer a [] k) at' in omega arith),
+      (
+        p,
+        refl,
+        refl,
+        (let below = stamp_by s.views id (Armer a [] k) at' in omega arith),
+        record {
+          places = places;
+          count = wide;
+          place = p;
+          before = place_of s.words a [] s.views;
+          after = place_of (set s.words (word_at p) n) b [] views;
+          kept_before = kept;
+          step = made;
+          kept_after = kept_after;
+          armed_before = λ q. refl;
+          armed_after = λ q. refl;
+        },
+      ),
     )
 
 pub arms : (places slots id i p n : ℕ) (me : Me (Unit {0}) Watch) → IsArmer me.0 → i ≡ word_at p → p < places → get_or (arming_of me.0).armed p 0 < n

@@ -11,7 +11,7 @@ use Rattle.thread_state.specs.declared.poll_rule.Arming.{Arming}
 use Rattle.thread_state.specs.declared.poll_rule.Watching.{Watching}
 use Rattle.poll.specs.declared.views.Watch.{Watch}
 use Rattle.poll.specs.declared.views.Watch.TheVariants.{Armer, Poller, Ended}
-use Rattle.thread_state.specs.PollRule.{PlaceState, IsPollKept, first_arming, first_watching, armed_with, polled, exchanged, word_after}
+use Rattle.thread_state.specs.PollRule.{PlaceState, IsPollKept, RowStep, first_arming, first_watching, armed_with, polled, exchanged, word_after}
 
 -- 1. What contracts see
 
@@ -33,6 +33,31 @@ pub record PollerSeen : Type 0 where
 -- What a poller that had cleared a number last may find: 0, or a greater number.
 abbrev pub IsMet : ℕ → ℕ → Type 0
 IsMet cleared found = (found ≡ 0) ⊎ (cleared < found)
+
+-- A poller made one step: there is a row that met the rule and where the poller's place had the number cleared that the poller knew,
+-- and the last step that the poller has led to a row that meets the rule and where the place has that cleared which it knows.
+pub record PollerSteps (old new : Watching) : Type 0 where
+  pub places : ℕ
+  pub before : ℕ → PlaceState
+  pub after : ℕ → PlaceState
+  pub kept_before : IsPollKept places before
+  pub step : RowStep places old.place new.last before after
+  pub kept_after : IsPollKept places after
+  pub cleared_before : (before old.place).cleared ≡ old.cleared
+  pub cleared_after : (after old.place).cleared ≡ new.cleared
+
+-- The same of the armer, of a row with as many places as it knows: each is armed with the number that it knows, before and after.
+pub record ArmerSteps (old new : Arming) : Type 0 where
+  pub places : ℕ
+  pub count : length old.armed ≡ places
+  pub place : ℕ
+  pub before : ℕ → PlaceState
+  pub after : ℕ → PlaceState
+  pub kept_before : IsPollKept places before
+  pub step : RowStep places place new.last before after
+  pub kept_after : IsPollKept places after
+  pub armed_before : (p : ℕ) → (before p).armed ≡ slice_index old.armed p
+  pub armed_after : (p : ℕ) → (after p).armed ≡ slice_index new.armed p
 
 -- The place of a poller at the end of a row, whose places were left with these words.
 abbrev pub place_left : List ℕ → ArmerSeen → PollerSeen → PlaceState
@@ -175,13 +200,16 @@ SeatState = Me (Unit {0}) Watch
 
 abbrev pub Polls : Step (Unit {0}) → SeatState → ℕ → SeatState → Type 0
 Polls st old found new = (new ≡ (Poller (polled (watching_of 0 old.0) found) (stamp_of new.0), old.1)) × (stamp_of old.0 < stamp_of new.0) × IsMet (watching_of 0 old.0).cleared found
+    × PollerSteps (watching_of 0 old.0) (watching_of 0 new.0)
 
 abbrev pub Clears : Step (Unit {0}) → SeatState → ℕ → SeatState → Type 0
 Clears st old found new = (new ≡ (Poller (exchanged (watching_of 0 old.0) st.first found) (stamp_of new.0), old.1)) × (stamp_of old.0 < stamp_of new.0) × IsMet (watching_of 0 old.0).cleared found
+    × PollerSteps (watching_of 0 old.0) (watching_of 0 new.0)
 
 -- A step names a word by its index, so the place is the one whose word it is.
 abbrev pub Arms : Step (Unit {0}) → SeatState → ℕ → SeatState → Type 0
 Arms st old found new = (p : ℕ) × (st.word ≡ word_at p) × (new.0 ≡ Armer (armed_with (arming_of old.0) p st.first) [] (stamp_of new.0)) × (stamp_of old.0 < stamp_of new.0)
+    × ArmerSteps (arming_of old.0) (arming_of new.0)
 
 abbrev pub IsArmer : Watch → Type 0
 IsArmer v = v ≡ Armer (arming_of v) [] (stamp_of v)

@@ -1,7 +1,7 @@
 //! A row of poll words, and the seats that step on them.
 ghost use Rattle.std.specs.Prelude.{◌≡◌, ◌≢◌, ◌⊎◌, ℕ, ◌==◌, ◌<◌, ◌≤◌, ◌^◌, true, [], length, vec_len, slice_index, slice_get, Some, IfOk};
 ghost use Rattle.thread_state.specs.PollRule.{IsPlaceKept, armed_with, polled, exchanged};
-ghost use Rattle.poll.specs.Rows.{RowId, ArmerSeen, PollerSeen, of_armer, of_poller, arming_of, watching_of, word_at, words_of, IsArmer, IsPoller, IsMet, place_left, first_poller, full_armer};
+ghost use Rattle.poll.specs.Rows.{RowId, ArmerSeen, PollerSeen, of_armer, of_poller, arming_of, watching_of, word_at, words_of, IsArmer, IsPoller, IsMet, place_left, first_poller, full_armer, PollerSteps, ArmerSteps};
 
 use crate::law::{ArmPlay, ClearPlay, JoinPoller, PollLaw, PollPlay, SplitPoller};
 use crate::views::Watch;
@@ -124,6 +124,7 @@ impl Poller {
         requires row { self.old.table ≡ row.now }
         ensures row { self.new.table ≡ self.old.table }
         ensures step { self.new.seen ≡ polled self.old.seen result }
+        ensures made { PollerSteps self.old.seen self.new.seen }
         ensures stamp { self.old.stamp < self.new.stamp }
         ensures later { (result ≡ 0) ⊎ (self.old.seen.cleared < result) }
     {
@@ -138,6 +139,7 @@ impl Poller {
         requires number { n ≢ 0 }
         ensures row { self.new.table ≡ self.old.table }
         ensures step { (found : ℕ) × IsMet self.old.seen.cleared found × (self.new.seen ≡ exchanged self.old.seen n found) × (result ≡ (found == n)) }
+        ensures made { PollerSteps self.old.seen self.new.seen }
         ensures stamp { self.old.stamp < self.new.stamp }
         ensures later { result ≡ true → self.old.seen.cleared < n }
     {
@@ -158,6 +160,7 @@ impl Armer {
         requires small { n < 2 ^ 40 }
         ensures row { self.new.table ≡ self.old.table }
         ensures step { self.new.seen ≡ armed_with self.old.seen place n }
+        ensures made { ArmerSteps self.old.seen self.new.seen }
         ensures stamp { self.old.stamp < self.new.stamp }
     {
         row.table

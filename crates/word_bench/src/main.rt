@@ -13,8 +13,9 @@ use board::{Board, Keeper, ThreadSeat, Weighed};
 use frames::CodeId;
 use poll::PollRow;
 use polls::{arms, misses, polls};
+use std::io;
 use std::sync::atomic::{AtomicU64, Ordering};
-use std::time::{Duration, Instant};
+use std::time::Instant;
 
 const MANY: u64 = 20000000;
 
@@ -131,16 +132,17 @@ fn weighs(keeper: &mut Keeper, board: &Board, code: CodeId, turns: u64) -> u64
     clear
 }
 
-/// Prints what a turn took, where times are shown.
+/// Prints what a turn took since the start, where times are shown.
 fn report(
     rt: &HostRuntime,
     shown: bool,
     name: &str,
-    took: Duration,
+    start: io::Result<Instant>,
     turns: u64,
-) -> anyhow::Result<()>
+) -> io::Result<()>
     requires { 1000 ≤ turns }
 {
+    let took = start?.elapsed(rt)?;
     if shown {
         let thousandths = took.as_nanos() / (turns / 1000) as u128;
         println!(rt;
@@ -153,7 +155,7 @@ fn report(
 }
 
 /// A thread's calls, on a board of its own.
-fn time_seat(rt: &HostRuntime, shown: bool, turns: u64) -> anyhow::Result<u64>
+fn time_seat(rt: &HostRuntime, shown: bool, turns: u64) -> io::Result<u64>
     requires { 1000 ≤ turns }
 {
     let code = CodeId { slot: 0, serial: 1 };
@@ -162,102 +164,79 @@ fn time_seat(rt: &HostRuntime, shown: bool, turns: u64) -> anyhow::Result<u64>
     let mut seat = seats.swap_remove(0);
     seat.read_moment(&board);
     seat.end_publication(&board);
-    let start = Instant::now(rt)?;
+    let start = Instant::now(rt);
     let hits = enters(&mut seat, &board, code, turns);
-    report(rt, shown, "enter", start.elapsed(rt)?, turns)?;
-    let start = Instant::now(rt)?;
+    report(rt, shown, "enter", start, turns)?;
+    let start = Instant::now(rt);
     publishes(&mut seat, &board, code, turns);
-    report(
-        rt,
-        shown,
-        "publication of no change, 2 steps",
-        start.elapsed(rt)?,
-        turns,
-    )?;
-    let start = Instant::now(rt)?;
+    report(rt, shown, "publication of no change, 2 steps", start, turns)?;
+    let start = Instant::now(rt);
     changes(&mut seat, &board, code, turns);
-    report(
-        rt,
-        shown,
-        "enter and two publications of one change, 7 steps",
-        start.elapsed(rt)?,
-        turns,
-    )?;
+    let told = "enter and two publications of one change, 7 steps";
+    report(rt, shown, told, start, turns)?;
     Ok(hits)
 }
 
 /// The keeper's calls, on a board of its own whose one place is vacant.
-fn time_keeper(rt: &HostRuntime, shown: bool, turns: u64) -> anyhow::Result<u64>
+fn time_keeper(rt: &HostRuntime, shown: bool, turns: u64) -> io::Result<u64>
     requires { 1000 ≤ turns }
 {
     let code = CodeId { slot: 0, serial: 1 };
-    let (board, mut keeper, seats) = Board::new(rt.alloc(), 1, 4)?;
+    let (board, mut keeper, _seats) = Board::new(rt.alloc(), 1, 4)?;
     keeper.install(&board, code);
     keeper.invalidate(&board, code);
-    let start = Instant::now(rt)?;
+    let start = Instant::now(rt);
     let passed = looks(&mut keeper, &board, code, turns);
-    report(rt, shown, "look", start.elapsed(rt)?, turns)?;
-    let start = Instant::now(rt)?;
+    report(rt, shown, "look", start, turns)?;
+    let start = Instant::now(rt);
     let clear = weighs(&mut keeper, &board, code, turns);
-    report(rt, shown, "weigh", start.elapsed(rt)?, turns)?;
-    drop(seats);
+    report(rt, shown, "weigh", start, turns)?;
     Ok(passed.wrapping_add(clear))
 }
 
 /// The calls on a row of poll words.
-fn time_row(rt: &HostRuntime, shown: bool, turns: u64) -> anyhow::Result<u64>
+fn time_row(rt: &HostRuntime, shown: bool, turns: u64) -> io::Result<u64>
     requires { (1000 ≤ turns) × (turns < 2 ^ 32) }
 {
     let (row, mut armer, mut pollers) = PollRow::new(rt.alloc(), 4)?;
     let mut poller = pollers.swap_remove(0);
-    let start = Instant::now(rt)?;
+    let start = Instant::now(rt);
     let armed = polls(&mut poller, &row, turns);
-    report(rt, shown, "poll", start.elapsed(rt)?, turns)?;
-    let start = Instant::now(rt)?;
+    report(rt, shown, "poll", start, turns)?;
+    let start = Instant::now(rt);
     let cleared = misses(&mut poller, &row, turns);
-    report(
-        rt,
-        shown,
-        "clear of another number",
-        start.elapsed(rt)?,
-        turns,
-    )?;
-    let start = Instant::now(rt)?;
+    report(rt, shown, "clear of another number", start, turns)?;
+    let start = Instant::now(rt);
     let both = arms(&mut armer, &mut poller, &row, turns);
-    report(
-        rt,
-        shown,
-        "arm and clear, 2 steps",
-        start.elapsed(rt)?,
-        turns,
-    )?;
+    report(rt, shown, "arm and clear, 2 steps", start, turns)?;
     Ok(armed.wrapping_add(cleared).wrapping_add(both))
+}
+
+/// Plain words, to compare with.
+fn time_words(rt: &HostRuntime, shown: bool, turns: u64) -> io::Result<u64>
+    requires { 1000 ≤ turns }
+{
+    let word = AtomicU64::new(1);
+    let start = Instant::now(rt);
+    let sum = loads(&word, turns);
+    report(rt, shown, "plain load", start, turns)?;
+    let zero = AtomicU64::new(0);
+    let start = Instant::now(rt);
+    let exchanged = exchanges(&zero, turns);
+    let told = "plain compare-exchange of another number";
+    report(rt, shown, told, start, turns)?;
+    Ok(sum.wrapping_add(exchanged))
 }
 
 fn main(rt: HostRuntime) -> anyhow::Result<()> {
     let shown = std::env::args(&rt)?.count() > 1;
     let turns = if shown { MANY } else { FEW };
-    let word = AtomicU64::new(1);
-    let start = Instant::now(&rt)?;
-    let sum = loads(&word, turns);
-    report(&rt, shown, "plain load", start.elapsed(&rt)?, turns)?;
-    let zero = AtomicU64::new(0);
-    let start = Instant::now(&rt)?;
-    let exchanged = exchanges(&zero, turns);
-    report(
-        &rt,
-        shown,
-        "plain compare-exchange of another number",
-        start.elapsed(&rt)?,
-        turns,
-    )?;
+    let found = time_words(&rt, shown, turns)?;
     let cleared = time_row(&rt, shown, turns)?;
     let hits = time_seat(&rt, shown, turns)?;
     let passed = time_keeper(&rt, shown, turns)?;
     if shown {
-        println!(rt;
-            "{sum} found, {exchanged} exchanged, {cleared} cleared, {hits} in use, {passed} passed or clear"
-        )?;
+        println!(rt; "{found} found, {cleared} cleared, {hits} in use, {passed} passed or clear")?;
     }
     Ok(())
 }

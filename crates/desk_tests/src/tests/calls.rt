@@ -13,6 +13,9 @@ use std::alloc::{AllocError, Global};
 /// What a call answers that was refused for want of memory.
 pub const NO_MEMORY: u64 = u64::MAX;
 
+/// And one that was refused since the history is full.
+pub const HISTORY_FULL: u64 = u64::MAX - 1;
+
 // And one that was refused else.
 const REFUSED: u64 = 0;
 
@@ -45,6 +48,8 @@ pub fn called<N: Name, J: Errand>(
         "open" => open(desk),
         "answer" => answer(desk, body, argument),
         "replies" => replies(desk, argument),
+        "kept" => kept(desk, argument),
+        "forget" => forget(desk),
         "operate" => operate(alloc, desk),
         "close" => close(alloc, desk, argument),
         _ => called_of_code(alloc, board, desk, call, argument),
@@ -81,6 +86,7 @@ fn start<N: Name, J: Errand>(desk: &mut Desk<N, J>) -> u64 {
     match desk.start(true) {
         Ok((name, _, _)) => name,
         Err(StartFault::NoMemory) => NO_MEMORY,
+        Err(StartFault::HistoryFull) => HISTORY_FULL,
         Err(_) => REFUSED,
     }
 }
@@ -89,16 +95,19 @@ fn exit<N: Name, J: Errand>(desk: &mut Desk<N, J>, name: u64) -> u64 {
     done_if(desk.exit(name).is_ok())
 }
 
-// Threads start and exit, one after the other, with the names from 1 to this one.
-fn pass<N: Name, J: Errand>(desk: &mut Desk<N, J>, last: u64) -> u64 {
-    for before in 0..last {
-        let name = before.saturating_add(1);
-        let started = start(desk) == name || start(desk) == name;
-        if !started || exit(desk, name) == REFUSED {
+// So many threads start and exit, one after the other. Answers the name of the last.
+fn pass<N: Name, J: Errand>(desk: &mut Desk<N, J>, count: u64) -> u64 {
+    let mut name = REFUSED;
+    for _ in 0..count {
+        name = start(desk);
+        if name == NO_MEMORY {
+            name = start(desk);
+        }
+        if exit(desk, name) == REFUSED {
             return REFUSED;
         }
     }
-    DONE
+    name
 }
 
 fn live<N: Name, J: Errand>(desk: &Desk<N, J>) -> u64 {
@@ -111,13 +120,15 @@ fn live<N: Name, J: Errand>(desk: &Desk<N, J>) -> u64 {
 fn census<N: Name, J: Errand>(alloc: Global, desk: &mut Desk<N, J>) -> u64 {
     match desk.submit(Request::Census, Vec::new(alloc)) {
         Ok((number, _)) => number,
-        Err(
-            Refused {
-                fault: AskFault::NoMemory,
-                ..
-            },
-        ) => NO_MEMORY,
-        Err(_) => REFUSED,
+        Err(Refused { fault, .. }) => refused_to_ask(fault),
+    }
+}
+
+fn refused_to_ask(fault: AskFault) -> u64 {
+    match fault {
+        AskFault::NoMemory => NO_MEMORY,
+        AskFault::HistoryFull => HISTORY_FULL,
+        _ => REFUSED,
     }
 }
 
@@ -192,6 +203,20 @@ fn replies<N: Name, J: Errand>(desk: &Desk<N, J>, number: u64) -> u64 {
     }
 }
 
+// How many replies there are and one more, where they were not forgotten.
+fn kept<N: Name, J: Errand>(desk: &Desk<N, J>, number: u64) -> u64 {
+    match desk.kept_replies(number) {
+        Ok(Some(replies)) => (replies.len() as u64).saturating_add(1),
+        Ok(None) => REFUSED,
+        Err(_) => NO_MEMORY,
+    }
+}
+
+fn forget<N: Name, J: Errand>(desk: &mut Desk<N, J>) -> u64 {
+    desk.forget();
+    DONE
+}
+
 // The open census is operated over no body.
 fn operate<N: Name, J: Errand>(alloc: Global, desk: &mut Desk<N, J>) -> u64 {
     let none: Vec<Body<N>> = Vec::new(alloc);
@@ -217,6 +242,7 @@ fn install<N: Name, J: Errand>(board: &Board, desk: &mut Desk<N, J>, method: u64
     match desk.install(board, method) {
         Ok((installed, _)) => installed.code.serial,
         Err(CodeFault::NoMemory) => NO_MEMORY,
+        Err(CodeFault::HistoryFull) => HISTORY_FULL,
         Err(_) => REFUSED,
     }
 }
@@ -258,7 +284,7 @@ fn look<N: Name, J: Errand>(board: &Board, desk: &mut Desk<N, J>, serial: u64) -
 fn weigh<N: Name, J: Errand>(board: &Board, desk: &mut Desk<N, J>, serial: u64) -> u64
     requires { board.now ≡ N.board }
 {
-    done_if(matches!(desk.weigh(board, serial), Ok((Weighed::Clear, Some(_)))))
+    done_if(matches!(desk.weigh(board, serial), Ok((Weighed::Clear, _, Some(_)))))
 }
 
 fn free<N: Name, J: Errand>(board: &Board, desk: &mut Desk<N, J>, serial: u64) -> u64

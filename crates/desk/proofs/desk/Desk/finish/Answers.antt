@@ -1,10 +1,10 @@
-use Rattle.std.proofs.Common.{map, ◌<◌, sym, ◌≡◌, ◌∙◌, ap, subst, refl, Some, None, rules, true, false, inl, inr}
+use Rattle.std.proofs.Common.{[], ◌∷◌, map, ◌<◌, ◌-◌, sym, ◌≡◌, ◌∙◌, ap, subst, refl, Some, None, rules, true, false, inl, inr}
 use Rattle.std.specs.Prelude.{◌&&◌, slice_get}
 use Rattle.std.proofs.lemmas.Option.{slice_get_read}
 use Rattle.std.proofs.lemmas.Bool.{and_parts}
 use Rattle.operations.specs.Names.{is_distinct}
 use Rattle.desk.specs.declared.entries.Entry.TheVariants as entry
-use Rattle.desk.specs.Machine.{State, Current, lawful, is_least, is_due, is_live, finished}
+use Rattle.desk.specs.Machine.{State, Current, Stands, lawful, is_least, is_due, is_live, finished}
 use Rattle.desk.specs.Fields.{DeskSeen, current_of, jobs_left, IsIndex, at, Enters}
 use Rattle.desk.specs.declared.entries.Opened.{Opened}
 use Rattle.desk.specs.JobsFit.{asks_it, is_asked_by}
@@ -13,6 +13,8 @@ use Rattle.desk.proofs.OpenLists.{asked_at}
 use Rattle.desk.proofs.JobsLeft.{set_left}
 use Rattle.desk.proofs.Keeping.{finish_keeps, enters_by, finish_is, finish_not, open_room, due_entry, due_once}
 use Rattle.desk.specs.Replies.{of_number, HasLess}
+use Rattle.desk.proofs.RoomKept.{same_room}
+use Rattle.desk.proofs.Pending.{later_stays}
 use Rattle.desk.proofs.RoomSteps.{due_has_room, finish_has_room}
 use Rattle.desk.proofs.desk.Desk.finish.Goals as goal
 
@@ -72,15 +74,17 @@ invariant_of-self g c =
     let made = c.finish_at.ensures.step o here in
     let due : (is_due c.args.done.target (current_of o) && is_live c.args.done.target i.live.items) ≡ true = search rules in
     let least : is_least c.args.done.op c.args.done.target (map (current_of {J = g.row.J.Denot}) i.opened.items) ≡ true = search rules in
-    let both = and_parts (is_due c.args.done.target (current_of o)) (is_live c.args.done.target i.live.items) due in (
-      finish_keeps _ _ i.log.book c.enter_finish.new.self.book i.next_name i.next_number c.args.done.op c.args.done.target c.args.done.reply c.in-Some.place i.live.items i.queue i.opened.items c.finish_at.new.opened.items o made.0 i.codes.table m.0 where_is here made.2 (made.1 ∙ ap (λ t. finished t (current_of o)) c.target-3.ensures) both.0 both.1 least (search rules) c.enter_finish.ensures.reserved,
+    let both = and_parts (is_due c.args.done.target (current_of o)) (is_live c.args.done.target i.live.items) due in
+    let k = finish_keeps _ _ i.log.book c.enter_finish.new.self.book i.next_name i.next_number c.args.done.op c.args.done.target c.args.done.reply c.in-Some.place i.live.items i.queue i.opened.items c.finish_at.new.opened.items o made.0 i.codes.table m.0 where_is here made.2 (made.1 ∙ ap (λ t. finished t (current_of o)) c.target-3.ensures) both.0 both.1 least (search rules) c.enter_finish.ensures.reserved in (
+      k,
       m.1,
       search rules,
       search rules,
       m.4,
       m.5,
-      finish_has_room i.next_number c.args.done.op c.args.done.target c.in-Some.place i.queue i.opened.items c.finish_at.new.opened.items o made.0 i.log.lists c.enter_finish.new.self.lists m.6 where_is here made.2 (made.1 ∙ ap (λ t. finished t (current_of o)) c.target-3.ensures) both.0 c.enter_finish.ensures.count
-          (subst (λ n. HasLess n i.log.lists c.enter_finish.new.self.lists) c.op-3.ensures c.enter_finish.ensures.rooms),
+      same_room (finish_has_room i.next_number c.args.done.op c.args.done.target c.in-Some.place i.queue i.opened.items c.finish_at.new.opened.items o made.0 i.log.lists c.enter_finish.new.self.lists m.6 where_is here made.2 (made.1 ∙ ap (λ t. finished t (current_of o)) c.target-3.ensures) both.0 c.enter_finish.ensures.count
+          (subst (λ n. HasLess (n - i.log.book.gone.operations) i.log.lists c.enter_finish.new.self.lists) c.op-3.ensures c.enter_finish.ensures.rooms)) refl (search rules),
+      later_stays (entry.Finish c.args.done.op c.args.done.target c.args.done.reply ∷ []) m.0 k (search rules) (search rules) m.7,
     )
 
 pub enter_finish-requires-clause-room : goal.enter_finish-requires-clause-room
@@ -90,7 +94,7 @@ enter_finish-requires-clause-room g c =
     let here : slice_get i.opened.items c.in-Some.place ≡ Some o = slice_get_read i.opened.items _ c.in-Some.place o refl where_is.0 c.index-2.ensures in
     let due : (is_due c.args.done.target (current_of o) && is_live c.args.done.target i.live.items) ≡ true = search rules in
     let both = and_parts (is_due c.args.done.target (current_of o)) (is_live c.args.done.target i.live.items) due in
-    subst (λ n. 0 < (of_number n i.log.lists).room) (sym c.op-3.ensures) (due_has_room i.next_number c.args.done.op c.args.done.target c.in-Some.place i.queue i.opened.items o i.log.lists m.6 where_is here both.0)
+    subst (λ n. 0 < (of_number (n - i.log.book.gone.operations) i.log.lists).room) (sym c.op-3.ensures) (due_has_room i.next_number c.args.done.op c.args.done.target c.in-Some.place i.queue i.opened.items o i.log.lists m.6 where_is here both.0)
 
 pub returns-clause-ok : goal.returns-clause-ok
 returns-clause-ok g c =
@@ -100,10 +104,13 @@ returns-clause-ok g c =
     let due : true ≡ (is_due c.args.done.target (current_of o) && is_live c.args.done.target i.live.items) = search rules in
     let least : is_least c.args.done.op c.args.done.target (map (current_of {J = g.row.J.Denot}) i.opened.items) ≡ true = search rules in
     let is : record { book = i.log.book; slots = i.codes.table.slots; methods = i.codes.table.methods; keeper = i.codes.keeper; jobs = map (jobs_left g.J.Errand.whom) i.opened.items } ≡ c.args.self.now = c.self.view_is in
+    let new : DeskSeen = record { book = c.enter_finish.new.self.book; slots = i.codes.table.slots; methods = i.codes.table.methods; keeper = i.codes.keeper; jobs = map (jobs_left g.J.Errand.whom) c.finish_at.new.opened.items } in
+    let entered : Enters c.args.self.now new (entry.Finish c.args.done.op c.args.done.target c.args.done.reply) c.enter_finish.result =
     subst (λ (d : DeskSeen). Enters d (record { book = c.enter_finish.new.self.book; slots = i.codes.table.slots; methods = i.codes.table.methods; keeper = i.codes.keeper; jobs = map (jobs_left g.J.Errand.whom) c.finish_at.new.opened.items }) (entry.Finish c.args.done.op c.args.done.target c.args.done.reply) c.enter_finish.result) is
     (enters_by (record { book = i.log.book; slots = i.codes.table.slots; methods = i.codes.table.methods; keeper = i.codes.keeper; jobs = map (jobs_left g.J.Errand.whom) i.opened.items }) (record { book = c.enter_finish.new.self.book; slots = i.codes.table.slots; methods = i.codes.table.methods; keeper = i.codes.keeper; jobs = map (jobs_left g.J.Errand.whom) c.finish_at.new.opened.items }) _ (entry.Finish c.args.done.op c.args.done.target c.args.done.reply) c.enter_finish.result m.0.state
     (finish_is c.args.done.op c.args.done.target c.args.done.reply i.next_name i.next_number c.in-Some.place i.live.items i.queue i.opened.items o i.codes.table true true where_is here due (sym least))
-    (search rules) (search rules) refl refl)
+    (search rules) (search rules) (search rules) refl refl) in
+    subst (λ (r : Stands). Enters c.args.self.now new (entry.Finish c.args.done.op c.args.done.target c.args.done.reply) r) (sym c.of.ensures.stands) entered
 
 pub returns-clause-jobs : goal.returns-clause-jobs
 returns-clause-jobs g c =

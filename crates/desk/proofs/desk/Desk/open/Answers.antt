@@ -1,8 +1,10 @@
-use Rattle.std.proofs.Common.{◌≡◌, ◌+◌, length, refl, rules, arith}
+use Rattle.std.proofs.Common.{[], ◌∷◌, ◌≡◌, ◌+◌, length, refl, rules, arith}
 use Rattle.std.specs.Prelude.{vec_len}
 use Rattle.desk.proofs.OpenLists.{few_open}
 use Rattle.desk.proofs.Keeping.{open_keeps}
+use Rattle.desk.specs.declared.entries.Entry.TheVariants as entry
 use Rattle.desk.proofs.RoomKept.{same_room}
+use Rattle.desk.proofs.Pending.{later_stays}
 use Rattle.desk.proofs.RoomSteps.{open_has_room}
 use Rattle.desk.proofs.desk.Desk.open.Goals as goal
 
@@ -14,4 +16,4 @@ invariant_of-self-2 g c =
     let few = few_open i.queue i.opened.items (search rules) in
     let old : vec_len i.opened ≡ length i.opened.items = search rules in
     let new : vec_len c.push_reserved.new.self ≡ vec_len i.opened + 1 = search rules in
-    (k.0, k.1, omega arith, search rules, m.4, m.5, same_room r (search rules))
+    (k.0, k.1, omega arith, search rules, m.4, m.5, same_room r (search rules) (search rules), later_stays (entry.Open w.number ∷ []) m.0 k.0 (search rules) (search rules) m.7)

@@ -7,6 +7,7 @@ use Rattle.desk.specs.JobsFit.{has_job, job_taken}
 use Rattle.desk.specs.Replies.{HaveRoom}
 use Rattle.desk.proofs.OpenLists.{open_at, open_is, fit_of, there_at}
 use Rattle.desk.proofs.JobsLeft.{left_at, left_not, taken_at, taken_not, set_same, some_also, some_then, some_has, none_then}
+use Rattle.desk.specs.Pending.{first_waiting, least_open}
 use Rattle.desk.proofs.Keeping.{same_keeps}
 use Rattle.desk.proofs.desk.Desk.take_job.Goals as goal
 
@@ -39,7 +40,8 @@ invariant_of-self g c =
       search rules,
       m.4,
       m.5,
-      subst (λ (cs : List Current). HaveRoom i.next_number (map asked_of i.queue) cs i.log.lists) (sym same) m.6,
+      subst (λ (cs : List Current). HaveRoom i.log.book.gone i.next_number (map asked_of i.queue) cs i.log.lists) (sym same) m.6,
+      subst (λ (cs : List Current). i.log.book.gone.operations < least_open (first_waiting i.next_number (map asked_of i.queue)) cs) (sym same) m.7,
     )
 
 pub returns-clause-some : goal.returns-clause-some

@@ -1,0 +1,47 @@
+//! What is known of a Finish where it is entered.
+ghost use Rattle.std.specs.Prelude.{◌≡◌};
+
+use crate::log::Receipt;
+use bodies::{Body, Name};
+use operations::Ask;
+use std::marker::Model;
+use std::snapshot::Snapshot;
+
+/// That a Finish stands in the history of the desk of N, with what its operation asks and the body on which that was answered, as it was
+/// when the entry was made: before the operation is cleared for it. Only a desk makes one, where it enters the Finish, and it can't be
+/// copied.
+#[derive(Drop)]
+pub struct Finished<N: Name> {
+    receipt: Receipt<N>,
+    ask: Snapshot<Ask>,
+    body: Snapshot<Body<N>>,
+}
+
+impl<N: Name> Model for Finished<N> {
+    ghost use Rattle.desk.specs.Finishing.{FinishSeen};
+
+    ghost Value = { FinishSeen };
+
+    ghost view = { λ f. record { stands = f.receipt; ask = f.ask.value; body = f.body.value } };
+}
+
+impl<N: Name> Finished<N> {
+    #[inline(always)]
+    pub(crate) fn of(receipt: Receipt<N>, ask: Ask, body: &Body<N>) -> Finished<N>
+        ensures stands { result.stands ≡ receipt }
+        ensures seen { (result.ask ≡ ask) × (result.body ≡ body.now) }
+    {
+        Finished {
+            receipt,
+            ask: Snapshot::of(&ask),
+            body: Snapshot::of(body),
+        }
+    }
+
+    /// The receipt of the entry.
+    pub fn receipt(self) -> Receipt<N>
+        ensures { result ≡ self.stands }
+    {
+        self.receipt
+    }
+}

@@ -1,0 +1,62 @@
+//! How names stand to the open requests.
+ghost use Rattle.std.specs.Prelude.{◌≡◌, ◌-◌, ◌<◌, ◌++◌, take, IfSome, vec_len, vec_capacity};
+ghost use Rattle.desk.specs.Fields.{at};
+ghost use Rattle.desk.specs.Targets.{standing, untold, progress, due_of, of_which, next_awaited};
+
+use crate::desk::Desk;
+use crate::entries::{Live, Progress, Standing};
+use crate::targets::{due_after, list_due, of_which, oldest, progress_in, standing_to, untold_in};
+use bodies::Name;
+use operations::job::Errand;
+
+impl<N: Name, J: Errand> Desk<N, J> {
+    /// How a name stands to the open requests: what telling it, or holding its thread, is answered or refused with.
+    pub fn standing(&self, name: u64) -> Standing
+        ensures { result ≡ standing (at self.now) name }
+    {
+        standing_to(
+            self.opened.as_slice(),
+            self.next_name,
+            self.live.as_slice(),
+            name,
+        )
+    }
+
+    /// The number of the oldest open request that is of a live thread and wasn't told to it, where `last` is the last number that it
+    /// was told.
+    #[inline(always)]
+    pub fn untold(&self, name: u64, last: u64) -> Option<u64>
+        ensures value { result ≡ untold (at self.now) name last }
+        ensures later { IfSome result (λ number. last < number) }
+    {
+        untold_in(self.opened.as_slice(), self.next_name, name, last)
+    }
+
+    /// How far a live thread is with the open requests that it was told, where `last` is the last number that it was told.
+    pub fn progress(&self, name: u64, last: u64) -> Progress
+        ensures { result ≡ progress (at self.now) name last }
+    {
+        progress_in(self.opened.as_slice(), self.next_name, name, last)
+    }
+
+    /// Lists the threads that are live, were so at the Open of an open request, or of the oldest, and have no Finish for it, or whose
+    /// census isn't operated: in the order of their names, as far as the list has room.
+    #[inline(always)]
+    pub fn list_due(&self, of_oldest: bool, list: &mut Vec<Live>)
+        ensures items { list.new.items
+            ≡ list.old.items ++ take (vec_capacity list.old - vec_len list.old)
+            (due_of (of_which of_oldest (at self.now).opened) (at self.now).live) }
+        ensures capacity { vec_capacity list.new ≡ vec_capacity list.old }
+    {
+        let opened = of_which(self.opened.as_slice(), of_oldest);
+        list_due(opened, self.live.as_slice(), list);
+    }
+
+    /// The least name above this one, with its place, whose thread is due for the oldest open request.
+    #[inline(always)]
+    pub fn next_awaited(&self, name: u64) -> Option<Live>
+        ensures { result ≡ next_awaited (at self.now) name }
+    {
+        due_after(oldest(self.opened.as_slice()), self.live.as_slice(), name)
+    }
+}

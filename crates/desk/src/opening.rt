@@ -1,0 +1,125 @@
+//! Requests are opened and closed.
+ghost use Rattle.std.specs.Prelude.{◌≡◌, ◌+◌, length, false, Some, None, IfOk, IfErr, OnOk, map};
+ghost use Rattle.desk.specs.Machine.{Current as CurrentOf, steps_of};
+ghost use Rattle.desk.specs.Refusals.{open_refused, close_refused, chosen, holds_target};
+ghost use Rattle.desk.specs.Fields.{at, Enters};
+ghost use Rattle.desk.specs.Targets.{open_kind};
+ghost use Rattle.desk.specs.JobsFit.{left_of, jobs_closed, jobs_opened};
+
+use crate::desk::Desk;
+use crate::entries::{Carried, Entry, Opened};
+use crate::faults::{CloseFault, OpenFault};
+use crate::lists::{holds_target, is_census, may_close, may_open_more, place_chosen, steps_of};
+use crate::log::Receipt;
+use crate::names::Due;
+use bodies::{Body, Name};
+use operations::job::Errand;
+use operations::queue::Waiting;
+use std::collections::VecDeque;
+
+impl<N: Name, J: Errand> Desk<N, J> {
+    /// Opens the oldest request that waits, where with it up to four handshakes are open, or one census alone.
+    pub fn open(&mut self) -> Result<(u64, Receipt<N>), OpenFault>
+        ensures ok { IfOk result (λ r. Enters self.old self.new (Entry.Open r.0) r.1) }
+        ensures reserved { OnOk result
+            ((self.new.book.reserved + 1 ≡ self.old.book.reserved)
+            × (self.new.keeper ≡ self.old.keeper)) }
+        ensures jobs { OnOk result
+            (self.new.jobs ≡ jobs_opened (at self.old).waiting self.old.jobs) }
+        ensures err { IfErr result (λ e. (self.new ≡ self.old) × open_refused (at self.old) e) }
+    {
+        if !may_open_more(&self.queue, self.opened.as_slice()) {
+            return Err(OpenFault::AlreadyOpen);
+        }
+        let Some(first) = self.queue.pop() else {
+            return Err(OpenFault::QueueEmpty);
+        };
+        let Waiting {
+            number,
+            request,
+            load,
+        } = first;
+        let Carried { mut due, jobs } = load;
+        due.keep_live(self.live.as_slice());
+        let left = steps_of(&request);
+        self.opened.push_reserved(Opened {
+            number,
+            request,
+            before: self.next_name,
+            left,
+            due: Due::of(due),
+            operated: false,
+            jobs: VecDeque::from_vec(jobs),
+        });
+        Ok((number, self.log.enter(Entry::Open(number))))
+    }
+
+    /// Closes the open request of the number, or without one the oldest, and gives back its jobs that were not taken. The bodies are
+    /// those that are held.
+    pub fn close(
+        &mut self,
+        number: Option<u64>,
+        held: &[Body<N>],
+    ) -> Result<(u64, Vec<J>, Receipt<N>), CloseFault>
+        ensures ok { IfOk result (λ r. Enters self.old self.new (Entry.Close r.0) r.2) }
+        ensures chosen { IfOk result (λ r.
+            (c : CurrentOf)
+            × (chosen number (at self.old).opened ≡ Some c)
+            × (r.0 ≡ c.number)
+            × (holds_target c.request held.now ≡ false)
+            × (self.new.book.reserved + (1 + c.left) ≡ self.old.book.reserved)) }
+        ensures keeper { OnOk result (self.new.keeper ≡ self.old.keeper) }
+        ensures handed_back { IfOk result (λ r. map J.whom r.1.items ≡ left_of r.0 self.old.jobs) }
+        ensures jobs { IfOk result (λ r. self.new.jobs ≡ jobs_closed r.0 self.old.jobs) }
+        ensures err { IfErr result (λ e.
+            (self.new ≡ self.old) × close_refused (at self.old) number held.now e) }
+    {
+        if self.opened.is_empty() {
+            return Err(CloseFault::NothingOpen);
+        }
+        let Some(place) = place_chosen(self.opened.as_slice(), number) else {
+            return Err(CloseFault::NotOf);
+        };
+        if holds_target(&self.opened[place].request, held) {
+            return Err(CloseFault::Held);
+        }
+        if !may_close(&self.opened[place], self.live.as_slice()) {
+            return Err(CloseFault::NotDone);
+        }
+        let Opened {
+            number,
+            request: _,
+            before: _,
+            left,
+            due,
+            operated: _,
+            jobs,
+        } = self.opened.remove(place);
+        self.spare = due.into_names();
+        self.log.give_back(left);
+        Ok((
+            number,
+            Vec::from(jobs),
+            self.log.enter(Entry::Close(number)),
+        ))
+    }
+
+    /// Whether the oldest open request is a census; None where nothing is open.
+    #[inline(always)]
+    pub fn open_kind(&self) -> Option<bool>
+        ensures { result ≡ open_kind (at self.now) }
+    {
+        if self.opened.is_empty() {
+            return None;
+        }
+        Some(is_census(&self.opened[0].request))
+    }
+
+    /// How many requests are open.
+    #[inline(always)]
+    pub fn open_count(&self) -> usize
+        ensures { result ≡ length (at self.now).opened }
+    {
+        self.opened.len()
+    }
+}

@@ -1,0 +1,88 @@
+//! Threads start and exit, and who is live.
+ghost use Rattle.std.specs.Prelude.{◌≡◌, ℕ, ◌+◌, ◌<◌, true, false, Some, IfOk, IfErr, OnOk, OnErr};
+ghost use Rattle.desk.specs.Machine.{is_taken, names_of, lawful};
+ghost use Rattle.desk.specs.Refusals.{start_refused, MayStart};
+ghost use Rattle.desk.specs.Fields.{at, Enters};
+ghost use Rattle.desk.specs.Targets.{name_at};
+
+use crate::desk::{Desk, LAST};
+use crate::entries::{Entry, Live};
+use crate::faults::{NotLive, StartFault, start_fault};
+use crate::lists::{is_census_open, least_free, leave, lives, make_room, names_of};
+use crate::log::Receipt;
+use crate::targets::name_at;
+use bodies::Name;
+use operations::job::Errand;
+use std::alloc::AllocError;
+
+impl<N: Name, J: Errand> Desk<N, J> {
+    /// Enters the start of the next name in the least place that is free. `has_image` says whether there is memory for its stack.
+    pub fn start(&mut self, has_image: bool) -> Result<(u64, usize, Receipt<N>), StartFault>
+        ensures ok { IfOk result (λ r.
+            Enters self.old self.new (Entry.Start r.0 r.1) r.2
+            × (r.1 < N.board.places)
+            × (0 < r.0)) }
+        ensures accepted { OnOk result (MayStart (at self.old) N.board.places self.old.book) }
+        ensures image { OnOk result (has_image ≡ true) }
+        ensures least { IfOk result (λ r.
+            (k : ℕ) → k < r.1 → is_taken k (at self.old).live ≡ true) }
+        ensures reserved { IfOk result (λ r.
+            (self.new.book.reserved ≡ self.old.book.reserved + 1)
+            × (self.new.keeper ≡ self.old.keeper)) }
+        ensures jobs { self.new.jobs ≡ self.old.jobs }
+        ensures err { IfErr result (λ e.
+            (self.new ≡ self.old) × start_refused (at self.old) N.board.places self.old.book e) }
+    {
+        if is_census_open(self.opened.as_slice()) {
+            return Err(StartFault::SafepointOpen);
+        }
+        let Some(place) = least_free(self.live.as_slice(), self.places) else {
+            return Err(StartFault::PlacesFull);
+        };
+        if self.next_name > LAST {
+            return Err(StartFault::Spent);
+        }
+        if let Err(fault) = self.log.keep(2) {
+            return Err(start_fault(fault));
+        }
+        if !make_room(&mut self.live, has_image) {
+            self.log.give_back(2);
+            return Err(StartFault::NoMemory);
+        }
+        let name = self.next_name;
+        self.live.push_reserved(Live { name, place });
+        self.next_name += 1;
+        Ok((name, place, self.log.enter(Entry::Start(name, place))))
+    }
+
+    /// Enters the exit of a live name.
+    pub fn exit(&mut self, name: u64) -> Result<Receipt<N>, NotLive>
+        ensures ok { IfOk result (λ r. Enters self.old self.new (Entry.Exit name) r) }
+        ensures reserved { OnOk result
+            ((self.new.book.reserved + 1 ≡ self.old.book.reserved)
+            × (self.new.keeper ≡ self.old.keeper)) }
+        ensures jobs { self.new.jobs ≡ self.old.jobs }
+        ensures err { OnErr result
+            ((self.new ≡ self.old) × (lawful (at self.old) (Entry.Exit name) ≡ false)) }
+    {
+        if !lives(self.live.as_slice(), name) {
+            return Err(NotLive);
+        }
+        leave(&mut self.live, name);
+        Ok(self.log.enter(Entry::Exit(name)))
+    }
+
+    /// The live names, in the order in which they started. Refused only for want of memory.
+    pub fn live(&self) -> Result<Vec<u64>, AllocError>
+        ensures { IfOk result (λ names. names.items ≡ names_of (at self.now).live) }
+    {
+        names_of(self.live.as_slice(), self.alloc)
+    }
+
+    /// The name that is live at the place.
+    pub fn name_at(&self, place: usize) -> Option<u64>
+        ensures { result ≡ name_at place (at self.now).live }
+    {
+        name_at(self.live.as_slice(), place)
+    }
+}
