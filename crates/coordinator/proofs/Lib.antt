@@ -1,6 +1,8 @@
+mod Arms
 mod HoldsMore
 mod Published
-mod Attended
 mod Holdings
-mod Closed
+mod OpenNumber
 mod Staying
+mod Asked
+mod Opens

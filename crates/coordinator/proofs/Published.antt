@@ -30,6 +30,14 @@ published_census xs ys list e c = (c.0, λ serial. c.1 serial ∙ sym (each_tota
 pub cleared_census : (op : ℕ) (xs ys : List BodyView) (list : List (ℕ × ℕ)) → AreEach (IsCleared op) xs ys → IsCensus xs list → IsCensus ys list
 cleared_census op xs ys list e c = (c.0, λ serial. c.1 serial ∙ sym (each_total (IsCleared op) serial xs ys (λ a b p. ap (λ (i : ImageView). i.frames) p.2) e))
 
+-- A census of operated bodies is one of the bodies before.
+operated_same : (op : ℕ) (a c : BodyView) → (b : BodyView) × IsPublished a b × IsCleared op b c → c.image.frames ≡ a.image.frames
+operated_same op a c o = ap (λ (i : ImageView). i.frames) o.2.2 ∙ o.1.frames_stay
+
+pub operated_census : (op : ℕ) (xs ys : List BodyView) (list : List (ℕ × ℕ)) → AreEach (λ a c. (b : BodyView) × IsPublished a b × IsCleared op b c) xs ys → IsCensus ys list → IsCensus xs list
+operated_census op xs ys list e c =
+    (c.0, λ serial. c.1 serial ∙ each_total (λ a c. (b : BodyView) × IsPublished a b × IsCleared op b c) serial xs ys (operated_same op) e)
+
 published_has : (name : ℕ) (xs ys : List BodyView) → AreEach IsPublished xs ys → has_body name ys ≡ has_body name xs
 published_has name [] [] e = refl
 published_has name [] (b ∷ bs) e = absurd (let k : false ≡ true = e in cc)

@@ -2,4 +2,5 @@ pub mod Holding
 pub mod Refused
 pub mod Driving
 pub mod Reclaiming
+pub mod Rounds
 pub mod Receipts

@@ -1,7 +1,8 @@
 -- What the calls of a coordinator answer: each refusal where its own test holds, and those before it don't.
-use Rattle.std.specs.Prelude.{◌≡◌, ◌≢◌, ◌⊎◌, ◌<◌, ◌≤◌, ◌++◌, ℕ, Bool, true, false, List, [], ◌∷◌, Option, Some, None, Result, Ok, Err, if◌then◌else◌, slice_get, slice_set, slice_index}
+use Rattle.std.specs.Prelude.{◌≡◌, ◌≢◌, ◌⊎◌, ◌<◌, ◌≤◌, ◌++◌, ℕ, Bool, true, false, List, [], ◌∷◌, Option, Some, None, Result, Ok, Err, if◌then◌else◌, slice_get, slice_set, slice_index, length}
 use Rattle.thread_state.specs.declared.poll_rule.Arming.{Arming}
 use Rattle.thread_state.specs.PollRule.{armed_with}
+use Rattle.frames.specs.ImageView.{ImageView}
 use Rattle.bodies.specs.Bodies.{BodyView}
 use Rattle.desk.specs.declared.entries.Target.{Target}
 use Rattle.desk.specs.declared.entries.Standing.{Standing}
@@ -9,17 +10,16 @@ use Rattle.desk.specs.declared.entries.Standing.TheVariants as stand
 use Rattle.desk.specs.declared.entries.Progress.{Progress}
 use Rattle.desk.specs.declared.entries.Progress.TheVariants as is
 use Rattle.desk.specs.declared.faults.CloseFault.{CloseFault}
-use Rattle.desk.specs.Machine.{State, Current}
+use Rattle.desk.specs.Machine.{State, Current, Stands}
 use Rattle.desk.specs.Targets.{standing, untold, progress, name_at}
-use Rattle.desk.specs.declared.entries.Entry.{Entry}
-use Rattle.desk.specs.declared.entries.Entry.TheVariants as entry
 use Rattle.operations.specs.declared.Ask.{Ask}
-use Rattle.operations.specs.Asks.{reply}
 use Rattle.desk.specs.Refusals.{chosen, holds_target, close_refused, operate_refused, MayOperate}
 use Rattle.coordinator.specs.declared.faults.Told.{Told}
 use Rattle.coordinator.specs.declared.faults.Told.TheVariants as told
 use Rattle.coordinator.specs.declared.faults.TellFault.{TellFault}
 use Rattle.coordinator.specs.declared.faults.TellFault.TheVariants as tell
+use Rattle.coordinator.specs.declared.telling.Found.{Found}
+use Rattle.coordinator.specs.declared.telling.Found.TheVariants as found
 use Rattle.coordinator.specs.declared.faults.HoldFault.{HoldFault}
 use Rattle.coordinator.specs.declared.faults.HoldFault.TheVariants as hold
 use Rattle.coordinator.specs.declared.faults.ServeFault.{ServeFault}
@@ -32,8 +32,8 @@ use Rattle.coordinator.specs.declared.faults.OperateFault.{OperateFault}
 use Rattle.coordinator.specs.declared.faults.OperateFault.TheVariants as operate
 use Rattle.held_threads.specs.Held.{is_held, StandsAt}
 use Rattle.coordinator.specs.Holding.{Holding}
-use Rattle.thread_list.specs.Moves.{IsServed}
-use Rattle.berths.specs.Berths.{Moved, acted, moved}
+use Rattle.held_threads.specs.Serves.{IsServe}
+use Rattle.berths.specs.Berths.{Moved, Went, acted}
 use Rattle.berths.specs.declared.room.BodyAct.TheVariants as body_act
 use Rattle.berths.specs.declared.room.BerthAct.{BerthAct}
 use Rattle.berths.specs.declared.room.BerthAct.TheVariants as berth
@@ -77,6 +77,14 @@ tell_stays s name armer (Ok (told.Told r)) = true ≡ false
 tell_stays s name armer (Ok told.Gone) = standing s name ≡ stand.Gone
 tell_stays s name armer (Err fault) = tell_refused s name armer fault
 
+-- What a look at the desk finds for a name: a request that wasn't told to its thread, whose place there is; a place that there isn't;
+-- or what telling the name comes to.
+abbrev pub IsFound : {N : Type 0} → State → ℕ → Arming → Found N → Type 0
+IsFound s name armer (found.Untold t number)
+    = IsUntold s name armer t number × (t.place < length armer.armed) × (slice_index armer.armed t.place < number)
+IsFound s name armer found.NoPlace = (t : Target) × IsAsked s name t × (length armer.armed ≤ t.place)
+IsFound s name armer (found.Said said) = tell_stays s name armer said
+
 -- Why a thread that stands to the open requests like this, and is so far with what it was told, isn't held.
 abbrev pub hold_fault : Standing → Progress → Option HoldFault
 hold_fault stand.NothingOpen p = Some hold.NothingOpen
@@ -90,6 +98,12 @@ hold_fault (stand.Asked t) (is.Undone number) = None
 abbrev pub IsFaultOf : Holding → ℕ → Option HoldFault → Type 0
 IsFaultOf c place fault = (s : State) × (name : ℕ) × (name_at place s.live ≡ Some name) × (hold_fault (standing s name) (progress s name (slice_index c.armer.armed place)) ≡ fault)
 
+-- The thread of the name is live at the place, was told an open request that it isn't done with, and isn't held.
+abbrev pub MayHold : Holding → ℕ → ℕ → Type 0
+MayHold c place name
+    = (is_held place c.held ≡ false)
+    × ((s : State) × (name_at place s.live ≡ Some name) × (hold_fault (standing s name) (progress s name (slice_index c.armer.armed place)) ≡ None))
+
 abbrev pub hold_refused : Holding → ℕ → ℕ → HoldFault → Type 0
 hold_refused c places place hold.NoSuchPlace = places ≤ place
 hold_refused c places place hold.Vacant = (place < places) × ((s : State) × (name_at place s.live ≡ None))
@@ -98,14 +112,13 @@ hold_refused c places place hold.NotOf = (place < places) × IsFaultOf c place (
 hold_refused c places place hold.NotTold = (place < places) × IsFaultOf c place (Some hold.NotTold)
 hold_refused c places place hold.AlreadyDone = (place < places) × IsFaultOf c place (Some hold.AlreadyDone)
 hold_refused c places place hold.Held = (place < places) × IsFaultOf c place None × (is_held place c.held ≡ true)
-hold_refused c places place hold.NotSafe = (place < places) × IsFaultOf c place None × (is_held place c.held ≡ false)
+hold_refused c places place hold.NotSafe = (place < places) × ((name : ℕ) × MayHold c place name)
 
 -- Why a thread isn't held: a fault that isn't NotSafe, or the receipt that the body of the thread that may be held wasn't in its berth.
 abbrev pub IsUnheld : {N : Type 0} → Holding → ℕ → ℕ → Unheld N → Type 0
 IsUnheld c places place (unheld.Fault fault) = hold_refused c places place fault × (fault ≢ hold.NotSafe)
 IsUnheld c places place (unheld.NotSafe receipt)
-    = (place < places) × (is_held place c.held ≡ false)
-    × ((s : State) × (name : ℕ) × (name_at place s.live ≡ Some name) × (hold_fault (standing s name) (progress s name (slice_index c.armer.armed place)) ≡ None) × (receipt ≡ acted place name berth.Absent))
+    = (place < places) × ((name : ℕ) × MayHold c place name × (receipt ≡ acted place name berth.Absent))
 
 -- Why a place has no held thread: there is no such place, no live thread has it, or its thread isn't held.
 abbrev pub HasNoHeld : ℕ → ℕ → ReleaseFault → Type 0
@@ -113,11 +126,10 @@ HasNoHeld places place release.NoSuchPlace = places ≤ place
 HasNoHeld places place release.Vacant = (place < places) × ((s : State) × (name_at place s.live ≡ None))
 HasNoHeld places place release.NotHeld = (place < places) × ((s : State) × (name : ℕ) × (name_at place s.live ≡ Some name))
 
--- Holding takes the body of the place as it was in its berth, behind those that are held.
+-- Holding takes the body of the place as it was in its berth, by the receipt, behind those that are held.
 abbrev pub Holds : Holding → Holding → ℕ → Moved → Type 0
 Holds old new place receipt
-    = (s : State) × (body : BodyView) × (receipt ≡ moved body body_act.Held) × (name_at place s.live ≡ Some body.name) × (hold_fault (standing s body.name) (progress s body.name (slice_index old.armer.armed place)) ≡ None)
-    × (is_held place old.held ≡ false) × (body.seat.place ≡ place) × (new ≡ record old { held = old.held ++ body ∷ [] })
+    = (name : ℕ) × MayHold old place name × Went place name body_act.Held receipt × (new ≡ record old { held = old.held ++ receipt.body ∷ [] })
 
 -- How far a held thread is with what it was told says why it isn't served.
 abbrev pub serve_fault_at : Progress → Option ServeFault
@@ -148,11 +160,11 @@ abbrev pub serve_refused : Holding → ℕ → ℕ → ServeFault → Type 0
 serve_refused c places place fault
     = ((is_held place c.held ≡ false) × ((why : ReleaseFault) × HasNoHeld places place why × (fault ≡ unserved why))) ⊎ ((index : ℕ) × (body : BodyView) × StandsAt c.held index place body × IsServeFault c index place (Some fault))
 
--- Serving the body at the index runs a job on it and enters what the job answered, by the ask on its frames; the others stay.
-abbrev pub Serves : Holding → Holding → ℕ → Entry → Type 0
-Serves old new index done
-    = (body : BodyView) × (after : BodyView) × (op : ℕ) × (ask : Ask) × (slice_get old.held index ≡ Some body) × IsServed op body after
-    × (new ≡ record old { held = slice_set old.held index after }) × (done ≡ entry.Finish op body.name (reply ask body.image.frames))
+-- Serving the body at the index publishes it, calls a job of its thread on it and enters what that answered by its ask; the others stay.
+abbrev pub Serves : {J : Type 0} → (J → ℕ) → (J → ℕ) → (J → Ask) → (J → ImageView → ℕ → Type 0) → Holding → Holding → ℕ → Stands → Type 0
+Serves number whom asks may_answer old new index done
+    = (body : BodyView) × (after : BodyView) × (job : _) × (slice_get old.held index ≡ Some body)
+    × (new ≡ record old { held = slice_set old.held index after }) × IsServe number whom asks may_answer job body after done
 
 -- Why a census isn't operated: the desk refuses it, or else there was no memory.
 abbrev pub census_refused : State → List BodyView → OperateFault → Type 0

@@ -34,7 +34,8 @@ fn operate_over<N: Name, J: Errand>(
     ensures all { OnOk result (are_all (at desk.old).live bodies.new ≡ true) }
     ensures published { OnOk result (AreEach IsPublished bodies.old bodies.new) }
     ensures counted { IfOk result (λ r. IsCensus bodies.new r.1.items) }
-    ensures refused { IfErr result (λ e. (desk.new ≡ desk.old) × (bodies.new ≡ bodies.old) × census_refused (at desk.old) bodies.old e) }
+    ensures refused { IfErr result (λ e. (desk.new ≡ desk.old) × (bodies.new ≡ bodies.old)
+        × census_refused (at desk.old) bodies.old e) }
 {
     if let Some(fault) = desk.operate_fault(bodies.as_slice()) {
         return Err(OperateFault::Refused(fault));
@@ -60,9 +61,12 @@ impl<'a, N: Name, J: Errand> Coordinator<'a, N, J> {
         ensures operated { IfOk result (λ r. r.2.entry ≡ Entry.Operate r.0) }
         ensures all { OnOk result ((s : DeskState) × MayOperate s self.old.held) }
         ensures counted { IfOk result (λ r. IsCensus self.new.held r.1.items) }
+        ensures before { IfOk result (λ r. IsCensus self.old.held r.1.items) }
         ensures held { IfOk result (λ r. AreEach (IsOperated r.0) self.old.held self.new.held) }
-        ensures others { OnOk result ((self.new.armer ≡ self.old.armer) × (self.new.operated ≡ true)) }
-        ensures refused { IfErr result (λ e. (s : DeskState) × census_refused s self.old.held e × (self.new ≡ self.old)) }
+        ensures others { OnOk result ((self.new.armer ≡ self.old.armer)
+            × (self.new.operated ≡ true)) }
+        ensures refused { IfErr result (λ e. (s : DeskState) × census_refused s self.old.held e
+            × (self.new ≡ self.old)) }
     {
         let (number, list, receipt) = self.enter_operated(rt)?;
         self.operated = true;
@@ -78,8 +82,10 @@ impl<'a, N: Name, J: Errand> Coordinator<'a, N, J> {
         ensures all { OnOk result ((s : DeskState) × MayOperate s self.old.held) }
         ensures counted { IfOk result (λ r. IsCensus self.new.held r.1.items) }
         ensures published { OnOk result (AreEach IsPublished self.old.held self.new.held) }
-        ensures others { (self.new.armer ≡ self.old.armer) × (self.new.operated ≡ self.old.operated) }
-        ensures refused { IfErr result (λ e. (s : DeskState) × census_refused s self.old.held e × (self.new.held ≡ self.old.held)) }
+        ensures others { (self.new.armer ≡ self.old.armer)
+            × (self.new.operated ≡ self.old.operated) }
+        ensures refused { IfErr result (λ e. (s : DeskState) × census_refused s self.old.held e
+            × (self.new.held ≡ self.old.held)) }
     {
         let mut desk = self.shared.desk().lock(rt);
         let board = self.shared.board();

@@ -1,17 +1,19 @@
 //! The coordinator: what it keeps, and how it opens and closes requests.
-ghost use Rattle.std.specs.Prelude.{◌≡◌, false, Some, None, IfOk, IfErr, OnOk};
+ghost use Rattle.std.specs.Prelude.{◌≡◌, false, Some, None, IfOk, IfErr, OnOk, IfSome, IfNone, OnSome};
 ghost use Rattle.poll.specs.Rows.{full_armer};
 ghost use Rattle.desk.specs.declared.entries.Entry.{Entry};
 ghost use Rattle.desk.specs.Machine.{State as DeskState};
 ghost use Rattle.desk.specs.Refusals.{open_refused};
 ghost use Rattle.coordinator.specs.Holding.{held_nothing};
+ghost use Rattle.coordinator.specs.Driving.{WasOldest};
 ghost use Rattle.coordinator.specs.Refused.{MayClose, not_closed};
 
+use crate::closed::Closed;
 use crate::telling::Untold;
-use berths::locked;
 use bodies::Name;
 use desk::{CloseFault, Live, OpenFault, Receipt};
 use held_threads::{Held, Teller};
+use operations::Kind;
 use operations::job::Errand;
 use poll::Armer;
 use std::alloc::Global;
@@ -19,7 +21,8 @@ use std::marker::Model;
 use std::sync::Wait;
 use thread_list::Shared;
 
-/// Works on requests. There is one for what threads share, since it has the one armer.
+/// Works on requests. There is one for what threads share, since it has the one armer. Whoever drops it releases all that it holds before:
+/// a held body that goes with it never comes back, and its thread waits for good.
 ///
 /// Contracts see the bodies that it holds in the order in which it took them, what the armer knows, and whether the open census is
 /// operated. Beside that it has room for two lists, which `drive` fills under the desk's lock and goes through without it.
@@ -45,7 +48,8 @@ impl<'a, N: Name, J: Errand> Model for Coordinator<'a, N, J> {
 
     ghost view = { λ c. record { held = c.bodies; armer = c.armer.seen; operated = c.operated } };
 
-    ghost invariant = { λ c. (c.armer.table ≡ N.poll_row) × (c.places ≡ length c.armer.seen.armed) × (c.places ≡ N.board.places) × (c.places ≤ 64) };
+    ghost invariant = { λ c. (c.armer.table ≡ N.poll_row) × (c.places ≡ length c.armer.seen.armed)
+        × (c.places ≡ N.board.places) × (c.places ≤ 64) };
 }
 
 impl<'a, N: Name, J: Errand> Coordinator<'a, N, J> {
@@ -61,19 +65,17 @@ impl<'a, N: Name, J: Errand> Coordinator<'a, N, J> {
         ensures handed_back { IfErr result (λ a. a ≡ armer) }
     {
         let places = armer.places(shared.row());
-        let Ok(bodies) = Held::new(alloc, places) else {
-            return Err(armer);
-        };
         let Ok(untold) = Vec::with_capacity(alloc, places) else {
             return Err(armer);
         };
         let Ok(due) = Vec::with_capacity(alloc, places) else {
             return Err(armer);
         };
+        let (bodies, teller) = Held::with_teller(alloc, places, armer)?;
         Ok(Coordinator {
             shared,
             alloc,
-            armer: Teller::new(armer),
+            armer: teller,
             places,
             bodies,
             operated: false,
@@ -89,7 +91,6 @@ impl<'a, N: Name, J: Errand> Coordinator<'a, N, J> {
         ensures refused { IfErr result (λ e. (s : DeskState) × open_refused s e) }
         ensures same { self.new ≡ self.old }
     {
-        let _ = &self.bodies;
         let mut desk = self.shared.desk().lock(rt);
         let opened = desk.open()?;
         Ok(opened)
@@ -98,7 +99,8 @@ impl<'a, N: Name, J: Errand> Coordinator<'a, N, J> {
     /// Closes the oldest open request, and drops the jobs of targets that are gone. Answers the number of the operation, with the
     /// receipt of its Close.
     pub fn close<R: Wait>(&mut self, rt: &R) -> Result<(u64, Receipt<N>), CloseFault>
-        ensures closed { IfOk result (λ r. (r.1.entry ≡ Entry.Close r.0) × MayClose self.old None r.0) }
+        ensures closed { IfOk result (λ r. (r.1.entry ≡ Entry.Close r.0)
+            × MayClose self.old None r.0) }
         ensures same { OnOk result (self.new ≡ record self.old { operated = false }) }
         ensures refused { IfErr result (λ e. not_closed self.old None e × (self.new ≡ self.old)) }
     {
@@ -107,9 +109,11 @@ impl<'a, N: Name, J: Errand> Coordinator<'a, N, J> {
 
     /// The same of the open request of the number.
     pub fn close_of<R: Wait>(&mut self, rt: &R, number: u64) -> Result<Receipt<N>, CloseFault>
-        ensures closed { IfOk result (λ r. (r.entry ≡ Entry.Close number) × MayClose self.old (Some number) number) }
+        ensures closed { IfOk result (λ r. (r.entry ≡ Entry.Close number)
+            × MayClose self.old (Some number) number) }
         ensures same { OnOk result (self.new ≡ record self.old { operated = false }) }
-        ensures refused { IfErr result (λ e. not_closed self.old (Some number) e × (self.new ≡ self.old)) }
+        ensures refused { IfErr result (λ e. not_closed self.old (Some number) e
+            × (self.new ≡ self.old)) }
     {
         let (closed, receipt) = self.close_chosen(rt, Some(number))?;
         let _ = closed;
@@ -121,7 +125,8 @@ impl<'a, N: Name, J: Errand> Coordinator<'a, N, J> {
         rt: &R,
         number: Option<u64>,
     ) -> Result<(u64, Receipt<N>), CloseFault>
-        ensures closed { IfOk result (λ r. (r.1.entry ≡ Entry.Close r.0) × MayClose self.old number r.0) }
+        ensures closed { IfOk result (λ r. (r.1.entry ≡ Entry.Close r.0)
+            × MayClose self.old number r.0) }
         ensures same { OnOk result (self.new ≡ record self.old { operated = false }) }
         ensures refused { IfErr result (λ e. not_closed self.old number e × (self.new ≡ self.old)) }
     {
@@ -135,10 +140,11 @@ impl<'a, N: Name, J: Errand> Coordinator<'a, N, J> {
         rt: &R,
         number: Option<u64>,
     ) -> Result<(u64, Receipt<N>), CloseFault>
-        ensures closed { IfOk result (λ r. (r.1.entry ≡ Entry.Close r.0) × MayClose self.now number r.0) }
+        ensures closed { IfOk result (λ r. (r.1.entry ≡ Entry.Close r.0)
+            × MayClose self.now number r.0) }
         ensures refused { IfErr result (not_closed self.now number) }
     {
-        let mut desk = locked(self.shared.desk(), rt);
+        let mut desk = self.shared.desk().lock_in_line(rt);
         let closed = match desk.close(number, self.bodies.as_slice()) {
             Ok(closed) => closed,
             Err(fault) => return Err(fault),
@@ -147,5 +153,32 @@ impl<'a, N: Name, J: Errand> Coordinator<'a, N, J> {
         drop(desk);
         drop(jobs);
         Ok((op, receipt))
+    }
+
+    // Closes the oldest open request where it is of this kind.
+    pub(crate) fn close_kind<R: Wait>(&mut self, rt: &R, kind: Kind) -> Option<Closed<N>>
+        ensures closed { IfSome result (λ c. (c.done.entry ≡ Entry.Close c.number)
+            × WasOldest kind c.number × (c.kind ≡ kind)) }
+        ensures same { OnSome result (self.new ≡ record self.old { operated = false }) }
+        ensures open { IfNone result (self.new ≡ self.old) }
+    {
+        let closed = self.try_close_kind(rt, kind)?;
+        self.operated = false;
+        Some(closed)
+    }
+
+    fn try_close_kind<R: Wait>(&self, rt: &R, kind: Kind) -> Option<Closed<N>>
+        ensures { IfSome result (λ c. (c.done.entry ≡ Entry.Close c.number)
+            × WasOldest kind c.number × (c.kind ≡ kind)) }
+    {
+        let mut desk = self.shared.desk().lock_in_line(rt);
+        let closed = match Closed::close(&mut desk, self.bodies.as_slice(), kind) {
+            Some(closed) => closed,
+            None => return None,
+        };
+        let (closed, jobs) = closed;
+        drop(desk);
+        drop(jobs);
+        Some(closed)
     }
 }

@@ -1,5 +1,8 @@
 //! What the coordinator's calls answer, and why they are refused. The faults of a call are tested in the order in which they stand
 //! here.
+ghost use Rattle.std.specs.Prelude.{◌≡◌};
+ghost use Rattle.coordinator.specs.Driving.{number_of};
+
 use berths::BerthReceipt;
 use bodies::Name;
 use desk::Receipt;
@@ -86,6 +89,18 @@ pub enum OperateFault {
 pub enum Driven {
     Handshake(u64),
     Census(u64, Vec<(u64, u32)>),
+}
+
+impl Driven {
+    /// The number of the operation.
+    pub fn number(&self) -> u64
+        ensures { result ≡ number_of self.now }
+    {
+        match self {
+            Driven::Handshake(number) => *number,
+            Driven::Census(number, _) => *number,
+        }
+    }
 }
 
 /// Why no request was worked on to its Close.

@@ -1,12 +1,15 @@
 //! Working up to four handshakes at once, from their Opens to their Closes.
 ghost use Rattle.std.specs.Prelude.{◌≡◌, [], false, IfErr, OnOk};
+ghost use Rattle.coordinator.specs.Holding.{ArmsOn};
 ghost use Rattle.coordinator.specs.Driving.{drive_refused};
 
+use crate::all_told::AllTold;
 use crate::coordinator::Coordinator;
-use crate::driving::SPINS;
+use crate::driving_handshakes::Passes;
 use crate::faults::DriveFault;
 use bodies::Name;
 use desk::CloseFault;
+use operations::Kind;
 use operations::job::Errand;
 use std::sync::Wait;
 
@@ -18,17 +21,19 @@ impl<'a, N: Name, J: Errand> Coordinator<'a, N, J> {
     pub fn drive_four<R: Wait>(&mut self, rt: &R) -> Result<u32, DriveFault>
         ensures free { OnOk result ((self.new.held ≡ []) × (self.new.operated ≡ false)) }
         ensures refused { IfErr result (drive_refused self.old self.new) }
+        ensures arms { ArmsOn self.old.armer self.new.armer }
     {
-        let Ok(is_census) = self.begin(rt) else {
+        self.open_all(rt);
+        let Some((kind, told)) = self.begin(rt) else {
             return Err(DriveFault::QueueEmpty);
         };
-        if is_census {
-            let _ = self.work_census(rt)?;
-            return Ok(1);
+        match kind {
+            Kind::Census => {
+                let _ = self.drive_census(rt)?;
+                Ok(1)
+            }
+            Kind::Handshake => Ok(self.drive_handshakes(rt, told)),
         }
-        self.open_all(rt);
-        self.tell_all(rt);
-        Ok(self.drive_handshakes(rt))
     }
 
     // Opens what may be opened.
@@ -42,19 +47,21 @@ impl<'a, N: Name, J: Errand> Coordinator<'a, N, J> {
         }
     }
 
-    // Serves the targets, one at a time, until nothing is open: first those that telling listed. Answers how many were closed.
-    fn drive_handshakes<R: Wait>(&mut self, rt: &R) -> u32
-        ensures { (self.new.held ≡ []) × (self.new.operated ≡ false) }
+    // Serves the targets, pass by pass, until nothing is open. Answers how many were closed.
+    fn drive_handshakes<R: Wait>(&mut self, rt: &R, told: AllTold) -> u32
+        ensures free { (self.new.held ≡ []) × (self.new.operated ≡ false) }
+        ensures armer { self.new.armer ≡ self.old.armer }
     {
         self.release_all(rt);
         self.operated = false;
         let mut closed: u32 = 0;
-        let mut spins = self.serve_listed(rt, SPINS, false);
+        let mut passes = Passes::new(told);
+        self.serve_pass(rt, &mut passes);
         for _ in rt.forever() {
             match self.close(rt) {
                 Ok(_) => closed = closed.saturating_add(1),
                 Err(CloseFault::NothingOpen) => return closed,
-                Err(_) => spins = self.serve_all(rt, spins, true),
+                Err(_) => self.serve_pass(rt, &mut passes),
             }
         }
         unreachable!()

@@ -1,16 +1,16 @@
 //! Holding a thread: the coordinator takes its body out of its berth, and brings it back.
 ghost use Rattle.std.specs.Prelude.{◌≡◌, ◌≢◌, ◌<◌, ◌++◌, ◌∷◌, [], false, IfSome, IfNone, IfOk, IfErr};
-ghost use Rattle.berths.specs.Berths.{moved};
+ghost use Rattle.berths.specs.Berths.{Went, acted};
 ghost use Rattle.desk.specs.Targets.{standing, progress, name_at};
 ghost use Rattle.desk.specs.Fields.{at};
 ghost use Rattle.held_threads.specs.Held.{is_held};
 ghost use Rattle.coordinator.specs.Receipts.{Releases};
-ghost use Rattle.coordinator.specs.Refused.{Holds, hold_fault, hold_refused, IsUnheld, HasNoHeld};
+ghost use Rattle.coordinator.specs.Refused.{Holds, hold_fault, hold_refused, IsUnheld, MayHold, HasNoHeld};
 
 use crate::coordinator::Coordinator;
 use crate::faults::{HoldFault, ReleaseFault};
-use berths::{BerthReceipt, BodyAct, BodyReceipt};
-use bodies::{Body, Name};
+use berths::{BerthAct, BerthReceipt, BodyAct, BodyReceipt};
+use bodies::Name;
 use desk::{Desk, Progress, Standing};
 use operations::job::Errand;
 use std::sync::Wait;
@@ -44,7 +44,8 @@ fn fault_at<N: Name, J: Errand>(
     place: usize,
     last: u64,
 ) -> Option<(u64, Option<HoldFault>)>
-    ensures some { IfSome result (λ r. (name_at place (at desk.now).live ≡ Some r.0) × (hold_fault (standing (at desk.now) r.0) (progress (at desk.now) r.0 last) ≡ r.1)) }
+    ensures some { IfSome result (λ r. (name_at place (at desk.now).live ≡ Some r.0)
+        × (hold_fault (standing (at desk.now) r.0) (progress (at desk.now) r.0 last) ≡ r.1)) }
     ensures none { IfNone result (name_at place (at desk.now).live ≡ None) }
 {
     let name = desk.name_at(place)?;
@@ -59,7 +60,8 @@ impl<'a, N: Name, J: Errand> Coordinator<'a, N, J> {
     /// the receipt of that.
     pub fn hold<R: Wait>(&mut self, rt: &R, place: usize) -> Result<BodyReceipt<N>, HoldFault>
         ensures held { IfOk result (Holds self.old self.new place) }
-        ensures refused { IfErr result (λ e. hold_refused self.old N.board.places place e × (self.new ≡ self.old)) }
+        ensures refused { IfErr result (λ e. hold_refused self.old N.board.places place e
+            × (self.new ≡ self.old)) }
     {
         match self.take_safe(rt, place) {
             Ok(taken) => Ok(taken),
@@ -68,43 +70,85 @@ impl<'a, N: Name, J: Errand> Coordinator<'a, N, J> {
         }
     }
 
-    // The same, with the receipt of its berth where the thread isn't safe.
+    // The same, with the receipt of its berth where the thread isn't safe. The berth's lock comes after the desk's: where the thread got
+    // done between the two, its berth tells that nothing is told to it, and the desk is asked again.
     fn take_safe<R: Wait>(&mut self, rt: &R, place: usize) -> Result<BodyReceipt<N>, Unheld<N>>
         ensures held { IfOk result (Holds self.old self.new place) }
-        ensures refused { IfErr result (λ e. IsUnheld self.old N.board.places place e × (self.new ≡ self.old)) }
+        ensures refused { IfErr result (λ e. IsUnheld self.old N.board.places place e
+            × (self.new ≡ self.old)) }
+    {
+        for _ in rt.forever() {
+            if let Some(said) = self.try_take(rt, place) {
+                return said;
+            }
+        }
+        unreachable!()
+    }
+
+    // One try. None where the body is in its berth and nothing is told to its thread.
+    fn try_take<R: Wait>(
+        &mut self,
+        rt: &R,
+        place: usize,
+    ) -> Option<Result<BodyReceipt<N>, Unheld<N>>>
+        ensures held { IfSome result (λ r. IfOk r (Holds self.old self.new place)) }
+        ensures refused { IfSome result (λ r.
+            IfErr r (λ e. IsUnheld self.old N.board.places place e × (self.new ≡ self.old))) }
+        ensures again { IfNone result (self.new ≡ self.old) }
+    {
+        let name = match self.holdable(rt, place) {
+            Ok(name) => name,
+            Err(fault) => return Some(Err(Unheld::Fault(fault))),
+        };
+        match self.hold_here(rt, name, place) {
+            Ok(taken) => Some(Ok(taken)),
+            Err(left) => match left.act() {
+                BerthAct::Absent => Some(Err(Unheld::NotSafe(left))),
+                _ => None,
+            },
+        }
+    }
+
+    // Holds the thread of the name where its body is in its berth and something is told to it; the error is the berth's receipt.
+    #[inline(always)]
+    pub(crate) fn hold_here<R: Wait>(
+        &mut self,
+        rt: &R,
+        name: u64,
+        place: usize,
+    ) -> Result<BodyReceipt<N>, BerthReceipt<N>>
+        requires place { place < N.board.places }
+        requires apart { is_held place self.old.held ≡ false }
+        ensures held { IfOk result (λ r. Went place name BodyAct.Held r
+            × (self.new ≡ record self.old { held = self.old.held ++ r.body ∷ [] })) }
+        ensures left { IfErr result (λ r. (r ≡ acted place name r.act) × (self.new ≡ self.old)) }
+    {
+        self.bodies.hold(rt, self.shared, name, place)
+    }
+
+    // The name of the thread of a place that may be held as far as the desk goes and isn't held, or why there is none.
+    fn holdable<R: Wait>(&self, rt: &R, place: usize) -> Result<u64, HoldFault>
+        ensures may { IfOk result (λ name. (place < N.board.places) × MayHold self.now place name) }
+        ensures refused { IfErr result (λ e. hold_refused self.now N.board.places place e
+            × (e ≢ HoldFault.NotSafe)) }
     {
         if place >= self.places {
-            return Err(Unheld::Fault(HoldFault::NoSuchPlace));
+            return Err(HoldFault::NoSuchPlace);
         }
         let last = self.armer.last(place);
         let desk = self.shared.desk().lock(rt);
         let found = fault_at(&desk, place, last);
         drop(desk);
         let Some((name, fault)) = found else {
-            return Err(Unheld::Fault(HoldFault::Vacant));
+            return Err(HoldFault::Vacant);
         };
         if let Some(fault) = fault {
-            return Err(Unheld::Fault(fault));
+            return Err(fault);
         }
         if self.bodies.has(place) {
-            return Err(Unheld::Fault(HoldFault::Held));
+            return Err(HoldFault::Held);
         }
-        match self.shared.berth(place).take(rt, name, place) {
-            Ok((body, taken)) => Ok(self.keep(body, taken)),
-            Err(absent) => Err(Unheld::NotSafe(absent)),
-        }
-    }
-
-    // A body is held as it was taken out of its berth. Answers the receipt of that.
-    pub(crate) fn keep(&mut self, body: Body<N>, taken: BodyReceipt<N>) -> BodyReceipt<N>
-        requires taken { taken ≡ moved body BodyAct.Held }
-        requires apart { is_held body.seat.place self.old.held ≡ false }
-        requires body { (0 < body.name) × (body.seat.stored ≢ 0) }
-        ensures held { self.new ≡ record self.old { held = self.old.held ++ body ∷ [] } }
-        ensures taken { result ≡ taken }
-    {
-        self.bodies.push(body);
-        taken
+        Ok(name)
     }
 
     // Why a place has no held thread: there is no such place, no live thread has it, or its thread isn't held.
@@ -126,7 +170,8 @@ impl<'a, N: Name, J: Errand> Coordinator<'a, N, J> {
     /// Brings the body of a held thread back into its berth. Answers the receipt that it is there.
     pub fn release<R: Wait>(&mut self, rt: &R, place: usize) -> Result<BodyReceipt<N>, ReleaseFault>
         ensures released { IfOk result (Releases self.old self.new place) }
-        ensures refused { IfErr result (λ e. (is_held place self.old.held ≡ false) × HasNoHeld N.board.places place e × (self.new ≡ self.old)) }
+        ensures refused { IfErr result (λ e. (is_held place self.old.held ≡ false)
+            × HasNoHeld N.board.places place e × (self.new ≡ self.old)) }
     {
         let Some(index) = self.bodies.index_of(place) else {
             return Err(self.unheld(rt, place));

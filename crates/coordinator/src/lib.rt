@@ -3,16 +3,24 @@
 //!
 //! `open`, `tell`, `hold`, `serve`, `operate`, `release`, `close` and `close_of` are a step of a request each; `drive` works one request
 //! from its Open to its Close, and `drive_four` up to four handshakes at once; `reclaim` does all that it takes to free a code.
-//! `docs/STEPS.md` says which lock each call takes. No call holds two locks.
+//! `docs/running/DESIGN.md` says which lock each call takes. No call holds two locks.
 #![tactic(auto)]
 
+mod all_told;
 mod censuses;
+mod closed;
 mod coordinator;
 mod driving;
+mod driving_censuses;
+mod driving_handshakes;
+mod fault_texts;
 mod faults;
 mod four;
 mod holding;
+mod kinds;
+mod looks;
 mod reclaiming;
+mod rounds;
 mod serving;
 mod telling;
 

@@ -1,16 +1,18 @@
 //! Reclaiming a code that isn't entrant.
-ghost use Rattle.std.specs.Prelude.{◌≡◌, ◌<◌, ◌≤◌, [], true, false, length, IfOk, OnOk, IfErr, OnErr, IfSome};
+ghost use Rattle.std.specs.Prelude.{◌≡◌, ◌≢◌, ◌<◌, [], false, None, length, IfOk, OnOk, IfErr, OnErr, IfSome};
+ghost use Rattle.coordinator.specs.Holding.{ArmsOn};
 ghost use Rattle.coordinator.specs.Reclaiming.{IsReclaimed, Frees, not_reclaimed};
-ghost use Rattle.coordinator.specs.Receipts.{IsAskOf};
+ghost use Rattle.coordinator.specs.Rounds.{Shaking, Begins, Shakes, IsClosed};
 ghost use Rattle.desk.specs.Fields.{at};
 ghost use Rattle.desk.specs.JobsFit.{jobs_fit, request_of};
 ghost use Rattle.desk.specs.Refusals.{reclaim_refused};
 
 use crate::coordinator::Coordinator;
 use crate::faults::Reclaimed;
+use crate::rounds::{Begun, Shaken};
 use board::{Board, Weighed};
 use bodies::Name;
-use desk::{Desk, NotReclaimed, Receipt, ReclaimFault};
+use desk::{Desk, NotReclaimed, ReclaimFault};
 use operations::job::Errand;
 use operations::{Request, Targets};
 use std::alloc::{AllocError, Global};
@@ -45,7 +47,8 @@ fn fault_without_memory<N: Name, J: Errand>(
     jobs: &[J],
 ) -> ReclaimFault
     requires jobs { 0 < length jobs.now }
-    ensures { reclaim_refused (at desk.now) serial (request_of J.whom J.asks jobs.now) (λ asked. jobs_fit J.whom J.asks asked jobs.now) desk.now.book desk.now.keeper.moment result }
+    ensures { reclaim_refused (at desk.now) serial (request_of J.whom J.asks jobs.now) (λ asked.
+        jobs_fit J.whom J.asks asked jobs.now) desk.now.book desk.now.keeper.moment result }
 {
     if let Some(fault) = desk.weigh_fault(serial) {
         return ReclaimFault::Code(fault);
@@ -59,8 +62,8 @@ fn fault_without_memory<N: Name, J: Errand>(
     ReclaimFault::Ask(desk.ask_fault(jobs))
 }
 
-// Weighs a code, and where no activation stands frees it. None where it isn't a code that can be weighed.
-fn weigh_and_free<N: Name, J: Errand>(
+/// Weighs a code, and where no activation stands frees it. None where it isn't a code that can be weighed.
+pub(crate) fn weigh_and_free<N: Name, J: Errand>(
     desk: &mut Desk<N, J>,
     board: &Board,
     serial: u64,
@@ -68,7 +71,7 @@ fn weigh_and_free<N: Name, J: Errand>(
     requires board { board.now ≡ N.board }
     ensures { IfSome result (Frees N.board.places serial desk.old desk.new) }
 {
-    let Ok((said, _receipt)) = desk.weigh(board, serial) else {
+    let Ok((said, _weighing, _receipt)) = desk.weigh(board, serial) else {
         return None;
     };
     match said {
@@ -94,68 +97,90 @@ impl<'a, N: Name, J: Errand> Coordinator<'a, N, J> {
         jobs: Vec<J>,
     ) -> Result<Reclaimed<N>, NotReclaimed<J>>
         ensures reclaimed { IfOk result (IsReclaimed N.board.places serial) }
-        ensures shaken { OnOk result (0 < length jobs.items → (self.new.held ≡ []) × (self.new.operated ≡ false)) }
+        ensures behind { OnOk result ((s : Shaking)
+            × Shakes (request_of J.whom J.asks jobs.items) s) }
+        ensures shaken { OnOk result (0 < length jobs.items → (self.new.held ≡ [])
+            × (self.new.operated ≡ false)) }
         ensures alone { OnOk result (length jobs.items ≡ 0 → self.new ≡ self.old) }
-        ensures refused { IfErr result (λ e. not_reclaimed J.whom J.asks serial jobs.items e.fault × (self.new ≡ self.old)) }
+        ensures arms { ArmsOn self.old.armer self.new.armer }
+        ensures refused { IfErr result (λ e. not_reclaimed J.whom J.asks serial jobs.items e.fault
+            × (self.new ≡ self.old)) }
         ensures handed_back { IfErr result (λ e. e.jobs ≡ jobs) }
     {
-        let asks = !jobs.is_empty();
         let request = request_of(self.alloc, jobs.as_slice());
-        let _asked = self.ask(rt, serial, request, jobs)?;
-        self.shake(rt, asks);
-        Ok(self.weigh(rt, serial))
+        let begun = self.ask(rt, serial, request, jobs)?;
+        let shaken = self.shake(rt, begun);
+        let said = self.weigh(rt, serial, &shaken);
+        Ok(shaken.end(said))
     }
 
-    // The first step: the round, and the request waits, where there are jobs. Answers its number, with the receipt of its Ask.
+    // The first step: the round, and the request waits, where there are jobs.
     fn ask<R: Wait>(
         &self,
         rt: &R,
         serial: u64,
         request: Result<Option<Request>, AllocError>,
         jobs: Vec<J>,
-    ) -> Result<Option<(u64, Receipt<N>)>, NotReclaimed<J>>
+    ) -> Result<Begun<N, J>, NotReclaimed<J>>
         requires request { IfOk request (λ r. r ≡ request_of J.whom J.asks jobs.items) }
         requires jobs { OnErr request (0 < length jobs.items) }
-        ensures asked { IfOk result (IsAskOf (request_of J.whom J.asks jobs.items)) }
-        ensures refused { IfErr result (λ e. not_reclaimed J.whom J.asks serial jobs.items e.fault) }
+        ensures begins { IfOk result (Begins (request_of J.whom J.asks jobs.items)) }
+        ensures refused { IfErr result (λ e.
+            not_reclaimed J.whom J.asks serial jobs.items e.fault) }
         ensures handed_back { IfErr result (λ e. e.jobs ≡ jobs) }
     {
-        let _ = &self.bodies;
         let mut desk = self.shared.desk().lock(rt);
         let Ok(request) = request else {
             let fault = fault_without_memory(&desk, serial, jobs.as_slice());
             return Err(NotReclaimed { fault, jobs });
         };
-        let asked = match desk.begin_reclaim(self.shared.board(), serial, request, jobs) {
-            Ok(asked) => asked,
+        let begun = match Begun::begin(&mut desk, self.shared.board(), serial, request, jobs) {
+            Ok(begun) => begun,
             Err(refused) => return Err(refused),
         };
-        Ok(asked)
+        Ok(begun)
     }
 
     // Works the handshake that waits to its Close, where there is one.
-    fn shake<R: Wait>(&mut self, rt: &R, waits: bool)
-        ensures shaken { waits ≡ true → (self.new.held ≡ []) × (self.new.operated ≡ false) }
-        ensures alone { waits ≡ false → self.new ≡ self.old }
+    fn shake<R: Wait>(&mut self, rt: &R, begun: Begun<N, J>) -> Shaken<N, J>
+        ensures begun { result.begun ≡ begun }
+        ensures closed { IsClosed result.begun.asked result.closed }
+        ensures shaken { begun.asked ≢ None → (self.new.held ≡ []) × (self.new.operated ≡ false) }
+        ensures alone { begun.asked ≡ None → self.new ≡ self.old }
+        ensures arms { ArmsOn self.old.armer self.new.armer }
     {
-        if !waits {
-            return;
+        if begun.is_alone() {
+            return begun.alone();
         }
+        self.shake_on(rt, begun)
+    }
+
+    fn shake_on<R: Wait>(&mut self, rt: &R, begun: Begun<N, J>) -> Shaken<N, J>
+        ensures begun { result.begun ≡ begun }
+        ensures closed { IsClosed result.begun.asked result.closed }
+        ensures shaken { (self.new.held ≡ []) × (self.new.operated ≡ false) }
+        ensures arms { ArmsOn self.old.armer self.new.armer }
+    {
+        let mut begun = begun;
         for _ in rt.forever() {
-            if let Ok(_closed) = self.drive(rt) {
-                return;
+            let Ok((driven, receipt)) = self.drive(rt) else {
+                thread::yield_now();
+                continue;
+            };
+            match begun.shaken(driven.number(), receipt) {
+                Ok(shaken) => return shaken,
+                Err(back) => begun = back,
             }
-            thread::yield_now();
         }
         unreachable!()
     }
 
     // Looks at each place and weighs the code, again where it isn't as the first step found it.
-    fn weigh<R: Wait>(&self, rt: &R, serial: u64) -> Reclaimed<N>
+    fn weigh<R: Wait>(&self, rt: &R, serial: u64, shaken: &Shaken<N, J>) -> Reclaimed<N>
         ensures { IsReclaimed N.board.places serial result }
     {
         for _ in rt.forever() {
-            if let Some(said) = self.try_weigh(rt, serial) {
+            if let Some(said) = self.try_weigh(rt, serial, shaken) {
                 return said;
             }
             thread::yield_now();
@@ -163,14 +188,10 @@ impl<'a, N: Name, J: Errand> Coordinator<'a, N, J> {
         unreachable!()
     }
 
-    fn try_weigh<R: Wait>(&self, rt: &R, serial: u64) -> Option<Reclaimed<N>>
+    fn try_weigh<R: Wait>(&self, rt: &R, serial: u64, shaken: &Shaken<N, J>) -> Option<Reclaimed<N>>
         ensures { IfSome result (IsReclaimed N.board.places serial) }
     {
         let mut desk = self.shared.desk().lock(rt);
-        let board = self.shared.board();
-        let Ok(()) = desk.look_at_all(board, serial, self.places) else {
-            return None;
-        };
-        weigh_and_free(&mut desk, board, serial)
+        shaken.weigh(&mut desk, self.shared.board(), serial, self.places)
     }
 }

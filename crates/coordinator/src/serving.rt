@@ -46,7 +46,8 @@ fn serve_fault(said: Standing, progress: Progress) -> Option<ServeFault>
 
 // The same of the name, whose place was armed last with the number.
 fn fault_of<N: Name, J: Errand>(desk: &Desk<N, J>, name: u64, last: u64) -> Option<ServeFault>
-    ensures { result ≡ serve_fault (standing (at desk.now) name) (progress (at desk.now) name last) }
+    ensures { result
+        ≡ serve_fault (standing (at desk.now) name) (progress (at desk.now) name last) }
 {
     serve_fault(desk.standing(name), desk.progress(name, last))
 }
@@ -55,8 +56,11 @@ impl<'a, N: Name, J: Errand> Coordinator<'a, N, J> {
     /// Serves the held thread of a place, which was told an open handshake and isn't done with it: publishes its stack, runs its oldest
     /// job on it, enters what the job answered, and clears the operation. Answers the receipt of the entry.
     pub fn serve<R: Wait>(&mut self, rt: &R, place: usize) -> Result<Receipt<N>, ServeFault>
-        ensures served { IfOk result (λ r. (index : ℕ) × (body : BodyView) × StandsAt self.old.held index place body × IsServeFault self.old index place None × Serves self.old self.new index r.entry) }
-        ensures refused { IfErr result (λ e. serve_refused self.old N.board.places place e × (self.new ≡ self.old)) }
+        ensures served { IfOk result (λ r. (index : ℕ) × (body : BodyView)
+            × StandsAt self.old.held index place body × IsServeFault self.old index place None
+            × Serves J.number J.whom J.asks J.may_answer self.old self.new index r) }
+        ensures refused { IfErr result (λ e. serve_refused self.old N.board.places place e
+            × (self.new ≡ self.old)) }
     {
         let Some(index) = self.bodies.index_of(place) else {
             return Err(unserved(self.unheld(rt, place)));

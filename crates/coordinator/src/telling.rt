@@ -1,45 +1,56 @@
 //! Telling a name: its job, or the mark of a census, goes into the berth of its thread, and the thread's place is armed.
-ghost use Rattle.std.specs.Prelude.{◌≡◌, ◌<◌, ◌^◌, true, false, length, slice_index, IfSome, IfNone, IfOk, IfErr, OnSome};
+ghost use Rattle.std.specs.Prelude.{◌≡◌, ◌<◌, true, false, length, slice_index, IfSome, IfNone, OnSome};
 ghost use Rattle.thread_state.specs.PollRule.{armed_with};
 ghost use Rattle.desk.specs.Fields.{at};
-ghost use Rattle.coordinator.specs.Refused.{IsUntold, tell_said, tell_stays, told_act};
+ghost use Rattle.coordinator.specs.Holding.{ArmsOn};
+ghost use Rattle.coordinator.specs.Refused.{IsFound, tell_said, told_act};
 ghost use Rattle.berths.specs.Berths.{acted};
 
+use crate::all_told::AllTold;
 use crate::coordinator::Coordinator;
 use crate::faults::{TellFault, Told};
+use crate::kinds::open_kind;
 use berths::{BerthReceipt, locked};
 use bodies::Name;
 use desk::{Desk, Live, Standing, Target};
 use held_threads::Teller;
+use operations::Kind;
 use operations::job::Errand;
 use std::sync::Wait;
 use std::thread;
 
-// The oldest open request that is of the name and wasn't told to its thread, with how the name stands to it; or what telling the
-// name comes to without. None where the desk names a place that there isn't.
+/// What a look at the desk finds for a name that is to be told.
+pub enum Found<N: Name> {
+    /// The oldest open request that is of the name and wasn't told to its thread: how the name stands to it, and its number.
+    Untold(Target, u64),
+    /// The desk names a place that there isn't.
+    NoPlace,
+    /// Nothing is to be told, and this is what telling the name comes to.
+    Said(Result<Told<N>, TellFault>),
+}
+
+// What there is to tell the name.
 fn look_up<N: Name, J: Errand>(
     desk: &Desk<N, J>,
     armer: &Teller,
     places: usize,
     name: u64,
-) -> Result<Option<(Target, u64)>, Result<Told<N>, TellFault>>
+) -> Found<N>
     requires places { places ≡ length armer.now.seen.armed }
-    ensures said { IfErr result (tell_stays (at desk.now) name armer.now.seen) }
-    ensures untold { IfOk result (λ o. IfSome o (λ t. IsUntold (at desk.now) name armer.now.seen t.0 t.1)) }
-    ensures bounds { IfOk result (λ o. IfSome o (λ t. (t.0.place < length armer.now.seen.armed) × (slice_index armer.now.seen.armed t.0.place < t.1))) }
+    ensures { IsFound (at desk.now) name armer.now.seen result }
 {
     let target = match desk.standing(name) {
-        Standing::NothingOpen => return Err(Err(TellFault::NothingOpen)),
-        Standing::NotOf => return Err(Err(TellFault::NotOf)),
-        Standing::Gone => return Err(Ok(Told::Gone)),
+        Standing::NothingOpen => return Found::Said(Err(TellFault::NothingOpen)),
+        Standing::NotOf => return Found::Said(Err(TellFault::NotOf)),
+        Standing::Gone => return Found::Said(Ok(Told::Gone)),
         Standing::Asked(target) => target,
     };
     if target.place >= places {
-        return Ok(None);
+        return Found::NoPlace;
     }
     match desk.untold(name, armer.last(target.place)) {
-        Some(number) => Ok(Some((target, number))),
-        None => Err(Err(TellFault::AlreadyTold)),
+        Some(number) => Found::Untold(target, number),
+        None => Found::Said(Err(TellFault::AlreadyTold)),
     }
 }
 
@@ -90,7 +101,7 @@ fn untold_of<N: Name, J: Errand>(
     armer: &Teller,
     places: usize,
     who: Live,
-    is_census: bool,
+    kind: Kind,
 ) -> Option<(Untold<J>, bool)>
     requires places { places ≡ length armer.now.seen.armed }
 {
@@ -99,6 +110,7 @@ fn untold_of<N: Name, J: Errand>(
     }
     let number = desk.untold(who.name, armer.last(who.place))?;
     let has_more = desk.open_count() > 1 && desk.untold(who.name, number).is_some();
+    let is_census = kind == Kind::Census;
     let target = Target {
         place: who.place,
         is_census,
@@ -125,7 +137,7 @@ fn list_untold<N: Name, J: Errand>(
 ) -> bool
     requires places { places ≡ length armer.now.seen.armed }
 {
-    let Some(is_census) = desk.open_kind() else {
+    let Some(kind) = open_kind(desk) else {
         return false;
     };
     desk.list_due(false, due);
@@ -134,7 +146,7 @@ fn list_untold<N: Name, J: Errand>(
         if list.len() >= list.capacity() {
             return true;
         }
-        if let Some((untold, more)) = untold_of(desk, armer, places, *who, is_census) {
+        if let Some((untold, more)) = untold_of(desk, armer, places, *who, kind) {
             list.push_reserved(untold);
             has_more = has_more || more;
         }
@@ -148,6 +160,7 @@ impl<'a, N: Name, J: Errand> Coordinator<'a, N, J> {
     pub fn tell<R: Wait>(&mut self, rt: &R, name: u64) -> Result<Told<N>, TellFault>
         ensures said { tell_said name self.old.armer self.new.armer result }
         ensures held { (self.new.held ≡ self.old.held) × (self.new.operated ≡ self.old.operated) }
+        ensures arms { ArmsOn self.old.armer self.new.armer }
     {
         self.tell_with(rt, name, None)
     }
@@ -161,6 +174,7 @@ impl<'a, N: Name, J: Errand> Coordinator<'a, N, J> {
     ) -> Result<Told<N>, TellFault>
         ensures said { tell_said name self.old.armer self.new.armer result }
         ensures held { (self.new.held ≡ self.old.held) × (self.new.operated ≡ self.old.operated) }
+        ensures arms { ArmsOn self.old.armer self.new.armer }
     {
         let mut hand = hand;
         for _ in rt.forever() {
@@ -183,12 +197,13 @@ impl<'a, N: Name, J: Errand> Coordinator<'a, N, J> {
         ensures said { IfSome result (λ r. tell_said name self.old.armer self.new.armer r) }
         ensures again { IfNone result (self.new ≡ self.old) }
         ensures held { (self.new.held ≡ self.old.held) × (self.new.operated ≡ self.old.operated) }
+        ensures arms { ArmsOn self.old.armer self.new.armer }
     {
         let mut desk = self.shared.desk().lock(rt);
         let (target, number) = match look_up(&desk, &self.armer, self.places, name) {
-            Ok(Some(untold)) => untold,
-            Ok(None) => return None,
-            Err(said) => return Some(said),
+            Found::Untold(target, number) => (target, number),
+            Found::NoPlace => return None,
+            Found::Said(said) => return Some(said),
         };
         let job = job_of(&mut desk, number, name, hand.is_none() && !target.is_census);
         drop(desk);
@@ -199,26 +214,20 @@ impl<'a, N: Name, J: Errand> Coordinator<'a, N, J> {
         Some(Ok(Told::Told(receipt)))
     }
 
-    // Tells each target of each open request.
-    pub(crate) fn tell_all<R: Wait>(&mut self, rt: &R)
-        ensures { (self.new.held ≡ self.old.held) × (self.new.operated ≡ self.old.operated) }
-    {
-        let has_more = self.list_untold(rt);
-        self.tell_on(rt, has_more);
-    }
-
     // Tells what was listed, and then lists and tells as long as there is more.
-    pub(crate) fn tell_on<R: Wait>(&mut self, rt: &R, has_more: bool)
-        ensures { (self.new.held ≡ self.old.held) × (self.new.operated ≡ self.old.operated) }
+    pub(crate) fn tell_on<R: Wait>(&mut self, rt: &R, has_more: bool) -> AllTold
+        ensures held { (self.new.held ≡ self.old.held) × (self.new.operated ≡ self.old.operated) }
+        ensures arms { ArmsOn self.old.armer self.new.armer }
     {
         let mut has_more = has_more;
         for _ in rt.forever() {
             self.tell_listed(rt);
-            if !has_more {
-                return;
+            if let Some(told) = AllTold::of(self.untold.as_slice(), has_more) {
+                return told;
             }
             has_more = self.list_untold(rt);
         }
+        unreachable!()
     }
 
     // Lists each thread that is due, and what it is to be told next, under one hold of the desk's lock. Answers whether any is to be told
@@ -247,7 +256,8 @@ impl<'a, N: Name, J: Errand> Coordinator<'a, N, J> {
 
     // Tells each thread of the list, in the order of their names, and empties it.
     fn tell_listed<R: Wait>(&mut self, rt: &R)
-        ensures { (self.new.held ≡ self.old.held) × (self.new.operated ≡ self.old.operated) }
+        ensures held { (self.new.held ≡ self.old.held) × (self.new.operated ≡ self.old.operated) }
+        ensures arms { ArmsOn self.old.armer self.new.armer }
     {
         for at in 0..self.untold.len() {
             if at >= self.untold.len() {
@@ -262,7 +272,8 @@ impl<'a, N: Name, J: Errand> Coordinator<'a, N, J> {
     // Tells a thread what was listed for it. Where its berth bears another name or none, the name is told as by `tell`.
     #[inline(always)]
     fn tell_at<R: Wait>(&mut self, rt: &R, untold: Untold<J>)
-        ensures { (self.new.held ≡ self.old.held) × (self.new.operated ≡ self.old.operated) }
+        ensures held { (self.new.held ≡ self.old.held) × (self.new.operated ≡ self.old.operated) }
+        ensures arms { ArmsOn self.old.armer self.new.armer }
     {
         let Untold {
             name,
@@ -303,10 +314,13 @@ impl<'a, N: Name, J: Errand> Coordinator<'a, N, J> {
     ) -> Option<BerthReceipt<N>>
         requires place { target.place < length self.old.armer.armed }
         requires later { slice_index self.old.armer.armed target.place < number }
-        ensures armed { OnSome result (self.new.armer ≡ armed_with self.old.armer target.place number) }
-        ensures receipt { IfSome result (λ r. r ≡ acted target.place name (told_act target.is_census number)) }
+        ensures armed { OnSome result
+            (self.new.armer ≡ armed_with self.old.armer target.place number) }
+        ensures receipt { IfSome result (λ r.
+            r ≡ acted target.place name (told_act target.is_census number)) }
         ensures refused { IfNone result (self.new.armer ≡ self.old.armer) }
         ensures held { (self.new.held ≡ self.old.held) × (self.new.operated ≡ self.old.operated) }
+        ensures arms { ArmsOn self.old.armer self.new.armer }
     {
         let shared = self.shared;
         let mut room = locked(shared.berth(target.place).room(), rt);

@@ -23,34 +23,30 @@ pub fn started<'a, N: Name, J: Errand, R: Wait>(
 }
 
 /// The names from 1 to this one.
-pub fn names_to(alloc: Global, last: u64) -> Result<Targets, AllocError> {
+pub fn names_to(alloc: Global, last: u64) -> Result<Vec<u64>, AllocError> {
     let mut names = Vec::new(alloc);
     for name in 0..last {
         names.push(name + 1).map_err(|_| AllocError)?;
     }
-    Ok(Targets::from_vec(names))
+    Ok(names)
 }
 
-/// The names 1 and 2.
-pub fn both(alloc: Global) -> Result<Targets, AllocError> {
-    names_to(alloc, 2)
-}
-
-/// A handshake of the names 1 and 2 that asks for their depth waits.
-pub fn ask_both<N: Name, J: Errand, R: Wait>(
+/// A handshake of the names that asks this waits. Answers whether it does.
+pub fn ask<N: Name, J: Errand, R: Wait>(
     rt: &R,
     alloc: Global,
     shared: &Shared<N, J>,
+    names: &[u64],
+    ask: Ask,
     jobs: Vec<J>,
-) -> Result<(), AllocError> {
-    let request = Request::Handshake {
-        targets: both(alloc)?,
-        ask: Ask::Depth,
+) -> bool {
+    let Ok(names) = Vec::from_slice(alloc, names) else {
+        return false;
     };
-    match shared.submit(rt, request, jobs) {
-        Ok(_) => Ok(()),
-        Err(_) => Err(AllocError),
-    }
+    let targets = Targets::from_vec(names);
+    shared
+        .submit(rt, Request::Handshake { targets, ask }, jobs)
+        .is_ok()
 }
 
 /// Whether the replies of an operation are these, in any order.

@@ -7,10 +7,7 @@ use Rattle.frames.specs.ImageView.{ImageView}
 use Rattle.frames.specs.declared.board_rule.SeatView.{SeatView}
 use Rattle.bodies.specs.Bodies.{BodyView, IsPublished}
 use Rattle.thread_list.specs.Moves.{IsCleared, IsOperated}
-use Rattle.berths.specs.Berths.{Moved, Went}
-use Rattle.berths.specs.declared.room.BodyAct.TheVariants.{Released}
 use Rattle.held_threads.specs.Held.{is_held, AreHeld, AreEach, AreAmong}
-use Rattle.held_threads.specs.Brought.{IsBrought}
 
 pub some_is : {A : Type 0} (x y : A) → Some x ≡ Some y → x ≡ y
 some_is x y e = cc
@@ -122,10 +119,3 @@ each_both R S [] (b ∷ ys) zs e f = absurd (let k : false ≡ true = e in cc)
 each_both R S (a ∷ xs) [] zs e f = absurd (let k : false ≡ true = e in cc)
 each_both R S (a ∷ xs) (b ∷ ys) [] e f = absurd (let k : false ≡ true = f in cc)
 each_both R S (a ∷ xs) (b ∷ ys) (c ∷ zs) e f = ((b, e.0, f.0), each_both R S xs ys zs e.1 f.1)
-
--- a body that was operated and then brought back was brought back
-pub brought_after : (op : ℕ) (a b : BodyView) (back : Moved) → IsOperated op a b → IsBrought b back → IsBrought a back
-brought_after op a b back o h =
-    let kept = operated_keeps op a b o in
-    let named = subst (λ n. Went b.seat.place n (Released false) back) kept.0 h.0 in
-    (subst (λ p. Went p a.name (Released false) back) kept.1 named, h.1 ∙ operated_frames op a b o)

@@ -1,2 +1,3 @@
 mod Apart
 pub mod Each
+pub mod ServeLemmas

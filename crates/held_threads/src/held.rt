@@ -1,25 +1,29 @@
 //! The bodies of held threads. They have a module of their own, so that no other code can let one go.
-ghost use Rattle.std.specs.Prelude.{◌≡◌, ◌≢◌, ◌<◌, ◌≤◌, ◌++◌, ◌∷◌, [], ℕ, false, Some, IfOk, IfSome, IfNone, length, vec_capacity, slice_get, slice_set};
+ghost use Rattle.std.specs.Prelude.{◌≡◌, ◌≢◌, ◌⊎◌, ◌<◌, ◌≤◌, ◌++◌, ◌∷◌, [], false, Some, IfOk, IfErr, OnErr, IfSome, IfNone, length, vec_capacity, slice_get, slice_set};
 ghost use Rattle.std.specs.List.{remove};
 ghost use Rattle.bodies.specs.Bodies.{BodyView, IsPublished};
-ghost use Rattle.operations.specs.declared.Ask.{Ask};
-ghost use Rattle.operations.specs.Asks.{reply};
-ghost use Rattle.desk.specs.declared.entries.Entry.{Entry};
-ghost use Rattle.berths.specs.Berths.{moved};
-ghost use Rattle.thread_list.specs.Moves.{IsCleared, IsServed};
+ghost use Rattle.berths.specs.Berths.{moved, acted, Went};
+ghost use Rattle.thread_list.specs.Moves.{IsCleared};
 ghost use Rattle.held_threads.specs.Held.{AreEach, StandsAt, is_held};
+ghost use Rattle.held_threads.specs.Serves.{IsServe};
 
 use crate::serving::{serve_body, told_job};
-use berths::{BodyAct, BodyReceipt};
+use crate::teller::Teller;
+use berths::{BerthAct, BerthReceipt, BodyAct, BodyReceipt, Hand};
 use board::Board;
 use bodies::{Body, Name};
 use desk::Receipt;
 use operations::job::Errand;
-use poll::PollRow;
+use poll::{Armer, PollRow};
 use std::alloc::{AllocError, Global};
 use std::marker::Model;
 use std::sync::Wait;
 use thread_list::Shared;
+
+// The hand of whoever holds threads: only here does a body that came out of its berth become one of those that are held.
+struct HolderHand;
+
+impl Hand for HolderHand {}
 
 /// Bodies of different places, each of which has ended a publication, in the order in which they came. One comes out only to go back into
 /// its berth. Contracts see the bodies.
@@ -40,7 +44,9 @@ impl<N: Name> Model for Held<N> {
 
     ghost view = { λ h. h.bodies.items };
 
-    ghost invariant = { λ h. (h.places ≡ N.board.places) × (h.places ≤ 64) × (h.places ≤ vec_capacity h.bodies) × AreHeld h.places h.bodies.items × AreAmong h.came h.bodies.items };
+    ghost invariant = { λ h. (h.places ≡ N.board.places) × (h.places ≤ 64)
+        × (h.places ≤ vec_capacity h.bodies) × AreHeld h.places h.bodies.items
+        × AreAmong h.came h.bodies.items };
 }
 
 /// A body on its way back into its berth. It isn't `Drop`, so it gets there. Contracts see the body.
@@ -141,8 +147,8 @@ fn clear_all<N: Name>(bodies: &mut Vec<Body<N>>, row: &PollRow, number: u64)
 }
 
 impl<N: Name> Held<N> {
-    /// No body, with room for one of each place.
-    pub fn new(alloc: Global, places: usize) -> Result<Held<N>, AllocError>
+    // No body, with room for one of each place.
+    fn new(alloc: Global, places: usize) -> Result<Held<N>, AllocError>
         requires places { (places ≡ N.board.places) × (places ≤ 64) }
         ensures { IfOk result (λ h. h ≡ []) }
     {
@@ -154,11 +160,28 @@ impl<N: Name> Held<N> {
         })
     }
 
+    /// No body, with room for one of each place, and what arms places, by the one armer: so there is one of each, and none takes the
+    /// place of another. Where memory is refused the armer comes back.
+    pub fn with_teller(
+        alloc: Global,
+        places: usize,
+        armer: Armer,
+    ) -> Result<(Held<N>, Teller), Armer>
+        requires places { (places ≡ N.board.places) × (places ≤ 64) }
+        ensures none { IfOk result (λ r. r.0 ≡ []) }
+        ensures teller { IfOk result (λ r. r.1 ≡ armer) }
+        ensures handed_back { IfErr result (λ a. a ≡ armer) }
+    {
+        match Held::new(alloc, places) {
+            Ok(bodies) => Ok((bodies, Teller::new(armer))),
+            Err(_) => Err(armer),
+        }
+    }
+
     pub fn as_slice(&self) -> &[Body<N>]
         ensures value { result.now ≡ self.now }
         ensures few { length result.now ≤ 64 }
     {
-        let _ = &self.places;
         self.bodies.as_slice()
     }
 
@@ -168,7 +191,6 @@ impl<N: Name> Held<N> {
         ensures bound { IfSome result (λ i. (i < length self.now) × (place < N.board.places)) }
         ensures none { IfNone result (is_held place self.now ≡ false) }
     {
-        let _ = &self.places;
         index_of(self.bodies.as_slice(), place)
     }
 
@@ -182,15 +204,57 @@ impl<N: Name> Held<N> {
         is_held(self.bodies.as_slice(), place)
     }
 
-    /// Another body comes, of a place of which none is here.
-    pub fn push(&mut self, body: Body<N>)
+    // Another body comes, of a place of which none is here.
+    fn push(&mut self, body: Body<N>)
         requires apart { is_held body.seat.place self.old ≡ false }
         requires body { (0 < body.name) × (body.seat.stored ≢ 0) }
         ensures { self.new ≡ self.old ++ body ∷ [] }
     {
+        // That there are few places is known once a field is read, and the shift rests on it.
         let _ = &self.places;
         self.came |= 1 << body.place();
         self.bodies.push_reserved(body);
+    }
+
+    /// The body of the name comes here out of its berth, where it is there and something is told to its thread; the error is the receipt
+    /// that it isn't there, or that nothing is told.
+    #[inline(always)]
+    pub fn hold<J: Errand, R: Wait>(
+        &mut self,
+        rt: &R,
+        shared: &Shared<N, J>,
+        name: u64,
+        place: usize,
+    ) -> Result<BodyReceipt<N>, BerthReceipt<N>>
+        requires place { place < N.board.places }
+        requires apart { is_held place self.old ≡ false }
+        ensures held { IfOk result (λ r. Went place name BodyAct.Held r
+            × (self.new ≡ self.old ++ r.body ∷ [])) }
+        ensures left { IfErr result (λ r. (r ≡ acted place name BerthAct.Absent)
+            ⊎ (r ≡ acted place name BerthAct.NothingTold)) }
+        ensures said { IfErr result (λ r. r ≡ acted place name r.act) }
+        ensures same { OnErr result (self.new ≡ self.old) }
+    {
+        let (outgoing, taken) = shared.berth(place).take(rt, name, place)?;
+        self.push(outgoing.in_hand(&HolderHand));
+        Ok(taken)
+    }
+
+    /// The same, once it is there and something is told to its thread.
+    pub fn hold_soon<J: Errand, R: Wait>(
+        &mut self,
+        rt: &R,
+        shared: &Shared<N, J>,
+        name: u64,
+        place: usize,
+    ) -> BodyReceipt<N>
+        requires place { place < N.board.places }
+        requires apart { is_held place self.old ≡ false }
+        ensures { Went place name BodyAct.Held result × (self.new ≡ self.old ++ result.body ∷ []) }
+    {
+        let (outgoing, taken) = shared.berth(place).hold(rt, name, place);
+        self.push(outgoing.in_hand(&HolderHand));
+        taken
     }
 
     /// The body at the index comes out.
@@ -239,7 +303,9 @@ impl<N: Name> Held<N> {
         index: usize,
     ) -> Receipt<N>
         requires index { index < length self.old }
-        ensures { (body : BodyView) × (after : BodyView) × (op : ℕ) × (ask : Ask) × (slice_get self.old index ≡ Some body) × IsServed op body after × (self.new ≡ slice_set self.old index after) × (result.entry ≡ Entry.Finish op body.name (reply ask body.image.frames)) }
+        ensures { (body : BodyView) × (after : BodyView) × (job : J)
+            × (slice_get self.old index ≡ Some body) × (self.new ≡ slice_set self.old index after)
+            × IsServe J.number J.whom J.asks J.may_answer job body after result }
     {
         let job = told_job(rt, shared, &self.bodies[index]);
         serve_body(rt, shared, &mut self.bodies[index], job)

@@ -4,10 +4,12 @@
 //! Each takes the lock of one berth or of the desk at a time, and none while it holds another.
 #![tactic(auto)]
 
+mod arms;
 mod held;
+mod served;
 mod serving;
 mod teller;
 
 pub use held::{Held, Loose};
-pub use serving::{bring_back, serve_body, told_job};
+pub use served::{Brought, Served};
 pub use teller::Teller;

@@ -14,10 +14,13 @@ use Rattle.bodies.proofs.body.SpareSeat.TheSendSync as spare
 use Rattle.operations.proofs.queue.Queue.TheSendSync as queue
 use Rattle.desk.proofs.entries.Carried.TheSendSync as carried
 use Rattle.desk.proofs.entries.Opened.TheSendSync as opened
-use Rattle.desk.proofs.log.Log.TheSendSync as log
+use Rattle.desk.proofs.replies.Replies.TheSendSync as replies
+use Rattle.desk.proofs.requests.Requests.TheSendSync as requests
 use Rattle.method_table.specs.contracts.history.History as History
 use Rattle.method_table.specs.contracts.table.MethodTable as MethodTable
 use Rattle.desk.specs.contracts.codes.Codes as Codes
+use Rattle.desk.specs.contracts.past.Past as Past
+use Rattle.desk.specs.contracts.log.Log as Log
 use Rattle.desk.specs.contracts.desk.Desk as Desk
 use Rattle.berths.specs.contracts.room.Holder as Holder
 use Rattle.berths.specs.contracts.room.Room as Room
@@ -27,6 +30,9 @@ use Rattle.thread_list.specs.contracts.shared.Shared as Shared
 
 history_send : IsSend History.the_row
 history_send = owning_send History.the_type (search sendable) (λ d. tt) (λ k x w. tt)
+
+past_send : IsSend Past.the_row
+past_send = owning_send Past.the_type (search sendable) (λ d. tt) (λ k x w. tt)
 
 table_send : IsSend MethodTable.the_row
 table_send = search (sendable, crosses, maps.crosses, history_send) depth 40
@@ -38,6 +44,9 @@ module _ (N : RattleType) (n : name.Ghosts N.Denot) (sn : IsSend N) where
   holder_send : IsSend (Holder.the_field N n).row
   holder_send = search (sendable, body.the_send, spare.the_send) depth 20
 
+  log_send : IsSend (Log.the_row N n)
+  log_send = search (sendable, crosses, past_send, replies.the_send, requests.the_send) depth 40
+
   codes_send : IsSend (Codes.the_row N n)
   codes_send = search (sendable, table_send, keeper.the_send) depth 20
 
@@ -46,7 +55,7 @@ module _ (N J : RattleType) (n : name.Ghosts N.Denot) (j : errand.Ghosts J.Denot
   room_send = search (sendable, crosses, holder_send) depth 40
 
   desk_send : IsSend (Desk.the_row N J n j)
-  desk_send = search (sendable, crosses, codes_send, log.the_send, queue.the_send, carried.the_field_send, opened.the_field_send) depth 40
+  desk_send = search (sendable, crosses, codes_send, log_send, queue.the_send, carried.the_field_send, opened.the_field_send) depth 40
 
   berth_sync : IsSync (Berth.the_row N J n j)
   berth_sync = search (sendable, crosses, room_send) depth 40

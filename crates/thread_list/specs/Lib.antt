@@ -1,6 +1,8 @@
+pub mod Forgets
 pub mod Hinted
 pub mod Moves
 pub mod Refused
 pub mod Sized
 pub mod Sharing
 pub mod Standings
+pub mod Texts

@@ -6,13 +6,13 @@ use Rattle.thread_state.specs.PollRule.{polled, exchanged}
 use Rattle.thread_state.specs.declared.Back.{Back}
 use Rattle.thread_state.specs.States.{cross, either, state_of}
 use Rattle.frames.specs.declared.Frame.{Frame}
-use Rattle.frames.specs.ImageView.{HasFrames, IsSettled}
-use Rattle.bodies.specs.Bodies.{BodyView, IsPublished}
-use Rattle.operations.specs.declared.Ask.{Ask}
+use Rattle.frames.specs.ImageView.{ImageView, HasFrames, IsSettled}
+use Rattle.bodies.specs.Bodies.{BodyView, SpareView, IsPublished}
 use Rattle.operations.specs.Asks.{reply}
 use Rattle.desk.specs.declared.entries.Entry.{Entry}
-use Rattle.desk.specs.Machine.{Stands}
+use Rattle.desk.specs.Finishing.{FinishSeen}
 use Rattle.berths.specs.Berths.{Moved, moved, Outed, Went}
+use Rattle.berths.specs.declared.room.ToldJob.{ToldJob}
 use Rattle.berths.specs.declared.room.BodyAct.TheVariants.{Settled, Given, Resumed, Served, Vacated}
 use Rattle.thread_list.specs.declared.polls.Poll.{Poll}
 use Rattle.thread_list.specs.declared.polls.Poll.TheVariants.{Go, Stop}
@@ -55,18 +55,25 @@ abbrev pub IsGiven : ℕ → ℕ → Option BodyView → Moved → Type 0
 IsGiven name place (Some p) crossed = Unit {0}
 IsGiven name place None crossed = Went place name Given crossed
 
+-- The first body of a thread, in the seat that came out of its place, with an empty stack, was published once.
+pub record IsFirst (name : ℕ) (seat : SpareView) (body : BodyView) : Type 0 where
+  pub image : ImageView
+  pub empty : image.frames ≡ []
+  pub published : IsPublished (record { name = name; image = image; seat = seat.seat; poller = seat.poller }) body
+
 -- What a mutator keeps: a body is the thread's own, the thread has it in hand in the states in which it owns itself, its name and its
--- first body, with an empty stack, went into its berth when it started, and a body that it hasn't in hand went there since.
-pub record IsRunning (places name place : ℕ) (state : State) (body : Option BodyView) (settled crossed : Moved) : Type 0 where
+-- first body, with an empty stack and published once, went into its berth when it started, and a body that it hasn't in hand went there since.
+pub record IsRunning (places name place : ℕ) (state : State) (body : Option BodyView) (seat : SpareView) (settled crossed : Moved) : Type 0 where
   pub own : IsOf name place body
   pub there : owns state ≡ true → is_there body ≡ true
   pub named : 0 < name
   pub seated : place < places
   pub settled_there : Went place name Settled settled
   pub settled_empty : settled.body.image.frames ≡ []
+  pub settled_first : IsFirst name seat settled.body
   pub given_there : IsGiven name place body crossed
 
--- The same thread: what no call changes.
+-- It is the same thread: what no call changes.
 abbrev pub SameThread : Running → Running → Type 0
 SameThread old new = (new.name ≡ old.name) × (new.place ≡ old.place) × (new.methods ≡ old.methods)
 
@@ -106,16 +113,19 @@ IsCleared op old new
 abbrev pub IsOperated : ℕ → BodyView → BodyView → Type 0
 IsOperated op old new = (published : BodyView) × IsPublished old published × IsCleared op published new
 
--- The same, where a job was run between.
-abbrev pub IsServed : ℕ → BodyView → BodyView → Type 0
-IsServed op old new = IsOperated op old new
+-- A body was answered for: it was published, what a job of the number answered on it was entered, by its frames and by what the operation
+-- asks, and then the operation was cleared for it.
+pub record IsAnswered (number : ℕ) (old : BodyView) (finish : FinishSeen) (new : BodyView) : Type 0 where
+  pub published : IsPublished old finish.body
+  pub entered : finish.stands.entry ≡ Entry.Finish number old.name (reply finish.ask old.image.frames)
+  pub cleared : IsCleared number finish.body new
 
 -- A turn of a thread that has stopped: its body came out of its berth to serve and was published, and where a job came with it, the
--- entry of what the job answered is by the body's frames, and the operation is cleared for it.
-abbrev pub IsTurn : ℕ → ℕ → Moved → Option Stands → BodyView → Type 0
-IsTurn place name out None after = Went place name (Served 0) out × IsPublished out.body after
-IsTurn place name out (Some r) after
-    = (number : ℕ) × (ask : Ask) × (0 < number) × Went place name (Served number) out × (r.entry ≡ Entry.Finish number name (reply ask out.body.image.frames)) × IsServed number out.body after
+-- body was answered for, by what that job asks.
+abbrev pub IsTurn : ℕ → ℕ → Moved → Option FinishSeen → BodyView → Type 0
+IsTurn place name out None after = Went place name (Served None) out × IsPublished out.body after
+IsTurn place name out (Some finish) after
+    = (job : ToldJob) × (0 < job.number) × Went place name (Served (Some job)) out × (finish.ask ≡ job.ask) × IsAnswered job.number out.body finish after
 
 -- Of a stop's turns the first, which is the last where there was one alone.
 abbrev pub first_of : Option Outed → Outed → Outed
@@ -126,7 +136,7 @@ first_of (Some first) last = first
 pub record Stopping : Type 0 where
   pub first : Outed
   pub last : Outed
-  pub finish : Option Stands
+  pub finish : Option FinishSeen
   pub body : BodyView
 
 -- Behind a turn that began with this body.
@@ -138,7 +148,7 @@ abbrev pub SameBody : BodyView → BodyView → Type 0
 SameBody old new = (new.name ≡ old.name) × (new.seat.place ≡ old.seat.place) × (new.seat.stored ≢ 0)
 
 -- A turn, in which a body of the thread went into its berth, and after which a poll let the thread go on.
-abbrev pub IsLastTurn : ℕ → ℕ → Outed → Option Stands → BodyView → Type 0
+abbrev pub IsLastTurn : ℕ → ℕ → Outed → Option FinishSeen → BodyView → Type 0
 IsLastTurn place name last finish new
     = (after : BodyView) × Went place name Given last.given × IsTurn place name last.out finish after × (new ≡ as_polled after 0)
 
@@ -151,7 +161,7 @@ abbrev pub GoesBack : BodyView → Running → Back → Poll → Type 0
 GoesBack body new back said
     = (found : ℕ) × (new.body ≡ Some (as_polled body found)) × (either (found == 0) (state_of back) back ≡ Some new.state) × (said ≡ poll_of found)
 
--- The same, said of the state in which it polls.
+-- As `GoesBack`, said of the state in which the thread polls.
 abbrev pub ComesBack : BodyView → Running → State → Poll → Type 0
 ComesBack body new from said
     = (found : ℕ) × (new.body ≡ Some (as_polled body found)) × (cross from (found == 0) ≡ Some new.state) × (said ≡ poll_of found)
@@ -163,7 +173,7 @@ IsResumed new = Went new.place new.name Resumed new.crossed
 -- The thread goes on with the body that came out of its berth for its last turn.
 abbrev pub HasServed : ℕ → ℕ → Moved → BodyView → Type 0
 HasServed place name out body
-    = (given : Moved) × (finish : Option Stands) × IsLastTurn place name (record { given = given; out = out }) finish body
+    = (given : Moved) × (finish : Option FinishSeen) × IsLastTurn place name (record { given = given; out = out }) finish body
 
 -- The body came out of its berth for its thread to go on, and a poll let it; or it came out to serve, and a poll after that did.
 abbrev pub GoesOn : ℕ → ℕ → Moved → BodyView → Type 0
@@ -183,11 +193,16 @@ abbrev pub IsKept : ℕ → ℕ → Moved → Option BodyView → Type 0
 IsKept place name out None = true ≡ false
 IsKept place name out (Some body) = HasServed place name out body
 
+-- The thread stopped with a publication of this body.
+abbrev pub HasStopped : Option BodyView → Outed → Type 0
+HasStopped None first = true ≡ false
+HasStopped (Some body) first = (published : BodyView) × IsPublished body published × (first.given ≡ moved published Given)
+
 -- A place was given up with a publication of this body.
 abbrev pub IsGivenUp : Option BodyView → Moved → Type 0
 IsGivenUp None m = true ≡ false
 IsGivenUp (Some body) m = IsPublished body m.body
 
 -- A place was given up with a publication of the body that the thread had after this turn, in which it served.
-abbrev pub IsGivenUpAfter : ℕ → ℕ → Outed → Option Stands → Moved → Type 0
+abbrev pub IsGivenUpAfter : ℕ → ℕ → Outed → Option FinishSeen → Moved → Type 0
 IsGivenUpAfter place name last finish m = (after : BodyView) × IsLastTurn place name last finish after × IsPublished after m.body

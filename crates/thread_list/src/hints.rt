@@ -46,7 +46,6 @@ impl Hints {
     pub fn methods(&self) -> u32
         ensures { result ≡ self.now.methods }
     {
-        let _ = &self.words;
         self.methods
     }
 
@@ -54,7 +53,6 @@ impl Hints {
     pub fn slots(&self) -> u32
         ensures { result ≡ self.now.slots }
     {
-        let _ = &self.words;
         self.slots
     }
 

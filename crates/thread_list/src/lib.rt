@@ -10,21 +10,27 @@
 //! words and take none. No call holds two locks.
 #![tactic(auto)]
 
+mod forgotten;
 mod hints;
 mod mutator;
 mod parts;
 mod polls;
+mod runner;
 mod serving;
 mod shared;
 mod standing;
 mod starts;
+mod texts;
 mod turns;
 mod waits;
 
+pub use forgotten::Forgotten;
+pub use hints::Hints;
 pub use mutator::{CallFault, Mutator, ReturnFault};
-pub use parts::{MOST_METHODS, MOST_PLACES, MOST_SLOTS, Parts, PartsFault};
+pub use parts::{MOST_METHODS, MOST_PLACES, MOST_SLOTS, Parts, PartsFault, Pieces};
 pub use polls::{Poll, poll_of};
-pub use serving::{serve, served};
+pub use runner::Runner;
+pub use serving::serve;
 pub use shared::{Exited, Shared};
 pub use turns::Turn;
 pub use waits::ExitFault;

@@ -1,43 +1,36 @@
 //! A thread's own part: what it calls while it runs, and waits for nobody.
 ghost use Rattle.std.specs.Prelude.{◌≡◌, ◌≢◌, ◌<◌, ◌==◌, ◌++◌, ◌∷◌, [], ℕ, true, false, Some, None, IfOk, OnOk, OnErr, IfErr, IfSome, length, if◌then◌else◌};
-ghost use Rattle.thread_state.specs.declared.State.TheVariants.{InJava as IsInJava, InVm as IsInVm, AtPoll as IsAtPoll};
-ghost use Rattle.thread_state.specs.declared.Back.TheVariants.{Java as OfJava};
+ghost use Rattle.thread_state.specs.declared.State.TheVariants.{InJava as IsInJava, InVm as IsInVm};
 ghost use Rattle.bodies.specs.Bodies.{BodyView, IsCalled, IsPublished};
 ghost use Rattle.thread_list.specs.Moves.{SameThread, Polls, Leaves, is_running};
 ghost use Rattle.thread_list.specs.Refused.{call_accepted, call_refused, return_refused};
 
-use crate::polls::{Poll, poll_of};
+use crate::polls::Poll;
+use crate::runner::Runner;
 use crate::shared::Shared;
-use crate::standing::Standing;
-use berths::BodyReceipt;
-use bodies::{Body, Called, Name};
+use bodies::{Called, Name};
 use frames::CodeId;
 use operations::job::Errand;
 use std::marker::Model;
-use thread_state::{Back, State};
+use thread_state::State;
 
 /// A running thread, as itself: its name, its state and, while it owns itself, its body. One that is dropped leaves its place
 /// taken.
 #[derive(Drop)]
 pub struct Mutator<'a, N: Name, J: Errand> {
     pub(crate) shared: &'a Shared<N, J>,
-    pub(crate) name: u64,
-    pub(crate) place: usize,
-    pub(crate) standing: Standing<N>,
-    pub(crate) settled: BodyReceipt<N>,
-    /// Of its last crossing at its berth: its body went in, or came out.
-    pub(crate) crossed: BodyReceipt<N>,
+    pub(crate) runner: Runner<N>,
 }
 
 impl<'a, N: Name, J: Errand> Model for Mutator<'a, N, J> {
-    ghost use Rattle.thread_list.specs.Moves.{Running, IsRunning};
-    ghost use Rattle.thread_list.specs.Standings.{state_in, body_in};
+    ghost use Rattle.std.specs.Prelude.{◌≡◌};
+    ghost use Rattle.thread_list.specs.Moves.{Running};
 
     ghost Value = { Running };
 
-    ghost view = { λ m. record { name = m.name; place = m.place; methods = m.shared.now.methods; state = state_in m.standing; body = body_in m.standing; crossed = m.crossed } };
+    ghost view = { λ m. m.runner };
 
-    ghost invariant = { λ m. IsRunning N.board.places m.name m.place (state_in m.standing) (body_in m.standing) m.settled m.crossed };
+    ghost invariant = { λ m. m.runner.methods ≡ m.shared.now.methods };
 }
 
 /// Why a thread doesn't enter a method, in the order of the tests.
@@ -63,8 +56,7 @@ impl<'a, N: Name, J: Errand> Mutator<'a, N, J> {
     pub fn name(&self) -> u64
         ensures { result ≡ self.now.name }
     {
-        let _ = &self.standing;
-        self.name
+        self.runner.name()
     }
 
     /// The place whose words are the thread's.
@@ -72,15 +64,14 @@ impl<'a, N: Name, J: Errand> Mutator<'a, N, J> {
         ensures value { result ≡ self.now.place }
         ensures bound { result < N.board.places }
     {
-        let _ = &self.standing;
-        self.place
+        self.runner.place()
     }
 
     /// The thread's state.
     pub fn state(&self) -> State
         ensures { result ≡ self.now.state }
     {
-        self.standing.state()
+        self.runner.state()
     }
 
     /// Enters a method: by the code of the hint where its entry is found in use, by one load, and otherwise, or without a
@@ -89,24 +80,15 @@ impl<'a, N: Name, J: Errand> Mutator<'a, N, J> {
     pub fn call(&mut self, method: u32, hint: Option<CodeId>) -> Result<Called, CallFault>
         requires slot { IfSome hint (λ c. c.slot < N.board.slots) }
         ensures accepted { OnOk result (call_accepted self.old method) }
-        ensures step { IfOk result (λ said. (old : BodyView) × (new : BodyView) × (self.old.body ≡ Some old) × (self.new.body ≡ Some new) × IsCalled old new method hint said × (new.name ≡ old.name) × (new.poller ≡ old.poller)) }
+        ensures step { IfOk result (λ said. (old : BodyView) × (new : BodyView)
+            × (self.old.body ≡ Some old) × (self.new.body ≡ Some new)
+            × IsCalled old new method hint said × (new.name ≡ old.name)
+            × (new.poller ≡ old.poller)) }
         ensures state { self.new.state ≡ self.old.state }
         ensures same { SameThread self.old self.new }
         ensures err { IfErr result (λ e. (self.new ≡ self.old) × call_refused self.old method e) }
     {
-        let Standing::InJava(body) = &mut self.standing else {
-            return Err(CallFault::Illegal(self.state()));
-        };
-        // What is accepted comes first in each test: the compiler lays it out as one line.
-        if method < self.shared.methods() {
-            if body.depth() < 256 {
-                Ok(body.call(self.shared.board(), method, hint))
-            } else {
-                Err(CallFault::DepthFull)
-            }
-        } else {
-            Err(CallFault::NoSuchMethod)
-        }
+        self.runner.call(self.shared.board(), method, hint)
     }
 
     /// Returns from the method of the top frame, and polls: one load.
@@ -117,105 +99,54 @@ impl<'a, N: Name, J: Errand> Mutator<'a, N, J> {
         ensures same { SameThread self.old self.new }
         ensures err { IfErr result (λ e. (self.new ≡ self.old) × return_refused self.old e) }
     {
-        let Standing::InJava(body) = &mut self.standing else {
-            return Err(ReturnFault::Illegal(self.state()));
-        };
-        if body.depth() == 0 {
-            return Err(ReturnFault::EmptyStack);
-        }
-        body.ret();
-        let found = body.poll(self.shared.row());
-        if found != 0 {
-            self.go_on(true);
-        }
-        Ok(poll_of(found))
+        self.runner.ret(self.shared.row())
     }
 
     /// A back edge of a loop: the thread polls, by one load. A thread that isn't in Java is refused with its state.
     #[inline(always)]
     pub fn back_edge(&mut self) -> Result<Poll, State>
-        ensures ok { IfOk result (λ said. (self.old.state ≡ IsInJava) × Polls self.old self.new IsInJava said) }
+        ensures ok { IfOk result (λ said. (self.old.state ≡ IsInJava)
+            × Polls self.old self.new IsInJava said) }
         ensures same { SameThread self.old self.new }
-        ensures err { IfErr result (λ s. (s ≡ self.old.state) × (s ≢ IsInJava) × (self.new ≡ self.old)) }
+        ensures err { IfErr result (λ s. (s ≡ self.old.state) × (s ≢ IsInJava)
+            × (self.new ≡ self.old)) }
     {
-        let Standing::InJava(body) = &mut self.standing else {
-            return Err(self.state());
-        };
-        let found = body.poll(self.shared.row());
-        if found != 0 {
-            self.go_on(true);
-        }
-        Ok(poll_of(found))
+        self.runner.back_edge(self.shared.row())
     }
 
     /// Publishes the stack: one load of the moment, a step for each code whose counts differ, and a store of the moment that was
     /// loaded. A thread that doesn't own itself is refused with its state.
     #[inline(always)]
     pub fn publish(&mut self) -> Result<(), State>
-        ensures published { OnOk result ((old : BodyView) × (new : BodyView) × (self.old.body ≡ Some old) × (self.new.body ≡ Some new) × IsPublished old new) }
+        ensures published { OnOk result ((old : BodyView) × (new : BodyView)
+            × (self.old.body ≡ Some old) × (self.new.body ≡ Some new) × IsPublished old new) }
         ensures lawful { OnOk result (is_running self.old.state ≡ true) }
         ensures state { self.new.state ≡ self.old.state }
         ensures same { SameThread self.old self.new }
-        ensures err { IfErr result (λ s. (s ≡ self.old.state) × (is_running s ≡ false) × (self.new ≡ self.old)) }
+        ensures err { IfErr result (λ s. (s ≡ self.old.state) × (is_running s ≡ false)
+            × (self.new ≡ self.old)) }
     {
-        match &mut self.standing {
-            Standing::InJava(body) => body.publish(self.shared.board()),
-            Standing::InVm(body) => body.publish(self.shared.board()),
-            Standing::AtPoll(_, _) | Standing::InNative(_) | Standing::Blocked => {
-                return Err(self.state());
-            }
-        }
-        Ok(())
+        self.runner.publish(self.shared.board())
     }
 
     /// From Java into the VM, without a poll. A thread that isn't in Java is refused with its state.
     pub fn to_vm(&mut self) -> Result<(), State>
-        ensures ok { OnOk result ((self.old.state ≡ IsInJava) × (self.new ≡ record self.old { state = IsInVm })) }
-        ensures err { IfErr result (λ s. (s ≡ self.old.state) × (s ≢ IsInJava) × (self.new ≡ self.old)) }
+        ensures ok { OnOk result ((self.old.state ≡ IsInJava)
+            × (self.new ≡ record self.old { state = IsInVm })) }
+        ensures err { IfErr result (λ s. (s ≡ self.old.state) × (s ≢ IsInJava)
+            × (self.new ≡ self.old)) }
     {
-        let Standing::InJava(_) = &self.standing else {
-            return Err(self.state());
-        };
-        let body = self.standing.take_body();
-        self.standing = Standing::InVm(body);
-        Ok(())
+        self.runner.to_vm()
     }
 
     /// From the VM back into Java: the thread polls, by one load. A thread that isn't in the VM is refused with its state.
     pub fn from_vm(&mut self) -> Result<Poll, State>
-        ensures ok { IfOk result (λ said. (self.old.state ≡ IsInVm) × Polls self.old self.new IsInVm said) }
+        ensures ok { IfOk result (λ said. (self.old.state ≡ IsInVm)
+            × Polls self.old self.new IsInVm said) }
         ensures same { SameThread self.old self.new }
-        ensures err { IfErr result (λ s. (s ≡ self.old.state) × (s ≢ IsInVm) × (self.new ≡ self.old)) }
+        ensures err { IfErr result (λ s. (s ≡ self.old.state) × (s ≢ IsInVm)
+            × (self.new ≡ self.old)) }
     {
-        let Standing::InVm(body) = &mut self.standing else {
-            return Err(self.state());
-        };
-        let found = body.poll(self.shared.row());
-        self.go_on(found != 0);
-        Ok(poll_of(found))
+        self.runner.from_vm(self.shared.row())
     }
-
-    // A thread that has polled on its way into Java goes on there, or stops. It stands apart, since a poll in Java that goes on writes
-    // nothing: the next back edge would wait for that store.
-    #[cold]
-    #[inline(never)]
-    fn go_on(&mut self, stops: bool)
-        requires running { is_running self.old.state ≡ true }
-        ensures { self.new ≡ record self.old { state = if stops then IsAtPoll OfJava else IsInJava } }
-    {
-        let body = self.standing.take_body();
-        self.standing = if stops {
-            Standing::AtPoll(Back::Java, body)
-        } else {
-            Standing::InJava(body)
-        };
-    }
-}
-
-/// Whether a thread in this state runs its own code, in Java or in the VM.
-#[inline(always)]
-pub fn is_running(state: State) -> bool
-    ensures { result ≡ is_running state }
-{
-    matches!(state, State::InJava | State::InVm)
 }

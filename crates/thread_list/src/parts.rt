@@ -3,12 +3,12 @@ ghost use Rattle.std.specs.Prelude.{◌≡◌, ◌≤◌, ◌<◌, ℕ, [], ◌�
 ghost use Rattle.board.specs.Boards.{first_keeper};
 ghost use Rattle.poll.specs.Rows.{full_armer};
 ghost use Rattle.berths.specs.Berths.{IsRoom};
-ghost use Rattle.thread_list.specs.Sharing.{AreInOrder};
+ghost use Rattle.thread_list.specs.Sharing.{AreInOrder, IsNewDesk, places_in};
 ghost use Rattle.thread_list.specs.Sized.{parts_refused, AreSeatsOf, ArePollersOf, seats_in, pollers_in};
 
 use crate::hints::Hints;
 use crate::shared::Shared;
-use berths::{Berth, JOBS, Room};
+use berths::{Berth, Guarded, JOBS, Room};
 use board::{Board, Keeper, ThreadSeat};
 use bodies::{Name, Seats, SpareSeat};
 use desk::Desk;
@@ -18,8 +18,8 @@ use poll::{Armer, PollRow, Poller};
 use std::alloc::{AllocError, Global};
 use std::collections::VecDeque;
 use std::marker::Model;
+use std::sync::Condvar;
 use std::sync::atomic::AtomicU64;
-use std::sync::{Condvar, Mutex};
 
 /// The most places, slots and methods that a system has.
 pub const MOST_PLACES: usize = 64;
@@ -59,7 +59,10 @@ impl Model for Parts {
 
     ghost view = { λ p. record { board = p.board; row = p.row; methods = p.methods } };
 
-    ghost invariant = { λ p. (p.keeper ≡ first_keeper p.board) × (p.armer ≡ full_armer p.row p.board.places) × AreSeatsOf p.board (seats_in p.seats.items) × ArePollersOf p.row (pollers_in p.seats.items) × (length p.seats.items ≡ p.board.places) × (p.slots ≡ p.board.slots) };
+    ghost invariant = { λ p. (p.keeper ≡ first_keeper p.board)
+        × (p.armer ≡ full_armer p.row p.board.places) × AreSeatsOf p.board (seats_in p.seats.items)
+        × ArePollersOf p.row (pollers_in p.seats.items) × (length p.seats.items ≡ p.board.places)
+        × (p.slots ≡ p.board.slots) };
 }
 
 impl Parts {
@@ -70,7 +73,8 @@ impl Parts {
         slots: usize,
         methods: usize,
     ) -> Result<Parts, PartsFault>
-        ensures sizes { IfOk result (λ p. (p.board.places ≡ places) × (p.board.slots ≡ slots) × (p.methods ≡ methods)) }
+        ensures sizes { IfOk result (λ p. (p.board.places ≡ places) × (p.board.slots ≡ slots)
+            × (p.methods ≡ methods)) }
         ensures refused { IfErr result (parts_refused places slots methods) }
     {
         if !(fits(places, MOST_PLACES) && fits(slots, MOST_SLOTS) && fits(methods, MOST_METHODS)) {
@@ -104,21 +108,21 @@ fn fits(size: usize, most: usize) -> bool
     size != 0 && size <= most
 }
 
-// Empty lists with room for the jobs of a berth each, and room for as many berths.
+// Empty lists with room for the jobs of a place each, and room for as many rooms.
 fn job_lists<N: Name, J: Errand>(
     alloc: Global,
     places: usize,
-) -> Result<(Vec<Vec<J>>, Vec<Berth<N, J>>), AllocError>
+) -> Result<(Vec<Vec<J>>, Vec<Room<N, J>>), AllocError>
     ensures lists { IfOk result (λ r. (vec_len r.0 ≡ places) × All IsRoom r.0.items) }
-    ensures berths { IfOk result (λ r. (vec_len r.1 ≡ 0) × (places ≤ vec_capacity r.1)) }
+    ensures rooms { IfOk result (λ r. (vec_len r.1 ≡ 0) × (places ≤ vec_capacity r.1)) }
 {
-    let berths = Vec::with_capacity(alloc, places)?;
+    let rooms = Vec::with_capacity(alloc, places)?;
     let mut lists = Vec::new(alloc);
     while lists.len() < places {
         let list = Vec::with_capacity(alloc, JOBS)?;
         lists.push(list).map_err(|_| AllocError)?;
     }
-    Ok((lists, berths))
+    Ok((lists, rooms))
 }
 
 // Each seat with its poller, in order, in a box each: one after another, so that the boxes lie beside one another.
@@ -144,51 +148,83 @@ fn seats_of(
     Ok(all)
 }
 
-// A berth for each place's seats, without a name.
-fn berths_of<N: Name, J: Errand>(
+// A room for each place's seats, without a name.
+fn rooms_of<N: Name, J: Errand>(
     seats: Vec<Seats>,
     lists: Vec<Vec<J>>,
-    room: Vec<Berth<N, J>>,
-) -> Vec<Berth<N, J>>
+    room: Vec<Room<N, J>>,
+) -> Vec<Room<N, J>>
     requires seats { AreSeatsOf N.board (seats_in seats.items) }
     requires pollers { ArePollersOf N.poll_row (pollers_in seats.items) }
     requires count { length seats.items ≡ vec_len lists }
     requires lists { All IsRoom lists.items }
     requires room { (vec_len room ≡ 0) × (length seats.items ≤ vec_capacity room) }
     ensures count { length result.items ≡ length seats.items }
-    ensures order { AreInOrder result.items }
+    ensures order { AreInOrder (places_in result.items) }
 {
     let mut seats = seats;
     let mut lists = lists;
-    let mut berths = room;
+    let mut rooms = room;
     while let Some(both) = seats.pop() {
         let Some(jobs) = lists.pop() else {
             unreachable!()
         };
         let pair = SpareSeat::new(both);
-        berths.push_reserved(Berth::new(Room::new(pair.place(), pair, jobs)));
+        rooms.push_reserved(Room::new(pair.place(), pair, jobs));
     }
-    berths.reverse();
+    rooms.reverse();
+    rooms
+}
+
+// Each room in a berth of its own, in order.
+fn berths_of<N: Name, J: Errand>(
+    rooms: Vec<Room<N, J>>,
+    berths: Vec<Berth<N, J>>,
+) -> Vec<Berth<N, J>>
+    requires room { (vec_len berths ≡ 0) × (length rooms.items ≤ vec_capacity berths) }
+    ensures { result.items ≡ places_in rooms.items }
+{
+    let mut rooms = VecDeque::from_vec(rooms);
+    let mut berths = berths;
+    while let Some(room) = rooms.pop_front() {
+        berths.push_reserved(Berth::new(room));
+    }
     berths
 }
 
-impl<N: Name, J: Errand> Shared<N, J> {
-    /// What threads share, over these parts, and the armer of their poll words. Where memory is refused the parts come back.
-    pub fn new(alloc: Global, parts: Parts) -> Result<(Shared<N, J>, Armer), Parts>
-        requires tables { (parts.board ≡ N.board) × (parts.row ≡ N.poll_row) }
-        ensures armer { IfOk result (λ r. r.1 ≡ full_armer N.poll_row N.board.places) }
-        ensures methods { IfOk result (λ r. r.0.methods ≡ parts.methods) }
-        ensures handed_back { IfErr result (λ p. p ≡ parts) }
+/// What threads share, before any of it lies under a lock: the words, a room for each place in order, a new desk, the hints, and the
+/// armer of the poll words.
+pub struct Pieces<N: Name, J: Errand> {
+    pub board: Board,
+    pub row: PollRow,
+    pub rooms: Vec<Room<N, J>>,
+    pub desk: Desk<N, J>,
+    pub hints: Hints,
+    pub armer: Armer,
+}
+
+impl Parts {
+    /// What threads share, over these parts. Where memory is refused the parts come back.
+    pub fn into_pieces<N: Name, J: Errand>(self, alloc: Global) -> Result<Pieces<N, J>, Parts>
+        requires tables { (self.board ≡ N.board) × (self.row ≡ N.poll_row) }
+        ensures words { IfOk result (λ p. (p.board ≡ N.board) × (p.row ≡ N.poll_row)) }
+        ensures rooms { IfOk result (λ p. length p.rooms.items ≡ N.board.places) }
+        ensures order { IfOk result (λ p. AreInOrder (places_in p.rooms.items)) }
+        ensures desk { IfOk result (λ p. IsNewDesk N.board self.methods p.desk) }
+        ensures slots { IfOk result (λ p. p.hints.slots ≡ N.board.slots) }
+        ensures methods { IfOk result (λ p. p.hints.methods ≡ self.methods) }
+        ensures armer { IfOk result (λ p. p.armer ≡ full_armer N.poll_row N.board.places) }
+        ensures handed_back { IfErr result (λ p. p ≡ self) }
     {
-        let places = parts.seats.len();
+        let places = self.seats.len();
         let Ok((lists, room)) = job_lists(alloc, places) else {
-            return Err(parts);
+            return Err(self);
         };
-        let Ok(hints) = Hints::new(alloc, parts.methods, parts.slots) else {
-            return Err(parts);
+        let Ok(hints) = Hints::new(alloc, self.methods, self.slots) else {
+            return Err(self);
         };
-        let Ok(table) = MethodTable::new(alloc, parts.slots, parts.methods) else {
-            return Err(parts);
+        let Ok(table) = MethodTable::new(alloc, self.slots, self.methods) else {
+            return Err(self);
         };
         let Parts {
             board,
@@ -198,23 +234,16 @@ impl<N: Name, J: Errand> Shared<N, J> {
             seats,
             slots,
             methods,
-        } = parts;
+        } = self;
         match Desk::new(alloc, table, keeper, &board, places) {
-            Ok(desk) => {
-                let berths = berths_of(seats, lists, room);
-                Ok((
-                    Shared {
-                        board,
-                        row,
-                        berths,
-                        desk: Mutex::new(desk),
-                        hints,
-                        waiters: AtomicU64::new(0),
-                        finished: Condvar::new(),
-                    },
-                    armer,
-                ))
-            }
+            Ok(desk) => Ok(Pieces {
+                board,
+                row,
+                rooms: rooms_of(seats, lists, room),
+                desk,
+                hints,
+                armer,
+            }),
             Err(keeper) => Err(Parts {
                 board,
                 keeper,
@@ -225,5 +254,46 @@ impl<N: Name, J: Errand> Shared<N, J> {
                 methods,
             }),
         }
+    }
+
+    // How many places there are.
+    fn places(&self) -> usize
+        ensures { result ≡ self.now.board.places }
+    {
+        self.seats.len()
+    }
+}
+
+impl<N: Name, J: Errand> Shared<N, J> {
+    /// What threads share, over these parts, and the armer of their poll words. Where memory is refused the parts come back.
+    pub fn new(alloc: Global, parts: Parts) -> Result<(Shared<N, J>, Armer), Parts>
+        requires tables { (parts.board ≡ N.board) × (parts.row ≡ N.poll_row) }
+        ensures armer { IfOk result (λ r. r.1 ≡ full_armer N.poll_row N.board.places) }
+        ensures methods { IfOk result (λ r. r.0.methods ≡ parts.methods) }
+        ensures handed_back { IfErr result (λ p. p ≡ parts) }
+    {
+        let Ok(room) = Vec::with_capacity(alloc, parts.places()) else {
+            return Err(parts);
+        };
+        let Pieces {
+            board,
+            row,
+            rooms,
+            desk,
+            hints,
+            armer,
+        } = parts.into_pieces(alloc)?;
+        let (desk, begun) = Guarded::new(desk);
+        let shared = Shared {
+            board,
+            row,
+            berths: berths_of(rooms, room),
+            desk,
+            begun,
+            hints,
+            waiters: AtomicU64::new(0),
+            finished: Condvar::new(),
+        };
+        Ok((shared, armer))
     }
 }

@@ -9,15 +9,21 @@ ghost use Rattle.desk.specs.declared.entries.Entry.{Entry};
 
 use crate::shared::Shared;
 use crate::turns::{Turn, Turned};
-use berths::{BodyAct, Due};
+use berths::{BodyAct, Due, Recorder};
 use bodies::{Body, Name};
-use desk::Receipt;
+use desk::Finished;
 use operations::job::Errand;
 use std::sync::Wait;
 
+/// Who enters at the desk what a job answered. It is of this module alone, whose `serve` is then the one way in which a job is run.
+#[derive(Drop)]
+struct DeskRecorder;
+
+impl Recorder for DeskRecorder {}
+
 /// A thread that has stopped gives its body to its berth, takes it back once nobody holds it and no census keeps it, publishes its
 /// stack, serves what it was told, and polls, until a poll goes on. Answers the body with the receipts of its turns.
-pub fn served<N: Name, J: Errand, R: Wait>(
+pub(crate) fn served<N: Name, J: Errand, R: Wait>(
     rt: &R,
     shared: &Shared<N, J>,
     body: Body<N>,
@@ -37,25 +43,30 @@ pub fn served<N: Name, J: Errand, R: Wait>(
     unreachable!()
 }
 
-/// Runs a job on a settled body, enters what it answered, and clears the operation. Answers the receipt of that entry, and whether it woke
-/// one that waited for it.
+/// Runs a job on a settled body, enters what it answered, and then clears the operation. Answers the receipt of that entry, which shows the
+/// body as it was before the clear, and whether it woke one that waited for it.
 #[inline(always)]
 pub fn serve<N: Name, J: Errand, R: Wait>(
     rt: &R,
     shared: &Shared<N, J>,
     body: &mut Body<N>,
     job: Due<J>,
-) -> (Receipt<N>, bool)
+) -> (Finished<N>, bool)
     requires job { (J.whom job ≡ body.old.name) × (0 < J.number job) }
     requires settled { IsSettled body.old.image }
-    ensures entry { result.0.entry ≡ Entry.Finish (J.number job) (J.whom job) (reply (J.asks job) body.old.image.frames) }
+    ensures entry { result.0.stands.entry
+        ≡ Entry.Finish (J.number job) (J.whom job) (reply (J.asks job) body.old.image.frames) }
+    ensures before_the_clear { result.0.body ≡ body.old }
+    ensures asked { result.0.ask ≡ J.asks job }
     ensures called { J.may_answer job body.old.image (reply (J.asks job) body.old.image.frames) }
-    ensures body { (body.new.name ≡ body.old.name) × (body.new.image ≡ body.old.image) × (body.new.seat ≡ body.old.seat) }
-    ensures cleared { (found : ℕ) × (body.new.poller ≡ exchanged body.old.poller (J.number job) found) }
+    ensures body { (body.new.name ≡ body.old.name) × (body.new.image ≡ body.old.image)
+        × (body.new.seat ≡ body.old.seat) }
+    ensures cleared { (found : ℕ)
+        × (body.new.poller ≡ exchanged body.old.poller (J.number job) found) }
 {
     let n = job.number();
-    let done = job.run_on(body);
-    let (receipt, woke) = shared.finish(rt, body, done);
+    let done = job.run_on(body).to_record(&DeskRecorder);
+    let (finished, woke) = shared.finish(rt, body, done);
     body.clear(shared.row(), n);
-    (receipt, woke)
+    (finished, woke)
 }

@@ -9,15 +9,17 @@ ghost use Rattle.desk.specs.declared.entries.Entry.{Entry};
 ghost use Rattle.desk.specs.Machine.{State as DeskState, Book};
 ghost use Rattle.desk.specs.JobsFit.{jobs_fit};
 ghost use Rattle.desk.specs.Rising.{AreRising};
-ghost use Rattle.thread_list.specs.Sharing.{AreLive, AreRepliesOf};
+ghost use Rattle.thread_list.specs.Forgets.{Forgets};
+ghost use Rattle.thread_list.specs.Sharing.{AreLive, AreRepliesOf, AreAllRepliesOf};
 ghost use Rattle.desk.specs.Refusals.{ask_refused, install_refused};
 
+use crate::forgotten::Forgotten;
 use crate::hints::Hints;
 use crate::turns::Turn;
-use berths::{Berth, BodyAct, BodyReceipt, locked};
+use berths::{Berth, BodyAct, BodyReceipt, Guarded, Laid};
 use board::Board;
 use bodies::{Body, Name};
-use desk::{CodeFault, Desk, NotLive, Receipt, Refused, live_names_rise};
+use desk::{CodeFault, Desk, Finished, NotLive, Receipt, Refused, live_names_rise};
 use frames::CodeId;
 use method_table::table::InvalidateFault;
 use operations::Request;
@@ -26,7 +28,7 @@ use poll::PollRow;
 use std::alloc::AllocError;
 use std::marker::Model;
 use std::sync::atomic::{AtomicU64, Ordering};
-use std::sync::{Condvar, Mutex, Wait};
+use std::sync::{Condvar, Wait};
 use std::thread;
 
 /// The words, the desk under a lock, and a berth for each place, each under a lock of its own. No call holds two locks. Contracts see
@@ -36,7 +38,9 @@ pub struct Shared<N: Name, J: Errand> {
     pub(crate) board: Board,
     pub(crate) row: PollRow,
     pub(crate) berths: Vec<Berth<N, J>>,
-    pub(crate) desk: Mutex<Desk<N, J>>,
+    pub(crate) desk: Guarded<Desk<N, J>>,
+    /// The desk as it was put under its lock: new.
+    pub(crate) begun: Laid<Desk<N, J>>,
     pub(crate) hints: Hints,
     /// How many threads wait for `finished`. Each counts itself and takes itself off under the desk's lock.
     pub(crate) waiters: AtomicU64,
@@ -46,17 +50,19 @@ pub struct Shared<N: Name, J: Errand> {
 
 impl<N: Name, J: Errand> Model for Shared<N, J> {
     ghost use Rattle.std.specs.Prelude.{◌≡◌, length};
-    ghost use Rattle.thread_list.specs.Sharing.{AreInOrder, SharedSeen};
+    ghost use Rattle.thread_list.specs.Sharing.{AreInOrder, IsNewDesk, SharedSeen};
 
     ghost Value = { SharedSeen };
 
     ghost view = { λ s. record { methods = s.hints.methods } };
 
-    ghost invariant = { λ s. (s.board ≡ N.board) × (s.row ≡ N.poll_row) × (length s.berths.items ≡ N.board.places) × AreInOrder s.berths.items × (s.hints.slots ≡ N.board.slots) };
+    ghost invariant = { λ s. (s.board ≡ N.board) × (s.row ≡ N.poll_row)
+        × (length s.berths.items ≡ N.board.places) × AreInOrder s.berths.items
+        × (s.hints.slots ≡ N.board.slots) × IsNewDesk N.board s.hints.methods s.begun };
 }
 
-/// The receipts of a thread that is gone: of the last stop in which it served before, that its berth gave its place up, and of the
-/// entry of its exit.
+/// The receipts of a thread that is gone: of the stops in which it served before, of the first turn of all and of the last; that its berth
+/// gave its place up; and of the entry of its exit.
 #[derive(Drop)]
 pub struct Exited<N: Name> {
     pub served: Option<Turn<N>>,
@@ -82,8 +88,7 @@ impl<N: Name, J: Errand> Shared<N, J> {
     }
 
     /// The desk's lock.
-    pub fn desk(&self) -> &Mutex<Desk<N, J>> {
-        let _ = &self.hints;
+    pub fn desk(&self) -> &Guarded<Desk<N, J>> {
         &self.desk
     }
 
@@ -92,7 +97,6 @@ impl<N: Name, J: Errand> Shared<N, J> {
     pub fn methods(&self) -> u32
         ensures { result ≡ self.now.methods }
     {
-        let _ = &self.desk;
         self.hints.methods()
     }
 
@@ -119,7 +123,6 @@ impl<N: Name, J: Errand> Shared<N, J> {
     pub fn hint(&self, method: u32) -> Option<CodeId>
         ensures { IfSome result (λ c. c.slot < N.board.slots) }
     {
-        let _ = &self.desk;
         self.hints.of(method)
     }
 
@@ -151,10 +154,11 @@ impl<N: Name, J: Errand> Shared<N, J> {
         jobs: Vec<J>,
     ) -> Result<(u64, Receipt<N>), Refused<J>>
         ensures asked { IfOk result (λ r. r.1.entry ≡ Entry.Ask r.0 request) }
-        ensures refused { IfErr result (λ e. (s : DeskState) × (book : Book) × ask_refused s request (jobs_fit J.whom J.asks request jobs.items) book e.fault) }
+        ensures refused { IfErr result (λ e. (s : DeskState) × (book : Book)
+            × ask_refused s request (jobs_fit J.whom J.asks request jobs.items) book e.fault) }
         ensures handed_back { IfErr result (λ e. e.jobs ≡ jobs) }
     {
-        let mut desk = locked(&self.desk, rt);
+        let mut desk = self.desk.lock_in_line(rt);
         match desk.submit(request, jobs) {
             Ok(asked) => Ok(asked),
             Err(refused) => Err(refused),
@@ -164,8 +168,10 @@ impl<N: Name, J: Errand> Shared<N, J> {
     /// Installs a code for the method; the one that was in use for it is not entrant from now on. Answers the serial of the new one, with
     /// the receipt of its Install.
     pub fn install<R: Wait>(&self, rt: &R, method: u32) -> Result<(u64, Receipt<N>), CodeFault>
-        ensures installed { IfOk result (λ r. (slot : ℕ) × (r.1.entry ≡ Entry.Install (record { slot = slot; serial = r.0 }) method)) }
-        ensures refused { IfErr result (λ e. (s : DeskState) × (book : Book) × install_refused s method book e) }
+        ensures installed { IfOk result (λ r. (slot : ℕ)
+            × (r.1.entry ≡ Entry.Install (record { slot = slot; serial = r.0 }) method)) }
+        ensures refused { IfErr result (λ e. (s : DeskState) × (book : Book)
+            × install_refused s method book e) }
     {
         let mut desk = self.desk.lock(rt);
         let (installed, receipt) = desk.install(&self.board, method as u64)?;
@@ -176,7 +182,8 @@ impl<N: Name, J: Errand> Shared<N, J> {
     /// No thread enters the code of the serial any more. Answers the receipt of its Invalidate.
     pub fn invalidate<R: Wait>(&self, rt: &R, serial: u64) -> Result<Receipt<N>, InvalidateFault>
         ensures invalidated { IfOk result (λ r. r.entry ≡ Entry.Invalidate serial) }
-        ensures refused { IfErr result (λ e. (s : DeskState) × (invalidate_fault (unfreed s.table.codes serial) ≡ Some e)) }
+        ensures refused { IfErr result (λ e. (s : DeskState)
+            × (invalidate_fault (unfreed s.table.codes serial) ≡ Some e)) }
     {
         self.desk.lock(rt).invalidate(&self.board, serial)
     }
@@ -203,6 +210,29 @@ impl<N: Name, J: Errand> Shared<N, J> {
         Ok(list)
     }
 
+    /// The names with all their replies of an operation, and None where some were forgotten. Refused only for want of memory.
+    pub fn kept_replies<R: Wait>(
+        &self,
+        rt: &R,
+        op: u64,
+    ) -> Result<Option<Vec<(u64, u64)>>, AllocError>
+        ensures { IfOk result (λ r. IfSome r (λ list. AreAllRepliesOf op list.items)) }
+    {
+        let desk = self.desk.lock(rt);
+        desk.history_is_legal();
+        let list = desk.kept_replies(op)?;
+        Ok(list)
+    }
+
+    /// Forgets all entries of the history so far, and the replies of each operation before the first that is open or waits: their memory is
+    /// used for later ones, and HistoryFull counts from now on what is entered later. Answers the receipt of that.
+    pub fn forget<R: Wait>(&self, rt: &R) -> Forgotten<N, J>
+        ensures { Forgets result }
+    {
+        let mut desk = self.desk.lock(rt);
+        Forgotten::of(&mut desk)
+    }
+
     // Wakes those that wait until a thread is answered for or gone, and answers whether there are any; called once the desk's lock was let
     // go after such an entry. No wake-up is lost: who waits has counted itself under the lock under which it looked, and keeps the lock
     // until it sleeps. Where it looked before the entry it is counted here, or has woken already and looks again; where it looks
@@ -217,47 +247,51 @@ impl<N: Name, J: Errand> Shared<N, J> {
     }
 
     #[inline(always)]
-    fn try_finish<R: Wait>(&self, rt: &R, body: &Body<N>, done: Done) -> Result<Receipt<N>, Done>
+    fn try_finish<R: Wait>(&self, rt: &R, body: &Body<N>, done: Done) -> Result<Finished<N>, Done>
         requires name { body.now.name ≡ done.target }
         requires settled { IsSettled body.now.image }
         requires reply { done.reply ≡ reply done.ask body.now.image.frames }
-        ensures ok { IfOk result (λ r. r.entry ≡ Entry.Finish done.op done.target done.reply) }
+        ensures ok { IfOk result (λ r. r.stands.entry
+            ≡ Entry.Finish done.op done.target done.reply) }
+        ensures seen { IfOk result (λ r. (r.body ≡ body.now) × (r.ask ≡ done.ask)) }
         ensures err { IfErr result (λ d. d ≡ done) }
     {
-        let mut desk = locked(&self.desk, rt);
-        let receipt = desk.finish(body, done)?;
-        Ok(receipt)
+        let mut desk = self.desk.lock_in_line(rt);
+        let finished = desk.finish(body, done)?;
+        Ok(finished)
     }
 
     /// Enters what a job answered on a settled body, and answers whether it woke one that waited for that. The first try is in line: it
     /// nearly always succeeds, and what a call of the loop answers would go through memory.
     #[inline(always)]
-    pub fn finish<R: Wait>(&self, rt: &R, body: &Body<N>, done: Done) -> (Receipt<N>, bool)
+    pub(crate) fn finish<R: Wait>(&self, rt: &R, body: &Body<N>, done: Done) -> (Finished<N>, bool)
         requires name { body.now.name ≡ done.target }
         requires settled { IsSettled body.now.image }
         requires reply { done.reply ≡ reply done.ask body.now.image.frames }
-        ensures { result.0.entry ≡ Entry.Finish done.op done.target done.reply }
+        ensures entry { result.0.stands.entry ≡ Entry.Finish done.op done.target done.reply }
+        ensures seen { (result.0.body ≡ body.now) × (result.0.ask ≡ done.ask) }
     {
-        let receipt = match self.try_finish(rt, body, done) {
-            Ok(receipt) => receipt,
+        let finished = match self.try_finish(rt, body, done) {
+            Ok(finished) => finished,
             Err(back) => self.finish_again(rt, body, back),
         };
-        (receipt, self.ring())
+        (finished, self.ring())
     }
 
     // Enters it after a try that failed: other threads run before each further one.
     #[inline(never)]
-    fn finish_again<R: Wait>(&self, rt: &R, body: &Body<N>, done: Done) -> Receipt<N>
+    fn finish_again<R: Wait>(&self, rt: &R, body: &Body<N>, done: Done) -> Finished<N>
         requires name { body.now.name ≡ done.target }
         requires settled { IsSettled body.now.image }
         requires reply { done.reply ≡ reply done.ask body.now.image.frames }
-        ensures { result.entry ≡ Entry.Finish done.op done.target done.reply }
+        ensures entry { result.stands.entry ≡ Entry.Finish done.op done.target done.reply }
+        ensures seen { (result.body ≡ body.now) × (result.ask ≡ done.ask) }
     {
         let mut done = done;
         for _ in rt.forever() {
             thread::yield_now();
             match self.try_finish(rt, body, done) {
-                Ok(receipt) => return receipt,
+                Ok(finished) => return finished,
                 Err(back) => done = back,
             }
         }
@@ -265,7 +299,7 @@ impl<N: Name, J: Errand> Shared<N, J> {
     }
 
     /// Enters that a thread exits whose berth gave its place up.
-    pub fn leave<R: Wait>(
+    pub(crate) fn leave<R: Wait>(
         &self,
         rt: &R,
         vacated: BodyReceipt<N>,

@@ -3,9 +3,16 @@ ghost use Rattle.std.specs.Prelude.{◌≡◌, ◌≢◌, true, Some, None};
 ghost use Rattle.thread_list.specs.Moves.{owns};
 ghost use Rattle.thread_list.specs.Standings.{state_in, body_in};
 
+use berths::Hand;
 use bodies::{Body, Name};
 use std::mem;
 use thread_state::{Back, State};
+
+/// The hand of a thread that owns itself.
+#[derive(Drop)]
+pub(crate) struct OwnHand;
+
+impl Hand for OwnHand {}
 
 /// The state of a thread between its calls. The body is part of it, so that a call which tests the state needs no other test whether
 /// the body is there.

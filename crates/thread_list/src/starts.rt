@@ -8,9 +8,10 @@ ghost use Rattle.desk.specs.Refusals.{start_refused};
 ghost use Rattle.bodies.specs.Bodies.{BodyView};
 
 use crate::mutator::Mutator;
+use crate::runner::Runner;
 use crate::serving::served;
 use crate::shared::Shared;
-use crate::standing::Standing;
+use crate::standing::{OwnHand, Standing};
 use berths::BodyReceipt;
 use bodies::{Body, Name};
 use desk::{Receipt, StartFault};
@@ -22,31 +23,41 @@ use std::sync::Wait;
 impl<N: Name, J: Errand> Shared<N, J> {
     /// Starts a thread in the least vacant place: it makes its first publication and crosses into Java, after it has served what it
     /// was told by then. Answers the thread, with the receipt of its Start.
+    #[tactic(auto, using(crate::proofs::Turned::first_of_seat))]
     pub fn start<R: Wait>(
         &self,
         rt: &R,
         alloc: Global,
     ) -> Result<(Mutator<'_, N, J>, Receipt<N>), StartFault>
-        ensures started { IfOk result (λ r. (r.0.state ≡ IsInJava) × (r.1.entry ≡ Entry.Start r.0.name r.0.place)) }
+        ensures started { IfOk result (λ r. (r.0.state ≡ IsInJava)
+            × (r.1.entry ≡ Entry.Start r.0.name r.0.place)) }
         ensures methods { IfOk result (λ r. r.0.methods ≡ self.now.methods) }
-        ensures goes_on { IfOk result (λ r. (body : BodyView) × (r.0.body ≡ Some body) × IsStarted r.0 body) }
-        ensures refused { IfErr result (λ e. (s : DeskState) × (book : Book) × start_refused s N.board.places book e) }
+        ensures goes_on { IfOk result (λ r. (body : BodyView) × (r.0.body ≡ Some body)
+            × IsStarted r.0 body) }
+        ensures refused { IfErr result (λ e. (s : DeskState) × (book : Book)
+            × start_refused s N.board.places book e) }
     {
         let image = Image::new(alloc);
         let (name, place, receipt) = self.enter(rt, image.is_ok())?;
         let Ok(image) = image else { unreachable!() };
         let berth = self.berth(place);
-        let mut body = Body::new(name, image, berth.start(rt, place));
+        let (spare, seat) = berth.start(rt, place);
+        let mut body = spare.body(name, image);
         body.publish(self.board());
         let settled = berth.settle(rt, body);
         let (body, crossed) = self.go_on(rt, name, place);
-        let mutator = Mutator {
-            shared: self,
+        let runner = Runner {
             name,
             place,
+            methods: self.methods(),
             standing: Standing::InJava(body),
+            seat,
             settled,
             crossed,
+        };
+        let mutator = Mutator {
+            shared: self,
+            runner,
         };
         Ok((mutator, receipt))
     }
@@ -55,10 +66,12 @@ impl<N: Name, J: Errand> Shared<N, J> {
     // body with the receipt that it came out last.
     fn go_on<R: Wait>(&self, rt: &R, name: u64, place: usize) -> (Body<N>, BodyReceipt<N>)
         requires place { place < N.board.places }
-        ensures body { (result.0.name ≡ name) × (0 < result.0.name) × (result.0.seat.place ≡ place) × (result.0.seat.stored ≢ 0) }
+        ensures body { (result.0.name ≡ name) × (0 < result.0.name) × (result.0.seat.place ≡ place)
+            × (result.0.seat.stored ≢ 0) }
         ensures goes_on { GoesOn place name result.1 result.0 }
     {
-        let (mut body, resumed) = self.berth(place).resume(rt, name, place);
+        let (outgoing, resumed) = self.berth(place).resume(rt, name, place);
+        let mut body = outgoing.in_hand(&OwnHand);
         if body.poll(self.row()) == 0 {
             return (body, resumed);
         }
@@ -72,9 +85,11 @@ impl<N: Name, J: Errand> Shared<N, J> {
         rt: &R,
         has_image: bool,
     ) -> Result<(u64, usize, Receipt<N>), StartFault>
-        ensures ok { IfOk result (λ r. (r.2.entry ≡ Entry.Start r.0 r.1) × (r.1 < N.board.places) × (0 < r.0)) }
+        ensures ok { IfOk result (λ r. (r.2.entry ≡ Entry.Start r.0 r.1) × (r.1 < N.board.places)
+            × (0 < r.0)) }
         ensures image { OnOk result (has_image ≡ true) }
-        ensures refused { IfErr result (λ e. (s : DeskState) × (book : Book) × start_refused s N.board.places book e) }
+        ensures refused { IfErr result (λ e. (s : DeskState) × (book : Book)
+            × start_refused s N.board.places book e) }
     {
         let mut desk = self.desk.lock(rt);
         let started = desk.start(has_image)?;

@@ -1,13 +1,14 @@
 //! The turns of a thread that has stopped: in each its body goes into its berth, and comes out to serve.
-ghost use Rattle.std.specs.Prelude.{◌≡◌, ◌<◌, ◌≢◌, ℕ, Some, None, IfOk, IfErr};
+ghost use Rattle.std.specs.Prelude.{◌≡◌, ◌<◌, ◌≢◌, ℕ, Some, None, IfOk, IfErr, IfSome, IfNone};
 ghost use Rattle.berths.specs.Berths.{moved};
 ghost use Rattle.thread_list.specs.Moves.{SameBody, TakesTurn, IsTurn, as_polled, first_of};
 
 use crate::serving::serve;
 use crate::shared::Shared;
-use berths::{BodyAct, Outing};
+use crate::standing::OwnHand;
+use berths::{BodyAct, CameOut, Outing};
 use bodies::{Body, Name};
-use desk::Receipt;
+use desk::Finished;
 use operations::job::Errand;
 use poll::PollRow;
 use std::marker::Model;
@@ -20,7 +21,7 @@ use std::thread;
 pub struct Turn<N: Name> {
     pub first: Option<Outing<N>>,
     pub last: Outing<N>,
-    pub finish: Option<Receipt<N>>,
+    pub finish: Option<Finished<N>>,
 }
 
 /// A thread that has stopped, behind a turn. Its body comes out only where a poll goes on; and it isn't `Drop`, so it can't be lost.
@@ -35,12 +36,17 @@ impl<N: Name> Model for Turned<N> {
 
     ghost Value = { Stopping };
 
-    ghost view = { λ t. record { first = first_of t.turn.first t.turn.last; last = t.turn.last; finish = t.turn.finish; body = t.body } };
+    ghost view = { λ t. record {
+      first = first_of t.turn.first t.turn.last;
+      last = t.turn.last;
+      finish = t.turn.finish;
+      body = t.body;
+    } };
 
     ghost invariant = { λ t. (t.body.seat.stored ≢ 0) × (0 < t.body.name) };
 }
 
-/// The same, where its poll stopped it again.
+/// A thread that has stopped, behind a turn whose poll stopped it again.
 pub struct Stopped<N: Name> {
     turned: Turned<N>,
 }
@@ -77,8 +83,10 @@ impl<N: Name> Turned<N> {
     pub fn poll(self, row: &PollRow) -> Result<(Body<N>, Turn<N>), Stopped<N>>
         requires row { row.now ≡ N.poll_row }
         ensures goes_on { IfOk result (λ r. r.0 ≡ as_polled self.body 0) }
-        ensures receipts { IfOk result (λ r. (first_of r.1.first r.1.last ≡ self.first) × (r.1.last ≡ self.last) × (r.1.finish ≡ self.finish)) }
-        ensures stops { IfErr result (λ s. (found : ℕ) × (found ≢ 0) × (s ≡ record self { body = as_polled self.body found })) }
+        ensures receipts { IfOk result (λ r. (first_of r.1.first r.1.last ≡ self.first)
+            × (r.1.last ≡ self.last) × (r.1.finish ≡ self.finish)) }
+        ensures stops { IfErr result (λ s. (found : ℕ) × (found ≢ 0)
+            × (s ≡ record self { body = as_polled self.body found })) }
     {
         let Turned { mut body, turn } = self;
         if body.poll(row) == 0 {
@@ -112,6 +120,29 @@ impl<N: Name> Stopped<N> {
     }
 }
 
+impl<N: Name> Turn<N> {
+    /// The receipts of a stop behind an earlier one: of the first turn of that, and of the last of this.
+    pub(crate) fn behind(self, earlier: Option<Turn<N>>) -> Turn<N>
+        ensures last { (result.last ≡ self.last) × (result.finish ≡ self.finish) }
+        ensures first { IfSome earlier (λ t. first_of result.first result.last
+            ≡ first_of t.first t.last) }
+        ensures alone { IfNone earlier (first_of result.first result.last
+            ≡ first_of self.first self.last) }
+    {
+        let Some(earlier) = earlier else { return self };
+        let Turn {
+            first: _,
+            last,
+            finish,
+        } = self;
+        Turn {
+            first: Some(first_outing(earlier)),
+            last,
+            finish,
+        }
+    }
+}
+
 // The receipts of the first turn.
 fn first_outing<N: Name>(turn: Turn<N>) -> Outing<N>
     ensures { result ≡ first_of turn.first turn.last }
@@ -132,7 +163,7 @@ fn take_turn<N: Name, J: Errand, R: Wait>(
     rt: &R,
     shared: &Shared<N, J>,
     body: Body<N>,
-) -> (Body<N>, Outing<N>, Option<Receipt<N>>)
+) -> (Body<N>, Outing<N>, Option<Finished<N>>)
     requires body { (body.seat.stored ≢ 0) × (0 < body.name) }
     ensures same { SameBody body result.0 }
     ensures given { result.1.given ≡ moved body BodyAct.Given }
@@ -140,7 +171,13 @@ fn take_turn<N: Name, J: Errand, R: Wait>(
 {
     let place = body.place();
     let berth = shared.berth_of(&body);
-    let (mut body, told, outing, changed) = berth.turn(rt, body);
+    let CameOut {
+        body,
+        told,
+        outing,
+        changed,
+    } = berth.turn(rt, body);
+    let mut body = body.in_hand(&OwnHand);
     body.publish(shared.board());
     let job = match told {
         Some(job) => job,
@@ -149,9 +186,9 @@ fn take_turn<N: Name, J: Errand, R: Wait>(
             return (body, outing, None);
         }
     };
-    let (receipt, woke) = serve(rt, shared, &mut body, job);
+    let (finished, woke) = serve(rt, shared, &mut body, job);
     give_way(shared, place, changed || woke);
-    (body, outing, Some(receipt))
+    (body, outing, Some(finished))
 }
 
 // How often a thread yields at most after a turn while others have still to come to their polls: where more threads run than there are

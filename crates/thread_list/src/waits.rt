@@ -9,15 +9,16 @@ ghost use Rattle.thread_state.specs.declared.Move.TheVariants as movement;
 ghost use Rattle.thread_state.specs.States as table;
 ghost use Rattle.desk.specs.declared.entries.Entry.{Entry};
 ghost use Rattle.thread_list.specs.declared.polls.Poll.TheVariants.{Go as GoesOn};
-ghost use Rattle.thread_list.specs.Moves.{SameThread, SameBody, ComesBack, GoesBack, Gives, IsResumed, IsTurn, IsVacated, IsKept, IsGivenUp, IsGivenUpAfter, as_polled, first_of, is_running};
+ghost use Rattle.thread_list.specs.Moves.{SameThread, SameBody, ComesBack, GoesBack, Gives, IsResumed, IsTurn, IsVacated, IsKept, HasStopped, IsGivenUp, IsGivenUpAfter, as_polled, first_of, is_running};
 ghost use Rattle.thread_list.specs.Standings.{state_in, body_in};
 ghost use Rattle.thread_list.specs.Refused.{exit_refused, HasNoFrame};
 
-use crate::mutator::{Mutator, is_running};
+use crate::mutator::Mutator;
 use crate::polls::{Poll, poll_of};
+use crate::runner::{Runner, is_running};
 use crate::serving::served;
 use crate::shared::{Exited, Shared};
-use crate::standing::Standing;
+use crate::standing::{OwnHand, Standing};
 use crate::turns::Turn;
 use berths::{BodyAct, BodyReceipt};
 use bodies::{Body, Name};
@@ -50,12 +51,14 @@ impl<'a, N: Name, J: Errand> Mutator<'a, N, J> {
     /// in neither is refused with its state.
     #[inline(always)]
     pub fn to_native<R: Wait>(&mut self, rt: &R) -> Result<(), State>
-        ensures ok { OnOk result (table.step self.old.state movement.ToNative ≡ Some self.new.state) }
+        ensures ok { OnOk result (table.step self.old.state movement.ToNative
+            ≡ Some self.new.state) }
         ensures given { OnOk result (Gives self.old self.new) }
         ensures same { SameThread self.old self.new }
-        ensures err { IfErr result (λ s. (s ≡ self.old.state) × (table.step s movement.ToNative ≡ None) × (self.new ≡ self.old)) }
+        ensures err { IfErr result (λ s. (s ≡ self.old.state)
+            × (table.step s movement.ToNative ≡ None) × (self.new ≡ self.old)) }
     {
-        let back = match &self.standing {
+        let back = match &self.runner.standing {
             Standing::InJava(_) => Back::Java,
             Standing::InVm(_) => Back::Vm,
             Standing::AtPoll(_, _) | Standing::InNative(_) | Standing::Blocked => {
@@ -70,12 +73,14 @@ impl<'a, N: Name, J: Errand> Mutator<'a, N, J> {
     /// polls. A thread that isn't in native code is refused with its state.
     #[inline(always)]
     pub fn from_native<R: Wait>(&mut self, rt: &R) -> Result<Poll, State>
-        ensures ok { IfOk result (λ said. (back : WayBack) × (self.old.state ≡ IsInNative back) × ComesBack self.new.crossed.body self.new (IsNativeTrans back) said) }
+        ensures ok { IfOk result (λ said. (back : WayBack) × (self.old.state ≡ IsInNative back)
+            × ComesBack self.new.crossed.body self.new (IsNativeTrans back) said) }
         ensures resumed { OnOk result (IsResumed self.new) }
         ensures same { SameThread self.old self.new }
-        ensures err { IfErr result (λ s. (s ≡ self.old.state) × ((back : WayBack) → s ≢ IsInNative back) × (self.new ≡ self.old)) }
+        ensures err { IfErr result (λ s. (s ≡ self.old.state) × ((back : WayBack)
+            → s ≢ IsInNative back) × (self.new ≡ self.old)) }
     {
-        let Standing::InNative(back) = &self.standing else {
+        let Standing::InNative(back) = &self.runner.standing else {
             return Err(self.state());
         };
         let back = *back;
@@ -88,9 +93,10 @@ impl<'a, N: Name, J: Errand> Mutator<'a, N, J> {
         ensures ok { OnOk result ((self.old.state ≡ IsInVm) × (self.new.state ≡ IsBlocked)) }
         ensures given { OnOk result (Gives self.old self.new) }
         ensures same { SameThread self.old self.new }
-        ensures err { IfErr result (λ s. (s ≡ self.old.state) × (s ≢ IsInVm) × (self.new ≡ self.old)) }
+        ensures err { IfErr result (λ s. (s ≡ self.old.state) × (s ≢ IsInVm)
+            × (self.new ≡ self.old)) }
     {
-        let Standing::InVm(_) = &self.standing else {
+        let Standing::InVm(_) = &self.runner.standing else {
             return Err(self.state());
         };
         self.give(rt, Standing::Blocked);
@@ -100,12 +106,14 @@ impl<'a, N: Name, J: Errand> Mutator<'a, N, J> {
     /// Back from a wait: the body comes out of its berth once nobody holds it, without what was told to it, and the thread polls. A
     /// thread that isn't blocked is refused with its state.
     pub fn unblock<R: Wait>(&mut self, rt: &R) -> Result<Poll, State>
-        ensures ok { IfOk result (λ said. (self.old.state ≡ IsBlocked) × ComesBack self.new.crossed.body self.new IsBlockedTrans said) }
+        ensures ok { IfOk result (λ said. (self.old.state ≡ IsBlocked)
+            × ComesBack self.new.crossed.body self.new IsBlockedTrans said) }
         ensures resumed { OnOk result (IsResumed self.new) }
         ensures same { SameThread self.old self.new }
-        ensures err { IfErr result (λ s. (s ≡ self.old.state) × (s ≢ IsBlocked) × (self.new ≡ self.old)) }
+        ensures err { IfErr result (λ s. (s ≡ self.old.state) × (s ≢ IsBlocked)
+            × (self.new ≡ self.old)) }
     {
-        let Standing::Blocked = &self.standing else {
+        let Standing::Blocked = &self.runner.standing else {
             return Err(self.state());
         };
         Ok(self.come_back(rt, Back::Vm))
@@ -114,18 +122,24 @@ impl<'a, N: Name, J: Errand> Mutator<'a, N, J> {
     /// After a poll that answered Stop: the thread stops, serves what it was told, and goes on where its last poll goes on. A thread
     /// that isn't at a poll is refused with its state. Answers the receipts of its first turn and of its last.
     pub fn stop<R: Wait>(&mut self, rt: &R) -> Result<Turn<N>, State>
-        ensures given { IfOk result (λ turn. (before : BodyView) × (self.old.body ≡ Some before) × ((first_of turn.first turn.last).given ≡ moved before BodyAct.Given)) }
-        ensures ok { IfOk result (λ turn. (back : WayBack) × (after : BodyView) × (self.old.state ≡ IsAtPoll back) × Went self.old.place self.old.name BodyAct.Given turn.last.given × IsTurn self.old.place self.old.name turn.last.out turn.finish after × ComesBack after self.new (IsServing back) GoesOn) }
+        ensures given { IfOk result (λ turn. (before : BodyView) × (self.old.body ≡ Some before)
+            × ((first_of turn.first turn.last).given ≡ moved before BodyAct.Given)) }
+        ensures ok { IfOk result (λ turn. (back : WayBack) × (after : BodyView)
+            × (self.old.state ≡ IsAtPoll back)
+            × Went self.old.place self.old.name BodyAct.Given turn.last.given
+            × IsTurn self.old.place self.old.name turn.last.out turn.finish after
+            × ComesBack after self.new (IsServing back) GoesOn) }
         ensures same { SameThread self.old self.new }
-        ensures err { IfErr result (λ s. (s ≡ self.old.state) × ((back : WayBack) → s ≢ IsAtPoll back) × (self.new ≡ self.old)) }
+        ensures err { IfErr result (λ s. (s ≡ self.old.state) × ((back : WayBack)
+            → s ≢ IsAtPoll back) × (self.new ≡ self.old)) }
     {
-        let Standing::AtPoll(back, _) = &self.standing else {
+        let Standing::AtPoll(back, _) = &self.runner.standing else {
             return Err(self.state());
         };
         let back = *back;
-        let body = self.standing.take_body();
+        let body = self.runner.standing.take_body();
         let (body, turn) = served(rt, self.shared, body);
-        self.standing = going_on(back, body);
+        self.runner.standing = going_on(back, body);
         Ok(turn)
     }
 
@@ -139,10 +153,10 @@ impl<'a, N: Name, J: Errand> Mutator<'a, N, J> {
         ensures given { Gives self.old self.new }
         ensures same { SameThread self.old self.new }
     {
-        let body = self.standing.take_body();
-        self.standing = to;
+        let body = self.runner.standing.take_body();
+        self.runner.standing = to;
         let berth = self.shared.berth_of(&body);
-        self.crossed = berth.give(rt, body);
+        self.runner.crossed = berth.give(rt, body);
     }
 
     // The body comes out of its berth, and the thread polls: it goes on where the way back leads, or stops there.
@@ -152,11 +166,12 @@ impl<'a, N: Name, J: Errand> Mutator<'a, N, J> {
         ensures resumed { IsResumed self.new }
         ensures same { SameThread self.old self.new }
     {
-        let berth = self.shared.berth(self.place);
-        let (mut body, resumed) = berth.resume(rt, self.name, self.place);
+        let berth = self.shared.berth(self.runner.place);
+        let (outgoing, resumed) = berth.resume(rt, self.runner.name, self.runner.place);
+        let mut body = outgoing.in_hand(&OwnHand);
         let found = body.poll(self.shared.row());
-        self.crossed = resumed;
-        self.standing = if found == 0 {
+        self.runner.crossed = resumed;
+        self.runner.standing = if found == 0 {
             going_on(back, body)
         } else {
             Standing::AtPoll(back, body)
@@ -165,14 +180,23 @@ impl<'a, N: Name, J: Errand> Mutator<'a, N, J> {
     }
 
     /// The thread ends: it publishes its empty stack, serves what it was told before, and gives its place up. Answers the receipts of
-    /// that and of its Exit. It is refused, with the mutator as it was, where it isn't in Java or in the VM, and where its stack isn't empty. A
-    /// body that came back from serving may have frames that a holder left there; then it is refused in Java, where it served.
+    /// the stops in which it served, of that, and of its Exit. It is refused, with the mutator as it was, where it isn't in Java or in the
+    /// VM, and where its stack isn't empty. A body that came back from serving may have frames that a holder left there; then it is refused
+    /// in Java, where it served.
     pub fn exit<R: Wait>(self, rt: &R) -> Result<Exited<N>, (ExitFault, Mutator<'a, N, J>)>
-        ensures exited { IfOk result (λ r. (r.exit.entry ≡ Entry.Exit self.entry.name) × (is_running self.entry.state ≡ true) × HasNoFrame self.entry.body) }
+        ensures exited { IfOk result (λ r. (r.exit.entry ≡ Entry.Exit self.entry.name)
+            × (is_running self.entry.state ≡ true) × HasNoFrame self.entry.body) }
         ensures vacated { IfOk result (λ r. IsVacated self.entry.place self.entry.name r.vacated) }
         ensures at_once { IfOk result (λ r. IfNone r.served (IsGivenUp self.entry.body r.vacated)) }
-        ensures after { IfOk result (λ r. IfSome r.served (λ turn. IsGivenUpAfter self.entry.place self.entry.name turn.last turn.finish r.vacated)) }
-        ensures refused { IfErr result (λ e. ((e.1 ≡ self.entry) × exit_refused self.entry e.0) ⊎ ((is_running self.entry.state ≡ true) × HasNoFrame self.entry.body × (e.0 ≡ ExitFault.StackNotEmpty) × (e.1.state ≡ IsInJava) × SameThread self.entry e.1 × exit_refused e.1 e.0 × IsKept self.entry.place self.entry.name e.1.crossed e.1.body)) }
+        ensures first { IfOk result (λ r. IfSome r.served (λ turn.
+            HasStopped self.entry.body (first_of turn.first turn.last))) }
+        ensures after { IfOk result (λ r. IfSome r.served (λ turn.
+            IsGivenUpAfter self.entry.place self.entry.name turn.last turn.finish r.vacated)) }
+        ensures refused { IfErr result (λ e. ((e.1 ≡ self.entry) × exit_refused self.entry e.0)
+            ⊎ ((is_running self.entry.state ≡ true) × HasNoFrame self.entry.body
+            × (e.0 ≡ ExitFault.StackNotEmpty) × (e.1.state ≡ IsInJava) × SameThread self.entry e.1
+            × exit_refused e.1 e.0
+            × IsKept self.entry.place self.entry.name e.1.crossed e.1.body)) }
     {
         let state = self.state();
         if !is_running(state) {
@@ -181,26 +205,30 @@ impl<'a, N: Name, J: Errand> Mutator<'a, N, J> {
         if self.depth() != 0 {
             return Err((ExitFault::StackNotEmpty, self));
         }
-        let Mutator {
-            shared,
+        let Mutator { shared, runner } = self;
+        let Runner {
             name,
             place,
+            methods,
             mut standing,
+            seat,
             settled,
             crossed: _,
-        } = self;
+        } = runner;
         let body = standing.take_body();
         match vacate(rt, shared, body) {
             Ok((vacated, served)) => Ok(shared.leave(rt, vacated, served)),
             Err((body, crossed)) => {
-                let back = Mutator {
-                    shared,
+                let runner = Runner {
                     name,
                     place,
+                    methods,
                     standing: Standing::InJava(body),
+                    seat,
                     settled,
                     crossed,
                 };
+                let back = Mutator { shared, runner };
                 Err((ExitFault::StackNotEmpty, back))
             }
         }
@@ -210,8 +238,7 @@ impl<'a, N: Name, J: Errand> Mutator<'a, N, J> {
     fn depth(&self) -> usize
         ensures deep { (b : _) → self.now.body ≡ Some b → result ≡ length b.image.frames }
     {
-        let _ = &self.name;
-        match &self.standing {
+        match &self.runner.standing {
             Standing::InJava(body) => body.depth(),
             Standing::InVm(body) => body.depth(),
             Standing::AtPoll(_, body) => body.depth(),
@@ -220,8 +247,9 @@ impl<'a, N: Name, J: Errand> Mutator<'a, N, J> {
     }
 }
 
-// Publishes an empty stack and gives the place up, after all that was told is served. Answers the receipt of that, and those of the last
-// stop in which it served. The body comes back where it has frames then, with the receipt that it came out to serve.
+// Publishes an empty stack and gives the place up, after all that was told is served. Answers the receipt of that, and those of the
+// stops in which it served: of the first turn of all and of the last. The body comes back where it has frames then, with the receipt that
+// it came out to serve.
 fn vacate<N: Name, J: Errand, R: Wait>(
     rt: &R,
     shared: &Shared<N, J>,
@@ -231,7 +259,10 @@ fn vacate<N: Name, J: Errand, R: Wait>(
     requires empty { body.image.frames ≡ [] }
     ensures vacated { IfOk result (λ r. IsVacated body.seat.place body.name r.0) }
     ensures at_once { IfOk result (λ r. IfNone r.1 (IsPublished body r.0.body)) }
-    ensures after { IfOk result (λ r. IfSome r.1 (λ turn. IsGivenUpAfter body.seat.place body.name turn.last turn.finish r.0)) }
+    ensures first { IfOk result (λ r. IfSome r.1 (λ turn.
+        HasStopped (Some body) (first_of turn.first turn.last))) }
+    ensures after { IfOk result (λ r. IfSome r.1 (λ turn.
+        IsGivenUpAfter body.seat.place body.name turn.last turn.finish r.0)) }
     ensures same { IfErr result (λ b. SameBody body b.0) }
     ensures kept { IfErr result (λ b. IsKept body.seat.place body.name b.1 (Some b.0)) }
     ensures frames { IfErr result (λ b. 0 < length b.0.image.frames) }
@@ -248,7 +279,7 @@ fn vacate<N: Name, J: Errand, R: Wait>(
                     return Err((back, turn.last.out()));
                 }
                 body = back;
-                last = Some(turn);
+                last = Some(turn.behind(last));
             }
         }
     }

@@ -65,13 +65,11 @@ FreesSome serials old new = (more : List Stands) × (new ≡ old ++ more) × Are
 abbrev pub Reclaims : Codes → List Stands → Type 0
 Reclaims c all = (mid : List Stands) × FreesSome c.left c.freed mid × FreesSome c.in_use mid all
 
--- So many methods had a code each, which was replaced, and in the end all codes were tried to be reclaimed: so many were installed and freed, by their receipts.
-pub record IsTally (methods : ℕ) (installed : ℕ) (freed : ℕ) : Type 0 where
+-- So many methods had a code each, which was replaced, and in the end all codes were tried to be reclaimed: these are the receipts of all that were installed and freed.
+pub record IsTally (methods : ℕ) (installed : List Stands) (freed : List Stands) : Type 0 where
   pub begun : Codes
   pub replaced : Codes
-  pub frees : List Stands
   pub installs : InstallsEach methods begun
   pub replaces : ReplacedEach begun replaced
-  pub reclaims : Reclaims replaced frees
-  pub installed_all : installed ≡ length replaced.installed
-  pub freed_all : freed ≡ length frees
+  pub reclaims : Reclaims replaced freed
+  pub installed_all : installed ≡ replaced.installed

@@ -5,7 +5,7 @@ use Rattle.script.specs.declared.code.Op.{Op}
 use Rattle.workers.specs.declared.report.Ending.{Ending}
 use Rattle.workers.specs.declared.report.Ending.TheVariants.{Finished, Overflow, OutOfFuel}
 use Rattle.workers.specs.declared.summary.Line.{Line}
-use Rattle.workers.specs.declared.summary.Summary.{Summary}
+use Rattle.desk.specs.Machine.{Stands}
 use Rattle.workers.specs.Ended.{Reported, IsReport}
 use Rattle.workers.specs.Replacing.{IsTally}
 
@@ -21,11 +21,20 @@ abbrev pub yes_or_no : Bool → List ℕ
 yes_or_no true = codes "yes"
 yes_or_no false = codes "no"
 
-abbrev pub summary_text : Summary → List ℕ
-summary_text s = (codes "threads " ++ decimal (length s.lines.items) ++ codes "\n")
-    ++ flat_map line_text s.lines.items
+-- What contracts see of a summary: what the threads reported and the line of each, whether some frame was compiled, the receipts of the codes that were installed and freed, and the sum of all count words.
+pub record Summed : Type 0 where
+  pub reports : List Reported
+  pub lines : List Line
+  pub compiled : Bool
+  pub installed : List Stands
+  pub freed : List Stands
+  pub counts : ℕ
+
+abbrev pub summary_text : Summed → List ℕ
+summary_text s = (codes "threads " ++ decimal (length s.lines) ++ codes "\n")
+    ++ flat_map line_text s.lines
     ++ (codes "compiled " ++ yes_or_no s.compiled ++ codes "\n")
-    ++ (codes "codes " ++ decimal s.installed ++ codes " freed " ++ decimal s.freed ++ codes "\n")
+    ++ (codes "codes " ++ decimal (length s.installed) ++ codes " freed " ++ decimal (length s.freed) ++ codes "\n")
     ++ (codes "counts " ++ decimal s.counts ++ codes "\n")
 
 -- The line says what the thread reported, no mark of which was refused.
@@ -43,13 +52,12 @@ abbrev pub some_compiled : List Reported → Bool
 some_compiled [] = false
 some_compiled (r ∷ rs) = r.compiled || some_compiled rs
 
--- What a run of that code by so many threads tells: each of them reported and has its line, and some frame was compiled just where one of them reported so; two codes for each method were installed, and no more freed than these, each by its receipt.
-pub record IsSummary (code : List (List Op)) (threads : ℕ) (s : Summary) : Type 0 where
-  pub reports : List Reported
-  pub ran : All (IsReport code) reports
-  pub lines : AreLines 1 reports s.lines.items
-  pub count : length s.lines.items ≡ threads
-  pub compiled : s.compiled ≡ some_compiled reports
+-- What a run of that code by so many threads tells: each of them reported and has its line, and some frame was compiled just where one of them reported so; two codes for each method were installed, and no more freed than these.
+pub record IsSummary (code : List (List Op)) (threads : ℕ) (s : Summed) : Type 0 where
+  pub ran : All (IsReport code) s.reports
+  pub lines : AreLines 1 s.reports s.lines
+  pub count : length s.lines ≡ threads
+  pub compiled : s.compiled ≡ some_compiled s.reports
   pub codes_done : IsTally (length code) s.installed s.freed
-  pub installed : s.installed ≡ 2 * length code
-  pub freed : s.freed ≤ s.installed
+  pub installed : length s.installed ≡ 2 * length code
+  pub freed : length s.freed ≤ length s.installed

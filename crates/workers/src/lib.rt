@@ -14,6 +14,7 @@ mod worker;
 
 pub use fault::RunFault;
 pub use gate::{Gate, OpenGate};
+pub use reclaimer::{Reclaimer, Tally};
 pub use report::{Ending, Report};
 pub use running::run;
 pub use summary::{Line, Summary};

@@ -1,8 +1,7 @@
 //! The codes of a run: what the thread does that installs and reclaims them.
-ghost use Rattle.std.specs.Prelude.{◌≡◌, ◌==◌, ◌≤◌, ◌<◌, ◌+◌, List, IfOk, IfSome, OnOk, length};
+ghost use Rattle.std.specs.Prelude.{◌≡◌, ◌==◌, ◌≤◌, ◌<◌, ◌+◌, IfOk, IfSome, OnOk, length};
 ghost use Rattle.std.specs.List.{filter, list_any};
 ghost use Rattle.poll.specs.Rows.{full_armer};
-ghost use Rattle.desk.specs.Machine.{Stands};
 ghost use Rattle.desk.specs.declared.entries.Entry.{Entry};
 ghost use Rattle.workers.specs.Replacing.{IsInstall, InstallsEach, IsKept, Replaced, ReplacedEach, FreesSome, Reclaims};
 
@@ -18,8 +17,9 @@ use std::marker::Model;
 use std::sync::Wait;
 use thread_list::Shared;
 
-/// Installs codes, takes them out of use and reclaims them. Contracts see the code of each method that is in use, the codes that are
-/// out of use and not freed, and the receipts of those that were installed and freed.
+/// Installs codes, takes them out of use and reclaims them. After each reclaiming the desk forgets its history so far, which nobody
+/// reads here, so no number of codes fills it. Contracts see the code of each method that is in use, the codes that are out of use and
+/// not freed, and the receipts of those that were installed and freed.
 #[derive(Drop)]
 pub struct Reclaimer<'a, N: Name, J: Errand> {
     shared: &'a Shared<N, J>,
@@ -38,11 +38,11 @@ impl<'a, N: Name, J: Errand> Model for Reclaimer<'a, N, J> {
     ghost view = { λ r. record { in_use = r.in_use.items; left = r.left.items; installed = r.installed.items; freed = r.freed.items } };
 }
 
-/// How many codes a run installed and freed, and the sum of all count words at its end.
-#[derive(Clone, Copy, PartialEq, Eq, Debug, Drop)]
-pub struct Tally {
-    pub installed: usize,
-    pub freed: usize,
+/// The receipts of the codes that were installed and freed, and the sum of all count words in the end.
+#[derive(Drop)]
+pub struct Tally<N: Name> {
+    pub installed: Vec<Receipt<N>>,
+    pub freed: Vec<Receipt<N>>,
     pub counts: u64,
 }
 
@@ -78,6 +78,14 @@ impl<'a, N: Name, J: Errand> Reclaimer<'a, N, J> {
         })
     }
 
+    /// How many methods have a code in use.
+    pub fn methods(&self) -> usize
+        ensures { result ≡ length self.now.in_use }
+    {
+        let _ = &self.coordinator;
+        self.in_use.len()
+    }
+
     /// For each method in rising order: installs a code over the one in use, and tries once to reclaim the old one, with the jobs of one
     /// list that are for live threads.
     pub fn replace_each<R: Wait>(&mut self, rt: &R, jobs: Vec<Vec<J>>) -> Result<(), RunFault>
@@ -97,10 +105,10 @@ impl<'a, N: Name, J: Errand> Reclaimer<'a, N, J> {
     }
 
     /// Takes all codes out of use, and reclaims all that are left, without jobs.
-    pub fn finish<R: Wait>(self, rt: &R, alloc: Global) -> Result<Tally, RunFault>
-        ensures installed { IfOk result (λ t. t.installed ≡ length self.entry.installed) }
-        ensures freed { IfOk result (λ t. (frees : List Stands) × Reclaims self.entry frees × (t.freed ≡ length frees)) }
-        ensures few { IfOk result (λ t. t.freed ≤ length self.entry.freed + length self.entry.left + length self.entry.in_use) }
+    pub fn finish<R: Wait>(self, rt: &R, alloc: Global) -> Result<Tally<N>, RunFault>
+        ensures installed { IfOk result (λ t. t.installed.items ≡ self.entry.installed) }
+        ensures freed { IfOk result (λ t. Reclaims self.entry t.freed.items) }
+        ensures few { IfOk result (λ t. length t.freed.items ≤ length self.entry.freed + length self.entry.left + length self.entry.in_use) }
     {
         let Reclaimer {
             shared,
@@ -113,17 +121,17 @@ impl<'a, N: Name, J: Errand> Reclaimer<'a, N, J> {
         for serial in &in_use {
             invalidate(rt, shared, *serial)?;
         }
-        reclaim_all(rt, alloc, &mut coordinator, &left, &mut freed)?;
-        reclaim_all(rt, alloc, &mut coordinator, &in_use, &mut freed)?;
+        reclaim_all(rt, alloc, shared, &mut coordinator, &left, &mut freed)?;
+        reclaim_all(rt, alloc, shared, &mut coordinator, &in_use, &mut freed)?;
         Ok(Tally {
-            installed: installed.len(),
-            freed: freed.len(),
+            installed,
+            freed,
             counts: shared.peek_counts(),
         })
     }
 
-    // Installs a code over that of a method, and tries once to reclaim the old one.
-    fn replace<R: Wait>(&mut self, rt: &R, method: usize, jobs: Vec<J>) -> Result<(), RunFault>
+    /// Installs a code over that of a method, and tries once to reclaim the old one, with these jobs, each for another live thread.
+    pub fn replace<R: Wait>(&mut self, rt: &R, method: usize, jobs: Vec<J>) -> Result<(), RunFault>
         requires { method < length self.old.in_use }
         ensures { OnOk result (Replaced method self.old self.new) }
     {
@@ -133,7 +141,7 @@ impl<'a, N: Name, J: Errand> Reclaimer<'a, N, J> {
         if self.installed.push(receipt).is_err() {
             return Err(RunFault::NoMemory);
         }
-        let reclaimed = reclaim(rt, &mut self.coordinator, old, jobs)?;
+        let reclaimed = reclaim(rt, self.shared, &mut self.coordinator, old, jobs)?;
         self.keep(old, reclaimed)?;
         Ok(())
     }
@@ -207,16 +215,19 @@ fn invalidate<N: Name, J: Errand, R: Wait>(
     }
 }
 
-// Reclaims a code, and answers the receipt of its Free where it is freed.
+// Reclaims a code, and answers the receipt of its Free where it is freed. The desk forgets its history so far.
 fn reclaim<N: Name, J: Errand, R: Wait>(
     rt: &R,
+    shared: &Shared<N, J>,
     coordinator: &mut Coordinator<'_, N, J>,
     serial: u64,
     jobs: Vec<J>,
 ) -> Result<Option<Receipt<N>>, RunFault>
     ensures { IfOk result (λ said. IfSome said (λ r. r.entry ≡ Entry.Free serial)) }
 {
-    match coordinator.reclaim(rt, serial, jobs) {
+    let reclaimed = coordinator.reclaim(rt, serial, jobs);
+    shared.forget(rt);
+    match reclaimed {
         Ok(Reclaimed::Freed(receipt)) => Ok(Some(receipt)),
         Ok(Reclaimed::Used(_) | Reclaimed::Late(_)) => Ok(None),
         Err(refused) => match refused.fault {
@@ -230,6 +241,7 @@ fn reclaim<N: Name, J: Errand, R: Wait>(
 fn reclaim_all<N: Name, J: Errand, R: Wait>(
     rt: &R,
     alloc: Global,
+    shared: &Shared<N, J>,
     coordinator: &mut Coordinator<'_, N, J>,
     serials: &[u64],
     freed: &mut Vec<Receipt<N>>,
@@ -238,7 +250,7 @@ fn reclaim_all<N: Name, J: Errand, R: Wait>(
     ensures few { OnOk result (length freed.new.items ≤ length freed.old.items + length serials.now) }
 {
     for serial in serials {
-        let Some(receipt) = reclaim(rt, coordinator, *serial, Vec::new(alloc))? else {
+        let Some(receipt) = reclaim(rt, shared, coordinator, *serial, Vec::new(alloc))? else {
             continue;
         };
         if freed.push(receipt).is_err() {

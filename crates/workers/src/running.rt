@@ -33,7 +33,7 @@ pub fn run<N: Name + Send, J: Errand + Send, R: Threads + Wait + Sync, G: Gate +
     gate: &G,
     parts: Parts,
     jobs: Vec<Vec<J>>,
-) -> Result<Summary, RunFault>
+) -> Result<Summary<N>, RunFault>
     requires tables { (parts.board ≡ N.board) × (parts.row ≡ N.poll_row) }
     requires jobs { length jobs.items ≡ length code.now }
     requires each { All (λ js. AreForEach J.whom J.asks threads js.items) jobs.items }
@@ -54,7 +54,7 @@ fn run_over<'a, N: Name + Send, J: Errand + Send, R: Threads + Wait + Sync, G: G
     shared: &'a Shared<N, J>,
     armer: Armer,
     jobs: Vec<Vec<J>>,
-) -> Result<Summary, RunFault>
+) -> Result<Summary<N>, RunFault>
     requires armer { armer ≡ full_armer N.poll_row N.board.places }
     requires jobs { length jobs.items ≡ length code.now }
     ensures { IfOk result (IsSummary code.now threads) }
@@ -113,7 +113,7 @@ fn run_all<'a, N: Name + Send, J: Errand + Send, R: Threads + Wait + Sync, G: Ga
     tasks: Vec<Task<'a, N, J, R, G>>,
     reclaimer: Reclaimer<'a, N, J>,
     jobs: Vec<Vec<J>>,
-) -> Result<Summary, RunFault>
+) -> Result<Summary<N>, RunFault>
     requires tasks { All (λ t. t.code ≡ code.now) tasks.items }
     requires codes { InstallsEach (length code.now) reclaimer }
     requires jobs { length jobs.items ≡ length code.now }
@@ -123,7 +123,7 @@ fn run_all<'a, N: Name + Send, J: Errand + Send, R: Threads + Wait + Sync, G: Ga
     thread::scope(
         thread::scope_env(),
         rt,
-        move |scope| -> Result<Summary, RunFault>
+        move |scope| -> Result<Summary<N>, RunFault>
             requires { All (λ t. t.code ≡ code.now) tasks.items × InstallsEach (length code.now) reclaimer × (length jobs.items ≡ length code.now) × (vec_len room ≡ 0) × (vec_len tasks ≤ vec_capacity room) }
             ensures { IfOk result (IsSummary code.entry.now (vec_len tasks.entry)) }
         { run_in(scope, rt, alloc, code, tasks, room, reclaimer, jobs) },
@@ -148,7 +148,7 @@ fn run_in<
     room: Vec<Started<N>>,
     reclaimer: Reclaimer<'a, N, J>,
     jobs: Vec<Vec<J>>,
-) -> Result<Summary, RunFault>
+) -> Result<Summary<N>, RunFault>
     requires tasks { All (λ t. t.code ≡ code.now) tasks.items }
     requires codes { InstallsEach (length code.now) reclaimer }
     requires jobs { length jobs.items ≡ length code.now }
@@ -169,6 +169,7 @@ fn run_in<
         counts,
     } = reclaimer.finish(rt, alloc)?;
     Ok(Summary {
+        reports,
         lines,
         compiled,
         installed,

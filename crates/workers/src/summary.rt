@@ -5,8 +5,10 @@ ghost use Rattle.workers.specs.Summaries.{ending_text, line_text, summary_text, 
 use crate::fault::RunFault;
 use crate::report::{Ending, Report};
 use bodies::Name;
+use desk::Receipt;
 use std::alloc::Global;
 use std::fmt;
+use std::marker::Model;
 
 /// What is told of one thread: its name, how its run ended, and how many marks it made.
 #[derive(Clone, Copy, PartialEq, Eq, Debug, Drop)]
@@ -16,15 +18,74 @@ pub struct Line {
     pub made: u64,
 }
 
-/// What is told of a run: a line for each thread in rising name, whether some frame was compiled, how many codes were installed and
-/// freed, and the sum of all count words. `{}` is the text, each line with a newline.
-#[derive(Debug, Drop)]
-pub struct Summary {
-    pub lines: Vec<Line>,
-    pub compiled: bool,
-    pub installed: usize,
-    pub freed: usize,
-    pub counts: u64,
+/// What a run came to: what each thread reported and its line, in rising name; whether some frame was compiled; the receipts of the
+/// codes that were installed and freed; and the sum of all count words. `{}` is the text, each line with a newline.
+#[derive(Drop)]
+pub struct Summary<N: Name> {
+    pub(crate) reports: Vec<Report<N>>,
+    pub(crate) lines: Vec<Line>,
+    pub(crate) compiled: bool,
+    pub(crate) installed: Vec<Receipt<N>>,
+    pub(crate) freed: Vec<Receipt<N>>,
+    pub(crate) counts: u64,
+}
+
+impl<N: Name> Model for Summary<N> {
+    ghost use Rattle.workers.specs.Summaries.{Summed};
+
+    ghost Value = { Summed };
+
+    ghost view = { λ s. record { reports = s.reports.items; lines = s.lines.items; compiled = s.compiled; installed = s.installed.items; freed = s.freed.items; counts = s.counts } };
+}
+
+impl<N: Name> Summary<N> {
+    /// What each thread reported.
+    pub fn reports(&self) -> &[Report<N>]
+        ensures { result.now ≡ self.now.reports }
+    {
+        let _ = &self.lines;
+        self.reports.as_slice()
+    }
+
+    /// The line of each thread.
+    pub fn lines(&self) -> &[Line]
+        ensures { result.now ≡ self.now.lines }
+    {
+        let _ = &self.reports;
+        self.lines.as_slice()
+    }
+
+    /// Whether some frame was compiled.
+    pub fn compiled(&self) -> bool
+        ensures { result ≡ self.now.compiled }
+    {
+        let _ = &self.reports;
+        self.compiled
+    }
+
+    /// The receipts of the codes that were installed, in order.
+    pub fn installed(&self) -> &[Receipt<N>]
+        ensures { result.now ≡ self.now.installed }
+    {
+        let _ = &self.reports;
+        self.installed.as_slice()
+    }
+
+    /// The receipts of the codes that were freed, in order.
+    pub fn freed(&self) -> &[Receipt<N>]
+        ensures { result.now ≡ self.now.freed }
+    {
+        let _ = &self.reports;
+        self.freed.as_slice()
+    }
+
+    /// The sum of all count words.
+    pub fn counts(&self) -> u64
+        ensures { result ≡ self.now.counts }
+    {
+        let _ = &self.reports;
+        self.counts
+    }
 }
 
 impl fmt::Display for Ending {
@@ -47,7 +108,7 @@ impl fmt::Display for Line {
     }
 }
 
-impl fmt::Display for Summary {
+impl<N: Name> fmt::Display for Summary<N> {
     ghost output = { λ summary. Some (summary_text summary) };
 
     fn fmt<W: fmt::Write>(&self, f: &mut fmt::Formatter<W>) -> fmt::Result {
@@ -58,7 +119,12 @@ impl fmt::Display for Summary {
         }
         let compiled = if self.compiled { "yes" } else { "no" };
         write!(f, "compiled {compiled}\n")?;
-        write!(f, "codes {} freed {}\n", self.installed, self.freed)?;
+        write!(
+            f,
+            "codes {} freed {}\n",
+            self.installed.len(),
+            self.freed.len()
+        )?;
         write!(f, "counts {}\n", self.counts)
     }
 }

@@ -1,69 +1,47 @@
-//! A run of a script whose jobs note what they see.
-ghost use Rattle.std.specs.Prelude.{◌≡◌, ◌≤◌};
-ghost use Rattle.operations.specs.Asks.{reply};
+//! Runs of scripts on threads, and what they come to.
+use crate::tests::expected::expect;
+use crate::tests::watch::Kind;
+use std::test::*;
 
-use crate::tests::seen::Seen;
-use frames::image::Image;
-use operations::Ask;
-use operations::job::{Call, Job};
-use script::{Code, check, read_script};
-use std::alloc::{AllocError, Global};
-use std::marker::Brand;
-use std::sync::{Arc, Wait};
-use std::test::Fail;
-use std::thread::Threads;
-use thread_list::Parts;
-use workers::{Gate, Summary};
+// A method that is called and ticks in a loop, a hundred thousand times.
+const LOOP_OF_TICKS: &[u8] =
+    b"{\"methods\":[[{\"call\":1}],[{\"loop\":100000,\"body\":[\"tick\"]}]]}";
 
-fn code_of(alloc: Global, text: &[u8]) -> Result<Code, Fail> {
-    let Ok(script) = read_script(alloc, text) else {
-        return Err(Fail::from("no script"));
-    };
-    match check(alloc, &script) {
-        Ok(code) => Ok(code),
-        Err(_) => Err(Fail::from("the script is wrong")),
-    }
+// In the loop a thread polls at each back edge: its stack has a frame of each method then.
+const REPLACED: &str = "threads 3
+thread 1 finished 200004
+thread 2 finished 200004
+thread 3 finished 200004
+compiled yes
+codes 4 freed 4
+counts 0
+jobs 2 2 2
+unlike 0
+ticks later yes
+";
+
+// A run that replaced the codes once its threads are joined would find none of them live, and run no job; one that entered a method by
+// the hint of another would show its job a frame with the other's code.
+#[test]
+fn codes_are_replaced_while_threads_run(rt: HostRuntime) -> Result<(), Fail> {
+    expect(&rt, rt.alloc(), Kind::Slowed, 3, LOOP_OF_TICKS, REPLACED)
 }
 
-/// Runs a script on so many threads. The jobs, one for each method and thread, note what they see.
-pub fn run_seen<R: Threads + Wait + Sync, G: Gate + Sync>(
-    rt: &R,
-    alloc: Global,
-    text: &[u8],
-    threads: usize,
-    gate: &G,
-    seen: &Arc<Seen>,
-) -> Result<Summary, Fail>
-    requires { threads ≤ 64 }
-{
-    let code = code_of(alloc, text)?;
-    let methods = code.methods();
-    let Ok(parts) = Parts::new(alloc, threads, methods.saturating_mul(2), methods) else {
-        return Err(Fail::from("no parts"));
-    };
-    let mut jobs = Vec::with_capacity(alloc, methods)?;
-    while jobs.len() < methods {
-        let mut list = Vec::with_capacity(alloc, threads)?;
-        for place in 0..threads {
-            let name = place as u64 + 1;
-            let notes = Arc::try_clone(seen)?;
-            let call: Call = Box::new(
-                alloc,
-                move |image: &Image| -> u64
-                    ensures { result ≡ reply Ask.Depth image.now.frames }
-                {
-                    notes.note(name, image.depth());
-                    image.depth() as u64
-                },
-            )
-            .map_err(|_| AllocError)?;
-            let job = Job::new(name, Ask::Depth, call);
-            list.push_reserved(job);
-        }
-        jobs.push_reserved(list);
-    }
-    match workers::run::<Brand, Job, R, G>(rt, alloc, &code, threads, gate, parts, jobs) {
-        Ok(summary) => Ok(summary),
-        Err(_) => Err(Fail::from("a fault of the run")),
-    }
+const MET: &str = "threads 4
+thread 1 finished 3
+thread 2 finished 3
+thread 3 finished 3
+thread 4 finished 3
+compiled yes
+codes 2 freed 2
+counts 0
+ticks 4
+missed 0
+";
+
+// Threads that ran one after the other, or two and then two, would miss each other.
+#[test]
+fn four_ticks_meet(rt: HostRuntime) -> Result<(), Fail> {
+    let script = b"{\"methods\":[[\"tick\"]]}".as_slice();
+    expect(&rt, rt.alloc(), Kind::Meeting(4), 4, script, MET)
 }

@@ -19,4 +19,4 @@ pub returns-in-Err-clause-refused : goal.returns-in-Err-clause-refused
 returns-in-Err-clause-refused g c =
     let d = c.deref_mut.result.now in
     let fits : Request → Bool = λ r. jobs_fit g.J.Errand.whom g.J.Errand.asks r c.args.jobs.items in
-    (at d, d.book, d.keeper.moment, subst (λ r. reclaim_refused (at d) c.args.serial r fits d.book d.keeper.moment c.in-Err.refused.fault) (search rules) c.in-Err.ensures.err.1)
+    (at d, d.book, d.keeper.moment, subst (λ r. reclaim_refused (at d) c.args.serial r fits d.book d.keeper.moment c.in-Err.refused.fault) (search rules) c.in-Err.ensures.refused)

@@ -3,4 +3,4 @@ use Rattle.coordinator.proofs.coordinator.Coordinator.drive_handshake.Given as g
 
 abbrev pub invariant-loop : goal.invariant-loop
 invariant-loop g l =
-    (goal.iterator-loop g).can_next l.iterator' × (goal.iterator-loop g).is_finite l.iterator' × (l.self.held ≡ [])
+    (goal.iterator-loop g).can_next l.iterator' × (goal.iterator-loop g).is_finite l.iterator' × (l.self.held ≡ []) × (l.self.armer ≡ l.fn.self.armer)

@@ -5,7 +5,7 @@ use Rattle.thread_list.specs.Moves.{IsCleared}
 use Rattle.held_threads.specs.Held.{AreEach}
 use Rattle.coordinator.specs.Holding.{Holding}
 use Rattle.held_threads.proofs.Each.{each_both}
-use Rattle.coordinator.proofs.Published.{cleared_census}
+use Rattle.coordinator.proofs.Published.{cleared_census, operated_census}
 use Rattle.coordinator.proofs.coordinator.Coordinator.operate.Goals as goal
 
 pub returns-clause-counted : goal.returns-clause-counted
@@ -19,3 +19,7 @@ returns-clause-held g c =
     let i = c.self.inside in
     let published : AreEach IsPublished c.args.self.now.held i.bodies = subst (λ (v : Holding). AreEach IsPublished c.args.self.now.held v.held) (sym c.self.view_is) c.in_ok-number.ensures.published in
     each_both IsPublished (IsCleared c.in_ok-number.number) c.args.self.now.held i.bodies c.clear_all.new.self published c.clear_all.ensures
+
+pub returns-clause-before : goal.returns-clause-before
+returns-clause-before g c =
+    operated_census c.in_ok-number.number c.args.self.now.held c.clear_all.new.self c.in_ok-number.list.items (returns-clause-held g c) (returns-clause-counted g c)

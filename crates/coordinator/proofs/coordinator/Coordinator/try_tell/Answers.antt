@@ -1,12 +1,12 @@
 use Rattle.std.proofs.Common.{subst}
 use Rattle.desk.specs.Fields.{at}
 use Rattle.coordinator.specs.Holding.{Holding}
-use Rattle.coordinator.specs.Refused.{tell_said}
+use Rattle.coordinator.specs.Refused.{IsFound, tell_said}
 use Rattle.coordinator.proofs.Staying.{staying}
 use Rattle.coordinator.proofs.coordinator.Coordinator.try_tell.Goals as goal
 
-pub returns-in-Err-clause-said : goal.returns-in-Err-clause-said
-returns-in-Err-clause-said g c =
+pub returns-in-Said-clause-said : goal.returns-in-Said-clause-said
+returns-in-Said-clause-said g c =
     let s = at c.deref.result.now in
-    subst (λ (v : Holding). tell_said c.args.name v.armer v.armer c.in-Err.said) c.self.view_is
-    (staying s c.args.name c.self.inside.armer.seen c.in-Err.said c.in-Err.ensures.said)
+    subst (λ (v : Holding). tell_said c.args.name v.armer v.armer c.in-Said.said) c.self.view_is
+    (staying s c.args.name c.self.inside.armer.seen c.in-Said.said (subst (λ f. IsFound s c.args.name c.self.inside.armer.seen f) c.in-Said.is c.look_up.ensures))

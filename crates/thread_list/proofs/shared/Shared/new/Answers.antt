@@ -1,15 +1,12 @@
-use Rattle.std.proofs.Common.{◌≡◌, rules, subst}
-use Rattle.board.specs.Boards.{BoardId}
-use Rattle.poll.specs.Rows.{RowId}
-use Rattle.thread_list.specs.Sized.{AreSeatsOf, ArePollersOf, seats_in, pollers_in}
+use Rattle.std.proofs.Common.{◌≡◌, ◌∙◌, ap, length, rules, subst, sym, ℕ}
+use Rattle.berths.specs.Berths.{Berthing}
+use Rattle.thread_list.specs.Sharing.{AreInOrder}
+use Rattle.thread_list.proofs.Paired.{long}
 use Rattle.thread_list.proofs.shared.Shared.new.Goals as goal
 
-pub berths_of-berths-requires-clause-seats : goal.berths_of-berths-requires-clause-seats
-berths_of-berths-requires-clause-seats g c =
-    let same : c.parts.inside.board ≡ g.N.Name.board = search rules in
-    subst (λ (b : BoardId). AreSeatsOf b (seats_in c.parts.inside.seats.items)) same c.parts.invariant.2
-
-pub berths_of-berths-requires-clause-pollers : goal.berths_of-berths-requires-clause-pollers
-berths_of-berths-requires-clause-pollers g c =
-    let same : c.parts.inside.row ≡ g.N.Name.poll_row = search rules in
-    subst (λ (b : RowId). ArePollersOf b (pollers_in c.parts.inside.seats.items)) same c.parts.invariant.3
+pub invariant_of-shared : goal.invariant_of-shared
+invariant_of-shared g c =
+    let p = c.in_ok-board.ensures in
+    let placed : Berthing g.row.N.Denot → ℕ = λ r. r.place in
+    let many : length c.berths_of.result.items ≡ g.N.Name.board.places = ap length c.berths_of.ensures ∙ long placed _ ∙ p.rooms in
+    (p.words.0, p.words.1, many, subst AreInOrder (sym c.berths_of.ensures) p.order, p.slots, search rules)

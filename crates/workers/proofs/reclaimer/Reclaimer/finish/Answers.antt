@@ -9,11 +9,7 @@ returns-clause-freed g c =
     let freed : c.self.inside.freed.items ≡ c.args.self.freed = ap (λ (s : Codes). s.freed) c.self.view_is in
     let (one, first, is_one) = c.in_ok-reclaim_all.ensures.some in
     let (two, second, is_two) = c.in_ok-reclaim_all-2.ensures.some in (
-      c.reclaim_all-2.new.freed.items,
-      (
-        c.reclaim_all.new.freed.items,
-        (one, search (rules, freed), subst (λ (ss : List ℕ). AreFreed ss one) left is_one),
-        (two, second, subst (λ (ss : List ℕ). AreFreed ss two) in_use is_two),
-      ),
-      search rules,
+      c.reclaim_all.new.freed.items,
+      (one, search (rules, freed), subst (λ (ss : List ℕ). AreFreed ss one) left is_one),
+      (two, second, subst (λ (ss : List ℕ). AreFreed ss two) in_use is_two),
     )

@@ -1,5 +1,0 @@
-use Rattle.coordinator.specs.Driving.{HoldsOn}
-use Rattle.coordinator.proofs.coordinator.Coordinator.hold_all.Given as goal
-
-abbrev pub invariant-loop-at : goal.invariant-loop-at
-invariant-loop-at g l = HoldsOn l.fn.self l.self

@@ -1,0 +1,36 @@
+-- The steps of a reclaiming before its weighing.
+use Rattle.std.specs.Prelude.{◌≡◌, ◌⊎◌, ℕ, true, false, Option, Some, None}
+use Rattle.frames.specs.BoardViews.{went_round}
+use Rattle.operations.specs.declared.Request.{Request}
+use Rattle.desk.specs.declared.entries.Entry.TheVariants.{Ask, Close}
+use Rattle.desk.specs.Fields.{DeskSeen}
+use Rattle.desk.specs.Machine.{Stands}
+
+-- The request, where there is one, waits under the number.
+abbrev pub IsAskOf : Option Request → Option (ℕ × Stands) → Type 0
+IsAskOf request None = request ≡ None
+IsAskOf None (Some asked) = true ≡ false
+IsAskOf (Some request) (Some asked) = asked.1.entry ≡ Ask asked.0 request
+
+-- The first step: the desk before it and behind it, and the Ask where there is a handshake.
+pub record Beginning : Type 0 where
+  pub before : DeskSeen
+  pub after : DeskSeen
+  pub asked : Option (ℕ × Stands)
+
+-- It made a round, and the request waits.
+abbrev pub Begins : Option Request → Beginning → Type 0
+Begins request b = (b.after.keeper ≡ went_round b.before.keeper b.before.keeper.moment) × IsAskOf request b.asked
+
+-- The same, and the handshake is closed.
+pub record Shaking : Type 0 where
+  pub begun : Beginning
+  pub closed : Option Stands
+
+-- What was asked is closed.
+abbrev pub IsClosed : Option (ℕ × Stands) → Option Stands → Type 0
+IsClosed asked closed
+    = ((asked ≡ None) × (closed ≡ None)) ⊎ ((a : ℕ × Stands) × (r : Stands) × (asked ≡ Some a) × (closed ≡ Some r) × (r.entry ≡ Close a.0))
+
+abbrev pub Shakes : Option Request → Shaking → Type 0
+Shakes request s = Begins request s.begun × IsClosed s.begun.asked s.closed

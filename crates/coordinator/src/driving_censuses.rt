@@ -1,0 +1,186 @@
+//! Holding all live threads, and operating and closing the open census over them.
+ghost use Rattle.std.specs.Prelude.{◌≡◌, ◌<◌, [], false, IfOk, IfErr, OnOk, OnErr, IfSome, IfNone};
+ghost use Rattle.bodies.specs.Census.{IsCensus};
+ghost use Rattle.operations.specs.declared.Kind.TheVariants as kind;
+ghost use Rattle.desk.specs.declared.entries.Entry.{Entry};
+ghost use Rattle.desk.specs.Machine.{State as DeskState};
+ghost use Rattle.held_threads.specs.Held.{is_held};
+ghost use Rattle.coordinator.specs.Holding.{ArmsOn};
+ghost use Rattle.coordinator.specs.Driving.{number_of, WasOldest, IsWorked, IsListed, IsCounted, HoldsOn, LacksList};
+
+use crate::closed::Closed;
+use crate::coordinator::Coordinator;
+use crate::driving::put_back;
+use crate::faults::{DriveFault, Driven, OperateFault};
+use crate::looks::Looks;
+use bodies::{Name, census_of};
+use desk::{Live, Receipt};
+use operations::Kind;
+use operations::job::Errand;
+use std::sync::Wait;
+use std::{hint, thread};
+
+// How often a census looks into berths for bodies that aren't there before it sleeps.
+const LOOKS: u32 = 128;
+
+// After how many of these for one thread it yields between them, where it pauses before: that thread may wait for this very processor,
+// and each that has stopped leaves its own.
+const QUICK: u32 = 4;
+
+const PAUSE: u32 = 16;
+
+fn pause() {
+    for _ in 0..PAUSE {
+        hint::spin_loop();
+    }
+}
+
+/// How the coordinator waits for a body that isn't in its berth: it looks for it as often as looks are left, or sleeps until it is there.
+#[derive(Drop)]
+pub enum Waiting {
+    Looking(Looks),
+    Asleep,
+}
+
+impl<'a, N: Name, J: Errand> Coordinator<'a, N, J> {
+    // Holds all live threads, operates the open census over them, brings them back and closes it.
+    pub(crate) fn drive_census<R: Wait>(
+        &mut self,
+        rt: &R,
+    ) -> Result<(Driven, Receipt<N>), DriveFault>
+        ensures closed { IfOk result (λ r. r.1.entry ≡ Entry.Close (number_of r.0)) }
+        ensures worked { IfOk result (λ r. IsWorked r.0) }
+        ensures listed { IfOk result (λ r. IsListed r.0) }
+        ensures free { OnOk result ((self.new.held ≡ []) × (self.new.operated ≡ false)) }
+        ensures refused { IfErr result (λ e. e ≡ DriveFault.NoMemory) }
+        ensures lacks { OnErr result ((s : DeskState) × LacksList s self.new.held) }
+        ensures holds { OnErr result (HoldsOn self.old self.new) }
+        ensures arms { ArmsOn self.old.armer self.new.armer }
+    {
+        let Some(list) = self.counted(rt) else {
+            return Err(DriveFault::NoMemory);
+        };
+        let wanted = put_back(rt, self.shared, &mut self.bodies, self.operated);
+        let closed = self.close_census(rt, wanted);
+        Ok(closed.driven(Some(list)))
+    }
+
+    // Closes the open census, and wakes those that wait at the berths of these places.
+    fn close_census<R: Wait>(&mut self, rt: &R, wanted: u64) -> Closed<N>
+        requires free { self.old.held ≡ [] }
+        ensures closed { (result.done.entry ≡ Entry.Close result.number)
+            × WasOldest kind.Census result.number × (result.kind ≡ kind.Census) }
+        ensures free { (self.new.held ≡ []) × (self.new.operated ≡ false) }
+        ensures armer { self.new.armer ≡ self.old.armer }
+    {
+        let closed = self.close_kind(rt, Kind::Census);
+        self.wake(wanted);
+        match closed {
+            Some(closed) => closed,
+            None => self.close_again(rt),
+        }
+    }
+
+    // Closes the open census after a try that failed: other threads run before each further one.
+    fn close_again<R: Wait>(&mut self, rt: &R) -> Closed<N>
+        requires free { self.old.held ≡ [] }
+        ensures closed { (result.done.entry ≡ Entry.Close result.number)
+            × WasOldest kind.Census result.number × (result.kind ≡ kind.Census) }
+        ensures free { (self.new.held ≡ []) × (self.new.operated ≡ false) }
+        ensures armer { self.new.armer ≡ self.old.armer }
+    {
+        for _ in rt.forever() {
+            thread::yield_now();
+            if let Some(closed) = self.close_kind(rt, Kind::Census) {
+                return closed;
+            }
+        }
+        unreachable!()
+    }
+
+    // Holds all live threads and operates the open census over them: mostly they are those that telling listed. None where there is no
+    // memory for its list.
+    fn counted<R: Wait>(&mut self, rt: &R) -> Option<Vec<(u64, u32)>>
+        ensures counted { IfSome result (λ list. IsCounted list.items) }
+        ensures lacks { IfNone result ((s : DeskState) × LacksList s self.new.held) }
+        ensures holds { IfNone result (HoldsOn self.old self.new) }
+        ensures arms { ArmsOn self.old.armer self.new.armer }
+    {
+        self.hold_listed(rt, Waiting::Looking(Looks::new(LOOKS)));
+        for _ in rt.forever() {
+            match self.operate(rt) {
+                Ok((_, list, _)) => return Some(list),
+                Err(OperateFault::NoMemory) => return None,
+                Err(OperateFault::Refused(desk::OperateFault::AlreadyDone)) => {
+                    return self.list_again();
+                }
+                Err(OperateFault::Refused(_)) => self.hold_all(rt),
+            }
+        }
+        unreachable!()
+    }
+
+    // The list of the operated census, over the threads that are still held.
+    fn list_again(&self) -> Option<Vec<(u64, u32)>>
+        ensures { IfSome result (λ list. IsCensus self.now.held list.items) }
+    {
+        census_of(self.alloc, self.bodies.as_slice()).ok()
+    }
+
+    // Holds each thread that is due.
+    fn hold_all<R: Wait>(&mut self, rt: &R)
+        ensures { HoldsOn self.old self.new }
+    {
+        self.list_due(rt, false);
+        self.hold_listed(rt, Waiting::Asleep);
+    }
+
+    // Holds the threads that are listed. One that exited before it was told doesn't come.
+    fn hold_listed<R: Wait>(&mut self, rt: &R, waiting: Waiting)
+        ensures { HoldsOn self.old self.new }
+    {
+        let mut waiting = waiting;
+        for at in 0..self.places {
+            if at >= self.due.len() {
+                return;
+            }
+            let who = self.due[at];
+            self.hold_due(rt, who, &mut waiting);
+        }
+    }
+
+    // Takes the body of a thread out of its berth, where it isn't held.
+    fn hold_due<R: Wait>(&mut self, rt: &R, due: Live, waiting: &mut Waiting)
+        ensures { HoldsOn self.old self.new }
+    {
+        if due.place >= self.places || self.bodies.has(due.place) {
+            return;
+        }
+        match waiting {
+            Waiting::Looking(looks) => self.look_for(rt, due, looks),
+            Waiting::Asleep => {
+                let _receipt = self.bodies.hold_soon(rt, self.shared, due.name, due.place);
+            }
+        }
+    }
+
+    // Takes the body of a thread out of its berth as soon as it is there: looks for it as often as looks are left.
+    fn look_for<R: Wait>(&mut self, rt: &R, due: Live, looks: &mut Looks)
+        requires place { due.place < N.board.places }
+        requires apart { is_held due.place self.old.held ≡ false }
+        ensures { HoldsOn self.old self.new }
+    {
+        for made in 0..looks.up_to(LOOKS) {
+            if self.hold_here(rt, due.name, due.place).is_ok() {
+                looks.spend(made);
+                return;
+            }
+            if made < QUICK {
+                pause();
+            } else {
+                thread::yield_now();
+            }
+        }
+        looks.end();
+    }
+}

@@ -1,0 +1,187 @@
+//! Serving the targets of open handshakes, one at a time, until the oldest is closed.
+ghost use Rattle.std.specs.Prelude.{◌≡◌, ◌⊎◌, ◌<◌, [], false, IfOk, IfErr};
+ghost use Rattle.desk.specs.declared.entries.Entry.{Entry};
+ghost use Rattle.coordinator.specs.Driving.{number_of, IsWorked, IsListed};
+ghost use Rattle.held_threads.specs.Brought.{IsAttended};
+ghost use Rattle.berths.specs.Berths.{acted};
+
+use crate::all_told::AllTold;
+use crate::coordinator::Coordinator;
+use crate::faults::Driven;
+use crate::looks::Looks;
+use berths::{BerthAct, BerthReceipt};
+use bodies::Name;
+use desk::{Desk, Live, Progress, Receipt};
+use held_threads::{Brought, Served};
+use operations::Kind;
+use operations::job::Errand;
+use std::hint;
+use std::sync::Wait;
+
+// How often the passes of a `drive` look at poll words without a lock before they sleep.
+const SPINS: u32 = 500;
+
+// How often of these for one thread, which is longer than a thread takes to its next poll: one that didn't come there may wait for
+// this very processor. It doesn't yield instead: a thread that has served itself may run on there for its slice.
+const PATIENCE: u32 = 250;
+
+/// The passes over the targets that are due, once all are told: the first over those that telling listed, each further one over those
+/// that are due for the oldest open request.
+#[derive(Drop)]
+pub struct Passes {
+    told: AllTold,
+    looks: Looks,
+    is_first: bool,
+}
+
+impl Passes {
+    pub fn new(told: AllTold) -> Passes {
+        Passes {
+            told,
+            looks: Looks::new(SPINS),
+            is_first: true,
+        }
+    }
+}
+
+// The number of the oldest open request where the thread of the name is due for that.
+fn awaited_of<N: Name, J: Errand>(desk: &Desk<N, J>, name: u64) -> Option<u64> {
+    if !is_awaited(desk, name) {
+        return None;
+    }
+    match desk.progress(name, u64::MAX) {
+        Progress::Undone(number) => Some(number),
+        Progress::Done | Progress::NotTold => None,
+    }
+}
+
+// Whether the thread of the name is due for the oldest open request.
+fn is_awaited<N: Name, J: Errand>(desk: &Desk<N, J>, name: u64) -> bool {
+    match desk.next_awaited(name.saturating_sub(1)) {
+        Some(first) => first.name == name,
+        None => false,
+    }
+}
+
+impl<'a, N: Name, J: Errand> Coordinator<'a, N, J> {
+    // Serves the targets, pass by pass, until the oldest open handshake is closed.
+    pub(crate) fn drive_handshake<R: Wait>(&mut self, rt: &R, told: AllTold) -> (Driven, Receipt<N>)
+        ensures closed { result.1.entry ≡ Entry.Close (number_of result.0) }
+        ensures worked { IsWorked result.0 }
+        ensures listed { IsListed result.0 }
+        ensures free { (self.new.held ≡ []) × (self.new.operated ≡ false) }
+        ensures armer { self.new.armer ≡ self.old.armer }
+    {
+        self.release_all(rt);
+        let mut passes = Passes::new(told);
+        for _ in rt.forever() {
+            self.serve_pass(rt, &mut passes);
+            if let Some(closed) = self.close_kind(rt, Kind::Handshake) {
+                return closed.driven(None);
+            }
+        }
+        unreachable!()
+    }
+
+    // Makes a pass: serves each target that is due, in the order of their names.
+    pub(crate) fn serve_pass<R: Wait>(&mut self, rt: &R, passes: &mut Passes)
+        ensures { self.new ≡ self.old }
+    {
+        if !passes.is_first {
+            self.list_due(rt, true);
+        }
+        self.serve_listed(rt, passes);
+        passes.is_first = false;
+    }
+
+    fn serve_listed<R: Wait>(&self, rt: &R, passes: &mut Passes) {
+        for who in self.due.as_slice() {
+            self.serve_due(rt, passes, *who);
+        }
+    }
+
+    // Serves a target at once where its body is in its berth, and else waits for it.
+    #[inline(always)]
+    fn serve_due<R: Wait>(&self, rt: &R, passes: &mut Passes, who: Live) {
+        if who.place >= self.places {
+            return;
+        }
+        let is_out = (self.out >> (who.place % 64)) & 1 == 1;
+        if is_out || !self.attend(rt, passes.told, who) {
+            self.serve_later(rt, passes, who);
+        }
+    }
+
+    // Waits for a target whose body isn't in its berth: without a lock as far as the looks that are left go, since a lock that it took
+    // then the thread would wait for, and then, where the oldest open request is of it, asleep until its body is there. A target that
+    // comes for what it was told serves itself, and is waited for only in a further pass: what another runs until then may wait for
+    // those that come after it.
+    #[inline(never)]
+    fn serve_later<R: Wait>(&self, rt: &R, passes: &mut Passes, who: Live)
+        requires { who.place < N.board.places }
+    {
+        if self.comes(who.place, &mut passes.looks) || self.attend(rt, passes.told, who) {
+            return;
+        }
+        let Some(number) = self.awaited(rt, who.name) else {
+            return;
+        };
+        if self.shared.berth(who.place).wait_for(rt, who.name, number) {
+            let _ = self.attend(rt, passes.told, who);
+        } else if !passes.is_first {
+            self.shared.wait_finished(rt, who.name);
+        }
+    }
+
+    // Whether nothing is armed at the place any more: looks as often as patience and the looks that are left go, and uses up all where
+    // something is armed still.
+    fn comes(&self, place: usize, looks: &mut Looks) -> bool {
+        for made in 0..looks.up_to(PATIENCE) {
+            if self.shared.row().peek(place) == 0 {
+                looks.spend(made);
+                return true;
+            }
+            hint::spin_loop();
+        }
+        looks.end();
+        false
+    }
+
+    // The number of the oldest open request where the thread of the name is due for that.
+    fn awaited<R: Wait>(&self, rt: &R, name: u64) -> Option<u64> {
+        let desk = self.shared.desk().lock(rt);
+        awaited_of(&desk, name)
+    }
+
+    // Serves a target where its body is in its berth. Answers whether it was there: without a job it stays, since its thread has served
+    // itself.
+    #[inline(always)]
+    fn attend<R: Wait>(&self, rt: &R, told: AllTold, due: Live) -> bool
+        requires { due.place < N.board.places }
+    {
+        match self.serve_at(rt, told, due) {
+            Ok(_attended) => true,
+            Err(left) => left.act() == BerthAct::NoJob,
+        }
+    }
+
+    // Takes the body of a target out of its berth with its oldest job, serves all its jobs in order, and brings it back; the error is the
+    // receipt that it isn't there, or has no job.
+    #[inline(always)]
+    fn serve_at<R: Wait>(
+        &self,
+        rt: &R,
+        told: AllTold,
+        due: Live,
+    ) -> Result<Brought<N>, BerthReceipt<N>>
+        requires { due.place < N.board.places }
+        ensures attended { IfOk result
+            (IsAttended J.number J.whom J.asks J.may_answer due.place due.name) }
+        ensures left { IfErr result (λ r. (r ≡ acted due.place due.name BerthAct.Absent)
+            ⊎ (r ≡ acted due.place due.name BerthAct.NoJob)) }
+    {
+        let _ = told;
+        let served = Served::take(rt, self.shared, due.name, due.place)?;
+        Ok(served.bring_back(rt, self.shared))
+    }
+}

@@ -1,0 +1,168 @@
+//! The steps of a reclaiming before its weighing, as values: only its step makes each, and the next takes it. So the code is weighed behind
+//! the Close of the handshake, and the handshake is worked on behind the round.
+ghost use Rattle.std.specs.Prelude.{◌≡◌, ◌≢◌, true, false, None, Some, IfOk, IfErr, IfSome};
+ghost use Rattle.desk.specs.declared.entries.Entry.{Entry};
+ghost use Rattle.desk.specs.Fields.{at};
+ghost use Rattle.desk.specs.JobsFit.{jobs_fit};
+ghost use Rattle.desk.specs.Refusals.{reclaim_refused};
+ghost use Rattle.coordinator.specs.Reclaiming.{IsReclaimed};
+ghost use Rattle.coordinator.specs.Rounds.{Begins, IsClosed};
+
+use crate::faults::Reclaimed;
+use crate::reclaiming::weigh_and_free;
+use board::Board;
+use bodies::Name;
+use desk::{Desk, NotReclaimed, Receipt};
+use operations::Request;
+use operations::job::Errand;
+use std::marker::Model;
+use std::snapshot::Snapshot;
+
+/// The first step of a reclaiming: a round, and the Ask of its handshake where it has one. It isn't `Drop`: the handshake is worked on.
+pub struct Begun<N: Name, J: Errand> {
+    before: Snapshot<Desk<N, J>>,
+    after: Snapshot<Desk<N, J>>,
+    asked: Option<(u64, Receipt<N>)>,
+}
+
+impl<N: Name, J: Errand> Model for Begun<N, J> {
+    ghost use Rattle.std.specs.Prelude.{◌≡◌};
+    ghost use Rattle.frames.specs.BoardViews.{went_round};
+    ghost use Rattle.coordinator.specs.Rounds.{Beginning};
+
+    ghost Value = { Beginning };
+
+    ghost view = { λ b.
+        record { before = b.before.value; after = b.after.value; asked = b.asked } };
+
+    ghost invariant = { λ b.
+        b.after.value.keeper ≡ went_round b.before.value.keeper b.before.value.keeper.moment };
+}
+
+/// The same once the handshake is closed, where there is one, with the receipt of its Close.
+pub struct Shaken<N: Name, J: Errand> {
+    begun: Begun<N, J>,
+    closed: Option<Receipt<N>>,
+}
+
+impl<N: Name, J: Errand> Model for Shaken<N, J> {
+    ghost use Rattle.coordinator.specs.Rounds.{Shaking, IsClosed};
+
+    ghost Value = { Shaking };
+
+    ghost view = { λ s. record { begun = s.begun; closed = s.closed } };
+
+    ghost invariant = { λ s. IsClosed s.begun.asked s.closed };
+}
+
+impl<N: Name, J: Errand> Begun<N, J> {
+    /// Makes the step.
+    pub fn begin(
+        desk: &mut Desk<N, J>,
+        board: &Board,
+        serial: u64,
+        request: Option<Request>,
+        jobs: Vec<J>,
+    ) -> Result<Begun<N, J>, NotReclaimed<J>>
+        requires board { board.now ≡ N.board }
+        ensures step { IfOk result (λ b. (b.before ≡ desk.old) × (b.after ≡ desk.new)) }
+        ensures begins { IfOk result (Begins request) }
+        ensures refused { IfErr result (λ e.
+            reclaim_refused (at desk.old) serial request (λ asked.
+            jobs_fit J.whom J.asks asked jobs.items) desk.old.book desk.old.keeper.moment e.fault) }
+        ensures handed_back { IfErr result (λ e. e.jobs ≡ jobs) }
+    {
+        let before = Snapshot::of(desk);
+        let asked = match desk.begin_reclaim(board, serial, request, jobs) {
+            Ok(asked) => asked,
+            Err(refused) => return Err(refused),
+        };
+        let after = Snapshot::of(desk);
+        Ok(Begun {
+            before,
+            after,
+            asked,
+        })
+    }
+
+    // Whether the handshake has this number.
+    fn asked_for(&self, number: u64) -> bool
+        ensures { result ≡ true → (asked : _) × (self.now.asked ≡ Some asked) × (asked.0 ≡ number) }
+    {
+        match &self.asked {
+            Some((asked, _)) => *asked == number,
+            None => false,
+        }
+    }
+
+    /// Whether there is no handshake.
+    pub fn is_alone(&self) -> bool
+        ensures yes { result ≡ true → self.now.asked ≡ None }
+        ensures no { result ≡ false → self.now.asked ≢ None }
+    {
+        match &self.asked {
+            Some(_) => false,
+            None => true,
+        }
+    }
+
+    /// Goes on where there is no handshake.
+    pub fn alone(self) -> Shaken<N, J>
+        requires { self.asked ≡ None }
+        ensures begun { result.begun ≡ self }
+        ensures closed { IsClosed result.begun.asked result.closed }
+    {
+        Shaken {
+            begun: self,
+            closed: None,
+        }
+    }
+
+    /// Goes on behind the Close of its handshake; that of another leaves it as it is.
+    pub fn shaken(self, number: u64, receipt: Receipt<N>) -> Result<Shaken<N, J>, Begun<N, J>>
+        requires closed { receipt.entry ≡ Entry.Close number }
+        ensures ok { IfOk result (λ s. (s.begun ≡ self) × IsClosed s.begun.asked s.closed) }
+        ensures err { IfErr result (λ b. b ≡ self) }
+    {
+        if !self.asked_for(number) {
+            return Err(self);
+        }
+        Ok(Shaken {
+            begun: self,
+            closed: Some(receipt),
+        })
+    }
+}
+
+impl<N: Name, J: Errand> Shaken<N, J> {
+    /// Looks at each place and weighs the code, and where no activation stands frees it. None where it isn't a code that can be weighed.
+    pub fn weigh(
+        &self,
+        desk: &mut Desk<N, J>,
+        board: &Board,
+        serial: u64,
+        places: usize,
+    ) -> Option<Reclaimed<N>>
+        requires board { board.now ≡ N.board }
+        requires places { places ≡ N.board.places }
+        ensures { IfSome result (IsReclaimed N.board.places serial) }
+    {
+        let Ok(()) = desk.look_at_all(board, serial, places) else {
+            return None;
+        };
+        weigh_and_free(desk, board, serial)
+    }
+
+    /// What the weighing found, at the end.
+    pub fn end(self, said: Reclaimed<N>) -> Reclaimed<N>
+        ensures { result ≡ said }
+    {
+        let Shaken { begun, closed: _ } = self;
+        let Begun {
+            before: _,
+            after: _,
+            asked: _,
+        } = begun;
+        said
+    }
+}

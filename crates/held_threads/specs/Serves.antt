@@ -1,0 +1,56 @@
+-- What serving a body does.
+use Rattle.std.specs.Prelude.{◌≡◌, ◌<◌, ℕ, List, [], ◌∷◌, Option, Some, None}
+use Rattle.frames.specs.ImageView.{ImageView}
+use Rattle.bodies.specs.Bodies.{BodyView, IsPublished}
+use Rattle.operations.specs.declared.Ask.{Ask}
+use Rattle.operations.specs.Asks.{reply}
+use Rattle.desk.specs.declared.entries.Entry.TheVariants.{Finish}
+use Rattle.desk.specs.Machine.{Stands}
+use Rattle.berths.specs.Berths.{Moved}
+use Rattle.thread_list.specs.Moves.{IsCleared}
+
+-- The body is published, the job of its thread is called on it and answers by its ask, that is entered, and the job's operation is
+-- cleared for the body.
+abbrev pub IsServe : {J : Type 0} → (J → ℕ) → (J → ℕ) → (J → Ask) → (J → ImageView → ℕ → Type 0) → J → BodyView → BodyView → Stands → Type 0
+IsServe number whom asks may_answer job old new done
+    = (whom job ≡ old.name) × (0 < number job) × (done.entry ≡ Finish (number job) old.name (reply (asks job) old.image.frames))
+    × ((published : BodyView) × IsPublished old published × may_answer job published.image (reply (asks job) published.image.frames) × IsCleared (number job) published new)
+
+-- A serve: its job, the body before it, and what it entered.
+pub record Serve (J : Type 0) : Type 0 where
+  pub job : J
+  pub before : BodyView
+  pub done : Stands
+
+-- By serves, of which the newest stands first, the one body became the other.
+abbrev pub AreServes : {J : Type 0} → (J → ℕ) → (J → ℕ) → (J → Ask) → (J → ImageView → ℕ → Type 0) → List (Serve J) → BodyView → BodyView → Type 0
+AreServes number whom asks may_answer [] old new = new ≡ old
+AreServes number whom asks may_answer (s ∷ ss) old new
+    = AreServes number whom asks may_answer ss old s.before × IsServe number whom asks may_answer s.job s.before new s.done
+
+-- What the first of them entered.
+abbrev pub first_done : {J : Type 0} → Serve J → List (Serve J) → Stands
+first_done s [] = s.done
+first_done s (t ∷ ts) = first_done t ts
+
+-- By one serve or more the one body became the other; the first and the last entered this.
+abbrev pub IsServed : {J : Type 0} → (J → ℕ) → (J → ℕ) → (J → Ask) → (J → ImageView → ℕ → Type 0) → BodyView → BodyView → Stands → Stands → Type 0
+IsServed number whom asks may_answer old new first last
+    = (s : _) × (ss : List _) × AreServes number whom asks may_answer (s ∷ ss) old new × (first ≡ first_done s ss) × (last ≡ s.done)
+
+-- A body behind its serves: how it came out of its berth, as it is, and what the first and the last of them entered.
+pub record Behind : Type 0 where
+  pub out : Moved
+  pub body : BodyView
+  pub first : Stands
+  pub last : Stands
+
+-- What the last serve entered: the first where there was no later one.
+abbrev pub last_of : Stands → Option Stands → Stands
+last_of first None = first
+last_of first (Some last) = last
+
+-- The same, with a job that its thread was told meanwhile.
+pub record Told (J : Type 0) : Type 0 where
+  pub served : Behind
+  pub job : J
