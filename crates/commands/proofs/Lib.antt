@@ -1,3 +1,4 @@
 pub mod Enough
 pub mod Texts
 pub mod Spellings
+pub mod Behind

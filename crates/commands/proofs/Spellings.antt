@@ -1,5 +1,5 @@
 -- Which number is spelled so, one number at a time.
-use Rattle.std.proofs.Common.{◌≡◌, ◌≢◌, ◌-◌, ℕ, zero, suc, List, Option, Some, None, refl, sym, subst, arith}
+use Rattle.std.proofs.Common.{◌≡◌, ◌≢◌, ◌-◌, ℕ, zero, suc, List, Some, None, refl, sym, subst, arith}
 use Rattle.std.specs.Prelude.{decimal, bytes_eq, if◌then◌else◌}
 use Rattle.commands.specs.CommandLine.{spelled}
 

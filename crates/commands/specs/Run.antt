@@ -1,10 +1,10 @@
 -- What running a script comes to.
-use Rattle.std.specs.Prelude.{◌≡◌, ℕ, List, Option, Result, Ok, Err, ⊤}
+use Rattle.std.specs.Prelude.{◌≡◌, ◌*◌, ◌-◌, ◌^◌, ℕ, min, List, Option, Result, Ok, Err, ⊤}
 use Rattle.std.specs.Io.KnownBytes.{Appends}
 use Rattle.replay.specs.Known.{AppendsPart}
+use Rattle.thread_list.specs.Sized.{PartsSeen}
 use Rattle.script.specs.declared.code.Op.{Op}
-use Rattle.workers.specs.declared.summary.Summary.{Summary}
-use Rattle.workers.specs.Summaries.{IsSummary, summary_text}
+use Rattle.workers.specs.Summaries.{Summed, IsSummary, summary_text}
 use Rattle.commands.specs.declared.fault.Fault.{Fault}
 use Rattle.commands.specs.declared.fault.Fault.TheVariants.{BadWords, FileNotRead, BadScript, ReadFailed, WriteFailed, NoMemory, NoThread, Refused}
 
@@ -19,10 +19,18 @@ IsNotRun NoMemory = ⊤
 IsNotRun NoThread = ⊤
 IsNotRun Refused = ⊤
 
+-- The parts of a run have a place for each thread, and two slots a method.
+abbrev pub HasSize : ℕ → ℕ → PartsSeen → Type 0
+HasSize threads methods p = (p.board.places ≡ threads) × (p.board.slots ≡ min (methods * 2) (2 ^ 64 - 1)) × (p.methods ≡ methods)
+
+-- The text of what a run of that code by so many threads came to.
+abbrev pub IsText : List (List Op) → ℕ → List ℕ → Type 0
+IsText code threads text = (s : Summed) × IsSummary code threads s × (text ≡ summary_text s)
+
 -- What a sink got of a run of that code by so many threads: the text of what the run came to, or a beginning of it where a write failed, and otherwise nothing.
 abbrev pub Printed : {A : Type 0} → List (List Op) → ℕ → Result A Fault → Option (List ℕ) → Option (List ℕ) → Type 0
-Printed code threads (Ok x) got got' = (s : Summary) × IsSummary code threads s × Appends got got' (summary_text s)
-Printed code threads (Err WriteFailed) got got' = (s : Summary) × IsSummary code threads s × AppendsPart got got' (summary_text s)
+Printed code threads (Ok x) got got' = (s : Summed) × IsSummary code threads s × Appends got got' (summary_text s)
+Printed code threads (Err WriteFailed) got got' = (s : Summed) × IsSummary code threads s × AppendsPart got got' (summary_text s)
 Printed code threads (Err fault) got got' = IsNotRun fault × (got' ≡ got)
 
 -- How many writes failed.

@@ -1,12 +1,8 @@
-// The words of the command line.
-ghost use Rattle.std.specs.Prelude.{◌≡◌, ◌<◌, ◌≤◌, ◌⊎◌, map, option_map, string_bytes, IfSome, IfErr};
+// What the words of the command line ask for.
+ghost use Rattle.std.specs.Prelude.{◌≡◌, ◌<◌, ◌≤◌, map, option_map, string_bytes, IfSome};
 ghost use Rattle.commands.specs.CommandLine.{form_of, form_view, HasThreads, spelled, most_threads};
-ghost use Rattle.commands.specs.declared.fault.Fault.TheVariants.{BadWords, NoMemory};
 
-use crate::fault::Fault;
 use itoa::Buffer;
-use std::alloc::Global;
-use std::env::{self, Env, FillError};
 
 /// What the program is to do.
 #[derive(Clone, Copy, Debug, PartialEq, Eq, Drop)]
@@ -71,37 +67,4 @@ fn thread_count(word: &str) -> Option<usize>
         count -= 1;
     }
     None
-}
-
-/// The words behind the program's name, which needn't be text itself.
-pub fn read_words<E: Env>(env: &E, alloc: Global) -> Result<Vec<String>, Fault>
-    ensures { IfErr result (λ fault. (fault ≡ BadWords) ⊎ (fault ≡ NoMemory)) }
-{
-    match env::args(&(Unnamed { env }, alloc)) {
-        Ok(words) => Ok(words.collect(alloc)?),
-        Err(error) => Err(Fault::of_words(&error)),
-    }
-}
-
-// The command line without the program's name, and no variables.
-#[derive(Drop)]
-struct Unnamed<'a, E> {
-    env: &'a E,
-}
-
-impl<E: Env> Env for Unnamed<'_, E> {
-    fn arg(&self, i: usize, buf: &mut [u8]) -> Result<usize, FillError> {
-        match i.checked_add(1) {
-            Some(next) => self.env.arg(next, buf),
-            None => Err(FillError::NotPresent),
-        }
-    }
-
-    fn var(&self, _name: &str, _buf: &mut [u8]) -> Result<usize, FillError> {
-        Err(FillError::NotPresent)
-    }
-
-    fn var_at(&self, _i: usize, _buf: &mut [u8]) -> Result<usize, FillError> {
-        Err(FillError::NotPresent)
-    }
 }

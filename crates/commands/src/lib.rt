@@ -6,8 +6,10 @@ mod check;
 mod command_line;
 mod fault;
 mod running;
+mod words;
 
 pub use check::{check_script, check_text, line_of, read_code};
-pub use command_line::{Form, read_form, read_words};
+pub use command_line::{Form, read_form};
 pub use fault::Fault;
 pub use running::run_with;
+pub use words::{CommandLine, OfProcess, read_words};

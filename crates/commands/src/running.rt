@@ -1,13 +1,15 @@
 // Running a script on threads.
-ghost use Rattle.std.specs.Prelude.{◌≡◌, ◌≤◌, ◌<◌, ◌*◌, ◌-◌, ◌^◌, min, IfOk, IfErr, string_bytes};
+ghost use Rattle.std.specs.Prelude.{◌≡◌, ◌≤◌, ◌<◌, All, length, IfOk, IfErr, string_bytes};
 ghost use Rattle.operations.specs.Asks.{reply};
+ghost use Rattle.workers.specs.Jobs.{AreForEach};
 ghost use Rattle.workers.specs.Summaries.{summary_text};
-ghost use Rattle.commands.specs.Run.{IsNotRun, Printed, FailedWrites};
+ghost use Rattle.commands.specs.Run.{IsNotRun, HasSize, IsText, Printed, FailedWrites};
 
 use crate::fault::Fault;
+use bodies::Name;
 use frames::image::Image;
 use operations::Ask;
-use operations::job::{Call, Job};
+use operations::job::{Call, Errand, Job};
 use replay::device::Sink;
 use replay::stream::flush;
 use script::Code;
@@ -52,8 +54,8 @@ pub fn run_with<R: Threads + Wait + Sync, G: Gate + Sync, W: Sink>(
         }
         jobs.push_reserved(list);
     }
-    let summary = workers::run::<Brand, Job, R, G>(rt, alloc, code, threads, gate, parts, jobs)?;
-    let mut text = text_of(alloc, &summary)?.into_bytes();
+    let text = run_sized::<Brand, Job, R, G>(rt, alloc, code, threads, gate, parts, jobs)?;
+    let mut text = text.into_bytes();
     match flush(&mut text, sink) {
         Ok(()) => Ok(()),
         Err(_) => Err(Fault::WriteFailed),
@@ -62,7 +64,7 @@ pub fn run_with<R: Threads + Wait + Sync, G: Gate + Sync, W: Sink>(
 
 // The parts of a system of so many places, with two slots a method.
 fn parts_of(alloc: Global, threads: usize, methods: usize) -> Result<Parts, Fault>
-    ensures sizes { IfOk result (λ p. (p.board.places ≡ threads) × (p.board.slots ≡ min (methods * 2) (2 ^ 64 - 1)) × (p.methods ≡ methods)) }
+    ensures sizes { IfOk result (HasSize threads methods) }
     ensures refused { IfErr result IsNotRun }
 {
     match Parts::new(alloc, threads, methods.saturating_mul(2), methods) {
@@ -72,8 +74,29 @@ fn parts_of(alloc: Global, threads: usize, methods: usize) -> Result<Parts, Faul
     }
 }
 
+// Runs a script over parts of its size, and no others. Answers the text of what the run came to.
+fn run_sized<N: Name + Send, J: Errand + Send, R: Threads + Wait + Sync, G: Gate + Sync>(
+    rt: &R,
+    alloc: Global,
+    code: &Code,
+    threads: usize,
+    gate: &G,
+    parts: Parts,
+    jobs: Vec<Vec<J>>,
+) -> Result<String, Fault>
+    requires tables { (parts.board ≡ N.board) × (parts.row ≡ N.poll_row) }
+    requires sizes { HasSize threads (length code.now) parts }
+    requires jobs { length jobs.items ≡ length code.now }
+    requires each { All (λ js. AreForEach J.whom J.asks threads js.items) jobs.items }
+    ensures text { IfOk result (λ text. IsText code.now threads (string_bytes text)) }
+    ensures refused { IfErr result IsNotRun }
+{
+    let summary = workers::run::<N, J, R, G>(rt, alloc, code, threads, gate, parts, jobs)?;
+    Ok(text_of(alloc, &summary)?)
+}
+
 // The text of a summary.
-fn text_of(alloc: Global, summary: &Summary) -> Result<String, AllocError>
+fn text_of<N: Name>(alloc: Global, summary: &Summary<N>) -> Result<String, AllocError>
     ensures { IfOk result (λ text. string_bytes text ≡ summary_text summary.now) }
 {
     format!(in alloc; "{summary}")

@@ -2,7 +2,7 @@
 // and take little, or fail.
 mod running;
 
-use commands::{Fault, Form, check_script, check_text, line_of, read_form, read_words};
+use commands::{Fault, Form, OfProcess, check_script, check_text, line_of, read_form, read_words};
 use replay::device::{FromReader, IntoWriter};
 use std::alloc::{AllocError, Global};
 use std::env::{Env, FillError};
@@ -208,7 +208,7 @@ fn the_programs_name_may_be_no_text(rt: HostRuntime) -> Result<(), Fail> {
         b"".as_slice(),
     ] {
         let line = [name, b"check".as_slice(), b"a.json".as_slice()];
-        let words = match read_words(&Line { words: &line }, rt.alloc()) {
+        let words = match read_words(&OfProcess::new(&Line { words: &line }), rt.alloc()) {
             Ok(words) => words,
             Err(_) => return Err(Fail::from("good words")),
         };
@@ -231,7 +231,7 @@ fn words_that_are_no_text_are_bad(rt: HostRuntime) -> Result<(), Fail> {
             b"a.json".as_slice(),
         ],
     ] {
-        let found = read_words(&Line { words: &line }, rt.alloc());
+        let found = read_words(&OfProcess::new(&Line { words: &line }), rt.alloc());
         assert!(rt; matches!(found, Err(Fault::BadWords)));
     }
     Ok(())

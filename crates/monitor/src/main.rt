@@ -3,7 +3,7 @@
 
 ghost use Rattle.std.specs.Prelude.{◌<◌, ◌≤◌};
 
-use commands::{Fault, Form, check_script, read_code, read_form, read_words, run_with};
+use commands::{Fault, Form, OfProcess, check_script, read_code, read_form, read_words, run_with};
 use replay::device::{FromReader, IntoWriter};
 use replay::stream::replay;
 use std::fs::File;
@@ -28,7 +28,7 @@ fn main(rt: HostRuntime) -> ExitCode {
 
 // `threads` is the runtime's leave to start threads and to wait.
 fn run<R: Threads + Wait + Sync>(rt: &HostRuntime, threads: &R) -> Result<(), Fault> {
-    let words = read_words(rt, rt.alloc())?;
+    let words = read_words(&OfProcess::new(rt), rt.alloc())?;
     match read_form(&words) {
         Some(Form::Replay) => answer_lines(rt),
         Some(Form::Check(name)) => check_file(rt, name),

@@ -1,5 +1,6 @@
 //! Texts of calls with their answers, and the runner that plays them.
 mod calls;
+mod counted;
 mod lives;
 mod reclaiming;
 mod requests;

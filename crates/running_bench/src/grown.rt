@@ -1,5 +1,5 @@
-//! What a call costs behind a long history, or among many codes. One thread does all: it is in native code meanwhile, where the coordinator
-//! serves it.
+//! What a call costs behind a long history or among many codes, and what handshakes cost where the history is forgotten again and again. One
+//! thread does all: it is in native code meanwhile, where the coordinator serves it.
 use crate::lists::keep;
 use crate::plan::{Kind, Plan};
 use crate::requests::queries_of;
@@ -79,15 +79,16 @@ impl<'a, N: Name, R: Wait + Clock> Grown<'a, N, R> {
         }
         let mut times = Vec::new(self.alloc);
         for _ in 0..plan.turns {
-            let time = self.time_turn(plan.kind)?;
+            let time = self.time_turn(plan)?;
             keep(&mut times, time)?;
         }
         Ok(times)
     }
 
-    fn time_turn(&mut self, kind: Kind) -> Result<u64, Wrong> {
-        match kind {
+    fn time_turn(&mut self, plan: Plan) -> Result<u64, Wrong> {
+        match plan.kind {
             Kind::Replies => self.time_replies(),
+            Kind::Forgetting => self.time_forgetting(plan.arg),
             Kind::InstallLate | Kind::InstallAmong => self.time_install(),
             _ => self.time_reclaim(),
         }
@@ -146,6 +147,20 @@ impl<'a, N: Name, R: Wait + Clock> Grown<'a, N, R> {
             Ok(nanoseconds(took))
         } else {
             Err(Wrong::Answer)
+        }
+    }
+
+    // So many handshakes, and the history so far is forgotten.
+    fn time_forgetting(&mut self, handshakes: u64) -> Result<u64, Wrong> {
+        let start = Instant::now(self.rt)?;
+        for _ in 0..handshakes {
+            self.shake_hands()?;
+        }
+        self.shared.forget(self.rt);
+        let took = start.elapsed(self.rt)?;
+        match self.shared.kept_replies(self.rt, 1)? {
+            None => Ok(nanoseconds(took)),
+            Some(_) => Err(Wrong::Answer),
         }
     }
 

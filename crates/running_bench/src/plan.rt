@@ -30,6 +30,8 @@ pub enum Kind {
     InstallLate,
     /// A code is invalidated and reclaimed, behind a history of so many entries.
     ReclaimLate,
+    /// So many handshakes of one native thread, after which the history so far is forgotten.
+    Forgetting,
     /// A code is installed in the last free slot of so many.
     InstallAmong,
     /// A code is invalidated and reclaimed where so many slots are taken.
@@ -37,7 +39,7 @@ pub enum Kind {
 }
 
 /// All kinds.
-pub const KINDS: [Kind; 15] = [
+pub const KINDS: [Kind; 16] = [
     Kind::BackEdge,
     Kind::Call,
     Kind::Deep,
@@ -51,6 +53,7 @@ pub const KINDS: [Kind; 15] = [
     Kind::Replies,
     Kind::InstallLate,
     Kind::ReclaimLate,
+    Kind::Forgetting,
     Kind::InstallAmong,
     Kind::ReclaimAmong,
 ];
@@ -72,6 +75,7 @@ impl Kind {
             20 => Some(Kind::Replies),
             21 => Some(Kind::InstallLate),
             22 => Some(Kind::ReclaimLate),
+            23 => Some(Kind::Forgetting),
             31 => Some(Kind::InstallAmong),
             32 => Some(Kind::ReclaimAmong),
             _ => None,
@@ -93,8 +97,8 @@ pub struct Plan {
     pub threads: usize,
     pub turns: u64,
     /// The depth, for calls of methods in turn; how many codes change, for publications; of stops whether the threads make back edges (0)
-    /// or are in native code (1); of many threads after how many pairs each publishes, 0 for never; how many entries the history has, or
-    /// how many slots there are, of the kinds that say so.
+    /// or are in native code (1); of many threads after how many pairs each publishes, 0 for never; how many entries the history has, how
+    /// many handshakes a turn has, or how many slots there are, of the kinds that say so.
     pub arg: u64,
 }
 
@@ -137,6 +141,7 @@ impl Plan {
             Kind::Replies
                 | Kind::InstallLate
                 | Kind::ReclaimLate
+                | Kind::Forgetting
                 | Kind::InstallAmong
                 | Kind::ReclaimAmong
         )

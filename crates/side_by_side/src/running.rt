@@ -7,6 +7,7 @@ mod requests;
 mod tables;
 mod threads;
 
+use berths::Hand;
 use bodies::Name;
 use coordinator::Coordinator;
 use frames::{CodeId, Frame};
@@ -21,6 +22,11 @@ use std::alloc::{AllocError, Global};
 use std::sync::Wait;
 use tables::Tables;
 use thread_list::{Mutator, Parts, Shared};
+
+// Has a body in hand while its stack is looked at.
+struct Looking;
+
+impl Hand for Looking {}
 
 /// What threads share, with the coordinator, the threads, and jobs that no request has taken yet.
 #[derive(Drop)]
@@ -140,14 +146,21 @@ impl<'a, N: Name, J: Errand, R: Wait> Running<R> for Side<'a, N, J> {
         self.tables.shared().replies(rt, op)
     }
 
+    fn kept_replies(&self, rt: &R, op: u64) -> Result<Option<Vec<(u64, u64)>>, AllocError> {
+        self.tables.shared().kept_replies(rt, op)
+    }
+
     fn stack(&self, rt: &R, thread: Thread) -> Result<Option<Vec<Frame>>, AllocError> {
         let Some(place) = self.tables.place(thread.place) else {
             return Ok(None);
         };
         let berth = self.tables.shared().berth(place);
-        let Ok((body, _held)) = berth.take(rt, thread.name, place) else {
+        let mut room = berth.room().lock(rt);
+        let Some((outgoing, _receipt)) = room.resume(thread.name, place) else {
             return Ok(None);
         };
+        drop(room);
+        let body = outgoing.in_hand(&Looking);
         let frames = Vec::from_slice(self.alloc, body.frames());
         berth.give(rt, body);
         match frames {

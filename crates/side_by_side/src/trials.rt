@@ -14,7 +14,7 @@ const SCHEDULES: u64 = 12;
 const STEP: u64 = 7;
 
 /// Why the trials don't show what they are to.
-#[derive(Clone, Copy, Drop)]
+#[derive(Clone, Copy)]
 pub enum Untold {
     NoMemory,
     /// The loss of this makes no difference that is found, in any of the schedules.
@@ -49,7 +49,7 @@ pub fn lose_all<R: Wait>(rt: &R, alloc: Global) -> Result<(), Untold> {
 fn is_found<R: Wait>(rt: &R, alloc: Global, lost: Lost) -> Result<bool, AllocError> {
     for before in 0..SCHEDULES {
         match play_seed(rt, alloc, STEP * before + 1, Some(Loss { lost, before })) {
-            Err(Stopped::Differ(_, _, _)) => return Ok(true),
+            Err(Stopped::Differ(_)) => return Ok(true),
             Err(Stopped::NoMemory) => return Err(AllocError),
             Err(Stopped::Few(_)) | Ok(_) => {}
         }

@@ -3,7 +3,7 @@ use std::alloc::{AllocError, Global};
 use std::env::{self, Env};
 
 /// How many seeds there are, the first, and whether it is told what they came to.
-#[derive(Clone, Copy, Drop)]
+#[derive(Clone, Copy)]
 pub struct Words {
     pub seeds: u64,
     pub first: u64,
@@ -16,7 +16,7 @@ const SEEDS: u64 = 21;
 const FIRST: u64 = 1;
 
 /// The words are no numbers, or there are too many.
-#[derive(Clone, Copy, Drop)]
+#[derive(Clone, Copy)]
 pub struct BadWords;
 
 /// The words behind the program's name.

@@ -2,9 +2,10 @@
 use frames::CodeId;
 use operations::Ask;
 use std::alloc::{AllocError, Global};
+use std::fmt;
 
 /// What a thread calls.
-#[derive(Clone, Copy, Debug, Drop)]
+#[derive(Clone, Copy)]
 pub enum ThreadCall {
     /// Of the method, by the hint.
     Call(u32, Option<CodeId>),
@@ -21,7 +22,7 @@ pub enum ThreadCall {
 }
 
 /// A handshake of so many names, from the first on with the same step between two; with a step of 0 one name stands as often.
-#[derive(Clone, Copy, Debug, Drop)]
+#[derive(Clone, Copy)]
 pub struct Handshake {
     pub first: u64,
     pub step: u64,
@@ -45,7 +46,7 @@ impl Handshake {
 }
 
 /// What is called of codes. `Round`, `Look`, `Weigh` and `Free` are the desk's own calls, which `Reclaim` makes in a row.
-#[derive(Clone, Copy, Debug, Drop)]
+#[derive(Clone, Copy)]
 pub enum CodeCall {
     Install(u32),
     Invalidate(u64),
@@ -57,7 +58,7 @@ pub enum CodeCall {
 }
 
 /// What is called of a request as a whole.
-#[derive(Clone, Copy, Debug, Drop)]
+#[derive(Clone, Copy)]
 pub enum RequestCall {
     SubmitCensus,
     Submit(Handshake),
@@ -66,10 +67,12 @@ pub enum RequestCall {
     CloseOf(u64),
     Drive,
     DriveFour,
+    /// What is closed is forgotten: of that the core knows nothing, and only the replies that are kept are others.
+    Forget,
 }
 
 /// A step of the open requests, for a name, for a place, or for all.
-#[derive(Clone, Copy, Debug, Drop)]
+#[derive(Clone, Copy)]
 pub enum StepCall {
     Tell(u64),
     Hold(usize),
@@ -79,7 +82,7 @@ pub enum StepCall {
 }
 
 /// A call of the running layer. Threads are told by their names, codes by their serials.
-#[derive(Clone, Copy, Debug, Drop)]
+#[derive(Clone, Copy)]
 pub enum Call {
     Start,
     Of(u64, ThreadCall),
@@ -102,6 +105,125 @@ impl Call {
                 _ => None,
             },
             _ => None,
+        }
+    }
+}
+
+impl ThreadCall {
+    fn word(self) -> &'static str {
+        match self {
+            ThreadCall::Call(_, _) => "call",
+            ThreadCall::Ret => "ret",
+            ThreadCall::BackEdge => "back_edge",
+            ThreadCall::Publish => "publish",
+            ThreadCall::ToVm => "to_vm",
+            ThreadCall::FromVm => "from_vm",
+            ThreadCall::ToNative => "to_native",
+            ThreadCall::FromNative => "from_native",
+            ThreadCall::Block => "block",
+            ThreadCall::Unblock => "unblock",
+            ThreadCall::Stop => "stop",
+        }
+    }
+
+    // The method and the serial of its hint, of a call; else 0.
+    fn numbers(self) -> (u64, u64) {
+        match self {
+            ThreadCall::Call(method, Some(id)) => (u64::from(method), id.serial),
+            ThreadCall::Call(method, None) => (u64::from(method), 0),
+            _ => (0, 0),
+        }
+    }
+}
+
+impl CodeCall {
+    // Its word, the method or the serial, and the place.
+    fn words(self) -> (&'static str, u64, u64) {
+        match self {
+            CodeCall::Install(method) => ("install", u64::from(method), 0),
+            CodeCall::Invalidate(serial) => ("invalidate", serial, 0),
+            CodeCall::Round => ("round", 0, 0),
+            CodeCall::Look(serial, place) => ("look", serial, place as u64),
+            CodeCall::Weigh(serial) => ("weigh", serial, 0),
+            CodeCall::Free(serial) => ("free", serial, 0),
+            CodeCall::Reclaim(serial, _) => ("reclaim", serial, 0),
+        }
+    }
+}
+
+impl RequestCall {
+    fn words(self) -> (&'static str, u64) {
+        match self {
+            RequestCall::SubmitCensus => ("submit_census", 0),
+            RequestCall::Submit(_) => ("submit", 0),
+            RequestCall::Open => ("open", 0),
+            RequestCall::Close => ("close", 0),
+            RequestCall::CloseOf(number) => ("close_of", number),
+            RequestCall::Drive => ("drive", 0),
+            RequestCall::DriveFour => ("drive_four", 0),
+            RequestCall::Forget => ("forget", 0),
+        }
+    }
+}
+
+impl StepCall {
+    fn words(self) -> (&'static str, u64) {
+        match self {
+            StepCall::Tell(name) => ("tell", name),
+            StepCall::Hold(place) => ("hold", place as u64),
+            StepCall::Serve(place) => ("serve", place as u64),
+            StepCall::Operate => ("operate", 0),
+            StepCall::Release(place) => ("release", place as u64),
+        }
+    }
+}
+
+impl Call {
+    // Its word, and its numbers with 0 for those that it hasn't: of a thread's call the name, the method and the serial of the hint.
+    fn words(self) -> (&'static str, u64, u64, u64) {
+        match self {
+            Call::Start => ("start", 0, 0, 0),
+            Call::Of(name, call) => {
+                let (method, serial) = call.numbers();
+                (call.word(), name, method, serial)
+            }
+            Call::Exit(name) => ("exit", name, 0, 0),
+            Call::Code(call) => {
+                let (word, first, second) = call.words();
+                (word, first, second, 0)
+            }
+            Call::Request(call) => {
+                let (word, number) = call.words();
+                (word, number, 0, 0)
+            }
+            Call::Step(call) => {
+                let (word, number) = call.words();
+                (word, number, 0, 0)
+            }
+        }
+    }
+}
+
+impl fmt::Display for Handshake {
+    fn fmt<W: fmt::Write>(&self, f: &mut fmt::Formatter<W>) -> fmt::Result {
+        let Handshake {
+            first,
+            step,
+            count,
+            ask,
+            fits,
+        } = *self;
+        write!(f, " {ask:?} of {count} from {first} by {step}, {fits}")
+    }
+}
+
+impl fmt::Display for Call {
+    fn fmt<W: fmt::Write>(&self, f: &mut fmt::Formatter<W>) -> fmt::Result {
+        let (word, first, second, third) = self.words();
+        write!(f, "{word} {first} {second} {third}")?;
+        match self.takes_jobs() {
+            Some(handshake) => handshake.fmt(f),
+            None => Ok(()),
         }
     }
 }

@@ -4,64 +4,43 @@ use crate::play::{Pair, Stopped};
 use crate::running::Running;
 use crate::said::Said;
 use std::alloc::AllocError;
-use std::fmt::Debug;
-
-/// What was compared.
-#[derive(Clone, Copy, Debug, Drop)]
-pub enum Seen {
-    /// The answer to the call.
-    Answer,
-    /// The state of the thread of the name.
-    State(u64),
-    /// The poll word of the place.
-    Poll(usize),
-    /// The method's hint.
-    Hint(u32),
-    /// Why the code of the serial can't be weighed.
-    Code(u64),
-    /// The count word of the slot, and the index of its code.
-    Count(u32),
-    /// The sum of the count words, and of the indexes.
-    Counts,
-    /// What a census counted.
-    Census,
-    /// The frames of the thread of the name.
-    Stack(u64),
-    /// The names of the live threads.
-    Live,
-    /// The replies of the operation.
-    Replies(u64),
-}
-
-/// Where the two sides differ, with what each has.
-#[derive(Drop)]
-pub struct Difference {
-    pub seen: Seen,
-    pub core: String,
-    pub running: String,
-}
+use std::fmt::{Debug, Write};
 
 impl<R, S: Running<R>> Pair<'_, R, S> {
-    // Both sides are to have the same.
-    fn same<T: PartialEq + Debug>(&self, seen: Seen, core: &T, running: &T) -> Result<(), Stopped> {
+    // Both sides are to have the same, of what is told by a word and a number.
+    fn same<T: PartialEq + Debug>(
+        &self,
+        word: &str,
+        of: u64,
+        core: &T,
+        running: &T,
+    ) -> Result<(), Stopped> {
         if *core == *running {
             return Ok(());
         }
-        Err(self.differ(seen, core, running)?)
+        Err(self.differ(word, of, core, running)?)
     }
 
-    fn differ<T: Debug>(&self, seen: Seen, core: &T, running: &T) -> Result<Stopped, AllocError> {
-        let found = Difference {
-            seen,
-            core: format!(in self.alloc; "{core:?}")?,
-            running: format!(in self.alloc; "{running:?}")?,
-        };
-        Ok(Stopped::Differ(self.tally.calls, self.last, found))
+    fn differ<T: Debug>(
+        &self,
+        word: &str,
+        of: u64,
+        core: &T,
+        running: &T,
+    ) -> Result<Stopped, AllocError> {
+        let number = self.tally.calls;
+        let call = self.last;
+        let mut told = format!(in self.alloc; "call {number}, {call}, {word} {of}: ")?;
+        write!(
+            told,
+            "the core has {core:?}, the running system {running:?}"
+        )?;
+        Ok(Stopped::Differ(told))
     }
 
     /// The answers to a call, and what is seen after it.
     pub fn compare_answers(&mut self, core: Said, said: Said) -> Result<(), Stopped> {
-        self.same(Seen::Answer, &core, &said)?;
+        self.same("answer", 0, &core.parts(), &said.parts())?;
         if let Said::Census(_) = said {
             self.census()?;
         }
@@ -99,7 +78,7 @@ impl<R, S: Running<R>> Pair<'_, R, S> {
     fn census(&self) -> Result<(), Stopped> {
         let core = Vec::from_slice(self.alloc, self.oracle.counts.as_slice())?;
         let running = Vec::from_slice(self.alloc, self.running.counted())?;
-        self.same(Seen::Census, &core, &running)
+        self.same("census", 0, &core, &running)
     }
 
     // The count word of each slot, and their sum.
@@ -108,9 +87,10 @@ impl<R, S: Running<R>> Pair<'_, R, S> {
         for slot in 0..self.sizes.slots {
             let core = self.oracle.count_in(slot);
             sum = sum.saturating_add(core);
-            self.same(Seen::Count(slot), &core, &self.running.count_word(slot))?;
+            let running = self.running.count_word(slot);
+            self.same("count word of slot", u64::from(slot), &core, &running)?;
         }
-        self.same(Seen::Counts, &sum, &self.running.sum_of_counts())
+        self.same("sum of counts", 0, &sum, &self.running.sum_of_counts())
     }
 
     fn stack_in_turn(&mut self) -> Result<(), Stopped> {
@@ -129,16 +109,21 @@ impl<R, S: Running<R>> Pair<'_, R, S> {
             return Ok(());
         };
         let said = self.oracle.look_at_stack(thread.place);
-        let seen = Seen::Stack(thread.name);
-        self.same(seen, &Said::Frames, &said)?;
-        self.same(seen, &self.oracle.frames, &frames)
+        let name = thread.name;
+        self.same(
+            "stack of thread",
+            name,
+            &Said::Frames.parts(),
+            &said.parts(),
+        )?;
+        self.same("stack of thread", name, &self.oracle.frames, &frames)
     }
 
     fn states(&mut self) -> Result<(), Stopped> {
         for index in 0..self.threads.len() {
             if let Some(thread) = self.threads.get(index).copied() {
                 let core = self.oracle.state_at(thread.place);
-                self.same(Seen::State(thread.name), &core, &thread.state)?;
+                self.same("state of thread", thread.name, &core, &thread.state)?;
             }
         }
         Ok(())
@@ -147,7 +132,8 @@ impl<R, S: Running<R>> Pair<'_, R, S> {
     fn polls(&self) -> Result<(), Stopped> {
         for place in 0..self.sizes.places {
             let core = self.oracle.armed_at(place);
-            self.same(Seen::Poll(place), &core, &self.running.poll_word(place))?;
+            let running = self.running.poll_word(place);
+            self.same("poll word of place", place as u64, &core, &running)?;
         }
         Ok(())
     }
@@ -155,7 +141,8 @@ impl<R, S: Running<R>> Pair<'_, R, S> {
     fn hints(&self) -> Result<(), Stopped> {
         for method in 0..self.sizes.methods {
             let core = self.oracle.hint(method);
-            self.same(Seen::Hint(method), &core, &self.running.hint(method))?;
+            let running = self.running.hint(method);
+            self.same("hint of method", u64::from(method), &core, &running)?;
         }
         Ok(())
     }
@@ -164,7 +151,7 @@ impl<R, S: Running<R>> Pair<'_, R, S> {
         for serial in 0..(self.oracle.codes.len() as u64).saturating_add(1) {
             let core = self.oracle.weighable(serial);
             let running = self.running.weighable(self.rt, serial);
-            self.same(Seen::Code(serial), &core, &running)?;
+            self.same("code", serial, &core.parts(), &running.parts())?;
         }
         Ok(())
     }
@@ -175,7 +162,7 @@ impl<R, S: Running<R>> Pair<'_, R, S> {
             keep(&mut names, live.name)?;
         }
         let found = self.running.live(self.rt)?;
-        self.same(Seen::Live, &names, &found)
+        self.same("live", 0, &names, &found)
     }
 
     fn last_replies(&self) -> Result<(), Stopped> {
@@ -185,15 +172,13 @@ impl<R, S: Running<R>> Pair<'_, R, S> {
         }
     }
 
-    // Whether both sides have the same replies of the operation.
+    // Whether both sides have the same replies of the operation, and none where they are forgotten.
     fn replies(&self, op: u64) -> Result<(), Stopped> {
-        let mut replies = Vec::new(self.alloc);
-        for reply in &self.oracle.replies {
-            if reply.op == op {
-                keep(&mut replies, (reply.name, reply.reply))?;
-            }
-        }
+        let kept = self.oracle.kept_replies(op)?;
+        let found = self.running.kept_replies(self.rt, op)?;
+        self.same("replies of operation", op, &kept, &found)?;
+        let replies = kept.unwrap_or(Vec::new(self.alloc));
         let found = self.running.replies(self.rt, op)?;
-        self.same(Seen::Replies(op), &replies, &found)
+        self.same("replies of operation", op, &replies, &found)
     }
 }

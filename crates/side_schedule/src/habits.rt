@@ -2,7 +2,7 @@
 ghost use Rattle.std.specs.Prelude.{◌<◌};
 
 /// What threads are about: one phase follows another.
-#[derive(Clone, Copy, Drop)]
+#[derive(Clone, Copy)]
 pub enum Phase {
     /// Threads start, and stacks grow.
     Grow,
@@ -15,7 +15,7 @@ pub enum Phase {
 }
 
 /// The habits of a seed.
-#[derive(Clone, Copy, Drop)]
+#[derive(Clone, Copy)]
 pub struct Habits {
     /// How long a phase is, in calls.
     pub phase: u64,
@@ -23,13 +23,29 @@ pub struct Habits {
     pub greedy: bool,
     /// Whether stacks grow to their most.
     pub deep: bool,
+    /// Whether what is closed is forgotten now and then.
+    pub forgets: bool,
 }
 
-/// Of a hundred calls, how many are those of threads, and how many those and of codes; all others are of requests.
-#[derive(Clone, Copy, Drop)]
+/// Of a hundred calls, how many are those of threads, and how many those and of codes; all others are of requests. Of a hundred calls of
+/// a thread in Java, how many are of methods, and how many those or returns.
+#[derive(Clone, Copy)]
 pub struct Shares {
     pub threads: u64,
     pub codes: u64,
+    pub calls: u64,
+    pub returns: u64,
+}
+
+impl Shares {
+    fn of(threads: u64, codes: u64, calls: u64, returns: u64) -> Shares {
+        Shares {
+            threads,
+            codes,
+            calls,
+            returns,
+        }
+    }
 }
 
 impl Habits {
@@ -47,6 +63,7 @@ impl Habits {
             phase,
             greedy,
             deep,
+            forgets: seed % 3 == 1,
         }
     }
 
@@ -62,48 +79,11 @@ impl Habits {
 
     pub fn shares(&self, phase: Phase) -> Shares {
         match phase {
-            Phase::Grow if self.deep => Shares {
-                threads: 96,
-                codes: 98,
-            },
-            Phase::Grow => Shares {
-                threads: 68,
-                codes: 86,
-            },
-            Phase::Stay => Shares {
-                threads: 50,
-                codes: 68,
-            },
-            Phase::Rest => Shares {
-                threads: 25,
-                codes: 50,
-            },
-            Phase::Shrink => Shares {
-                threads: 78,
-                codes: 90,
-            },
-        }
-    }
-
-    /// Of a hundred calls of a thread in Java, how many are of methods.
-    pub fn calls(&self, phase: Phase) -> u64 {
-        match phase {
-            Phase::Grow if self.deep => 94,
-            Phase::Grow => 60,
-            Phase::Stay => 38,
-            Phase::Rest => 12,
-            Phase::Shrink => 4,
-        }
-    }
-
-    /// How many are those or returns.
-    pub fn returns(&self, phase: Phase) -> u64 {
-        match phase {
-            Phase::Grow if self.deep => 95,
-            Phase::Grow => 66,
-            Phase::Stay => 64,
-            Phase::Rest => 24,
-            Phase::Shrink => 76,
+            Phase::Grow if self.deep => Shares::of(96, 98, 94, 95),
+            Phase::Grow => Shares::of(68, 86, 60, 66),
+            Phase::Stay => Shares::of(50, 68, 38, 64),
+            Phase::Rest => Shares::of(25, 50, 12, 24),
+            Phase::Shrink => Shares::of(78, 90, 4, 76),
         }
     }
 }

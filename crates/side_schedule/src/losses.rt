@@ -5,7 +5,7 @@ use crate::said::Said;
 use system::events::{Act, Event};
 
 /// How many things can be lost.
-pub const LOSSES: usize = 11;
+pub const LOSSES: usize = 12;
 
 /// All of them.
 pub const ALL: [Lost; LOSSES] = [
@@ -20,9 +20,10 @@ pub const ALL: [Lost; LOSSES] = [
     Lost::Finish,
     Lost::Clear,
     Lost::Reply,
+    Lost::Forget,
 ];
 
-/// What can be lost: an event of a kind, or a reply, which then isn't noted.
+/// What can be lost: an event of a kind, a reply, which then isn't noted, or that what is closed is forgotten.
 #[derive(Clone, Copy, PartialEq, Debug, Drop)]
 pub enum Lost {
     Leave,
@@ -36,10 +37,11 @@ pub enum Lost {
     Finish,
     Clear,
     Reply,
+    Forget,
 }
 
 /// Which of those is lost: the one that so many come before.
-#[derive(Clone, Copy, Drop)]
+#[derive(Clone, Copy)]
 pub struct Loss {
     pub lost: Lost,
     pub before: u64,

@@ -10,6 +10,7 @@ mod requests;
 mod threads;
 
 use crate::calls::Call;
+use crate::lists::keep;
 use crate::losses::{Loss, Lost};
 use crate::running::Sizes;
 use crate::said::Said;
@@ -27,7 +28,7 @@ const CHANGES: usize = 512;
 const OPEN: usize = 4;
 
 /// A live thread.
-#[derive(Clone, Copy, Drop)]
+#[derive(Clone, Copy)]
 pub struct Live {
     pub name: u64,
     pub place: usize,
@@ -50,7 +51,7 @@ pub struct Opened {
 }
 
 /// A reply of an operation.
-#[derive(Clone, Copy, Drop)]
+#[derive(Clone, Copy)]
 pub struct Reply {
     pub op: u64,
     pub name: u64,
@@ -58,7 +59,7 @@ pub struct Reply {
 }
 
 /// A code with the method that it is of.
-#[derive(Clone, Copy, Drop)]
+#[derive(Clone, Copy)]
 pub struct Made {
     pub method: u32,
     pub id: CodeId,
@@ -97,6 +98,8 @@ pub struct Oracle {
     /// All codes.
     pub codes: Vec<Made>,
     pub replies: Vec<Reply>,
+    /// Up to which operation they are forgotten.
+    forgotten: u64,
     /// What a Stack answered last.
     pub frames: Vec<Frame>,
     /// What a census counted last.
@@ -147,6 +150,7 @@ impl Oracle {
             hints,
             codes: Vec::new(alloc),
             replies: Vec::new(alloc),
+            forgotten: 0,
             frames: Vec::new(alloc),
             counts: Vec::new(alloc),
         })
@@ -324,6 +328,20 @@ impl Oracle {
     /// The last number that was told at the place, where it isn't cleared; 0 for none.
     pub fn armed_at(&self, place: usize) -> u64 {
         self.armed.get(place).copied().unwrap_or(0)
+    }
+
+    /// The replies of the operation, each with its name; None where they are forgotten.
+    pub fn kept_replies(&self, op: u64) -> Result<Option<Vec<(u64, u64)>>, AllocError> {
+        if op <= self.forgotten {
+            return Ok(None);
+        }
+        let mut list = Vec::new(self.alloc);
+        for reply in &self.replies {
+            if reply.op == op {
+                keep(&mut list, (reply.name, reply.reply))?;
+            }
+        }
+        Ok(Some(list))
     }
 
     /// The code that was installed last for the method.

@@ -1,6 +1,5 @@
 //! Both sides, call by call.
 use crate::calls::Call;
-use crate::compare::Difference;
 use crate::draw::Draw;
 use crate::habits::{Habits, Phase};
 use crate::lists::keep;
@@ -10,7 +9,7 @@ use crate::running::{Running, Sizes, Thread};
 use crate::said::Said;
 use crate::schedule::Scene;
 use crate::stock::Stock;
-use crate::tally::Tally;
+use crate::tally::{Counted, Tally};
 use std::alloc::{AllocError, Global};
 
 /// How many calls a schedule has. It has fewer only where a census keeps threads for good.
@@ -23,7 +22,7 @@ const DRAWS: u32 = 1000;
 const ALL: u64 = 100;
 
 /// The schedule of a seed, on a system of these sizes, and what the core loses of it.
-#[derive(Clone, Copy, Drop)]
+#[derive(Clone, Copy)]
 pub struct Plan {
     pub seed: u64,
     pub sizes: Sizes,
@@ -34,8 +33,8 @@ pub struct Plan {
 #[derive(Drop)]
 pub enum Stopped {
     NoMemory,
-    /// The two sides differ: at the call of the number.
-    Differ(u64, Call, Difference),
+    /// The two sides differ: at which call, in what, and what each has.
+    Differ(String),
     /// So many calls were made alone, and then all that were drawn would have waited.
     Few(u64),
 }
@@ -114,7 +113,7 @@ pub fn play<R, S: Running<R>>(
 }
 
 /// What making a call came to.
-#[derive(Clone, Copy, Drop)]
+#[derive(Clone, Copy)]
 pub(crate) enum Made {
     /// It wasn't made, since it would wait.
     Waits,
@@ -178,7 +177,8 @@ impl<R, S: Running<R>> Pair<'_, R, S> {
             return Err(Stopped::Few(self.tally.calls));
         }
         self.finish()?;
-        self.tally.replies = self.oracle.replies.len() as u64;
+        self.tally
+            .count(Counted::Reply, self.oracle.replies.len() as u64);
         Ok(self.tally)
     }
 

@@ -6,7 +6,7 @@ use std::alloc::AllocError;
 use thread_state::State;
 
 /// How many places, slots and methods a system has.
-#[derive(Clone, Copy, Drop)]
+#[derive(Clone, Copy)]
 pub struct Sizes {
     pub places: usize,
     pub slots: u32,
@@ -14,7 +14,7 @@ pub struct Sizes {
 }
 
 /// A live thread, with its name.
-#[derive(Clone, Copy, Drop)]
+#[derive(Clone, Copy)]
 pub struct Thread {
     pub name: u64,
     pub place: usize,
@@ -50,8 +50,11 @@ pub trait Running<R>: Drop {
     /// The names of the live threads.
     fn live(&self, rt: &R) -> Result<Vec<u64>, AllocError>;
 
-    /// The replies of the operation, each with its name.
+    /// The replies of the operation, each with its name; none where they are forgotten.
     fn replies(&self, rt: &R, op: u64) -> Result<Vec<(u64, u64)>, AllocError>;
+
+    /// The same, and None where they are forgotten.
+    fn kept_replies(&self, rt: &R, op: u64) -> Result<Option<Vec<(u64, u64)>>, AllocError>;
 
     /// The frames of the thread, where its body is in its berth: it is away and not held.
     fn stack(&self, rt: &R, thread: Thread) -> Result<Option<Vec<Frame>>, AllocError>;

@@ -4,7 +4,7 @@ use std::alloc::AllocError;
 use system::answers::Refusal;
 
 /// What is said to a call. Names, serials, operations and counts are numbers, places indexes. A list stands beside it, with who says it.
-#[derive(Clone, Copy, PartialEq, Debug, Drop)]
+#[derive(Clone, Copy)]
 pub enum Said {
     /// Nothing: the call would wait, or isn't one that the rules speak of, so it isn't made.
     Waits,
@@ -34,6 +34,8 @@ pub enum Said {
     /// A census, with a list of its counts.
     Census(u64),
     Number(u64),
+    /// What is closed is forgotten.
+    Forgot,
     Refused(Refusal),
     /// The history is full, of which the core knows nothing.
     HistoryFull,
@@ -45,6 +47,81 @@ pub enum Said {
     NoCode,
     Counts,
     Frames,
+}
+
+impl Said {
+    /// Two answers are the same where all of this is: a word, numbers, 0 for those that it hasn't, and why it is refused.
+    pub(crate) fn parts(self) -> (&'static str, u64, u64, Option<Refusal>) {
+        let (number, place) = self.numbers();
+        (self.word(), number, place, self.refusal())
+    }
+
+    fn refusal(self) -> Option<Refusal> {
+        match self {
+            Said::Refused(refusal) => Some(refusal),
+            _ => None,
+        }
+    }
+
+    fn numbers(self) -> (u64, u64) {
+        match self {
+            Said::Thread(name, place) => (name, place as u64),
+            Said::NotLooked(place) => (0, place as u64),
+            Said::Exited(number)
+            | Said::Stop(number)
+            | Said::Compiled(number)
+            | Said::Code(number)
+            | Said::Used(number)
+            | Said::Asked(number)
+            | Said::Opened(number)
+            | Said::Closed(number)
+            | Said::Reply(number)
+            | Said::Handshake(number)
+            | Said::Census(number)
+            | Said::Number(number) => (number, 0),
+            _ => (0, 0),
+        }
+    }
+
+    fn word(self) -> &'static str {
+        match self {
+            Said::Waits => "waits",
+            Said::NoMemory => "no memory",
+            Said::Done => "done",
+            Said::Thread(_, _) => "thread",
+            Said::Exited(_) => "exited",
+            Said::Go => "go",
+            Said::Stop(_) => "stop",
+            Said::Compiled(_) => "compiled",
+            Said::Interpreted => "interpreted",
+            Said::Code(_) => "code",
+            Said::Clear => "clear",
+            Said::Late => "late",
+            Said::NotLooked(_) => "not looked",
+            Said::Used(_) => "used",
+            Said::Retired => "retired",
+            Said::Freed => "freed",
+            Said::Asked(_) => "asked",
+            Said::Opened(_) => "opened",
+            Said::Closed(_) => "closed",
+            Said::Told => "told",
+            Said::Gone => "gone",
+            Said::Reply(_) => "reply",
+            Said::Handshake(_) => "handshake",
+            Said::Census(_) => "census",
+            Said::Number(_) => "number",
+            Said::Forgot => "forgot",
+            Said::Refused(_) => "refused",
+            Said::HistoryFull => "history full",
+            Said::Entered => "entered",
+            Said::SentAway => "sent away",
+            Said::Changed => "changed",
+            Said::NoChange => "no change",
+            Said::NoCode => "no code",
+            Said::Counts => "counts",
+            Said::Frames => "frames",
+        }
+    }
 }
 
 impl From<AllocError> for Said {

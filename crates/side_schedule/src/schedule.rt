@@ -26,8 +26,8 @@ pub struct Scene<'s> {
 }
 
 // Whom a step of a request is for.
-#[derive(Clone, Copy, Drop)]
-enum Want {
+#[derive(Clone, Copy)]
+enum Whom {
     /// Of an open request, and not told.
     Untold,
     /// Told what isn't done, and not held.
@@ -38,13 +38,25 @@ enum Want {
     Served,
 }
 
+// All of these, one kind of step each.
+const KINDS: [Whom; 4] = [Whom::Untold, Whom::Unheld, Whom::Unserved, Whom::Served];
+
+// What a thread may be taken to be in, now and then.
+const STATES: [State; 5] = [
+    State::InJava,
+    State::InVm,
+    State::InNative(Back::Java),
+    State::Blocked,
+    State::AtPoll(Back::Java),
+];
+
 impl Scene<'_> {
     /// The next call. Most are lawful where they are made, some aren't.
     pub fn pick(&self, draw: &mut Draw) -> Call {
         if self.starts(draw) {
             return Call::Start;
         }
-        let Shares { threads, codes } = self.habits.shares(self.phase);
+        let Shares { threads, codes, .. } = self.habits.shares(self.phase);
         let drawn = draw.below(100);
         if drawn < threads {
             self.of_thread(draw)
@@ -73,7 +85,7 @@ impl Scene<'_> {
         let index = draw.index(self.threads.len());
         let Thread { name, state, .. } = self.threads[index];
         let state = if draw.one_in(12) {
-            any_state(draw)
+            STATES[draw.index(STATES.len())]
         } else {
             state
         };
@@ -95,12 +107,12 @@ impl Scene<'_> {
     }
 
     fn in_java(&self, draw: &mut Draw, name: u64) -> Call {
+        let Shares { calls, returns, .. } = self.habits.shares(self.phase);
         let drawn = draw.below(100);
-        let calls = self.habits.calls(self.phase);
         if drawn < calls {
             return Call::Of(name, self.call_method(draw));
         }
-        if drawn < self.habits.returns(self.phase) {
+        if drawn < returns {
             return Call::Of(name, ThreadCall::Ret);
         }
         if matches!(self.phase, Phase::Rest) && draw.one_in(2) {
@@ -226,33 +238,33 @@ impl Scene<'_> {
     }
 
     // A thread that is wanted for a step of a request, from a drawn one on.
-    fn wanted(&self, draw: &mut Draw, want: Want) -> Option<Live> {
+    fn wanted(&self, draw: &mut Draw, whom: Whom) -> Option<Live> {
         let count = self.oracle.live.len();
         if count == 0 || draw.one_in(6) {
             return None;
         }
         let first = draw.index(count);
         for live in &self.oracle.live[first..] {
-            if self.is_wanted(want, *live) {
+            if self.is_wanted(whom, *live) {
                 return Some(*live);
             }
         }
         for live in &self.oracle.live {
-            if self.is_wanted(want, *live) {
+            if self.is_wanted(whom, *live) {
                 return Some(*live);
             }
         }
         None
     }
 
-    fn is_wanted(&self, want: Want, live: Live) -> bool {
+    fn is_wanted(&self, whom: Whom, live: Live) -> bool {
         let told = self.oracle.undone(live).is_some();
         let held = self.oracle.is_held(live.place);
-        match want {
-            Want::Untold => self.oracle.untold(live).is_some(),
-            Want::Unheld => told && !held && self.is_away(live.name),
-            Want::Unserved => told && held,
-            Want::Served => held && !told,
+        match whom {
+            Whom::Untold => self.oracle.untold(live).is_some(),
+            Whom::Unheld => told && !held && self.is_away(live.name),
+            Whom::Unserved => told && held,
+            Whom::Served => held && !told,
         }
     }
 
@@ -309,6 +321,9 @@ impl Scene<'_> {
     }
 
     fn of_request(&self, draw: &mut Draw) -> Call {
+        if self.habits.forgets && draw.one_in(16) {
+            return Call::Request(RequestCall::Forget);
+        }
         if self.habits.greedy && matches!(self.phase, Phase::Stay) && !draw.one_in(8) {
             return self.submit(draw);
         }
@@ -358,9 +373,9 @@ impl Scene<'_> {
         if draw.one_in(5) {
             return self.any_step(draw);
         }
-        let first = draw.below(4);
-        for turn in 0..4 {
-            if let Some(call) = self.lawful_step(draw, (first + turn) % 4) {
+        let first = draw.index(KINDS.len());
+        for turn in 0..KINDS.len() {
+            if let Some(call) = self.lawful_step(draw, KINDS[(first + turn) % KINDS.len()]) {
                 return call;
             }
         }
@@ -370,22 +385,17 @@ impl Scene<'_> {
         self.any_step(draw)
     }
 
-    fn lawful_step(&self, draw: &mut Draw, kind: u64) -> Option<Call> {
-        match kind {
-            0 => Some(Call::Step(StepCall::Tell(self.wanted(draw, Want::Untold)?.name))),
-            1 => Some(Call::Step(StepCall::Hold(self.wanted(draw, Want::Unheld)?.place))),
-            2 => {
-                let live = self.wanted(draw, Want::Unserved)?;
-                if self.oracle.is_census() {
-                    if self.oracle.held.len() < self.oracle.live.len() {
-                        return None;
-                    }
-                    return Some(Call::Step(StepCall::Operate));
-                }
-                Some(Call::Step(StepCall::Serve(live.place)))
-            }
-            _ => Some(Call::Step(StepCall::Release(self.wanted(draw, Want::Served)?.place))),
-        }
+    fn lawful_step(&self, draw: &mut Draw, whom: Whom) -> Option<Call> {
+        let live = self.wanted(draw, whom)?;
+        let step = match whom {
+            Whom::Untold => StepCall::Tell(live.name),
+            Whom::Unheld => StepCall::Hold(live.place),
+            Whom::Served => StepCall::Release(live.place),
+            Whom::Unserved if !self.oracle.is_census() => StepCall::Serve(live.place),
+            Whom::Unserved if self.oracle.held.len() < self.oracle.live.len() => return None,
+            Whom::Unserved => StepCall::Operate,
+        };
+        Some(Call::Step(step))
     }
 
     fn any_step(&self, draw: &mut Draw) -> Call {
@@ -400,15 +410,5 @@ impl Scene<'_> {
             13 => self.submit(draw),
             _ => self.drive(draw),
         }
-    }
-}
-
-fn any_state(draw: &mut Draw) -> State {
-    match draw.below(5) {
-        0 => State::InJava,
-        1 => State::InVm,
-        2 => State::InNative(Back::Java),
-        3 => State::Blocked,
-        _ => State::AtPoll(Back::Java),
     }
 }

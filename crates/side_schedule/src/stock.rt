@@ -15,7 +15,7 @@ const CODES: u64 = 24;
 const LATER: u64 = 24;
 
 /// A job, by its name and what it asks.
-#[derive(Clone, Copy, Drop)]
+#[derive(Clone, Copy)]
 pub struct Want {
     pub name: u64,
     pub ask: Ask,

@@ -3,17 +3,37 @@ use crate::play::Stopped;
 use crate::said::Said;
 use std::fmt;
 
-/// How many calls were made, and what they came to.
-#[derive(Clone, Copy, Drop)]
+/// What a call may come to that is counted.
+#[derive(Clone, Copy)]
+pub(crate) enum Counted {
+    Refused,
+    Exited,
+    Reply,
+    Census,
+    Freed,
+    /// An Open beside others that were open.
+    Beside,
+    Forgot,
+}
+
+const KINDS: usize = 7;
+
+// What is written behind the count of each kind.
+const WORDS: [&str; KINDS] = [
+    " were refused; ",
+    " exits, ",
+    " replies, ",
+    " censuses, ",
+    " codes reclaimed, ",
+    " handshakes opened beside others, ",
+    " times what is closed was forgotten",
+];
+
+/// How many calls were made, and by kind how many came to it.
+#[derive(Clone, Copy)]
 pub struct Tally {
     pub calls: u64,
-    pub refused: u64,
-    pub exits: u64,
-    pub replies: u64,
-    pub censuses: u64,
-    pub freed: u64,
-    /// Opens beside others that were open.
-    pub beside: u64,
+    counts: [u64; KINDS],
 }
 
 impl Tally {
@@ -21,43 +41,50 @@ impl Tally {
     pub fn none() -> Tally {
         Tally {
             calls: 0,
-            refused: 0,
-            exits: 0,
-            replies: 0,
-            censuses: 0,
-            freed: 0,
-            beside: 0,
+            counts: [0; KINDS],
         }
     }
 
     /// Adds another.
     pub fn add(&mut self, other: Tally) {
         self.calls = self.calls.saturating_add(other.calls);
-        self.refused = self.refused.saturating_add(other.refused);
-        self.exits = self.exits.saturating_add(other.exits);
-        self.replies = self.replies.saturating_add(other.replies);
-        self.censuses = self.censuses.saturating_add(other.censuses);
-        self.freed = self.freed.saturating_add(other.freed);
-        self.beside = self.beside.saturating_add(other.beside);
+        for kind in 0..KINDS {
+            self.counts[kind] = self.counts[kind].saturating_add(other.counts[kind]);
+        }
+    }
+
+    /// So many more came to it.
+    pub(crate) fn count(&mut self, counted: Counted, more: u64) {
+        if let Some(count) = self.counts.get_mut(counted as usize) {
+            *count = count.saturating_add(more);
+        }
     }
 
     /// A call was made, and so many requests are open after it.
     pub(crate) fn note(&mut self, said: Said, open: usize) {
         self.calls = self.calls.saturating_add(1);
-        let count = match said {
-            Said::Refused(_) => &mut self.refused,
-            Said::Exited(_) => &mut self.exits,
-            Said::Census(_) => &mut self.censuses,
-            Said::Freed => &mut self.freed,
-            Said::Opened(_) if open > 1 => &mut self.beside,
-            _ => return,
-        };
-        *count = count.saturating_add(1);
+        if let Some(counted) = Counted::of(said, open) {
+            self.count(counted, 1);
+        }
+    }
+}
+
+impl Counted {
+    fn of(said: Said, open: usize) -> Option<Counted> {
+        match said {
+            Said::Refused(_) => Some(Counted::Refused),
+            Said::Exited(_) => Some(Counted::Exited),
+            Said::Census(_) => Some(Counted::Census),
+            Said::Freed => Some(Counted::Freed),
+            Said::Opened(_) if open > 1 => Some(Counted::Beside),
+            Said::Forgot => Some(Counted::Forgot),
+            _ => None,
+        }
     }
 }
 
 /// What the schedules of so many seeds came to.
-#[derive(Clone, Copy, Drop)]
+#[derive(Clone, Copy)]
 pub struct Total {
     pub seeds: u64,
     pub first: u64,
@@ -74,40 +101,31 @@ pub struct Found {
 impl fmt::Display for Total {
     fn fmt<W: fmt::Write>(&self, f: &mut fmt::Formatter<W>) -> fmt::Result {
         let Total { seeds, first, all } = *self;
-        let Tally {
-            calls,
-            refused,
-            exits,
-            replies,
-            censuses,
-            freed,
-            beside,
-        } = all;
-        write!(
-            f,
-            "{seeds} seeds from {first}: no difference in {calls} calls, of which {refused} were refused; {exits} exits, {replies} replies, {censuses} censuses, {freed} codes reclaimed, {beside} handshakes opened beside others"
-        )
+        write!(f, "{seeds} seeds from {first}: no difference in {all}")
+    }
+}
+
+impl fmt::Display for Tally {
+    fn fmt<W: fmt::Write>(&self, f: &mut fmt::Formatter<W>) -> fmt::Result {
+        let calls = self.calls;
+        write!(f, "{calls} calls, of which ")?;
+        for kind in 0..KINDS {
+            let count = self.counts[kind];
+            let words = WORDS[kind];
+            write!(f, "{count}{words}")?;
+        }
+        Ok(())
     }
 }
 
 impl fmt::Display for Found {
     fn fmt<W: fmt::Write>(&self, f: &mut fmt::Formatter<W>) -> fmt::Result {
         let seed = self.seed;
+        write!(f, "seed {seed}: ")?;
         match &self.stopped {
-            Stopped::NoMemory => write!(f, "seed {seed}: no memory"),
-            Stopped::Few(calls) => write!(
-                f,
-                "seed {seed}: only {calls} calls found nothing to wait for"
-            ),
-            Stopped::Differ(number, call, found) => {
-                let seen = found.seen;
-                let core = found.core.as_str();
-                let running = found.running.as_str();
-                write!(
-                    f,
-                    "seed {seed}, call {number}, {call:?}, {seen:?}: the core has {core}, the running system {running}"
-                )
-            }
+            Stopped::NoMemory => f.write_str("no memory"),
+            Stopped::Few(calls) => write!(f, "only {calls} calls found nothing to wait for"),
+            Stopped::Differ(found) => f.write_str(found),
         }
     }
 }

@@ -3,13 +3,13 @@ use crate::lists::keep;
 use operations::Ask;
 use std::alloc::{AllocError, Global};
 
-/// Which codes there are: those in use, those that are invalidated and not freed, and those that are freed.
+/// Which codes there are: those in use, and those that are invalidated and not freed.
 #[derive(Drop)]
 pub struct Codes {
     in_use: Vec<Option<u64>>,
     left: Vec<u64>,
-    // Whether it is freed, for each serial from 1 on.
-    freed: Vec<bool>,
+    // The serial of the code that was installed last, 0 before the first.
+    last: u64,
     // The serial of the code in each slot, 0 for none.
     slots: Vec<u64>,
 }
@@ -24,7 +24,7 @@ impl Codes {
         Ok(Codes {
             in_use,
             left: Vec::new(alloc),
-            freed: Vec::new(alloc),
+            last: 0,
             slots: vec![in alloc; 0; slots as usize]?,
         })
     }
@@ -40,7 +40,7 @@ impl Codes {
     /// The serial of the code that was installed last, 0 before the first.
     pub fn last(&self) -> u64 {
         let _ = &self.left;
-        self.freed.len() as u64
+        self.last
     }
 
     /// Whether no slot is free for another code.
@@ -56,10 +56,7 @@ impl Codes {
 
     /// Whether the code of the serial was installed, and isn't freed.
     pub fn stands(&self, serial: u64) -> bool {
-        match self.freed.get(serial.wrapping_sub(1) as usize) {
-            Some(is_freed) => !*is_freed,
-            None => false,
-        }
+        serial != 0 && self.slots.contains(&serial)
     }
 
     /// The serial of the code in a slot, 0 for none.
@@ -76,16 +73,15 @@ impl Codes {
     }
 
     /// A code was installed in a slot, of the next serial.
-    pub fn note_installed(&mut self, method: u32, slot: u32) -> Result<(), AllocError> {
-        keep(&mut self.freed, false)?;
-        let serial = self.freed.len() as u64;
+    pub fn note_installed(&mut self, method: u32, slot: u32) {
+        let serial = self.last.saturating_add(1);
+        self.last = serial;
         if let Some(current) = self.in_use.get_mut(method as usize) {
             *current = Some(serial);
         }
         if let Some(stands) = self.slots.get_mut(slot as usize) {
             *stands = serial;
         }
-        Ok(())
     }
 
     /// The code of the method was invalidated.
@@ -99,9 +95,6 @@ impl Codes {
     /// A code that was left is freed.
     pub fn note_freed(&mut self, serial: u64) {
         self.left.retain(|other| *other != serial);
-        if let Some(is_freed) = self.freed.get_mut(serial.wrapping_sub(1) as usize) {
-            *is_freed = true;
-        }
         for stands in self.slots.iter_mut() {
             if *stands == serial {
                 *stands = 0;

@@ -2,8 +2,9 @@
 ghost use Rattle.std.specs.Prelude.{◌≡◌};
 ghost use Rattle.poll.specs.Rows.{full_armer};
 
+use crate::asked::{AskedList, jobs_of};
 use crate::codes::Codes;
-use crate::requests::{Asked, Gone};
+use crate::requests::Gone;
 use crate::rng::Choices;
 use crate::signals::Signals;
 use crate::tally::Tally;
@@ -13,7 +14,7 @@ use bodies::Name;
 use coordinator::{Coordinator, NotReclaimed, ReclaimFault, Reclaimed};
 use desk::CodeFault;
 use method_table::table::{InstallFault, InvalidateFault};
-use operations::job::Errand;
+use operations::job::Query;
 use poll::Armer;
 use std::alloc::{AllocError, Global};
 use std::sync::Wait;
@@ -28,23 +29,22 @@ const YIELDS: u64 = 128;
 
 /// The main thread's part of a run.
 #[derive(Drop)]
-pub struct Driver<'a, N: Name, J: Errand, R> {
+pub struct Driver<'a, N: Name, R> {
     pub(crate) rt: &'a R,
     pub(crate) alloc: Global,
-    pub(crate) shared: &'a Shared<N, J>,
+    pub(crate) shared: &'a Shared<N, Query>,
     pub(crate) signals: &'a Signals,
-    pub(crate) coordinator: Coordinator<'a, N, J>,
+    pub(crate) coordinator: Coordinator<'a, N, Query>,
     pub(crate) places: usize,
     pub(crate) choices: Choices,
     pub(crate) codes: Codes,
-    pub(crate) words: Words<'a, N, J>,
-    /// Lists of a job for each name, from 1 on.
-    pub(crate) jobs: Vec<Vec<J>>,
-    /// All that was asked, by its number from 1 on.
-    pub(crate) asked: Vec<Asked>,
+    pub(crate) words: Words<'a, N, Query>,
+    pub(crate) asked: AskedList,
     /// What the last census counted.
     pub(crate) counted: Vec<(u64, u32)>,
     pub(crate) tally: Tally,
+    /// Whether what is closed is forgotten now and then.
+    pub(crate) forgets: bool,
 }
 
 /// What a call to reclaim came to.
@@ -59,7 +59,7 @@ enum Came {
 }
 
 impl Came {
-    fn of_refused<J: Errand>(refused: NotReclaimed<J>) -> Came {
+    fn of_refused(refused: NotReclaimed<Query>) -> Came {
         match refused.fault {
             ReclaimFault::AlreadyOpen => Came::Open,
             _ => Came::Wrong,
@@ -75,17 +75,17 @@ pub struct Sizes {
     pub methods: u32,
 }
 
-impl<'a, N: Name, J: Errand, R: Wait> Driver<'a, N, J, R> {
+impl<'a, N: Name, R: Wait> Driver<'a, N, R> {
     pub fn new(
         rt: &'a R,
         alloc: Global,
-        shared: &'a Shared<N, J>,
+        shared: &'a Shared<N, Query>,
         signals: &'a Signals,
         armer: Armer,
         sizes: Sizes,
         seed: u64,
-        jobs: Vec<Vec<J>>,
-    ) -> Result<Driver<'a, N, J, R>, Wrong>
+        forgets: bool,
+    ) -> Result<Driver<'a, N, R>, Wrong>
         requires armer { armer ≡ full_armer N.poll_row N.board.places }
         requires slots { sizes.slots ≡ N.board.slots }
     {
@@ -103,10 +103,10 @@ impl<'a, N: Name, J: Errand, R: Wait> Driver<'a, N, J, R> {
             choices: Choices::new(seed),
             codes,
             words: Words::new(shared, sizes.slots),
-            jobs,
-            asked: Vec::new(alloc),
+            asked: AskedList::new(alloc),
             counted: Vec::new(alloc),
             tally: Tally::new(),
+            forgets,
         })
     }
 
@@ -115,6 +115,8 @@ impl<'a, N: Name, J: Errand, R: Wait> Driver<'a, N, J, R> {
         for round in 0..rounds {
             self.signals.allow(round.saturating_mul(renewals));
             self.round()?;
+            let next = self.asked.next();
+            self.may_forget(next)?;
         }
         Ok(())
     }
@@ -175,7 +177,7 @@ impl<'a, N: Name, J: Errand, R: Wait> Driver<'a, N, J, R> {
         let Some(code) = self.shared.hint(method) else {
             return Err(Wrong::Answer(Step::Install));
         };
-        self.codes.note_installed(method, code.slot)?;
+        self.codes.note_installed(method, code.slot);
         self.tally.installed = self.tally.installed.saturating_add(1);
         if code.serial != serial || serial != self.codes.last() {
             return Err(Wrong::Answer(Step::Install));
@@ -233,21 +235,22 @@ impl<'a, N: Name, J: Errand, R: Wait> Driver<'a, N, J, R> {
         let Some(serial) = self.pick_left() else {
             return Ok(());
         };
-        let jobs = self.jobs_for_live()?;
-        let asked = Asked::of(self.alloc, jobs.as_slice())?;
+        let live = self.shared.live(self.rt)?;
+        let ask = self.pick_ask();
+        let jobs = jobs_of(self.alloc, live.as_slice(), ask)?;
         let came = self.try_reclaim(serial, jobs);
         if let Came::Open | Came::Wrong = came {
             return Err(Wrong::Answer(Step::Reclaim));
         }
         // The replies are of stacks on which the code may have stood before it was freed.
-        if asked.ask.is_some() {
-            let op = self.note_asked(asked)?;
+        if !live.is_empty() {
+            let op = self.asked.note(Some(ask), live)?;
             self.check_handshake(op)?;
         }
         self.note_reclaimed(serial, came)
     }
 
-    fn try_reclaim(&mut self, serial: u64, jobs: Vec<J>) -> Came {
+    fn try_reclaim(&mut self, serial: u64, jobs: Vec<Query>) -> Came {
         match self.coordinator.reclaim(self.rt, serial, jobs) {
             Ok(Reclaimed::Freed(_receipt)) => Came::Freed,
             Ok(Reclaimed::Used(count)) => Came::Used(count),

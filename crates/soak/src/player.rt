@@ -52,7 +52,7 @@ pub fn play<N: Name, J: Errand, R: Wait>(
         signals,
         choices: Choices::new(seed),
         stack: Vec::new(alloc),
-        report: Report::new(alloc),
+        report: Report::new(),
     };
     for _ in rt.forever() {
         let Some(thread) = player.start() else {
@@ -209,7 +209,7 @@ impl<'a, N: Name, J: Errand, R: Wait> Player<'a, N, J, R> {
             return;
         };
         match Seen::of(thread.name(), op, self.stack.as_slice(), self.alloc) {
-            Ok(seen) => self.keep(seen),
+            Ok(seen) => self.note_stop(seen),
             Err(_) => self.note(Wrong::NoMemory),
         }
         if thread.stop(self.rt).is_err() {
@@ -217,10 +217,11 @@ impl<'a, N: Name, J: Errand, R: Wait> Player<'a, N, J, R> {
         }
     }
 
-    fn keep(&mut self, seen: Seen) {
-        let _ = &self.rt;
-        if self.report.seen.push(seen).is_err() {
-            note(&mut self.report.wrong, Wrong::NoMemory);
+    // Before the thread is done with what it stops for, so that no stop is noted once that is closed.
+    fn note_stop(&mut self, seen: Seen) {
+        self.report.stops = self.report.stops.saturating_add(1);
+        if self.signals.note_stop(self.rt, seen).is_err() {
+            self.note(Wrong::NoMemory);
         }
     }
 

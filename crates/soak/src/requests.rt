@@ -1,4 +1,5 @@
 //! What the main thread asks of the others: handshakes and censuses, driven or made step by step.
+use crate::asked::jobs_of;
 use crate::driver::Driver;
 use crate::lists::keep;
 use crate::verdict::{check_census, check_names, check_replies};
@@ -6,9 +7,8 @@ use crate::wrong::{Step, Wrong};
 use bodies::Name;
 use coordinator::{DriveFault, Driven, HoldFault, OperateFault, ServeFault};
 use desk::CloseFault;
-use operations::job::Errand;
+use operations::job::Query;
 use operations::{Ask, Request, Targets};
-use std::alloc::{AllocError, Global};
 use std::sync::Wait;
 use std::thread;
 
@@ -17,13 +17,6 @@ const BATCH: u64 = 3;
 
 // The same where they are worked on at once: some stay for a second time.
 const FOUR: u64 = 6;
-
-/// What was asked of which names, None for a census.
-#[derive(Drop)]
-pub struct Asked {
-    pub ask: Option<Ask>,
-    pub targets: Vec<u64>,
-}
 
 /// What the oldest request came to that was worked on to its Close. A census has its list with the driver.
 #[derive(Clone, Copy, Drop)]
@@ -54,40 +47,22 @@ enum Held {
     Wrong,
 }
 
-/// The jobs that are for live threads.
-pub fn of_live<J: Errand>(jobs: Vec<J>, live: &[u64]) -> Vec<J> {
-    let mut jobs = jobs;
-    jobs.retain(|job| live.contains(&job.target_of()));
-    jobs
-}
-
-// The names that the jobs are for, in their order.
-fn targets_of<J: Errand>(alloc: Global, jobs: &[J]) -> Result<Vec<u64>, AllocError> {
-    let mut names = Vec::new(alloc);
-    for job in jobs {
-        keep(&mut names, job.target_of())?;
+// The least of the numbers, or this one where there is none.
+fn least_of(ops: &[u64], other: u64) -> u64 {
+    let mut least = other;
+    for op in ops {
+        least = least.min(*op);
     }
-    Ok(names)
+    least
 }
 
-impl Asked {
-    /// What a handshake with these jobs asks; a census without jobs.
-    pub fn of<J: Errand>(alloc: Global, jobs: &[J]) -> Result<Asked, AllocError> {
-        let ask = match jobs.first() {
-            Some(first) => Some(first.ask_of()),
-            None => None,
-        };
-        let targets = targets_of(alloc, jobs)?;
-        Ok(Asked { ask, targets })
-    }
-}
-
-impl<'a, N: Name, J: Errand, R: Wait> Driver<'a, N, J, R> {
+impl<'a, N: Name, R: Wait> Driver<'a, N, R> {
     /// Some requests wait, and are driven one after the other. No code is reclaimed while one waits.
     pub fn ask_and_drive(&mut self) -> Result<(), Wrong> {
         let count = self.choices.below(BATCH) + 1;
         let last = self.submit_some(count)?;
         self.reclaim_in_vain()?;
+        self.may_forget(last.saturating_sub(count).saturating_add(1))?;
         for before in 0..count {
             let op = last.saturating_sub(count).saturating_add(before);
             self.drive(op.saturating_add(1))?;
@@ -151,59 +126,47 @@ impl<'a, N: Name, J: Errand, R: Wait> Driver<'a, N, J, R> {
         }
     }
 
-    // A handshake of all live threads waits. None where no jobs are left.
+    // A handshake of all live threads waits. None where there are none.
     fn submit_handshake(&mut self) -> Result<Option<u64>, Wrong> {
-        let jobs = self.jobs_for_live()?;
-        let Some(first) = jobs.as_slice().first() else {
+        let live = self.shared.live(self.rt)?;
+        if live.is_empty() {
             return Ok(None);
-        };
-        let ask = first.ask_of();
-        let targets = Targets::from_vec(targets_of(self.alloc, jobs.as_slice())?);
-        let asked = Asked::of(self.alloc, jobs.as_slice())?;
+        }
+        let ask = self.pick_ask();
+        let jobs = jobs_of(self.alloc, live.as_slice(), ask)?;
+        let targets = Targets::from_vec(Vec::from_slice(self.alloc, live.as_slice())?);
         self.ask(Request::Handshake { targets, ask }, jobs)?;
-        Ok(Some(self.note_asked(asked)?))
+        Ok(Some(self.asked.note(Some(ask), live)?))
     }
 
     fn submit_census(&mut self) -> Result<u64, Wrong> {
         self.ask(Request::Census, Vec::new(self.alloc))?;
-        let targets = Vec::new(self.alloc);
-        self.note_asked(Asked { ask: None, targets })
+        Ok(self.asked.note(None, Vec::new(self.alloc))?)
     }
 
     // The request waits under the next number.
-    fn ask(&self, request: Request, jobs: Vec<J>) -> Result<(), Wrong> {
-        let next = (self.asked.len() as u64).saturating_add(1);
+    fn ask(&self, request: Request, jobs: Vec<Query>) -> Result<(), Wrong> {
         match self.shared.submit(self.rt, request, jobs) {
-            Ok((op, _receipt)) if op == next => Ok(()),
+            Ok((op, _receipt)) if op == self.asked.next() => Ok(()),
             _ => Err(Wrong::Answer(Step::Submit)),
         }
     }
 
-    /// A request was asked. Answers its number.
-    pub fn note_asked(&mut self, asked: Asked) -> Result<u64, Wrong> {
-        keep(&mut self.asked, asked)?;
-        Ok(self.asked.len() as u64)
-    }
-
-    // What the operation asks.
-    fn ask_of(&self, op: u64) -> Option<Ask> {
-        match self.asked.get(op.wrapping_sub(1) as usize) {
-            Some(asked) => asked.ask,
-            None => None,
+    /// How deep a stack is, what its top frame runs, or how many frames a code has of about those that are there.
+    pub fn pick_ask(&mut self) -> Ask {
+        match self.choices.below(3) {
+            0 => Ask::Depth,
+            1 => Ask::Top,
+            _ => {
+                let back = self.choices.below(8);
+                let about = self.codes.last().saturating_add(2);
+                Ask::CountOf(about.saturating_sub(back).max(1))
+            }
         }
     }
 
     fn is_census(&self, op: u64) -> bool {
-        self.ask_of(op).is_none()
-    }
-
-    /// A list of jobs, as far as they are for live threads. Empty where no list is left.
-    pub fn jobs_for_live(&mut self) -> Result<Vec<J>, Wrong> {
-        let live = self.shared.live(self.rt)?;
-        match self.jobs.pop() {
-            Some(jobs) => Ok(of_live(jobs, live.as_slice())),
-            None => Ok(Vec::new(self.alloc)),
-        }
+        self.asked.ask_of(op).is_none()
     }
 
     /// The oldest request is worked on to its Close.
@@ -248,7 +211,7 @@ impl<'a, N: Name, J: Errand, R: Wait> Driver<'a, N, J, R> {
 
     fn check_replies_of(&self, op: u64, replies: &[(u64, u64)]) -> Result<(), Wrong> {
         let live = self.shared.live(self.rt)?;
-        let Some(asked) = self.asked.get(op.wrapping_sub(1) as usize) else {
+        let Some(asked) = self.asked.of(op) else {
             return Err(Wrong::Answer(Step::Drive));
         };
         let Some(ask) = asked.ask else {
@@ -282,7 +245,7 @@ impl<'a, N: Name, J: Errand, R: Wait> Driver<'a, N, J, R> {
 
     // The targets of the handshake are told.
     fn tell_targets(&mut self, op: u64) -> Result<(), Wrong> {
-        let Some(asked) = self.asked.get(op.wrapping_sub(1) as usize) else {
+        let Some(asked) = self.asked.of(op) else {
             return Err(Wrong::Answer(Step::Tell));
         };
         let targets = Vec::from_slice(self.alloc, asked.targets.as_slice())?;
@@ -417,6 +380,8 @@ impl<'a, N: Name, J: Errand, R: Wait> Driver<'a, N, J, R> {
             }
             self.serve_held()?;
             self.close_some(left)?;
+            let next = self.asked.next();
+            self.may_forget(least_of(left.as_slice(), next))?;
             thread::yield_now();
         }
         unreachable!()

@@ -6,10 +6,9 @@ use crate::driver::{Driver, Sizes};
 use crate::signals::Signals;
 use crate::tally::{Report, Tally};
 use crate::threads::{join_all, start_all};
-use crate::verdict::check_report;
 use crate::wrong::{Wrong, note};
 use bodies::Name;
-use operations::job::Errand;
+use operations::job::Query;
 use poll::Armer;
 use std::alloc::Global;
 use std::sync::Wait;
@@ -24,41 +23,48 @@ pub struct Plan {
     pub seed: u64,
     /// How many threads exit for another in each round at most.
     pub renewals: u64,
+    /// Whether what is closed is forgotten now and then.
+    pub forgets: bool,
 }
 
-/// Runs a thread for each place of a system that is made of the parts, and beside them so many rounds of the main thread, with a job for
-/// each name in each of the lists. No thread runs any more when it returns. The error is the first thing that is wrong.
-pub fn run<N: Name + Send, J: Errand + Send, R: Threads + Wait + Sync>(
+/// Runs a thread for each place of a system that is made of the parts, and beside them so many rounds of the main thread.
+/// No thread runs any more when it returns. The error is the first thing that is wrong.
+pub fn run<N: Name + Send, R: Threads + Wait + Sync>(
     rt: &R,
     alloc: Global,
     plan: Plan,
     parts: Parts,
-    jobs: Vec<Vec<J>>,
 ) -> Result<Tally, Wrong>
     requires tables { (parts.board ≡ N.board) × (parts.row ≡ N.poll_row) }
     requires slots { plan.sizes.slots ≡ N.board.slots }
 {
-    let Ok((shared, armer)) = Shared::<N, J>::new(alloc, parts) else {
+    let Ok((shared, armer)) = Shared::<N, Query>::new(alloc, parts) else {
         return Err(Wrong::NoMemory);
     };
     let signals = Signals::new(alloc, plan.sizes.methods)?;
-    run_over(rt, alloc, plan, &shared, &signals, armer, jobs)
+    run_over(rt, alloc, plan, &shared, &signals, armer)
 }
 
-fn run_over<'a, N: Name + Send, J: Errand + Send, R: Threads + Wait + Sync>(
+fn run_over<'a, N: Name + Send, R: Threads + Wait + Sync>(
     rt: &'a R,
     alloc: Global,
     plan: Plan,
-    shared: &'a Shared<N, J>,
+    shared: &'a Shared<N, Query>,
     signals: &'a Signals,
     armer: Armer,
-    jobs: Vec<Vec<J>>,
 ) -> Result<Tally, Wrong>
     requires armer { armer ≡ full_armer N.poll_row N.board.places }
     requires slots { plan.sizes.slots ≡ N.board.slots }
 {
     let driver = Driver::new(
-        rt, alloc, shared, signals, armer, plan.sizes, plan.seed, jobs,
+        rt,
+        alloc,
+        shared,
+        signals,
+        armer,
+        plan.sizes,
+        plan.seed,
+        plan.forgets,
     )?;
     thread::scope(
         thread::scope_env(),
@@ -68,14 +74,14 @@ fn run_over<'a, N: Name + Send, J: Errand + Send, R: Threads + Wait + Sync>(
 }
 
 // The same in a scope.
-fn run_in<'s, 'a: 's, N: Name + Send, J: Errand + Send, R: Threads + Wait + Sync, E>(
+fn run_in<'s, 'a: 's, N: Name + Send, R: Threads + Wait + Sync, E>(
     scope: &Scope<'s, E>,
     rt: &'a R,
     alloc: Global,
     plan: Plan,
-    shared: &'a Shared<N, J>,
+    shared: &'a Shared<N, Query>,
     signals: &'a Signals,
-    driver: Driver<'a, N, J, R>,
+    driver: Driver<'a, N, R>,
 ) -> Result<Tally, Wrong> {
     let mut driver = driver;
     let mut wrong = None;
@@ -97,14 +103,12 @@ fn run_in<'s, 'a: 's, N: Name + Send, J: Errand + Send, R: Threads + Wait + Sync
     }
     signals.end();
     let reports = join_all(rt, alloc, handles, &mut wrong);
-    judge(rt, shared, driver, reports.as_slice(), wrong)
+    judge(driver, reports.as_slice(), wrong)
 }
 
 // What the run comes to, after all threads exited.
-fn judge<N: Name, J: Errand, R: Wait>(
-    rt: &R,
-    shared: &Shared<N, J>,
-    driver: Driver<'_, N, J, R>,
+fn judge<N: Name, R: Wait>(
+    driver: Driver<'_, N, R>,
     reports: &[Report],
     wrong: Option<Wrong>,
 ) -> Result<Tally, Wrong> {
@@ -112,10 +116,11 @@ fn judge<N: Name, J: Errand, R: Wait>(
         return Err(found);
     }
     let mut driver = driver;
+    let next = driver.asked.next();
+    driver.check_stops(next)?;
     driver.finish()?;
     let mut tally = driver.tally;
     for report in reports {
-        check_report(rt, shared, driver.asked.as_slice(), report)?;
         tally.add(report);
     }
     Ok(tally)

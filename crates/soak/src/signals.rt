@@ -1,15 +1,19 @@
 //! What the threads of a run tell each other, in plain words beside what the product shares.
 use crate::lists::keep;
+use crate::tally::Seen;
 use std::alloc::{AllocError, Global};
 use std::sync::atomic::{AtomicU64, Ordering};
+use std::sync::{Mutex, Wait};
 
-/// Whether the run is over, how many threads have exited for another and may, and which codes are invalidated.
+/// Whether the run is over, how many threads have exited for another and may, which codes are invalidated, and what threads saw where they
+/// stopped.
 #[derive(Drop)]
 pub struct Signals {
     over: AtomicU64,
     renewed: AtomicU64,
     renewals: AtomicU64,
     invalidated: Vec<AtomicU64>,
+    stops: Mutex<Vec<Seen>>,
 }
 
 impl Signals {
@@ -24,6 +28,7 @@ impl Signals {
             renewed: AtomicU64::new(0),
             renewals: AtomicU64::new(0),
             invalidated,
+            stops: Mutex::new(Vec::new(alloc)),
         })
     }
 
@@ -73,5 +78,19 @@ impl Signals {
             Some(word) => word.load(Ordering::SeqCst),
             None => 0,
         }
+    }
+
+    /// A thread stops, and saw this.
+    pub fn note_stop<R: Wait>(&self, rt: &R, seen: Seen) -> Result<(), AllocError> {
+        let _ = &self.invalidated;
+        let mut stops = self.stops.lock(rt);
+        keep(&mut stops, seen)
+    }
+
+    /// What was seen at all stops that were noted and not yet taken.
+    pub fn take_stops<R: Wait>(&self, rt: &R, alloc: Global) -> Vec<Seen> {
+        let _ = &self.invalidated;
+        let mut stops = self.stops.lock(rt);
+        std::mem::replace(&mut *stops, Vec::new(alloc))
     }
 }

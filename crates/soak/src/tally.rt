@@ -70,17 +70,17 @@ pub struct Report {
     pub names: u64,
     pub calls: u64,
     pub compiled: u64,
-    pub seen: Vec<Seen>,
+    pub stops: u64,
     pub wrong: Option<Wrong>,
 }
 
 impl Report {
-    pub fn new(alloc: Global) -> Report {
+    pub fn new() -> Report {
         Report {
             names: 0,
             calls: 0,
             compiled: 0,
-            seen: Vec::new(alloc),
+            stops: 0,
             wrong: None,
         }
     }
@@ -98,6 +98,7 @@ pub struct Tally {
     pub censuses: u64,
     pub installed: u64,
     pub freed: u64,
+    pub forgets: u64,
 }
 
 impl Tally {
@@ -112,6 +113,7 @@ impl Tally {
             censuses: 0,
             installed: 0,
             freed: 0,
+            forgets: 0,
         }
     }
 
@@ -120,7 +122,7 @@ impl Tally {
         self.names = self.names.saturating_add(report.names);
         self.calls = self.calls.saturating_add(report.calls);
         self.compiled = self.compiled.saturating_add(report.compiled);
-        self.stops = self.stops.saturating_add(report.seen.len() as u64);
+        self.stops = self.stops.saturating_add(report.stops);
     }
 }
 
@@ -138,8 +140,8 @@ impl fmt::Display for Tally {
         )?;
         write!(
             f,
-            "censuses {} installs {} freed {}",
-            self.censuses, self.installed, self.freed
+            "censuses {} installs {} freed {} forgets {}",
+            self.censuses, self.installed, self.freed, self.forgets
         )
     }
 }

@@ -1,7 +1,7 @@
 //! Whether what a run answered can be right.
+use crate::asked::AskedList;
 use crate::codes::Codes;
-use crate::requests::Asked;
-use crate::tally::{Report, Seen};
+use crate::tally::Seen;
 use crate::wrong::Wrong;
 use bodies::Name;
 use operations::Ask;
@@ -81,31 +81,19 @@ pub fn count_of(list: &[(u64, u32)], serial: u64) -> u64 {
     0
 }
 
-/// Each thread that stopped for a handshake has a reply of it, by the stack that it had then. The list has what was asked, by its number
-/// from 1 on.
-pub fn check_report<N: Name, J: Errand, R: Wait>(
+/// A thread that stopped for a handshake has a reply of it, by the stack that it had then.
+pub fn check_reply<N: Name, J: Errand, R: Wait>(
     rt: &R,
     shared: &Shared<N, J>,
-    all: &[Asked],
-    report: &Report,
-) -> Result<(), Wrong> {
-    for seen in &report.seen {
-        let Some(asked) = all.get(seen.op.wrapping_sub(1) as usize) else {
-            return Err(Wrong::NotOf(seen.op));
-        };
-        if let Some(ask) = asked.ask {
-            check_reply(rt, shared, seen, ask)?;
-        }
-    }
-    Ok(())
-}
-
-fn check_reply<N: Name, J: Errand, R: Wait>(
-    rt: &R,
-    shared: &Shared<N, J>,
+    asked: &AskedList,
     seen: &Seen,
-    ask: Ask,
 ) -> Result<(), Wrong> {
+    if asked.of(seen.op).is_none() {
+        return Err(Wrong::NotOf(seen.op));
+    }
+    let Some(ask) = asked.ask_of(seen.op) else {
+        return Ok(());
+    };
     let replies = shared.replies(rt, seen.op)?;
     check_seen(seen, ask, replies.as_slice())
 }

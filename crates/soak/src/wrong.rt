@@ -54,6 +54,10 @@ pub enum Wrong {
     Unanswered(u64),
     /// A reply of this handshake isn't what the stack of its thread was.
     Reply(u64),
+    /// The replies of this operation are kept after they were forgotten.
+    Kept(u64),
+    /// The replies of this operation are forgotten, which is open, waits or isn't asked yet.
+    Forgotten(u64),
     /// After all threads exited some name is live.
     Live,
     /// After all threads exited so much is counted.
@@ -87,6 +91,8 @@ impl fmt::Display for Wrong {
             ),
             Wrong::Unanswered(op) => write!(f, "a name has no reply of handshake {op}"),
             Wrong::Reply(op) => write!(f, "a reply of handshake {op} is wrong"),
+            Wrong::Kept(op) => write!(f, "operation {op} isn't forgotten"),
+            Wrong::Forgotten(op) => write!(f, "operation {op} is forgotten too soon"),
             Wrong::Live => write!(f, "a name is live after all threads exited"),
             Wrong::Counted(sum) => write!(f, "{sum} is counted after all threads exited"),
             Wrong::Unfreed(serial) => write!(f, "code {serial} isn't freed"),

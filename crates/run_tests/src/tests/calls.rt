@@ -1,6 +1,6 @@
 //! The words of a row's call.
 use operations::Ask;
-use std::alloc::Global;
+use std::alloc::{AllocError, Global};
 use std::process::Abort;
 
 /// A call's name and its numbers, 0 where there are none.
@@ -41,16 +41,23 @@ pub fn call_of<'t, R: Abort>(rt: &R, text: &'t str) -> Call<'t> {
     }
 }
 
-/// What the jobs of a call ask, and whom: `submit depth of 1 2`, `submit count_of 1 of 1 2`. None of a call that has no jobs.
-pub fn asked_in<R: Abort>(rt: &R, alloc: Global, text: &str) -> Option<(Ask, Vec<u64>)> {
-    let (before, names) = text.split_once(" of ")?;
+/// What the jobs of a call ask, and whom: `submit depth of 1 2`, `reclaim 1 count_of 1 of 1 2`. None of a call that has no jobs.
+pub fn asked_in<R: Abort>(
+    rt: &R,
+    alloc: Global,
+    text: &str,
+) -> Result<Option<(Ask, Vec<u64>)>, AllocError> {
+    let Some((before, names)) = text.split_once(" of ") else {
+        return Ok(None);
+    };
     let ask = match before.split_once("count_of ") {
         None => Ask::Depth,
         Some((_, serial)) => Ask::CountOf(number_of(rt, serial) as u64),
     };
     let mut whom = Vec::new(alloc);
     for name in names.split_whitespace() {
-        whom.push(number_of(rt, name) as u64).expect(rt, "memory");
+        whom.push(number_of(rt, name) as u64)
+            .map_err(|_| AllocError)?;
     }
-    Some((ask, whom))
+    Ok(Some((ask, whom)))
 }

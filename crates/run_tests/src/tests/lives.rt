@@ -128,13 +128,43 @@ fn a_place_is_used_again(rt: HostRuntime) -> Result<(), Fail> {
     Ok(())
 }
 
-// Another takes the body of a thread in native code, once, by its name, and gives it back.
+// Another takes the body of a thread in native code, once, by its name, and gives it back: only where something is told to the thread that
+// it isn't done with, a handshake or a census.
 const BODY: &str = "
     start = 1
     to_native 1 = ok
-    take 1 2 = absent
+    take 1 2 = Absent
+    take 1 1 = NothingTold
+
+    # A handshake, until the thread has served itself. That it is in native code again doesn't matter then.
+    submit depth of 1 = 1
+    open = 1
+    take 1 1 = NothingTold
+    tell 1 = told
+    take 1 2 = Absent
     take 1 1 = once
     state 1 = InNative(Java)
+    from_native 1 = stop 1
+    stop 1 = served
+    take 1 1 = Absent
+    to_native 1 = ok
+    take 1 1 = NothingTold
+    hold 0 = AlreadyDone
+    close = 1
+
+    # A census, until it is operated and the thread is released.
+    submit census = 2
+    open = 2
+    tell 1 = told
+    take 1 1 = once
+    hold 0 = ok
+    take 1 1 = Absent
+    operate = (2, [])
+    release 0 = ok
+    take 1 1 = NothingTold
+    hold 0 = AlreadyDone
+    close = 2
+
     from_native 1 = go
     exit 1 = exited
 ";

@@ -211,6 +211,51 @@ fn four_are_told_and_served_in_order(rt: HostRuntime) -> Result<(), Fail> {
     Ok(())
 }
 
+// The same four over two threads in native code, and a census.
+const DRIVEN: &str = "
+    install 0 = 1
+    install 1 = 2
+    start = 1
+    call 1 0 = compiled 1
+    1..3: call 1 1 = compiled 2
+    call 1 0 none = interpreted
+    to_native 1 = ok
+    start = 2
+    1..2: call 2 0 = compiled 1
+    1..4: call 2 1 = compiled 2
+    call 2 0 none = interpreted
+    to_native 2 = ok
+
+    drive_four = QueueEmpty
+    submit depth of 1 2 = 1
+    submit count_of 1 of 1 = 2
+    submit count_of 1 of 2 = 3
+    submit count_of 2 of 1 2 = 4
+    submit census = 5
+    drive_four = 4
+    replies 1 = [(1, 5), (2, 7)]
+    replies 2 = [(1, 1)]
+    replies 3 = [(2, 2)]
+    replies 4 = [(1, 3), (2, 4)]
+
+    # Nothing is open beside a census.
+    drive_four = 1
+    drive_four = QueueEmpty
+    replies 5 = []
+    peek_counts = 10
+
+    from_native 1, from_native 2 = go
+    1..5: ret 1 = go
+    1..7: ret 2 = go
+    exit 1, exit 2 = exited
+";
+
+#[test]
+fn four_are_driven_at_once(rt: HostRuntime) -> Result<(), Fail> {
+    play(&rt, rt.alloc(), 2, 4, 2, DRIVEN)?;
+    Ok(())
+}
+
 const OLDEST: &str = "
     # The first thread is in native code, and neither calls anything.
     start = 1

@@ -2,7 +2,8 @@
 use crate::tests::calls::{Call, number_of};
 use crate::tests::said::{Said, number, numbered, received, shown, word};
 use bodies::Name;
-use desk::Refused;
+use desk::{AskFault, Refused};
+use jobs_testing::pop_list;
 use operations::Request;
 use operations::job::Errand;
 use std::alloc::{AllocError, Global};
@@ -55,16 +56,32 @@ pub fn ask<N: Name, J: Errand, R: Wait + Abort>(
     Some(said)
 }
 
-/// A request waits, with its jobs.
+/// A request waits, with the last of the lists of jobs. For want of memory the jobs come back.
 pub fn submit<N: Name, J: Errand, R: Wait>(
     rt: &R,
     alloc: Global,
     shared: &Shared<N, J>,
     request: Request,
-    jobs: Vec<J>,
+    lists: &mut Vec<Vec<J>>,
 ) -> Said {
+    let jobs = pop_list(alloc, lists);
     match shared.submit(rt, request, jobs) {
         Ok((op, _receipt)) => number(alloc, op),
-        Err(Refused { fault, jobs: _ }) => shown(alloc, fault),
+        Err(Refused { fault, jobs }) => {
+            take_back(&fault, jobs, lists)?;
+            shown(alloc, fault)
+        }
     }
+}
+
+/// Jobs that were refused for want of memory are the next that a call has.
+pub fn take_back<J: Errand>(
+    fault: &AskFault,
+    jobs: Vec<J>,
+    lists: &mut Vec<Vec<J>>,
+) -> Result<(), AllocError> {
+    if matches!(fault, AskFault::NoMemory) {
+        lists.push(jobs).map_err(|_| AllocError)?;
+    }
+    Ok(())
 }

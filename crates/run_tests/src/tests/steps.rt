@@ -1,8 +1,10 @@
 //! What the coordinator calls.
 use crate::tests::calls::Call;
-use crate::tests::said::{Said, numbered, received, shown, word};
+use crate::tests::said::{Said, number, numbered, received, shown, word};
+use crate::tests::shared::take_back;
 use bodies::Name;
-use coordinator::{Coordinator, Driven, NotReclaimed, OperateFault, Reclaimed, Told};
+use coordinator::{Coordinator, Driven, NotReclaimed, OperateFault, ReclaimFault, Reclaimed, Told};
+use jobs_testing::pop_list;
 use operations::job::Errand;
 use std::alloc::Global;
 use std::sync::Wait;
@@ -70,18 +72,43 @@ fn worked(alloc: Global, driven: Driven) -> Said {
     }
 }
 
-// A code is reclaimed without a handshake.
-fn reclaim<N: Name, J: Errand, R: Wait>(
+// Up to four handshakes at once.
+fn drive_four<N: Name, J: Errand, R: Wait>(
+    rt: &R,
+    alloc: Global,
+    coordinator: &mut Coordinator<'_, N, J>,
+) -> Said {
+    match coordinator.drive_four(rt) {
+        Ok(count) => number(alloc, count as u64),
+        Err(fault) => shown(alloc, fault),
+    }
+}
+
+/// A code is reclaimed, with the last of the lists of jobs. For want of memory the jobs come back.
+pub fn reclaim<N: Name, J: Errand, R: Wait>(
     rt: &R,
     alloc: Global,
     coordinator: &mut Coordinator<'_, N, J>,
     serial: u64,
+    lists: &mut Vec<Vec<J>>,
 ) -> Said {
-    match coordinator.reclaim(rt, serial, Vec::new(alloc)) {
-        Ok(Reclaimed::Freed(_receipt)) => word(alloc, "freed"),
-        Ok(Reclaimed::Used(count)) => format!(in alloc; "used {count}"),
-        Ok(Reclaimed::Late(place)) => format!(in alloc; "late {place}"),
-        Err(NotReclaimed { fault, jobs: _ }) => shown(alloc, fault),
+    let jobs = pop_list(alloc, lists);
+    match coordinator.reclaim(rt, serial, jobs) {
+        Ok(said) => reclaimed(alloc, said),
+        Err(NotReclaimed { fault, jobs }) => {
+            if let ReclaimFault::Ask(fault) = &fault {
+                take_back(fault, jobs, lists)?;
+            }
+            shown(alloc, fault)
+        }
+    }
+}
+
+fn reclaimed<N: Name>(alloc: Global, said: Reclaimed<N>) -> Said {
+    match said {
+        Reclaimed::Freed(_receipt) => word(alloc, "freed"),
+        Reclaimed::Used(count) => format!(in alloc; "used {count}"),
+        Reclaimed::Late(place) => format!(in alloc; "late {place}"),
     }
 }
 
@@ -95,7 +122,11 @@ pub fn work<N: Name, J: Errand, R: Wait>(
     let said = match row.name {
         "operate" => operate(rt, alloc, coordinator),
         "drive" => drive(rt, alloc, coordinator),
-        "reclaim" => reclaim(rt, alloc, coordinator, row.first as u64),
+        "drive_four" => drive_four(rt, alloc, coordinator),
+        "reclaim" => {
+            let mut none = Vec::new(alloc);
+            reclaim(rt, alloc, coordinator, row.first as u64, &mut none)
+        }
         _ => return None,
     };
     Some(said)

@@ -1,17 +1,16 @@
 //! A running system whose calls are all made by one thread.
 ghost use Rattle.std.specs.Prelude.{◌<◌, length, IfSome};
 
-use crate::tests::calls::{Call, asked_in, call_of};
+use crate::tests::calls::{Call, asked_in, call_of, number_of};
 use crate::tests::said::{Said, number, shown, word};
 use crate::tests::shared::{ask, submit};
-use crate::tests::steps::{step, work};
+use crate::tests::steps::{reclaim, step, work};
 use crate::tests::threads::{cross, run};
 use bodies::Name;
 use coordinator::Coordinator;
-use jobs_testing::pop_list;
 use operations::job::Errand;
-use operations::{Request, Targets};
-use std::alloc::Global;
+use operations::{Ask, Request, Targets};
+use std::alloc::{AllocError, Global};
 use std::process::Abort;
 use std::sync::Wait;
 use thread_list::{Mutator, Shared};
@@ -25,6 +24,8 @@ pub struct System<'a, N: Name, J: Errand> {
     pub jobs: Vec<Vec<J>>,
     /// Which line of the text is played.
     pub line: u64,
+    /// What was refused for want of memory, if anything was.
+    pub refused: Option<String>,
 }
 
 // Where the thread of the name stands.
@@ -39,17 +40,17 @@ fn index_of<N: Name, J: Errand>(threads: &[Mutator<'_, N, J>], name: u64) -> Opt
     None
 }
 
-fn keep<'a, N: Name, J: Errand, R: Abort>(
-    rt: &R,
+fn keep<'a, N: Name, J: Errand>(
     threads: &mut Vec<Mutator<'a, N, J>>,
     thread: Mutator<'a, N, J>,
-) {
-    if threads.push(thread).is_err() {
-        panic!(rt; "memory");
+) -> Result<(), AllocError> {
+    match threads.push(thread) {
+        Ok(()) => Ok(()),
+        Err(_) => Err(AllocError),
     }
 }
 
-fn start<'a, N: Name, J: Errand, R: Wait + Abort>(
+fn start<'a, N: Name, J: Errand, R: Wait>(
     rt: &R,
     alloc: Global,
     shared: &'a Shared<N, J>,
@@ -58,14 +59,14 @@ fn start<'a, N: Name, J: Errand, R: Wait + Abort>(
     match shared.start(rt, alloc) {
         Ok((thread, _receipt)) => {
             let name = thread.name();
-            keep(rt, threads, thread);
+            keep(threads, thread)?;
             number(alloc, name)
         }
         Err(fault) => shown(alloc, fault),
     }
 }
 
-fn exit<N: Name, J: Errand, R: Wait + Abort>(
+fn exit<N: Name, J: Errand, R: Wait>(
     rt: &R,
     alloc: Global,
     threads: &mut Vec<Mutator<'_, N, J>>,
@@ -76,7 +77,7 @@ fn exit<N: Name, J: Errand, R: Wait + Abort>(
     match threads.swap_remove(index).exit(rt) {
         Ok(_receipts) => word(alloc, "exited"),
         Err((fault, back)) => {
-            keep(rt, threads, back);
+            keep(threads, back)?;
             shown(alloc, fault)
         }
     }
@@ -101,18 +102,25 @@ fn of_thread<N: Name, J: Errand, R: Wait + Abort>(
     }
 }
 
-// A handshake waits, with its jobs.
-fn submit_handshake<N: Name, J: Errand, R: Wait + Abort>(
+// A call that has jobs, which ask this of these: `reclaim 1 depth of 1 2`, or a handshake waits.
+fn with_jobs<N: Name, J: Errand, R: Wait + Abort>(
     rt: &R,
     alloc: Global,
     system: &mut System<'_, N, J>,
     text: &str,
-) -> Option<Said> {
-    let (ask, whom) = asked_in(rt, alloc, text)?;
-    let jobs = pop_list(alloc, &mut system.jobs);
+    asked: (Ask, Vec<u64>),
+) -> Said {
+    if let Some((name, rest)) = text.split_once(' ')
+        && let Some((serial, _)) = rest.split_once(' ')
+        && name == "reclaim"
+    {
+        let serial = number_of(rt, serial) as u64;
+        return reclaim(rt, alloc, &mut system.coordinator, serial, &mut system.jobs);
+    }
+    let (ask, whom) = asked;
     let targets = Targets::from_vec(whom);
     let request = Request::Handshake { targets, ask };
-    Some(submit(rt, alloc, system.shared, request, jobs))
+    submit(rt, alloc, system.shared, request, &mut system.jobs)
 }
 
 // A call that has no jobs.
@@ -155,12 +163,13 @@ pub fn answer<N: Name, J: Errand, R: Wait + Abort>(
     match text {
         "start" => Some(start(rt, alloc, system.shared, &mut system.threads)),
         "submit census" => {
-            let none = Vec::new(alloc);
-            Some(submit(rt, alloc, system.shared, Request::Census, none))
+            let mut none = Vec::new(alloc);
+            Some(submit(rt, alloc, system.shared, Request::Census, &mut none))
         }
-        _ => match submit_handshake(rt, alloc, system, text) {
-            None => alone(rt, alloc, system, call_of(rt, text)),
-            said => said,
+        _ => match asked_in(rt, alloc, text) {
+            Ok(Some(asked)) => Some(with_jobs(rt, alloc, system, text, asked)),
+            Ok(None) => alone(rt, alloc, system, call_of(rt, text)),
+            Err(error) => Some(Err(error)),
         },
     }
 }

@@ -3,6 +3,7 @@ ghost use Rattle.std.specs.Prelude.{◌<◌, IfSome};
 
 use crate::tests::calls::Call;
 use crate::tests::said::{Said, done, number, polled, shown, word};
+use berths::Hand;
 use bodies::{Called, Name};
 use frames::CodeId;
 use operations::job::Errand;
@@ -65,7 +66,13 @@ pub fn run<N: Name, J: Errand>(
     Some(said)
 }
 
-// The body of a thread is taken from its berth by this name, once and not twice, and comes back.
+/// The hand of a test that looks at a body and brings it back.
+#[derive(Drop)]
+struct Looking;
+
+impl Hand for Looking {}
+
+// The body of a thread is taken from its berth by this name, once and not twice, and comes back; it stays where nothing is told.
 fn take<N: Name, J: Errand, R: Wait>(
     rt: &R,
     alloc: Global,
@@ -75,10 +82,17 @@ fn take<N: Name, J: Errand, R: Wait>(
 ) -> Said {
     let place = thread.place();
     let berth = shared.berth(place);
-    let Ok((body, _receipt)) = berth.take(rt, name, place) else {
-        return word(alloc, "absent");
+    let body = match berth.take(rt, name, place) {
+        Ok((body, _receipt)) => body.in_hand(&Looking),
+        Err(left) => return shown(alloc, left.act()),
     };
-    let is_absent = berth.take(rt, name, place).is_err();
+    let is_absent = match berth.take(rt, name, place) {
+        Ok((other, _receipt)) => {
+            let _receipt = berth.release(rt, other.in_hand(&Looking), false);
+            false
+        }
+        Err(_left) => true,
+    };
     let _receipt = berth.release(rt, body, false);
     word(alloc, if is_absent { "once" } else { "twice" })
 }

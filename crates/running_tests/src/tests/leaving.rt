@@ -1,22 +1,18 @@
 //! Threads exit while the coordinator tells them: each is gone, or it has answered.
-ghost use Rattle.std.specs.Prelude.{◌≡◌};
-ghost use Rattle.operations.specs.Asks.{reply};
-
+use crate::tests::beside::{Case, Signals, play};
+use crate::tests::calls::wait_told;
 use bodies::Name;
 use coordinator::{Coordinator, Told};
-use coordinator_testing::{TURNS, are_replies, started, wait_for};
-use frames::image::Image;
-use operations::job::{Call, Errand, Job};
-use operations::{Ask, Request, Targets};
+use coordinator_testing::{TURNS, are_replies, ask, started, wait_for};
+use jobs_testing::pop_list;
+use operations::Ask;
+use operations::job::Errand;
 use std::alloc::{AllocError, Global};
-use std::marker::Brand;
-use std::process::Abort;
 use std::sync::Wait;
-use std::sync::atomic::{AtomicU64, Ordering};
+use std::sync::atomic::Ordering;
 use std::test::*;
 use std::thread;
-use std::thread::{Threads, join};
-use thread_list::{Parts, Shared};
+use thread_list::Shared;
 
 // How many threads exit, one after the other. They have the names from 1 on.
 const EXITS: u64 = 1000;
@@ -26,8 +22,7 @@ fn start_and_exit<N: Name, J: Errand, R: Wait>(
     rt: &R,
     alloc: Global,
     shared: &Shared<N, J>,
-    live: &AtomicU64,
-    asked: &AtomicU64,
+    signals: &Signals,
     name: u64,
 ) -> bool {
     let Ok(thread) = started(rt, alloc, shared) else {
@@ -36,8 +31,8 @@ fn start_and_exit<N: Name, J: Errand, R: Wait>(
     if thread.name() != name || thread.place() != 0 {
         return false;
     }
-    live.store(name, Ordering::SeqCst);
-    if !wait_for(name, asked) {
+    signals.there.store(name, Ordering::SeqCst);
+    if !wait_told(rt, signals, name) {
         return false;
     }
     for _ in 0..name % 8 {
@@ -46,40 +41,19 @@ fn start_and_exit<N: Name, J: Errand, R: Wait>(
     thread.exit(rt).is_ok()
 }
 
-// One thread after the other starts and exits.
-fn exit_all<N: Name, J: Errand, R: Wait>(
+/// One thread after the other starts and exits.
+pub fn live_all<N: Name, J: Errand, R: Wait>(
     rt: &R,
     alloc: Global,
     shared: &Shared<N, J>,
-    live: &AtomicU64,
-    asked: &AtomicU64,
+    signals: &Signals,
 ) -> bool {
     for name in 1..EXITS + 1 {
-        if !start_and_exit(rt, alloc, shared, live, asked, name) {
+        if !start_and_exit(rt, alloc, shared, signals, name) {
             return false;
         }
     }
     true
-}
-
-// A handshake of this name waits.
-fn ask<N: Name, J: Errand, R: Wait>(
-    rt: &R,
-    alloc: Global,
-    shared: &Shared<N, J>,
-    name: u64,
-    jobs: Vec<J>,
-) -> Result<(), AllocError> {
-    let mut names = Vec::new(alloc);
-    names.push(name).map_err(|_| AllocError)?;
-    let request = Request::Handshake {
-        targets: Targets::from_vec(names),
-        ask: Ask::Depth,
-    };
-    match shared.submit(rt, request, jobs) {
-        Ok(_) => Ok(()),
-        Err(_) => Err(AllocError),
-    }
 }
 
 // Closes the open handshake once its target has answered or is gone. Answers whether it could.
@@ -107,63 +81,65 @@ fn is_answered<N: Name, J: Errand, R: Wait>(
     }
 }
 
-// Tells the thread of this name, which exits meanwhile. Answers whether it was told, and not gone; None where a call went wrong.
+// Tells the thread of this name, which exits meanwhile, and closes the handshake. Answers whether it was told, and not gone; None where a
+// call went wrong.
 fn tell<N: Name, J: Errand, R: Wait>(
     rt: &R,
-    shared: &Shared<N, J>,
     coordinator: &mut Coordinator<'_, N, J>,
-    asked: &AtomicU64,
+    signals: &Signals,
     name: u64,
-) -> Result<Option<bool>, AllocError> {
+) -> Option<bool> {
     if coordinator.open(rt).is_err() {
-        return Ok(None);
+        return None;
     }
-    asked.store(name, Ordering::SeqCst);
-    let Ok(told) = coordinator.tell(rt, name) else {
-        return Ok(None);
-    };
-    let was_told = matches!(told, Told::Told(_));
-    if close(rt, coordinator) && is_answered(rt, shared, name, was_told)? {
-        return Ok(Some(was_told));
+    signals.told.store(name, Ordering::SeqCst);
+    let was_told = matches!(coordinator.tell(rt, name).ok()?, Told::Told(_));
+    if close(rt, coordinator) {
+        Some(was_told)
+    } else {
+        None
     }
-    Ok(None)
 }
 
-// Asks and tells one thread after the other. The handshake of a name has that number. Answers which were told.
+// Asks and tells one thread after the other, once each is live. The handshake of a name has that number. Answers which were told, as far as
+// all went well.
 fn tell_all<N: Name, J: Errand, R: Wait>(
     rt: &R,
     alloc: Global,
     shared: &Shared<N, J>,
-    coordinator: Coordinator<'_, N, J>,
-    live: &AtomicU64,
-    asked: &AtomicU64,
-    jobs: Vec<Vec<J>>,
-) -> Result<Option<Vec<bool>>, AllocError> {
-    let mut coordinator = coordinator;
-    let mut left = jobs;
+    coordinator: &mut Coordinator<'_, N, J>,
+    signals: &Signals,
+    lists: &mut Vec<Vec<J>>,
+) -> Result<Vec<bool>, AllocError> {
     let mut told = Vec::new(alloc);
     for name in 1..EXITS + 1 {
-        let Some(jobs) = left.pop() else {
-            return Ok(None);
-        };
-        if !wait_for(name, live) {
-            return Ok(None);
+        let jobs = pop_list(alloc, lists);
+        if !wait_for(name, &signals.there)
+            || !ask(rt, alloc, shared, [name].as_slice(), Ask::Depth, jobs)
+        {
+            break;
         }
-        ask(rt, alloc, shared, name, jobs)?;
-        let Some(was_told) = tell(rt, shared, &mut coordinator, asked, name)? else {
-            return Ok(None);
+        let Some(was_told) = tell(rt, coordinator, signals, name) else {
+            break;
         };
+        if !is_answered(rt, shared, name, was_told)? {
+            break;
+        }
         told.push(was_told).map_err(|_| AllocError)?;
     }
-    Ok(Some(told))
+    Ok(told)
 }
 
-// Whether all replies are what they were, now that threads have started in the place of each and exited.
-fn are_as_before<N: Name, J: Errand, R: Wait>(
+/// Asks and tells all threads. All replies are in the end what they were, though threads have started in the place of each and exited.
+pub fn work<N: Name, J: Errand, R: Wait>(
     rt: &R,
+    alloc: Global,
     shared: &Shared<N, J>,
-    told: &[bool],
+    coordinator: &mut Coordinator<'_, N, J>,
+    signals: &Signals,
+    lists: &mut Vec<Vec<J>>,
 ) -> Result<bool, AllocError> {
+    let told = tell_all(rt, alloc, shared, coordinator, signals, lists)?;
     for before in 0..told.len() {
         if !is_answered(rt, shared, before as u64 + 1, told[before])? {
             return Ok(false);
@@ -172,62 +148,16 @@ fn are_as_before<N: Name, J: Errand, R: Wait>(
     Ok(told.len() as u64 == EXITS)
 }
 
-// Threads exit beside the coordinator, which tells them.
-fn exit_beside<N: Name + Send + Sync, J: Errand + Send, R: Threads + Wait + Sync + Abort>(
-    rt: &R,
-    alloc: Global,
-    shared: &Shared<N, J>,
-    coordinator: Coordinator<'_, N, J>,
-    jobs: Vec<Vec<J>>,
-) -> Result<(), AllocError> {
-    let live = AtomicU64::new(0);
-    let asked = AtomicU64::new(0);
-    let (exited, told) = join(
-        rt,
-        || exit_all(rt, alloc, shared, &live, &asked),
-        || tell_all(rt, alloc, shared, coordinator, &live, &asked, jobs),
-    );
-    assert!(rt; exited);
-    let Some(told) = told? else {
-        panic!(rt; "a call went wrong");
-    };
-    assert!(rt; are_as_before(rt, shared, told.as_slice())?);
-    Ok(())
-}
-
-fn race<N: Name + Send + Sync, J: Errand + Send, R: Threads + Wait + Sync + Abort>(
-    rt: &R,
-    alloc: Global,
-    parts: Parts,
-    jobs: Vec<Vec<J>>,
-) -> Result<(), AllocError>
-    requires tables { (parts.board ≡ N.board) × (parts.row ≡ N.poll_row) }
-{
-    let Ok((shared, armer)) = Shared::<N, J>::new(alloc, parts) else {
-        return Err(AllocError);
-    };
-    let Ok(coordinator) = Coordinator::new(&shared, armer, alloc) else {
-        return Err(AllocError);
-    };
-    exit_beside(rt, alloc, &shared, coordinator, jobs)
-}
-
 #[test]
 fn a_thread_that_exits_is_gone_or_has_answered(rt: HostRuntime) -> Result<(), Fail> {
-    let parts = Parts::new(rt.alloc(), 2, 4, 2).map_err(|_| AllocError)?;
-    let mut all = Vec::new(rt.alloc());
+    let mut lists = Vec::new(rt.alloc());
     for before in 0..EXITS {
-        let mut jobs = Vec::new(rt.alloc());
-        let call: Call = Box::new(
-            rt.alloc(),
-            |image: &Image| -> u64
-                ensures { result ≡ reply Ask.Depth image.now.frames }
-            { image.depth() as u64 },
-        )?;
-        jobs.push(Job::new(EXITS - before, Ask::Depth, call))
+        let mut asked = Vec::new(rt.alloc());
+        asked
+            .push((EXITS - before, Ask::Depth))
             .map_err(|_| AllocError)?;
-        all.push(jobs).map_err(|_| AllocError)?;
+        lists.push(asked).map_err(|_| AllocError)?;
     }
-    race::<Brand, Job, HostRuntime>(&rt, rt.alloc(), parts, all)?;
+    assert!(rt; play(&rt, rt.alloc(), Case::Leaving, lists.as_slice())?);
     Ok(())
 }

@@ -50,9 +50,9 @@ impl<'a, N: Name, J: Errand> Side<'a, N, J> {
         let shared = self.tables.shared();
         let mut desk = shared.desk().lock(rt);
         match desk.weigh(shared.board(), serial) {
-            Ok((Weighed::NotLooked(place), _)) => Said::NotLooked(place),
-            Ok((Weighed::Used(count), _)) => Said::Used(count),
-            Ok((Weighed::Clear, _)) => Said::Retired,
+            Ok((Weighed::NotLooked(place), _, _)) => Said::NotLooked(place),
+            Ok((Weighed::Used(count), _, _)) => Said::Used(count),
+            Ok((Weighed::Clear, _, _)) => Said::Retired,
             Err(fault) => of_retire(fault),
         }
     }

@@ -76,6 +76,7 @@ impl<'a, N: Name, J: Errand> Side<'a, N, J> {
             RequestCall::CloseOf(number) => self.close_of(rt, number),
             RequestCall::Drive => self.drive(rt),
             RequestCall::DriveFour => self.drive_four(rt),
+            RequestCall::Forget => self.forget(rt),
         }
     }
 
@@ -173,6 +174,11 @@ impl<'a, N: Name, J: Errand> Side<'a, N, J> {
             Ok(_receipt) => Said::Closed(number),
             Err(fault) => of_close(fault),
         }
+    }
+
+    fn forget<R: Wait>(&self, rt: &R) -> Said {
+        self.tables.shared().forget(rt);
+        Said::Forgot
     }
 
     fn drive_four<R: Wait>(&mut self, rt: &R) -> Said {

@@ -2,6 +2,7 @@
 use super::{Live, Opened, Oracle, Waiting, is_listed};
 use crate::calls::{Handshake, RequestCall, StepCall};
 use crate::lists::keep;
+use crate::losses::Lost;
 use crate::said::Said;
 use operations::{Request, Targets};
 use system::answers::Refusal;
@@ -34,6 +35,7 @@ impl Oracle {
             RequestCall::Open => self.open_next(),
             RequestCall::Close => Ok(self.close(None)),
             RequestCall::CloseOf(number) => Ok(self.close(Some(number))),
+            RequestCall::Forget => Ok(self.forget()),
         }
     }
 
@@ -48,10 +50,33 @@ impl Oracle {
         }
     }
 
+    // No event of the core: the replies of what is before the first request that is open or waits are forgotten.
+    fn forget(&mut self) -> Said {
+        if !self.loses(Lost::Forget) {
+            self.forgotten = self.first_pending().saturating_sub(1);
+        }
+        Said::Forgot
+    }
+
+    // The first number that is open or waits, and where there is none the next. Those that wait were given out last.
+    fn first_pending(&self) -> u64 {
+        let waiting = self.waiting.len() as u64;
+        let mut first = self.asked.saturating_add(1).saturating_sub(waiting);
+        for open in &self.open {
+            first = first.min(open.number);
+        }
+        first
+    }
+
     fn ask_census(&mut self) -> Result<Said, Said> {
-        let said = self.play(Event::Ask(Request::Census));
+        self.ask_for(Request::Census, None)
+    }
+
+    // The request waits, with these targets.
+    fn ask_for(&mut self, request: Request, targets: Option<Vec<u64>>) -> Result<Said, Said> {
+        let said = self.play(Event::Ask(request));
         if let Said::Asked(_) = said {
-            keep(&mut self.waiting, Waiting { targets: None })?;
+            keep(&mut self.waiting, Waiting { targets })?;
         }
         Ok(said)
     }
@@ -73,12 +98,8 @@ impl Oracle {
             targets: Targets::from_vec(handshake.names(self.alloc)?),
             ask: handshake.ask,
         };
-        let said = self.play(Event::Ask(request));
-        if let Said::Asked(_) = said {
-            let targets = Some(handshake.names(self.alloc)?);
-            keep(&mut self.waiting, Waiting { targets })?;
-        }
-        Ok(said)
+        let targets = handshake.names(self.alloc)?;
+        self.ask_for(request, Some(targets))
     }
 
     pub(super) fn open_next(&mut self) -> Result<Said, Said> {

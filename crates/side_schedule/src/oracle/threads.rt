@@ -37,8 +37,7 @@ impl Oracle {
             ThreadCall::ToVm => Ok(self.at(place, Act::ToVm)),
             ThreadCall::ToNative => Ok(self.at(place, Act::ToNative)),
             ThreadCall::Block => Ok(self.at(place, Act::Block)),
-            ThreadCall::FromNative => self.from_native(place),
-            ThreadCall::Unblock => self.unblock(place),
+            ThreadCall::FromNative | ThreadCall::Unblock => self.back(place, call),
             ThreadCall::Stop => self.stop(place),
         }
     }
@@ -92,17 +91,12 @@ impl Oracle {
         Ok(Said::Done)
     }
 
-    fn from_native(&mut self, place: usize) -> Result<Said, Said> {
-        match self.state_at(place) {
-            State::InNative(_) => self.wake(place),
-            state => Err(Said::Refused(Refusal::Illegal(state))),
-        }
-    }
-
-    fn unblock(&mut self, place: usize) -> Result<Said, Said> {
-        match self.state_at(place) {
-            State::Blocked => self.wake(place),
-            state => Err(Said::Refused(Refusal::Illegal(state))),
+    // Back from native code, or from where it was blocked: each call from there alone.
+    fn back(&mut self, place: usize, call: ThreadCall) -> Result<Said, Said> {
+        match (call, self.state_at(place)) {
+            (ThreadCall::FromNative, State::InNative(_)) => self.wake(place),
+            (ThreadCall::Unblock, State::Blocked) => self.wake(place),
+            (_, state) => Err(Said::Refused(Refusal::Illegal(state))),
         }
     }
 

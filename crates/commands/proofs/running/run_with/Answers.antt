@@ -10,19 +10,15 @@ use Rattle.commands.proofs.running.run_with.Goals as goal
 
 pub returns-in-Ok-clause-printed : goal.returns-in-Ok-clause-printed
 returns-in-Ok-clause-printed g c =
-    let done = rw c.into_bytes-text.ensures.value at c.in-Ok.ensures.done.0 in (
-      c.in_ok-summary.summary,
-      c.in_ok-summary.ensures,
-      subst (λ bytes. Appends (g.W.Sink.got c.args.sink.now) (g.W.Sink.got c.flush.new.sink) bytes) c.in_ok-text_of.ensures done,
-    )
+    let done = rw c.into_bytes-text.ensures.value at c.in-Ok.ensures.done.0 in
+    let (summary, is, text) = c.in_ok-text.ensures.text in
+    (summary, is, subst (λ bytes. Appends (g.W.Sink.got c.args.sink.now) (g.W.Sink.got c.flush.new.sink) bytes) text done)
 
 pub returns-clause-printed : goal.returns-clause-printed
 returns-clause-printed g c =
-    let part = rw c.into_bytes-text.ensures.value at c.in-Err.ensures.part.0 in (
-      c.in_ok-summary.summary,
-      c.in_ok-summary.ensures,
-      subst (λ bytes. AppendsPart (g.W.Sink.got c.args.sink.now) (g.W.Sink.got c.flush.new.sink) bytes) c.in_ok-text_of.ensures part,
-    )
+    let part = rw c.into_bytes-text.ensures.value at c.in-Err.ensures.part.0 in
+    let (summary, is, text) = c.in_ok-text.ensures.text in
+    (summary, is, subst (λ bytes. AppendsPart (g.W.Sink.got c.args.sink.now) (g.W.Sink.got c.flush.new.sink) bytes) text part)
 
 -- The boxed callback answers what its closure does.
 pub new-job-requires-clause-answers : goal.new-job-requires-clause-answers

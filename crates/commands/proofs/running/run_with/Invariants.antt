@@ -2,8 +2,8 @@ use Rattle.std.proofs.Common.{◌≡◌, ◌≤◌, ◌-◌, All, vec_len, vec_c
 use Rattle.workers.specs.Jobs.{AskDepths, AreForEach}
 use Rattle.commands.proofs.running.run_with.Given as goal
 
-abbrev pub ghosts-run : goal.ghosts-run
-ghosts-run g a = record { board = a.parts.board; poll_row = a.parts.row }
+abbrev pub ghosts-run_sized : goal.ghosts-run_sized
+ghosts-run_sized g a = record { board = a.parts.board; poll_row = a.parts.row }
 
 abbrev pub decreases-loop-alloc : goal.decreases-loop-alloc
 decreases-loop-alloc g l = l.methods - vec_len l.jobs
