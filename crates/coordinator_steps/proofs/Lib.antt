@@ -1,0 +1,5 @@
+pub mod Apart
+pub mod Each
+pub mod Published
+pub mod Served
+pub mod Staying

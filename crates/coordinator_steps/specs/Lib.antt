@@ -1,0 +1,4 @@
+pub mod Held
+pub mod Holding
+pub mod Reclaiming
+pub mod Refused

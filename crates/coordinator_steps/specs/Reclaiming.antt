@@ -1,0 +1,34 @@
+-- What reclaiming answers.
+use Rattle.std.specs.Prelude.{◌≡◌, ℕ, Some}
+use Rattle.method_table.specs.declared.Code.{Code}
+use Rattle.method_table.specs.Codes.{id_of, unfreed}
+use Rattle.board.specs.declared.weighed.Weighed.{Weighed}
+use Rattle.board.specs.declared.weighed.Weighed.TheVariants.{NotLooked, Used as InUse, Clear}
+use Rattle.desk.specs.declared.entries.Entry.TheVariants as entry
+use Rattle.desk.specs.CodeBoard.{KeeperWeighs}
+use Rattle.desk.specs.Fields.{DeskSeen, Enters, LooksAtAll, at}
+use Rattle.desk.specs.Machine.{Stands}
+use Rattle.coordinator_steps.specs.declared.faults.Reclaimed.{Reclaimed}
+use Rattle.coordinator_steps.specs.declared.faults.Reclaimed.TheVariants.{Freed, Used, Late}
+
+-- The unfreed code of the serial was weighed from what the keeper knew, with this answer.
+abbrev pub WasWeighed : ℕ → ℕ → DeskSeen → DeskSeen → Weighed → Type 0
+WasWeighed places serial old new said
+    = (code : Code) × (unfreed (at old).table.codes serial ≡ Some code) × KeeperWeighs places (id_of code) old.keeper new.keeper said
+
+-- Code that is freed was weighed and retired first. What is used or late is what the weighing said, and the desk's history stays.
+abbrev pub Frees : {N : Type 0} → ℕ → ℕ → DeskSeen → DeskSeen → Reclaimed N → Type 0
+Frees places serial old new (Freed r)
+    = (retired : DeskSeen) × (receipt : Stands) × WasWeighed places serial old retired Clear × Enters old retired (entry.Retire serial) receipt
+    × Enters retired new (entry.Free serial) r
+Frees places serial old new (Used n) = WasWeighed places serial old new (InUse n) × (new.book ≡ old.book)
+Frees places serial old new (Late place) = WasWeighed places serial old new (NotLooked place) × (new.book ≡ old.book)
+
+-- What reclaiming answers is what became of the code where all places had just been looked at: it was freed, or weighed as used, or a place
+-- was late, since what was found there didn't let it pass.
+pub record IsReclaimed {N : Type 0} (places serial : ℕ) (said : Reclaimed N) : Type 0 where
+  pub before : DeskSeen
+  pub looked : DeskSeen
+  pub after : DeskSeen
+  pub looks : LooksAtAll serial places before looked
+  pub frees : Frees places serial looked after said

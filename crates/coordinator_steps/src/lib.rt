@@ -1,0 +1,18 @@
+//! The steps of a coordinator over a desk and a room that are lent to it, with no lock of its own.
+#![tactic(auto)]
+
+mod censuses;
+mod faults;
+mod held;
+mod holding;
+mod serving;
+mod steps;
+mod teller;
+mod telling;
+mod weighing;
+
+pub use faults::{HoldFault, OperateFault, Reclaimed, ReleaseFault, ServeFault, TellFault, Told};
+pub use serving::Unserved;
+pub use steps::Steps;
+pub use telling::Untold;
+pub use weighing::weigh;

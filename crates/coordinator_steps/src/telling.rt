@@ -1,0 +1,132 @@
+//! Telling a name: its job, or the mark of a census, goes into the room of its thread, and the thread's place is armed.
+ghost use Rattle.std.specs.Prelude.{◌≡◌, ◌<◌, length, slice_index, IfSome, IfNone, IfOk, IfErr, OnSome};
+ghost use Rattle.thread_state.specs.PollRule.{armed_with};
+ghost use Rattle.berths.specs.Berths.{acted};
+ghost use Rattle.desk.specs.Fields.{at};
+ghost use Rattle.coordinator_steps.specs.Refused.{IsUntold, tell_stays, told_act};
+
+use crate::faults::{TellFault, Told};
+use crate::steps::Steps;
+use crate::teller::Teller;
+use berths::{BerthReceipt, Room};
+use bodies::Name;
+use desk::{Desk, Standing, Target};
+use operations::job::Errand;
+use poll::PollRow;
+
+/// What a thread is to be told: the oldest open request that is of its name and wasn't told to it.
+#[derive(Clone, Copy, Drop)]
+pub struct Untold {
+    pub name: u64,
+    pub target: Target,
+    pub number: u64,
+}
+
+// The oldest open request that is of the name and wasn't told to its thread, with how the name stands to it; or what telling the
+// name comes to without. None where the desk names a place that there isn't.
+fn look_up<N: Name, J: Errand>(
+    desk: &Desk<N, J>,
+    armer: &Teller,
+    places: usize,
+    name: u64,
+) -> Result<Option<(Target, u64)>, Result<Told<N>, TellFault>>
+    requires places { places ≡ length armer.now.seen.armed }
+    ensures said { IfErr result (tell_stays (at desk.now) name armer.now.seen) }
+    ensures untold { IfOk result (λ o. IfSome o (λ t. IsUntold (at desk.now) name armer.now.seen t.0 t.1)) }
+    ensures bounds { IfOk result (λ o. IfSome o (λ t. (t.0.place < length armer.now.seen.armed) × (slice_index armer.now.seen.armed t.0.place < t.1))) }
+{
+    let target = match desk.standing(name) {
+        Standing::NothingOpen => return Err(Err(TellFault::NothingOpen)),
+        Standing::NotOf => return Err(Err(TellFault::NotOf)),
+        Standing::Gone => return Err(Ok(Told::Gone)),
+        Standing::Asked(target) => target,
+    };
+    if target.place >= places {
+        return Ok(None);
+    }
+    match desk.untold(name, armer.last(target.place)) {
+        Some(number) => Ok(Some((target, number))),
+        None => Err(Err(TellFault::AlreadyTold)),
+    }
+}
+
+// The job of the name in the operation: the one in hand where it is that, or with none in hand the desk's. Another one stays in hand.
+fn job_in<N: Name, J: Errand>(
+    desk: &mut Desk<N, J>,
+    untold: &Untold,
+    hand: &mut Option<J>,
+) -> Option<J>
+    ensures job { IfSome result (λ j. (J.whom j ≡ untold.now.name) × (J.number j ≡ untold.now.number)) }
+    ensures same { (desk.new.book ≡ desk.old.book) × (desk.new.keeper ≡ desk.old.keeper) }
+{
+    match hand.take() {
+        None => desk.take_job(untold.number, untold.name),
+        Some(job) => {
+            if job.op_of() == untold.number && job.target_of() == untold.name {
+                return Some(job);
+            }
+            *hand = Some(job);
+            None
+        }
+    }
+}
+
+impl<N: Name> Steps<N> {
+    /// What the thread of the name is to be told next; or what telling the name comes to without. None where it isn't there yet.
+    pub fn look_up<J: Errand>(
+        &self,
+        desk: &Desk<N, J>,
+        name: u64,
+    ) -> Result<Option<Untold>, Result<Told<N>, TellFault>>
+        ensures said { IfErr result (tell_stays (at desk.now) name self.now.armer) }
+        ensures untold { IfOk result (λ o. IfSome o (λ t. (t.name ≡ name) × IsUntold (at desk.now) name self.now.armer t.target t.number)) }
+        ensures bounds { IfOk result (λ o. IfSome o (λ t. (t.target.place < N.board.places) × (slice_index self.now.armer.armed t.target.place < t.number))) }
+    {
+        match look_up(desk, &self.armer, self.places, name) {
+            Ok(Some((target, number))) => Ok(Some(Untold {
+                name,
+                target,
+                number,
+            })),
+            Ok(None) => Ok(None),
+            Err(said) => Err(said),
+        }
+    }
+
+    /// The job of what was looked up, or the mark of the census, goes into the room of its place, and the place is armed. Answers the
+    /// receipt of the one or the other. None where its thread isn't there, and nothing is armed. A job that came out of the desk and finds
+    /// no room is in hand then, and goes in by the next call for it.
+    pub fn put<J: Errand>(
+        &mut self,
+        desk: &mut Desk<N, J>,
+        room: &mut Room<N, J>,
+        row: &PollRow,
+        untold: &Untold,
+        hand: &mut Option<J>,
+    ) -> Option<BerthReceipt<N>>
+        requires row { row.now ≡ N.poll_row }
+        requires place { untold.now.target.place < N.board.places }
+        requires later { slice_index self.old.armer.armed untold.now.target.place < untold.now.number }
+        ensures armed { OnSome result (self.new.armer ≡ armed_with self.old.armer untold.now.target.place untold.now.number) }
+        ensures receipt { IfSome result (λ r. r ≡ acted untold.now.target.place untold.now.name (told_act untold.now.target.is_census untold.now.number)) }
+        ensures refused { IfNone result (self.new ≡ self.old) }
+        ensures held { (self.new.held ≡ self.old.held) × (self.new.operated ≡ self.old.operated) }
+        ensures book { (desk.new.book ≡ desk.old.book) × (desk.new.keeper ≡ desk.old.keeper) }
+    {
+        let place = untold.target.place;
+        if room.place() != place || untold.number >= 1 << 40 || room.name() != untold.name {
+            return None;
+        }
+        if untold.target.is_census {
+            return self.armer.mark(room, row, untold.name, untold.number);
+        }
+        let job = job_in(desk, untold, hand)?;
+        match self.armer.tell(room, row, job) {
+            Ok(receipt) => Some(receipt),
+            Err(back) => {
+                *hand = Some(back);
+                None
+            }
+        }
+    }
+}

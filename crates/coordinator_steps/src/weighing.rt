@@ -1,0 +1,48 @@
+//! Weighing a code that isn't entrant, and freeing it where no activation stands.
+ghost use Rattle.std.specs.Prelude.{◌≡◌, IfSome};
+ghost use Rattle.coordinator_steps.specs.Reclaiming.{IsReclaimed, Frees};
+
+use crate::faults::Reclaimed;
+use board::{Board, Weighed};
+use bodies::Name;
+use desk::Desk;
+use operations::job::Errand;
+
+// Weighs a code, and where no activation stands frees it. None where it isn't a code that can be weighed.
+fn weigh_and_free<N: Name, J: Errand>(
+    desk: &mut Desk<N, J>,
+    board: &Board,
+    serial: u64,
+) -> Option<Reclaimed<N>>
+    requires board { board.now ≡ N.board }
+    ensures { IfSome result (Frees N.board.places serial desk.old desk.new) }
+{
+    let Ok((said, _weighing, _receipt)) = desk.weigh(board, serial) else {
+        return None;
+    };
+    match said {
+        Weighed::NotLooked(place) => Some(Reclaimed::Late(place)),
+        Weighed::Used(count) => Some(Reclaimed::Used(count)),
+        Weighed::Clear => match desk.free(board, serial) {
+            Ok(receipt) => Some(Reclaimed::Freed(receipt)),
+            Err(_) => None,
+        },
+    }
+}
+
+/// Looks at each place and weighs the code, and where no activation stands frees it. None where it isn't a code that can be weighed.
+pub fn weigh<N: Name, J: Errand>(
+    desk: &mut Desk<N, J>,
+    board: &Board,
+    serial: u64,
+    places: usize,
+) -> Option<Reclaimed<N>>
+    requires board { board.now ≡ N.board }
+    requires places { places ≡ N.board.places }
+    ensures { IfSome result (IsReclaimed N.board.places serial) }
+{
+    let Ok(()) = desk.look_at_all(board, serial, places) else {
+        return None;
+    };
+    weigh_and_free(desk, board, serial)
+}

@@ -1,0 +1,239 @@
+-- What an act of a party comes to.
+use Rattle.std.specs.Prelude.{◌≡◌, ◌≢◌, ◌<◌, ◌==◌, ℕ, List, true, false, Ok, Err, Option, Some, None}
+use Rattle.thread_state.specs.declared.State.{State}
+use Rattle.thread_state.specs.declared.State.TheVariants.{InJava, InVm, AtPoll, InNative, Blocked, NativeTrans, BlockedTrans, Serving}
+use Rattle.thread_state.specs.declared.Back.{Back}
+use Rattle.thread_state.specs.declared.Move.TheVariants as movement
+use Rattle.thread_state.specs.States as table
+use Rattle.frames.specs.declared.CodeId.{CodeId}
+use Rattle.operations.specs.declared.Ask.{Ask}
+use Rattle.bodies.specs.Bodies.{BodyView, IsCalled, IsPublished}
+use Rattle.bodies.specs.declared.body.Called.{Called}
+use Rattle.bodies.specs.declared.body.Called.TheVariants.{Compiled, Interpreted}
+use Rattle.berths.specs.Berths.{Moved}
+use Rattle.berths.specs.declared.room.BodyAct.TheVariants as moved
+use Rattle.thread_list.specs.declared.polls.Poll.{Poll}
+use Rattle.thread_list.specs.declared.polls.Poll.TheVariants.{Go, Stop}
+use Rattle.thread_list.specs.declared.mutator.CallFault.TheVariants as call
+use Rattle.thread_list.specs.declared.mutator.ReturnFault.TheVariants as returns
+use Rattle.thread_list.specs.Moves.{Running, SameThread, Polls, Leaves, Gives, ComesBack, IsResumed, is_running}
+use Rattle.thread_steps.specs.Moves.{Starting, StopsNext, EndsServing}
+use Rattle.thread_list.specs.Refused.{call_accepted, call_refused, return_refused}
+use Rattle.desk.specs.Finishing.{FinishSeen}
+use Rattle.coordinator_steps.specs.Holding.{Holding}
+use Rattle.desk.specs.declared.entries.Entry.{Entry}
+use Rattle.desk.specs.Machine.{State as Desk, Book}
+use Rattle.desk.specs.Refusals.{start_refused}
+use Rattle.parties.specs.Asked.{Told, WasEntered, Submits, Installs, Invalidates, Begins}
+use Rattle.parties.specs.Coordinated as coordinated
+use Rattle.parties.specs.declared.acts.Act.{Act}
+use Rattle.parties.specs.declared.acts.Act.TheVariants as act
+use Rattle.parties.specs.declared.acts.Fault.{Fault}
+use Rattle.parties.specs.declared.acts.Fault.TheVariants as fault
+use Rattle.parties.specs.declared.party.Role.{Role}
+use Rattle.parties.specs.declared.party.Role.TheVariants as role
+
+-- The number of a poll's answer, 0 to go on.
+abbrev pub number_of : Poll → ℕ
+number_of Go = 0
+number_of (Stop n) = n
+
+-- A thread that leaves has the receipt that its place was given up.
+abbrev pub IsRole : {N : Type 0} → Role N → Type 0
+IsRole role.Shares = Unit {0}
+IsRole (role.Starts e) = Unit {0}
+IsRole (role.Runs r) = Unit {0}
+IsRole (role.Leaves m) = m.act ≡ moved.Vacated
+IsRole role.Gone = Unit {0}
+IsRole (role.Coordinates c) = Unit {0}
+
+-- How a call ran, as a number: the serial of its code, or 0.
+abbrev pub serial_of : Called → ℕ
+serial_of (Compiled serial) = serial
+serial_of Interpreted = 0
+
+abbrev pub Edge : Running → Told → Running → Type 0
+Edge old (Ok n) new = (old.state ≡ InJava) × ((said : Poll) × Polls old new InJava said × (n ≡ number_of said))
+Edge old (Err fault.Illegal) new = (old.state ≢ InJava) × (new ≡ old)
+Edge old (Err e) new = ⊥
+
+abbrev pub CallsIn : ℕ → Running → Told → Running → Type 0
+CallsIn method old (Ok n) new
+    = call_accepted old method × (new.state ≡ old.state) × ((hint : Option CodeId) × (said : Called) × (before : BodyView) × (after : BodyView) × (old.body ≡ Some before) × (new.body ≡ Some after) × IsCalled before after method hint said × (n ≡ serial_of said))
+CallsIn method old (Err fault.Illegal) new = (old.state ≢ InJava) × (new ≡ old)
+CallsIn method old (Err fault.NoSuchMethod) new = call_refused old method call.NoSuchMethod × (new ≡ old)
+CallsIn method old (Err fault.DepthFull) new = call_refused old method call.DepthFull × (new ≡ old)
+CallsIn method old (Err e) new = ⊥
+
+abbrev pub Returns : Running → Told → Running → Type 0
+Returns old (Ok n) new = (old.state ≡ InJava) × ((said : Poll) × Leaves old new said × (n ≡ number_of said))
+Returns old (Err fault.Illegal) new = (old.state ≢ InJava) × (new ≡ old)
+Returns old (Err fault.EmptyStack) new = return_refused old returns.EmptyStack × (new ≡ old)
+Returns old (Err e) new = ⊥
+
+abbrev pub Publishes : Running → Told → Running → Type 0
+Publishes old (Ok n) new = (is_running old.state ≡ true) × (new.state ≡ old.state) × ((before : BodyView) × (after : BodyView) × (old.body ≡ Some before) × (new.body ≡ Some after) × IsPublished before after)
+Publishes old (Err fault.Illegal) new = (is_running old.state ≡ false) × (new ≡ old)
+Publishes old (Err e) new = ⊥
+
+abbrev pub IntoVm : Running → Told → Running → Type 0
+IntoVm old (Ok n) new = (old.state ≡ InJava) × (new ≡ record old { state = InVm })
+IntoVm old (Err fault.Illegal) new = (old.state ≢ InJava) × (new ≡ old)
+IntoVm old (Err e) new = ⊥
+
+abbrev pub OutOfVm : Running → Told → Running → Type 0
+OutOfVm old (Ok n) new = (old.state ≡ InVm) × ((said : Poll) × Polls old new InVm said × (n ≡ number_of said))
+OutOfVm old (Err fault.Illegal) new = (old.state ≢ InVm) × (new ≡ old)
+OutOfVm old (Err e) new = ⊥
+
+abbrev pub IntoNative : Running → Told → Running → Type 0
+IntoNative old (Ok n) new = (table.step old.state movement.ToNative ≡ Some new.state) × Gives old new
+IntoNative old (Err fault.Illegal) new = (table.step old.state movement.ToNative ≡ None) × (new ≡ old)
+IntoNative old (Err fault.Again) new = new ≡ old
+IntoNative old (Err e) new = ⊥
+
+abbrev pub OutOfNative : Running → Told → Running → Type 0
+OutOfNative old (Ok n) new = IsResumed new × ((said : Poll) × (n ≡ number_of said) × ((back : Back) × (old.state ≡ InNative back) × ComesBack new.crossed.body new (NativeTrans back) said))
+OutOfNative old (Err fault.Illegal) new = ((back : Back) → old.state ≢ InNative back) × (new ≡ old)
+OutOfNative old (Err fault.Again) new = new ≡ old
+OutOfNative old (Err e) new = ⊥
+
+abbrev pub Blocks : Running → Told → Running → Type 0
+Blocks old (Ok n) new = (old.state ≡ InVm) × (new.state ≡ Blocked) × Gives old new
+Blocks old (Err fault.Illegal) new = (old.state ≢ InVm) × (new ≡ old)
+Blocks old (Err fault.Again) new = new ≡ old
+Blocks old (Err e) new = ⊥
+
+abbrev pub Unblocks : Running → Told → Running → Type 0
+Unblocks old (Ok n) new = IsResumed new × (old.state ≡ Blocked) × ((said : Poll) × (n ≡ number_of said) × ComesBack new.crossed.body new BlockedTrans said)
+Unblocks old (Err fault.Illegal) new = (old.state ≢ Blocked) × (new ≡ old)
+Unblocks old (Err fault.Again) new = new ≡ old
+Unblocks old (Err e) new = ⊥
+
+-- The next operation to be served, or the thread goes on.
+abbrev pub Next : Running → Told → Running → Type 0
+Next old (Ok n) new = StopsNext old new n
+Next old (Err fault.Illegal) new = new ≡ old
+Next old (Err fault.Again) new = new.state ≡ old.state
+Next old (Err e) new = ⊥
+
+abbrev pub Serves : Running → Told → Running → Type 0
+Serves old (Ok n) new = (said : Poll) × (finish : FinishSeen) × EndsServing old new said finish × (n ≡ number_of said)
+Serves old (Err fault.Illegal) new = new ≡ old
+Serves old (Err fault.Again) new = new ≡ old
+Serves old (Err e) new = ⊥
+
+-- A thread whose exit is refused, or that was told something and polled.
+abbrev pub StaysOn : Running → Told → Running → Type 0
+StaysOn old (Ok n) new = SameThread old new × (n ≢ 0)
+StaysOn old (Err e) new = SameThread old new
+
+-- By what it is, when it is a thread.
+abbrev pub OfThread : {N : Type 0} → (Running → Told → Running → Type 0) → Role N → Told → Role N → Type 0
+OfThread does (role.Runs old) said (role.Runs new) = SameThread old new × does old said new
+OfThread does (role.Runs old) said new = ⊥
+OfThread does old said new = (said ≡ Err fault.NotThis) × (new ≡ old)
+
+-- Where a Start isn't entered, and why.
+abbrev pub StartFails : ℕ → Fault → Type 0
+StartFails places (fault.Start f) = (s : Desk) × (book : Book) × start_refused s places book f
+StartFails places fault.Again = Unit {0}
+StartFails places e = ⊥
+
+-- What starts is a thread of the name and place that were entered.
+abbrev pub Started : Starting → Told → Running → Type 0
+Started e (Ok n) r = (r.name ≡ e.name) × (r.place ≡ e.place) × (n ≡ e.name) × IsResumed r
+Started e (Err f) r = ⊥
+
+abbrev pub Starts : {N : Type 0} → ℕ → Role N → Told → Role N → Type 0
+Starts places role.Shares (Ok n) (role.Runs r) = (r.name ≡ n) × IsResumed r × WasEntered (Entry.Start n r.place)
+Starts places role.Shares (Err e) role.Shares = StartFails places e
+Starts places role.Shares (Err fault.Again) (role.Starts e) = WasEntered (Entry.Start e.name e.place)
+Starts places role.Shares said new = ⊥
+Starts places (role.Starts e) said (role.Runs r) = Started e said r
+Starts places (role.Starts e) said (role.Starts e') = (said ≡ Err fault.Again) × (e' ≡ e)
+Starts places (role.Starts e) said new = ⊥
+Starts places old said new = (said ≡ Err fault.NotThis) × (new ≡ old)
+
+-- An exit of a thread: it is gone, or its place is given up and its Exit waits, or it goes on.
+abbrev pub Exits : {N : Type 0} → Role N → Told → Role N → Type 0
+Exits (role.Runs old) (Ok n) role.Gone = (n ≡ 0) × WasEntered (Entry.Exit old.name)
+Exits (role.Runs old) (Ok n) (role.Runs new) = StaysOn old (Ok n) new
+Exits (role.Runs old) (Err e) (role.Leaves m) = (e ≡ fault.Again) × (m.body.name ≡ old.name)
+Exits (role.Runs old) (Err e) (role.Runs new) = StaysOn old (Err e) new
+Exits (role.Runs old) said new = ⊥
+Exits (role.Leaves m) (Ok n) role.Gone = (n ≡ 0) × WasEntered (Entry.Exit m.body.name)
+Exits (role.Leaves m) (Err e) (role.Leaves m') = (e ≡ fault.Again) × (m' ≡ m)
+Exits (role.Leaves m) said new = ⊥
+Exits old said new = (said ≡ Err fault.NotThis) × (new ≡ old)
+
+-- The number of a state.
+abbrev pub code_of : State → ℕ
+code_of InJava = 0
+code_of InVm = 1
+code_of (AtPoll back) = 2
+code_of (InNative back) = 3
+code_of Blocked = 4
+code_of (Serving back) = 5
+code_of s = 6
+
+abbrev pub Tells : (Running → ℕ) → Running → Told → Running → Type 0
+Tells what old said new = (said ≡ Ok (what old)) × (new ≡ old)
+
+-- By what it is, when it is the coordinator.
+abbrev pub OfCoordinator : {N : Type 0} → (Holding → Told → Holding → Type 0) → Role N → Told → Role N → Type 0
+OfCoordinator does (role.Coordinates old) said (role.Coordinates new) = does old said new
+OfCoordinator does (role.Coordinates old) said new = ⊥
+OfCoordinator does old said new = (said ≡ Err fault.NotThis) × (new ≡ old)
+
+abbrev pub Opens : Holding → Told → Holding → Type 0
+Opens old said new = coordinated.Opens said × (new ≡ old)
+
+abbrev pub Operates : Holding → Told → Holding → Type 0
+Operates old said new = (counts : List (ℕ × ℕ)) × coordinated.Operates old said counts new
+
+abbrev pub Weighs : (N : Type 0) → ℕ → ℕ → Holding → Told → Holding → Type 0
+Weighs N places serial old said new = coordinated.Weighs N places serial said × (new ≡ old)
+
+-- What a party asks of the desk leaves the party what it is.
+abbrev pub AsksOf : {N : Type 0} → (Told → Type 0) → Role N → Told → Role N → Type 0
+AsksOf does old said new = does said × (new ≡ old)
+
+abbrev pub Asks : Option Ask → Told → Type 0
+Asks ask said = (names : List ℕ) × Submits ask names said
+
+abbrev pub Acts : {N : Type 0} → ℕ → Role N → Act → Told → Role N → Type 0
+Acts places old act.Start said new = Starts places old said new
+Acts places old (act.Call method) said new = OfThread (CallsIn method) old said new
+Acts places old act.Ret said new = OfThread Returns old said new
+Acts places old act.BackEdge said new = OfThread Edge old said new
+Acts places old act.Publish said new = OfThread Publishes old said new
+Acts places old act.ToVm said new = OfThread IntoVm old said new
+Acts places old act.FromVm said new = OfThread OutOfVm old said new
+Acts places old act.ToNative said new = OfThread IntoNative old said new
+Acts places old act.FromNative said new = OfThread OutOfNative old said new
+Acts places old act.Block said new = OfThread Blocks old said new
+Acts places old act.Unblock said new = OfThread Unblocks old said new
+Acts places old act.StopNext said new = OfThread Next old said new
+Acts places old act.StopServe said new = OfThread Serves old said new
+Acts places old act.Exit said new = Exits old said new
+Acts places old act.Name said new = OfThread (Tells (λ r. r.name)) old said new
+Acts places old act.Place said new = OfThread (Tells (λ r. r.place)) old said new
+Acts places old act.State said new = OfThread (Tells (λ r. code_of r.state)) old said new
+Acts places old (act.Target name) said new = new ≡ old
+Acts places old (act.Submit ask) said new = AsksOf (Asks ask) old said new
+Acts places old (act.Install method) said new = AsksOf (Installs method) old said new
+Acts places old (act.Invalidate serial) said new = AsksOf (Invalidates serial) old said new
+Acts places old (act.Reply op name) said new = new ≡ old
+Acts places old (act.LiveAfter name) said new = new ≡ old
+Acts places old act.Forget said new = new ≡ old
+Acts places old act.Open said new = OfCoordinator Opens old said new
+Acts places old (act.Tell name) said new = OfCoordinator (coordinated.Tells name) old said new
+Acts places old (act.Hold place) said new = OfCoordinator (coordinated.Holds places place) old said new
+Acts places old (act.Serve place) said new = OfCoordinator (coordinated.Serves places place) old said new
+Acts places old (act.Release place) said new = OfCoordinator (coordinated.Releases places place) old said new
+Acts places old act.Operate said new = OfCoordinator Operates old said new
+Acts places old (act.Counted serial) said new = new ≡ old
+Acts places old (act.Close number) said new = OfCoordinator (coordinated.Closes number) old said new
+Acts places old (act.Reclaim serial) said new = AsksOf (Begins serial) old said new
+Acts {N} places old (act.Weigh serial) said new = OfCoordinator (Weighs N places serial) old said new

@@ -1,0 +1,4 @@
+pub mod Systems
+pub mod Asked
+pub mod Coordinated
+pub mod Acted

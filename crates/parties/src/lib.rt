@@ -1,0 +1,14 @@
+//! The steps of a running system for callers that wait by themselves. Each act is one try: a lock that it needs is only tried, and where it
+//! is taken, or what the act needs isn't there, it answers that it may be asked again.
+#![tactic(auto)]
+
+pub mod acts;
+mod asking;
+mod coordinating;
+mod crosses;
+mod crossing;
+pub mod party;
+mod party_asks;
+mod party_coordinates;
+mod party_runs;
+pub mod system;

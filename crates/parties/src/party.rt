@@ -1,0 +1,144 @@
+//! A party to a running system: one that only shares it, a thread, or the coordinator.
+ghost use Rattle.std.specs.Prelude.{◌≡◌, IfOk};
+ghost use Rattle.parties.specs.Acted.{Acts};
+
+use crate::acts::{Act, Fault};
+use crate::system::System;
+use berths::BodyReceipt;
+use bodies::Name;
+use coordinator_steps::Steps;
+use operations::job::Query;
+use std::alloc::{AllocError, Global};
+use std::marker::Model;
+use std::sync::Arc;
+use thread_steps::{Entered, Stepper};
+
+/// What a party is.
+#[derive(Drop)]
+pub enum Role<N: Name> {
+    /// It only shares the system.
+    Shares,
+    /// A thread whose Start is entered.
+    Starts(Entered<N>),
+    /// A thread.
+    Runs(Stepper<N>),
+    /// A thread that gave its place up, and whose Exit isn't entered.
+    Leaves(BodyReceipt<N>),
+    /// A thread that is gone.
+    Gone,
+    /// The coordinator.
+    Coordinates(Steps<N>),
+}
+
+/// A party, with what it shares. Contracts see what it is.
+#[derive(Drop)]
+pub struct Party<N: Name> {
+    pub(crate) system: Arc<System<N>>,
+    pub(crate) alloc: Global,
+    pub(crate) role: Role<N>,
+    /// The names of the next request's targets.
+    pub(crate) names: Vec<u64>,
+    /// A job that came out of the desk and found no room.
+    pub(crate) hand: Option<Query>,
+    /// What the census that was operated last counted.
+    pub(crate) counts: Vec<(u64, u32)>,
+}
+
+impl<N: Name> Model for Party<N> {
+    ghost use Rattle.std.specs.Prelude.{◌≡◌};
+    ghost use Rattle.parties.specs.declared.party.Role.{Role};
+    ghost use Rattle.parties.specs.Acted.{IsRole};
+
+    ghost Value = { Role N };
+
+    ghost view = { λ p. p.role };
+
+    ghost invariant = { λ p. IsRole p.role };
+}
+
+impl<N: Name> Party<N> {
+    /// A party that only shares the system.
+    pub fn new(alloc: Global, system: Arc<System<N>>) -> Party<N>
+        ensures { result ≡ Role.Shares }
+    {
+        Party {
+            system,
+            alloc,
+            role: Role::Shares,
+            names: Vec::new(alloc),
+            hand: None,
+            counts: Vec::new(alloc),
+        }
+    }
+
+    /// The coordinator.
+    pub fn coordinator(alloc: Global, system: Arc<System<N>>, steps: Steps<N>) -> Party<N>
+        ensures { result ≡ Role.Coordinates steps }
+    {
+        Party {
+            system,
+            alloc,
+            role: Role::Coordinates(steps),
+            names: Vec::new(alloc),
+            hand: None,
+            counts: Vec::new(alloc),
+        }
+    }
+
+    pub fn alloc(&self) -> Global {
+        let _ = &self.role;
+        self.alloc
+    }
+
+    /// Another one, of the same system.
+    pub fn fork(&self) -> Result<Party<N>, AllocError>
+        ensures { IfOk result (λ p. p ≡ Role.Shares) }
+    {
+        let _ = &self.role;
+        let system = Arc::try_clone(&self.system)?;
+        Ok(Party::new(self.alloc, system))
+    }
+
+    /// Does an act.
+    #[inline(always)]
+    pub fn act(&mut self, act: Act) -> Result<u64, Fault>
+        ensures { Acts N.board.places self.old act result self.new }
+    {
+        match act {
+            Act::BackEdge => self.back_edge(),
+            Act::Call(method) => self.call(method),
+            Act::Ret => self.ret(),
+            Act::Publish => self.publish(),
+            Act::ToVm => self.to_vm(),
+            Act::FromVm => self.from_vm(),
+            Act::ToNative => self.to_native(),
+            Act::FromNative => self.from_native(),
+            Act::Block => self.block(),
+            Act::Unblock => self.unblock(),
+            Act::StopNext => self.stop_next(),
+            Act::StopServe => self.stop_serve(),
+            Act::Start => self.start(),
+            Act::Exit => self.exit(),
+            Act::Name => self.name(),
+            Act::Place => self.place(),
+            Act::State => self.state(),
+            Act::Target(name) => self.target(name),
+            Act::Submit(ask) => self.submit(ask),
+            Act::Install(method) => self.install(method),
+            Act::Invalidate(serial) => self.invalidate(serial),
+            Act::Reply(op, name) => self.reply(op, name),
+            Act::LiveAfter(name) => self.live_after(name),
+            Act::Forget => self.forget(),
+            Act::Open => self.open(),
+            Act::Tell(name) => self.tell(name),
+            Act::Hold(place) => self.hold(place),
+            Act::Serve(place) => self.serve(place),
+            Act::Release(place) => self.release(place),
+            Act::Operate => self.operate(),
+            Act::Counted(serial) => self.counted(serial),
+            Act::Close(number) => self.close(number),
+            Act::Reclaim(serial) => self.reclaim(serial),
+            Act::Weigh(serial) => self.weigh(serial),
+        }
+    }
+}

@@ -1,0 +1,103 @@
+//! What the coordinator does.
+ghost use Rattle.std.specs.Prelude.{◌≡◌};
+ghost use Rattle.parties.specs.Acted.{Acts};
+
+use crate::acts::{Act, Fault};
+use crate::coordinating;
+use crate::party::{Party, Role};
+use bodies::Name;
+
+impl<N: Name> Party<N> {
+    /// Opens the oldest request that waits: its number.
+    pub fn open(&mut self) -> Result<u64, Fault>
+        ensures { Acts N.board.places self.old Act.Open result self.new }
+    {
+        let Role::Coordinates(_) = &self.role else {
+            return Err(Fault::NotThis);
+        };
+        coordinating::open(&self.system)
+    }
+
+    /// Tells a name: the number that its place is armed with, 0 where the name is gone.
+    pub fn tell(&mut self, name: u64) -> Result<u64, Fault>
+        ensures { Acts N.board.places self.old (Act.Tell name) result self.new }
+    {
+        let Role::Coordinates(keeps) = &mut self.role else {
+            return Err(Fault::NotThis);
+        };
+        coordinating::tell(&self.system, keeps, name, &mut self.hand)
+    }
+
+    /// Holds the thread of a place: the number of the oldest operation that it owes.
+    pub fn hold(&mut self, place: usize) -> Result<u64, Fault>
+        ensures { Acts N.board.places self.old (Act.Hold place) result self.new }
+    {
+        let Role::Coordinates(keeps) = &mut self.role else {
+            return Err(Fault::NotThis);
+        };
+        coordinating::hold(&self.system, keeps, place)
+    }
+
+    /// Serves the held thread of a place: the number of the operation.
+    pub fn serve(&mut self, place: usize) -> Result<u64, Fault>
+        ensures { Acts N.board.places self.old (Act.Serve place) result self.new }
+    {
+        let Role::Coordinates(keeps) = &mut self.role else {
+            return Err(Fault::NotThis);
+        };
+        coordinating::serve(&self.system, keeps, place)
+    }
+
+    /// Lets the held thread of a place go.
+    pub fn release(&mut self, place: usize) -> Result<u64, Fault>
+        ensures { Acts N.board.places self.old (Act.Release place) result self.new }
+    {
+        let Role::Coordinates(keeps) = &mut self.role else {
+            return Err(Fault::NotThis);
+        };
+        coordinating::release(&self.system, keeps, place)
+    }
+
+    /// Operates the open census over the held threads: its number.
+    pub fn operate(&mut self) -> Result<u64, Fault>
+        ensures { Acts N.board.places self.old Act.Operate result self.new }
+    {
+        let Role::Coordinates(keeps) = &mut self.role else {
+            return Err(Fault::NotThis);
+        };
+        coordinating::operate(&self.system, keeps, self.alloc, &mut self.counts)
+    }
+
+    /// Closes the open request of the number, or without one the oldest: its number.
+    pub fn close(&mut self, number: Option<u64>) -> Result<u64, Fault>
+        ensures { Acts N.board.places self.old (Act.Close number) result self.new }
+    {
+        let Role::Coordinates(keeps) = &mut self.role else {
+            return Err(Fault::NotThis);
+        };
+        coordinating::close(&self.system, keeps, number)
+    }
+
+    /// Weighs a code, and frees it where no activation stands: 0 then, or how many stand.
+    pub fn weigh(&mut self, serial: u64) -> Result<u64, Fault>
+        ensures { Acts N.board.places self.old (Act.Weigh serial) result self.new }
+    {
+        let Role::Coordinates(_) = &self.role else {
+            return Err(Fault::NotThis);
+        };
+        coordinating::weigh(&self.system, serial)
+    }
+
+    /// How many frames the code of the serial had in the census that was operated last.
+    pub fn counted(&mut self, serial: u64) -> Result<u64, Fault>
+        ensures { Acts N.board.places self.old (Act.Counted serial) result self.new }
+    {
+        let _ = &self.role;
+        for count in self.counts.as_slice() {
+            if count.0 == serial {
+                return Ok(count.1 as u64);
+            }
+        }
+        Ok(0)
+    }
+}

@@ -1,0 +1,307 @@
+//! What a thread does.
+ghost use Rattle.std.specs.Prelude.{◌≡◌, ◌≢◌, Ok, Err, IfOk, IfErr};
+ghost use Rattle.desk.specs.declared.entries.Entry.{Entry};
+ghost use Rattle.parties.specs.Asked.{WasEntered};
+ghost use Rattle.parties.specs.Acted.{Acts, StartFails, code_of};
+
+use crate::acts::{Act, Fault};
+use crate::crossing::{self, number_of};
+use crate::party::{Party, Role};
+use bodies::{Called, Name};
+use frames::image::Image;
+use std::mem;
+use thread_list::{CallFault, ReturnFault};
+use thread_state::State;
+use thread_steps::Entered;
+
+fn code_of(state: State) -> u64
+    ensures { result ≡ code_of state }
+{
+    match state {
+        State::InJava => 0,
+        State::InVm => 1,
+        State::AtPoll(_) => 2,
+        State::InNative(_) => 3,
+        State::Blocked => 4,
+        State::Serving(_) => 5,
+        State::Vacant
+        | State::New
+        | State::NewTrans
+        | State::NativeTrans(_)
+        | State::BlockedTrans => 6,
+    }
+}
+
+impl<N: Name> Party<N> {
+    /// A back edge: the number of the poll, 0 to go on.
+    #[inline(always)]
+    pub fn back_edge(&mut self) -> Result<u64, Fault>
+        ensures { Acts N.board.places self.old Act.BackEdge result self.new }
+    {
+        let Role::Runs(runner) = &mut self.role else {
+            return Err(Fault::NotThis);
+        };
+        match runner.back_edge(self.system.row()) {
+            Ok(poll) => Ok(number_of(poll)),
+            Err(_state) => Err(Fault::Illegal),
+        }
+    }
+
+    /// A call: the serial of the code, 0 where it is interpreted.
+    #[inline(always)]
+    pub fn call(&mut self, method: u32) -> Result<u64, Fault>
+        ensures { Acts N.board.places self.old (Act.Call method) result self.new }
+    {
+        let Role::Runs(runner) = &mut self.role else {
+            return Err(Fault::NotThis);
+        };
+        let hint = self.system.hint(method);
+        match runner.call(self.system.board(), method, hint) {
+            Ok(Called::Compiled(serial)) => Ok(serial),
+            Ok(Called::Interpreted) => Ok(0),
+            Err(CallFault::Illegal(_)) => Err(Fault::Illegal),
+            Err(CallFault::NoSuchMethod) => Err(Fault::NoSuchMethod),
+            Err(CallFault::DepthFull) => Err(Fault::DepthFull),
+        }
+    }
+
+    /// A return: the number of the poll, 0 to go on.
+    #[inline(always)]
+    pub fn ret(&mut self) -> Result<u64, Fault>
+        ensures { Acts N.board.places self.old Act.Ret result self.new }
+    {
+        let Role::Runs(runner) = &mut self.role else {
+            return Err(Fault::NotThis);
+        };
+        match runner.ret(self.system.row()) {
+            Ok(poll) => Ok(number_of(poll)),
+            Err(ReturnFault::Illegal(_)) => Err(Fault::Illegal),
+            Err(ReturnFault::EmptyStack) => Err(Fault::EmptyStack),
+        }
+    }
+
+    #[inline(always)]
+    pub fn publish(&mut self) -> Result<u64, Fault>
+        ensures { Acts N.board.places self.old Act.Publish result self.new }
+    {
+        let Role::Runs(runner) = &mut self.role else {
+            return Err(Fault::NotThis);
+        };
+        match runner.publish(self.system.board()) {
+            Ok(()) => Ok(0),
+            Err(_state) => Err(Fault::Illegal),
+        }
+    }
+
+    pub fn to_vm(&mut self) -> Result<u64, Fault>
+        ensures { Acts N.board.places self.old Act.ToVm result self.new }
+    {
+        let Role::Runs(runner) = &mut self.role else {
+            return Err(Fault::NotThis);
+        };
+        match runner.to_vm() {
+            Ok(()) => Ok(0),
+            Err(_state) => Err(Fault::Illegal),
+        }
+    }
+
+    pub fn from_vm(&mut self) -> Result<u64, Fault>
+        ensures { Acts N.board.places self.old Act.FromVm result self.new }
+    {
+        let Role::Runs(runner) = &mut self.role else {
+            return Err(Fault::NotThis);
+        };
+        match runner.from_vm(self.system.row()) {
+            Ok(poll) => Ok(number_of(poll)),
+            Err(_state) => Err(Fault::Illegal),
+        }
+    }
+
+    /// Into native code.
+    pub fn to_native(&mut self) -> Result<u64, Fault>
+        ensures { Acts N.board.places self.old Act.ToNative result self.new }
+    {
+        let Role::Runs(runner) = &mut self.role else {
+            return Err(Fault::NotThis);
+        };
+        crossing::to_native(&self.system, runner)
+    }
+
+    /// Back from native code: the number of the poll, 0 to go on.
+    pub fn from_native(&mut self) -> Result<u64, Fault>
+        ensures { Acts N.board.places self.old Act.FromNative result self.new }
+    {
+        let Role::Runs(runner) = &mut self.role else {
+            return Err(Fault::NotThis);
+        };
+        crossing::from_native(&self.system, runner)
+    }
+
+    /// From the VM into a wait that the runtime knows of.
+    pub fn block(&mut self) -> Result<u64, Fault>
+        ensures { Acts N.board.places self.old Act.Block result self.new }
+    {
+        let Role::Runs(runner) = &mut self.role else {
+            return Err(Fault::NotThis);
+        };
+        crossing::block(&self.system, runner)
+    }
+
+    /// Back from a wait: the number of the poll, 0 to go on.
+    pub fn unblock(&mut self) -> Result<u64, Fault>
+        ensures { Acts N.board.places self.old Act.Unblock result self.new }
+    {
+        let Role::Runs(runner) = &mut self.role else {
+            return Err(Fault::NotThis);
+        };
+        crossing::unblock(&self.system, runner)
+    }
+
+    /// The thread's name.
+    pub fn name(&mut self) -> Result<u64, Fault>
+        ensures { Acts N.board.places self.old Act.Name result self.new }
+    {
+        let Role::Runs(runner) = &self.role else {
+            return Err(Fault::NotThis);
+        };
+        Ok(runner.name())
+    }
+
+    /// The place whose words are the thread's.
+    pub fn place(&mut self) -> Result<u64, Fault>
+        ensures { Acts N.board.places self.old Act.Place result self.new }
+    {
+        let Role::Runs(runner) = &self.role else {
+            return Err(Fault::NotThis);
+        };
+        Ok(runner.place() as u64)
+    }
+
+    /// The thread's state, as a number: in Java 0, in the VM 1, at a poll 2, in native code 3, blocked 4, serving 5.
+    pub fn state(&mut self) -> Result<u64, Fault>
+        ensures { Acts N.board.places self.old Act.State result self.new }
+    {
+        let Role::Runs(runner) = &self.role else {
+            return Err(Fault::NotThis);
+        };
+        Ok(code_of(runner.state()))
+    }
+
+    /// After a poll that stopped: the number of the operation that is to be served now, 0 where the thread goes on.
+    pub fn stop_next(&mut self) -> Result<u64, Fault>
+        ensures { Acts N.board.places self.old Act.StopNext result self.new }
+    {
+        let Role::Runs(runner) = &mut self.role else {
+            return Err(Fault::NotThis);
+        };
+        crossing::stop_next(&self.system, runner)
+    }
+
+    /// The operation is served: what its job answered is entered, and the thread polls: the number of the poll, 0 to go on.
+    pub fn stop_serve(&mut self) -> Result<u64, Fault>
+        ensures { Acts N.board.places self.old Act.StopServe result self.new }
+    {
+        let Role::Runs(runner) = &mut self.role else {
+            return Err(Fault::NotThis);
+        };
+        crossing::stop_serve(&self.system, runner)
+    }
+
+    /// The party becomes a thread in the least vacant place: its name.
+    pub fn start(&mut self) -> Result<u64, Fault>
+        ensures { Acts N.board.places self.old Act.Start result self.new }
+    {
+        match &self.role {
+            Role::Shares => {
+                self.enter_start()?;
+                self.settle()
+            }
+            Role::Starts(_) => self.settle(),
+            Role::Runs(_) | Role::Leaves(_) | Role::Gone | Role::Coordinates(_) => {
+                Err(Fault::NotThis)
+            }
+        }
+    }
+
+    fn enter_start(&mut self) -> Result<(), Fault>
+        requires { self.old ≡ Role.Shares }
+        ensures ok { IfOk result (λ _. (e : _) × (self.new ≡ Role.Starts e) × WasEntered (Entry.Start e.name e.place)) }
+        ensures err { IfErr result (λ e. (self.new ≡ self.old) × StartFails N.board.places e) }
+    {
+        let image = Image::new(self.alloc);
+        let (name, place) = crossing::enter_start(&self.system, image.is_ok())?;
+        let Ok(image) = image else { unreachable!() };
+        self.role = Role::Starts(Entered::new(name, place, self.system.methods(), image));
+        Ok(())
+    }
+
+    fn settle(&mut self) -> Result<u64, Fault>
+        requires { (e : _) × (self.old ≡ Role.Starts e) }
+        ensures { Acts N.board.places self.old Act.Start result self.new }
+    {
+        let Role::Starts(entered) = mem::replace(&mut self.role, Role::Gone) else {
+            unreachable!()
+        };
+        let name = entered.name();
+        match crossing::settle(&self.system, entered) {
+            Ok(runner) => {
+                self.role = Role::Runs(runner);
+                Ok(name)
+            }
+            Err(entered) => {
+                self.role = Role::Starts(entered);
+                Err(Fault::Again)
+            }
+        }
+    }
+
+    /// The thread ends: 0. Where something is told to it it polls, and the number of the poll is answered.
+    pub fn exit(&mut self) -> Result<u64, Fault>
+        ensures { Acts N.board.places self.old Act.Exit result self.new }
+    {
+        if let Role::Runs(_) = &self.role {
+            let said = self.vacate()?;
+            if said != 0 {
+                return Ok(said);
+            }
+        }
+        self.leave()
+    }
+
+    fn vacate(&mut self) -> Result<u64, Fault>
+        requires { (r : _) × (self.old ≡ Role.Runs r) }
+        ensures ok { IfOk result (λ n. n ≡ 0 → (m : _) × (r : _) × (self.old ≡ Role.Runs r) × (self.new ≡ Role.Leaves m) × (m.body.name ≡ r.name)) }
+        ensures told { IfOk result (λ n. n ≢ 0 → Acts N.board.places self.old Act.Exit (Ok n) self.new) }
+        ensures err { IfErr result (λ e. Acts N.board.places self.old Act.Exit (Err e) self.new) }
+    {
+        let Role::Runs(runner) = mem::replace(&mut self.role, Role::Gone) else {
+            unreachable!()
+        };
+        match crossing::vacate(&self.system, runner) {
+            Ok(vacated) => {
+                self.role = Role::Leaves(vacated);
+                Ok(0)
+            }
+            Err((said, runner)) => {
+                self.role = Role::Runs(runner);
+                said
+            }
+        }
+    }
+
+    fn leave(&mut self) -> Result<u64, Fault>
+        ensures { Acts N.board.places self.old Act.Exit result self.new }
+    {
+        let name = match &self.role {
+            Role::Leaves(vacated) => vacated.name(),
+            Role::Shares | Role::Starts(_) | Role::Runs(_) | Role::Gone | Role::Coordinates(_) => {
+                return Err(Fault::NotThis);
+            }
+        };
+        if !crossing::leave(&self.system, name) {
+            return Err(Fault::Again);
+        }
+        self.role = Role::Gone;
+        Ok(0)
+    }
+}

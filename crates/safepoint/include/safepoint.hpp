@@ -1,0 +1,178 @@
+/* safepoint_wait.h for C++17: a system, and threads of it, by RAII. What a call may answer and who may call it is said in safepoint.h. */
+#ifndef SAFEPOINT_HPP
+#define SAFEPOINT_HPP
+
+#include <cstdint>
+#include <functional>
+#include <stdexcept>
+#include <string>
+#include <utility>
+#include <vector>
+
+#include "safepoint_wait.h"
+
+namespace safepoint {
+
+/* A refusal. */
+class Refused : public std::runtime_error {
+public:
+    explicit Refused(std::int64_t answer) : std::runtime_error(sp_text(answer)), answer_(answer) {}
+    std::int64_t answer() const noexcept { return answer_; }
+
+private:
+    std::int64_t answer_;
+};
+
+inline std::uint64_t must(std::int64_t answer) {
+    if (answer < 0) throw Refused(answer);
+    return static_cast<std::uint64_t>(answer);
+}
+
+/* Makes a call of safepoint.h until it doesn't answer SP_AGAIN. */
+template <class Call> std::uint64_t wait(Call call) {
+    std::int64_t answer;
+    SP_WAIT(answer, call());
+    return must(answer);
+}
+
+using Callback = std::function<void(const sp_served &)>;
+
+/* Calls a `Callback` that stands behind `with`, which may be null. It throws nothing: a callback at a safe point ends by itself. */
+inline void at_safe_point(void *with, const sp_served *served) noexcept {
+    auto callback = static_cast<const Callback *>(with);
+    if (callback && *callback) (*callback)(*served);
+}
+
+/* A party: what is freed with its owner, and isn't copied. */
+class Party {
+public:
+    Party() = default;
+    Party(const Party &) = delete;
+    Party &operator=(const Party &) = delete;
+    Party(Party &&other) noexcept : party_(std::exchange(other.party_, sp_party{})) {}
+    Party &operator=(Party &&other) noexcept {
+        std::swap(party_, other.party_);
+        return *this;
+    }
+    ~Party() { sp_free(&party_); }
+
+    std::uint64_t install(std::uint32_t method) {
+        return wait([&] { return sp_install(&party_, method); });
+    }
+    void invalidate(std::uint64_t serial) {
+        wait([&] { return sp_invalidate(&party_, serial); });
+    }
+    /* A handshake of these names waits: its number. */
+    std::uint64_t submit(const std::vector<std::uint64_t> &names, std::uint32_t asks = SP_DEPTH, std::uint64_t serial = 0) {
+        for (auto name : names) must(sp_target(&party_, name));
+        return wait([&] { return sp_submit(&party_, asks, serial); });
+    }
+    std::uint64_t census() {
+        return wait([&] { return sp_census(&party_); });
+    }
+    std::uint64_t reply(std::uint64_t operation, std::uint64_t name) {
+        return wait([&] { return sp_reply(&party_, operation, name); });
+    }
+    std::vector<std::uint64_t> live() {
+        std::vector<std::uint64_t> names;
+        std::uint64_t name = 0;
+        while ((name = wait([&] { return sp_live_after(&party_, name); }))) names.push_back(name);
+        return names;
+    }
+    void forget() {
+        wait([&] { return sp_forget(&party_); });
+    }
+    Party fork() {
+        Party other;
+        must(sp_fork(&party_, &other.party_));
+        return other;
+    }
+    sp_party *get() noexcept { return &party_; }
+
+protected:
+    sp_party party_{};
+};
+
+/* A system, as its coordinator. */
+class System : public Party {
+public:
+    System(std::size_t places, std::size_t slots, std::size_t methods) { must(sp_make(&party_, places, slots, methods)); }
+
+    /* Works the oldest request to its Close: its number. */
+    std::uint64_t drive(Callback callback = {}) { return must(sp_drive(&party_, at_safe_point, &callback)); }
+    std::uint64_t drive_four(Callback callback = {}) { return must(sp_drive_four(&party_, at_safe_point, &callback)); }
+    std::uint64_t counted(std::uint64_t serial) { return must(sp_counted(&party_, serial)); }
+
+    enum class Code { freed, used, late };
+    Code reclaim(std::uint64_t serial, Callback callback = {}) {
+        std::int64_t answer = sp_reclaim(&party_, serial, at_safe_point, &callback);
+        if (answer == SP_LATE) return Code::late;
+        return must(answer) ? Code::used : Code::freed;
+    }
+};
+
+/* The thread that makes it, as long as it stands: it starts, serves what it is told with its callback, and exits. It isn't passed on. */
+class Thread {
+public:
+    Thread(Party party, Callback callback = {}) : party_(std::move(party)), callback_(std::move(callback)) {
+        name_ = must(sp_start_thread(get(), at_safe_point, &callback_));
+    }
+    Thread(const Thread &) = delete;
+    Thread &operator=(const Thread &) = delete;
+    ~Thread() {
+        bring_back();
+        while (sp_ret(get()) >= 0 || sp_state(get()) == SP_AT_POLL)
+            if (sp_state(get()) == SP_AT_POLL) sp_stop(get(), at_safe_point, &callback_);
+        sp_exit_thread(get(), at_safe_point, &callback_);
+    }
+
+    std::uint64_t name() const noexcept { return name_; }
+    void poll() { polled(sp_back_edge(get())); }
+    void publish() { must(sp_publish(get())); }
+
+    /* A frame of a method, from the call to the return: the serial of its code, 0 where it is interpreted. */
+    class Frame {
+    public:
+        Frame(Thread &thread, std::uint32_t method) : thread_(thread), serial_(must(sp_call(thread.get(), method))) {}
+        Frame(const Frame &) = delete;
+        Frame &operator=(const Frame &) = delete;
+        ~Frame() {
+            if (sp_ret(thread_.get()) > 0) sp_stop(thread_.get(), at_safe_point, &thread_.callback_);
+        }
+        std::uint64_t serial() const noexcept { return serial_; }
+
+    private:
+        Thread &thread_;
+        std::uint64_t serial_;
+    };
+
+    /* In native code, from here to the end of its scope. */
+    class Native {
+    public:
+        explicit Native(Thread &thread) : thread_(thread) { must(sp_enter_native(thread.get())); }
+        Native(const Native &) = delete;
+        Native &operator=(const Native &) = delete;
+        ~Native() { sp_leave_native(thread_.get(), at_safe_point, &thread_.callback_); }
+
+    private:
+        Thread &thread_;
+    };
+
+private:
+    sp_party *get() noexcept { return party_.get(); }
+    void polled(std::int64_t answer) {
+        if (must(answer)) must(sp_stop(get(), at_safe_point, &callback_));
+    }
+    void bring_back() noexcept {
+        if (sp_state(get()) == SP_IN_NATIVE) sp_leave_native(get(), at_safe_point, &callback_);
+        if (sp_state(get()) == SP_IN_VM && sp_from_vm(get()) > 0) sp_stop(get(), at_safe_point, &callback_);
+    }
+
+    Party party_;
+    Callback callback_;
+    std::uint64_t name_;
+};
+
+} // namespace safepoint
+
+#endif

@@ -1,0 +1,4 @@
+pub mod Boxed
+pub mod Held
+pub mod Codes
+pub mod Told

@@ -1,0 +1,55 @@
+-- What C is told of a party.
+use Rattle.std.specs.Prelude.{◌≡◌, ◌==◌, if◌then◌else◌, ℕ, ℤ, Bool, false, Option, Some, None, is_some, Err, List, []}
+use Rattle.operations.specs.declared.Ask.{Ask}
+use Rattle.operations.specs.declared.Ask.TheVariants.{Depth, CountOf, Top}
+use Rattle.parties.specs.declared.acts.Act.{Act}
+use Rattle.parties.specs.declared.acts.Act.TheVariants as act
+use Rattle.parties.specs.declared.party.Role.{Role}
+use Rattle.parties.specs.declared.party.Role.TheVariants as role
+use Rattle.parties.specs.declared.acts.Fault.TheVariants as fault
+use Rattle.coordinator_steps.specs.Holding.{Holding}
+use Rattle.parties.specs.Acted.{Acts}
+use Rattle.parties.specs.Asked.{Told}
+use Rattle.safepoint.specs.Codes.{code_of}
+
+-- An act of a party that there is, in a system of so many places.
+abbrev pub Obeys : {N : Type 0} → ℕ → Option (Role N) → Act → Told → Option (Role N) → Type 0
+Obeys places (Some old) act said (Some new) = Acts places old act said new
+Obeys places old act said new = ⊥
+
+-- The same of one that may not be there.
+abbrev pub Answers : {N : Type 0} → ℕ → Option (Role N) → Act → Told → Option (Role N) → Type 0
+Answers places None act said new = (said ≡ Err fault.NotThis) × (new ≡ None)
+Answers places (Some old) act said new = Obeys places (Some old) act said new
+
+-- A new party only shares the system.
+abbrev pub IsFresh : {N : Type 0} → Option (Role N) → Type 0
+IsFresh None = Unit {0}
+IsFresh (Some r) = r ≡ role.Shares
+
+abbrev pub Arises : {N : Type 0} → Option (Role N) → Bool → Type 0
+Arises new made = IsFresh new × (is_some new ≡ made)
+
+abbrev pub Forks : {N : Type 0} → Option (Role N) → Option (Role N) → Option (Role N) → Bool → Type 0
+Forks old kept new made = (kept ≡ old) × Arises new made
+
+-- What C is told: the code of the answer of an act.
+abbrev pub Replies : {N : Type 0} → ℕ → ℤ → Act → Option (Role N) → Option (Role N) → Type 0
+Replies places code act old new = (said : Told) × (code ≡ code_of said) × Answers places old act said new
+
+-- The ask of a number, with a serial.
+abbrev pub ask_of : ℕ → ℕ → Option Ask
+ask_of asks serial = if asks == 0 then Some Depth else if asks == 1 then Some (CountOf serial) else if asks == 2 then Some Top else None
+
+-- A handshake with this ask is submitted; with none nothing is done.
+abbrev pub Submits : {N : Type 0} → ℕ → Option Ask → ℤ → ℤ → Option (Role N) → Option (Role N) → Type 0
+Submits places (Some ask) bad code old new = Replies places code (act.Submit (Some ask)) old new
+Submits places None bad code old new = (code ≡ bad) × (new ≡ old)
+
+-- A new coordinator holds nothing.
+abbrev pub IsBegun : {N : Type 0} → Option (Role N) → Type 0
+IsBegun None = Unit {0}
+IsBegun (Some r) = (c : Holding) × (r ≡ role.Coordinates c) × (c.held ≡ []) × (c.operated ≡ false)
+
+abbrev pub Begins : {N : Type 0} → Option (Role N) → Bool → Type 0
+Begins new made = IsBegun new × (is_some new ≡ made)

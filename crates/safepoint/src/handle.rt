@@ -1,0 +1,291 @@
+// What C holds of a party.
+ghost use Rattle.std.specs.Prelude.{◌≡◌, ℕ, OnOk, Option, Some, None, is_some, true, false};
+ghost use Rattle.board.specs.Boards.{BoardId};
+ghost use Rattle.poll.specs.Rows.{RowId};
+ghost use Rattle.coordinator_steps.specs.Holding.{held_nothing};
+ghost use Rattle.parties.specs.Asked.{Told};
+ghost use Rattle.safepoint.specs.Held.{Seen, held_owns, board_coded, row_coded, held_coded};
+ghost use Rattle.safepoint.specs.Told.{Obeys, Answers, Forks, Arises, Begins, IsBegun, IsFresh};
+
+use crate::loose::Loose;
+use bodies::Name;
+use coordinator_steps::Steps;
+use parties::acts::{Act, Fault};
+use parties::party::{Party, Role};
+use parties::system::System;
+use std::alloc::Global;
+use std::marker::{Brand, Model};
+use std::mem::replace;
+use std::ptr::null_mut;
+use std::sync::Arc;
+use thread_list::Parts;
+
+/// A boxed party as its pointer, whatever its system is, or none.
+#[repr(C)]
+#[derive(Drop)]
+pub struct Handle {
+    at: *mut u8,
+    alloc: Global,
+    pub ghost board: { BoardId } by { board_coded },
+    pub ghost row: { RowId } by { row_coded },
+    pub ghost value: { Option Seen } by { held_coded },
+}
+
+impl Model for Handle {
+    ghost also_owns = { λ h. held_owns h.alloc h.at h.board h.row h.value };
+}
+
+// Does an act.
+#[inline(always)]
+fn obey<N: Name>(
+    parts: Loose<Party<N>, Global>,
+    act: Act,
+) -> (Loose<Party<N>, Global>, Result<u64, Fault>)
+    requires { is_some parts.value ≡ true }
+    ensures { Obeys N.board.places parts.value act result.1 result.0.value }
+{
+    let mut party = parts.into_box();
+    let said = party.act(act);
+    (Loose::of(party), said)
+}
+
+// Another party to the same system, and whether there was memory for it.
+fn fork<N: Name>(
+    parts: Loose<Party<N>, Global>,
+) -> (Loose<Party<N>, Global>, (Loose<Party<N>, Global>, bool))
+    requires { is_some parts.value ≡ true }
+    ensures { Forks parts.value result.0.value result.1.0.value result.1.1 }
+{
+    let party = parts.into_box();
+    let other = fork_box(&party);
+    (Loose::of(party), other)
+}
+
+fn fork_box<N: Name>(party: &Party<N>) -> (Loose<Party<N>, Global>, bool)
+    ensures { Arises result.0.value result.1 }
+{
+    let alloc = party.alloc();
+    match party.fork() {
+        Ok(other) => boxed(alloc, other),
+        Err(_) => (Loose::none(alloc), false),
+    }
+}
+
+fn boxed<N: Name>(alloc: Global, party: Party<N>) -> (Loose<Party<N>, Global>, bool)
+    requires { party ≡ Role.Shares }
+    ensures { Arises result.0.value result.1 }
+{
+    match Box::new(alloc, party) {
+        Ok(boxed) => (Loose::of(boxed), true),
+        Err(_) => (Loose::none(alloc), false),
+    }
+}
+
+// The coordinator of a new system over these parts, and whether there was memory for it.
+fn make<N: Name>(alloc: Global, parts: Parts) -> (Loose<Party<N>, Global>, bool)
+    requires { (parts.board ≡ N.board) × (parts.row ≡ N.poll_row) }
+    ensures { Begins result.0.value result.1 }
+{
+    let Ok((system, armer)) = System::<N>::new(alloc, parts) else {
+        return (Loose::none(alloc), false);
+    };
+    let Ok(steps) = Steps::new(alloc, armer, system.row()) else {
+        return (Loose::none(alloc), false);
+    };
+    match Arc::new(alloc, system) {
+        Ok(shared) => begun(alloc, shared, steps),
+        Err(_) => (Loose::none(alloc), false),
+    }
+}
+
+fn begun<N: Name>(
+    alloc: Global,
+    system: Arc<System<N>>,
+    steps: Steps<N>,
+) -> (Loose<Party<N>, Global>, bool)
+    requires { steps ≡ held_nothing N.poll_row N.board.places }
+    ensures { Begins result.0.value result.1 }
+{
+    let party = Party::coordinator(alloc, system, steps);
+    match Box::new(alloc, party) {
+        Ok(boxed) => (Loose::of(boxed), true),
+        Err(_) => (Loose::none(alloc), false),
+    }
+}
+
+// The party goes.
+fn free<N: Name>(parts: Loose<Party<N>, Global>) -> bool
+    requires { is_some parts.value ≡ true }
+    ensures { result ≡ true }
+{
+    drop(parts.into_box());
+    true
+}
+
+impl Handle {
+    #[inline(always)]
+    fn obey(self, act: Act) -> (Handle, Result<u64, Fault>)
+        requires { is_some self.value ≡ true }
+        ensures { Obeys self.board.places self.value act result.1 result.0.value × (result.0.board ≡ self.board) × (result.0.row ≡ self.row) }
+    {
+        let Handle { at, alloc } = self;
+        let (parts, said) = obey::<Brand>(
+            Loose {
+                at: at as *mut Party<Brand>,
+                alloc,
+            },
+            act,
+        );
+        let Loose { at, alloc } = parts;
+        let back = Handle {
+            at: at as *mut u8,
+            alloc,
+        };
+        (back, said)
+    }
+
+    fn fork(self) -> (Handle, (Handle, bool))
+        requires { is_some self.value ≡ true }
+        ensures { Forks self.value result.0.value result.1.0.value result.1.1 × (result.0.board ≡ self.board) × (result.0.row ≡ self.row) × (result.1.0.board ≡ self.board) × (result.1.0.row ≡ self.row) }
+    {
+        let Handle { at, alloc } = self;
+        let (parts, more) = fork::<Brand>(Loose {
+            at: at as *mut Party<Brand>,
+            alloc,
+        });
+        let (other, made) = more;
+        let Loose { at, alloc } = parts;
+        let back = Handle {
+            at: at as *mut u8,
+            alloc,
+        };
+        let Loose { at, alloc } = other;
+        let kept = Handle {
+            at: at as *mut u8,
+            alloc,
+        };
+        (back, (kept, made))
+    }
+
+    fn make(alloc: Global, parts: Parts) -> (Handle, bool)
+        ensures { Begins result.0.value result.1 }
+    {
+        let (other, made) = make::<Brand>(alloc, parts);
+        let Loose { at, alloc } = other;
+        let kept = Handle {
+            at: at as *mut u8,
+            alloc,
+        };
+        (kept, made)
+    }
+
+    fn free(self) -> bool
+        requires { is_some self.value ≡ true }
+        ensures { result ≡ true }
+    {
+        let Handle { at, alloc } = self;
+        free::<Brand>(Loose {
+            at: at as *mut Party<Brand>,
+            alloc,
+        })
+    }
+
+    fn none(alloc: Global) -> Handle
+        ensures { result.value ≡ None }
+    {
+        Handle {
+            at: null_mut(),
+            alloc,
+        }
+    }
+}
+
+/// The place of a party in C's memory. All zeros, it has none.
+#[repr(C)]
+#[derive(Drop)]
+pub struct Place {
+    made: bool,
+    pub handle: Handle,
+    pub ghost tied: { made ≡ is_some handle.value },
+}
+
+impl Place {
+    pub(crate) fn is_made(&self) -> bool
+        ensures { result ≡ is_some self.now.handle.value }
+    {
+        self.made
+    }
+
+    #[inline(always)]
+    fn none(alloc: Global) -> Place
+        ensures { result.handle.value ≡ None }
+    {
+        Place {
+            made: false,
+            handle: Handle::none(alloc),
+        }
+    }
+
+    #[inline(always)]
+    fn take(&mut self, alloc: Global) -> Handle
+        ensures party { (result.value ≡ self.old.handle.value) × (result.board ≡ self.old.handle.board) × (result.row ≡ self.old.handle.row) }
+        ensures none { self.new.handle.value ≡ None }
+    {
+        replace(self, Place::none(alloc)).handle
+    }
+
+    #[inline(always)]
+    fn put(&mut self, handle: Handle, made: bool)
+        requires { is_some handle.value ≡ made }
+        ensures { (self.new.handle.value ≡ handle.value) × (self.new.handle.board ≡ handle.board) × (self.new.handle.row ≡ handle.row) }
+    {
+        *self = Place { made, handle };
+    }
+
+    /// Does an act of the party that is here.
+    #[inline(always)]
+    pub(crate) fn obey(&mut self, alloc: Global, act: Act) -> Result<u64, Fault>
+        ensures said { Answers self.old.handle.board.places self.old.handle.value act result self.new.handle.value }
+        ensures same { (self.new.handle.board ≡ self.old.handle.board) × (self.new.handle.row ≡ self.old.handle.row) }
+    {
+        if !self.made {
+            return Err(Fault::NotThis);
+        }
+        let (handle, said) = self.take(alloc).obey(act);
+        self.put(handle, true);
+        said
+    }
+
+    /// Puts another party to the same system into the other place.
+    pub(crate) fn fork(&mut self, alloc: Global, other: &mut Place) -> Result<u64, Fault>
+        requires { is_some other.old.handle.value ≡ false }
+        ensures kept { self.new.handle.value ≡ self.old.handle.value }
+        ensures fresh { IsFresh other.new.handle.value }
+        ensures same { OnOk result ((other.new.handle.board ≡ self.old.handle.board) × (other.new.handle.row ≡ self.old.handle.row)) }
+    {
+        if !self.made {
+            return Err(Fault::NotThis);
+        }
+        let (handle, more) = self.take(alloc).fork();
+        let (forked, made) = more;
+        self.put(handle, true);
+        other.put(forked, made);
+        if made { Ok(0) } else { Err(Fault::NoMemory) }
+    }
+
+    pub(crate) fn make(&mut self, alloc: Global, parts: Parts) -> Result<u64, Fault>
+        ensures { IsBegun self.new.handle.value }
+    {
+        let (handle, made) = Handle::make(alloc, parts);
+        self.put(handle, made);
+        if made { Ok(0) } else { Err(Fault::NoMemory) }
+    }
+
+    pub(crate) fn free(&mut self, alloc: Global)
+        ensures { self.new.handle.value ≡ None }
+    {
+        if self.made {
+            let _ = self.take(alloc).free();
+        }
+    }
+}

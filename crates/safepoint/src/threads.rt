@@ -1,0 +1,144 @@
+// What a thread of C calls.
+ghost use Rattle.std.specs.Prelude.{◌≡◌};
+ghost use Rattle.safepoint.specs.Told.{Replies};
+
+use crate::codes::code_of;
+use crate::handle::Place;
+use parties::acts::Act;
+use std::alloc::Global;
+
+/// The party becomes a thread, and starts: its name.
+#[unsafe(no_mangle)]
+pub extern "C" fn sp_start(alloc: Global, thread: &mut Place) -> i64
+    ensures { Replies thread.old.handle.board.places result Act.Start thread.old.handle.value thread.new.handle.value }
+{
+    code_of(thread.obey(alloc, Act::Start))
+}
+
+/// The thread ends.
+#[unsafe(no_mangle)]
+pub extern "C" fn sp_exit(alloc: Global, thread: &mut Place) -> i64
+    ensures { Replies thread.old.handle.board.places result Act.Exit thread.old.handle.value thread.new.handle.value }
+{
+    code_of(thread.obey(alloc, Act::Exit))
+}
+
+/// The thread's name.
+#[unsafe(no_mangle)]
+pub extern "C" fn sp_name(alloc: Global, thread: &mut Place) -> i64
+    ensures { Replies thread.old.handle.board.places result Act.Name thread.old.handle.value thread.new.handle.value }
+{
+    code_of(thread.obey(alloc, Act::Name))
+}
+
+/// The place whose words are the thread's.
+#[unsafe(no_mangle)]
+pub extern "C" fn sp_place(alloc: Global, thread: &mut Place) -> i64
+    ensures { Replies thread.old.handle.board.places result Act.Place thread.old.handle.value thread.new.handle.value }
+{
+    code_of(thread.obey(alloc, Act::Place))
+}
+
+/// The thread's state.
+#[unsafe(no_mangle)]
+pub extern "C" fn sp_state(alloc: Global, thread: &mut Place) -> i64
+    ensures { Replies thread.old.handle.board.places result Act.State thread.old.handle.value thread.new.handle.value }
+{
+    code_of(thread.obey(alloc, Act::State))
+}
+
+/// Enters a method: the serial of its code, 0 where it is interpreted.
+#[unsafe(no_mangle)]
+pub extern "C" fn sp_call(alloc: Global, thread: &mut Place, method: u32) -> i64
+    ensures { Replies thread.old.handle.board.places result (Act.Call method) thread.old.handle.value thread.new.handle.value }
+{
+    code_of(thread.obey(alloc, Act::Call(method)))
+}
+
+/// Leaves the top method, and polls.
+#[unsafe(no_mangle)]
+pub extern "C" fn sp_ret(alloc: Global, thread: &mut Place) -> i64
+    ensures { Replies thread.old.handle.board.places result Act.Ret thread.old.handle.value thread.new.handle.value }
+{
+    code_of(thread.obey(alloc, Act::Ret))
+}
+
+/// Polls.
+#[unsafe(no_mangle)]
+pub extern "C" fn sp_back_edge(alloc: Global, thread: &mut Place) -> i64
+    ensures { Replies thread.old.handle.board.places result Act.BackEdge thread.old.handle.value thread.new.handle.value }
+{
+    code_of(thread.obey(alloc, Act::BackEdge))
+}
+
+/// Publishes the stack.
+#[unsafe(no_mangle)]
+pub extern "C" fn sp_publish(alloc: Global, thread: &mut Place) -> i64
+    ensures { Replies thread.old.handle.board.places result Act.Publish thread.old.handle.value thread.new.handle.value }
+{
+    code_of(thread.obey(alloc, Act::Publish))
+}
+
+/// Into the VM.
+#[unsafe(no_mangle)]
+pub extern "C" fn sp_to_vm(alloc: Global, thread: &mut Place) -> i64
+    ensures { Replies thread.old.handle.board.places result Act.ToVm thread.old.handle.value thread.new.handle.value }
+{
+    code_of(thread.obey(alloc, Act::ToVm))
+}
+
+/// Out of the VM, and polls.
+#[unsafe(no_mangle)]
+pub extern "C" fn sp_from_vm(alloc: Global, thread: &mut Place) -> i64
+    ensures { Replies thread.old.handle.board.places result Act.FromVm thread.old.handle.value thread.new.handle.value }
+{
+    code_of(thread.obey(alloc, Act::FromVm))
+}
+
+/// Into native code.
+#[unsafe(no_mangle)]
+pub extern "C" fn sp_to_native(alloc: Global, thread: &mut Place) -> i64
+    ensures { Replies thread.old.handle.board.places result Act.ToNative thread.old.handle.value thread.new.handle.value }
+{
+    code_of(thread.obey(alloc, Act::ToNative))
+}
+
+/// Back from native code, and polls.
+#[unsafe(no_mangle)]
+pub extern "C" fn sp_from_native(alloc: Global, thread: &mut Place) -> i64
+    ensures { Replies thread.old.handle.board.places result Act.FromNative thread.old.handle.value thread.new.handle.value }
+{
+    code_of(thread.obey(alloc, Act::FromNative))
+}
+
+/// From the VM into a wait.
+#[unsafe(no_mangle)]
+pub extern "C" fn sp_block(alloc: Global, thread: &mut Place) -> i64
+    ensures { Replies thread.old.handle.board.places result Act.Block thread.old.handle.value thread.new.handle.value }
+{
+    code_of(thread.obey(alloc, Act::Block))
+}
+
+/// Back from a wait, and polls.
+#[unsafe(no_mangle)]
+pub extern "C" fn sp_unblock(alloc: Global, thread: &mut Place) -> i64
+    ensures { Replies thread.old.handle.board.places result Act.Unblock thread.old.handle.value thread.new.handle.value }
+{
+    code_of(thread.obey(alloc, Act::Unblock))
+}
+
+/// After a poll that stopped: the operation to serve now, 0 where the thread goes on.
+#[unsafe(no_mangle)]
+pub extern "C" fn sp_stop_next(alloc: Global, thread: &mut Place) -> i64
+    ensures { Replies thread.old.handle.board.places result Act.StopNext thread.old.handle.value thread.new.handle.value }
+{
+    code_of(thread.obey(alloc, Act::StopNext))
+}
+
+/// The operation is served: what the poll after it answers.
+#[unsafe(no_mangle)]
+pub extern "C" fn sp_stop_serve(alloc: Global, thread: &mut Place) -> i64
+    ensures { Replies thread.old.handle.board.places result Act.StopServe thread.old.handle.value thread.new.handle.value }
+{
+    code_of(thread.obey(alloc, Act::StopServe))
+}

@@ -1,0 +1,18 @@
+-- Why a thread doesn't exit.
+use Rattle.std.specs.Prelude.{◌≡◌, ◌<◌, ℕ, true, false, Option, Some, None, length}
+use Rattle.bodies.specs.Bodies.{BodyView}
+use Rattle.thread_list.specs.Moves.{Running, is_running, poll_of}
+use Rattle.thread_steps.specs.declared.ends.ExitFault.{ExitFault}
+use Rattle.thread_steps.specs.declared.ends.ExitFault.TheVariants as exit
+
+-- The stack has a frame.
+abbrev pub HasFrames : Option BodyView → Type 0
+HasFrames None = Unit {0}
+HasFrames (Some p) = 0 < length p.image.frames
+
+-- Why a thread doesn't exit, and what it is then: as it was; or it was told something, and has polled.
+abbrev pub exit_refused : Running → Running → ExitFault → Type 0
+exit_refused m n (exit.Illegal s) = (s ≡ m.state) × (is_running m.state ≡ false) × (n ≡ m)
+exit_refused m n exit.StackNotEmpty = (is_running m.state ≡ true) × HasFrames m.body × (n ≡ m)
+exit_refused m n (exit.Told said)
+    = (is_running m.state ≡ true) × ((found : ℕ) × (said ≡ poll_of found))

@@ -1,0 +1,142 @@
+//! The steps of a thread that has stopped at a poll.
+ghost use Rattle.std.specs.Prelude.{◌≡◌, IfOk, IfErr, IfSome, IfNone};
+ghost use Rattle.thread_state.specs.declared.State.TheVariants.{AtPoll as IsAtPoll};
+ghost use Rattle.thread_list.specs.Moves.{SameThread};
+ghost use Rattle.thread_steps.specs.Moves.{StopsNext, EndsServing};
+
+use crate::runner::{Stepper, after_poll};
+use crate::standing::{OwnHand, OwnRecorder, Standing};
+use berths::Room;
+use board::Board;
+use bodies::Name;
+use desk::{Desk, Finished};
+use operations::job::Errand;
+use poll::PollRow;
+use thread_list::{Poll, poll_of};
+use thread_state::{Back, State};
+
+impl<N: Name> Stepper<N> {
+    /// After a poll that answered Stop: the body goes into its room and, where no census keeps it, comes out again to serve and is
+    /// published. Its oldest job runs on it, and the answer is entered by `stop_serve`. Answers the number of that operation, or 0 where
+    /// nothing is told any more, and the thread goes on. None where it stays stopped. A thread that isn't at a poll is refused with its
+    /// state.
+    pub fn stop_next<J: Errand>(
+        &mut self,
+        room: &mut Room<N, J>,
+        board: &Board,
+        row: &PollRow,
+    ) -> Result<Option<u64>, State>
+        requires board { board.now ≡ N.board }
+        requires row { row.now ≡ N.poll_row }
+        ensures next { IfOk result (λ o. IfSome o (StopsNext self.old self.new)) }
+        ensures again { IfOk result (λ o. IfNone o (self.new.state ≡ self.old.state)) }
+        ensures same { SameThread self.old self.new }
+        ensures err { IfErr result (λ s. (s ≡ self.old.state) × (self.new ≡ self.old)) }
+    {
+        let back = match &self.standing {
+            Standing::AtPoll(back, _) => *back,
+            Standing::Given(back, _) => *back,
+            Standing::InJava(_)
+            | Standing::InVm(_)
+            | Standing::InNative(_)
+            | Standing::Blocked
+            | Standing::Serves(_, _, _) => return Err(self.state()),
+        };
+        if room.place() != self.place {
+            return Ok(None);
+        }
+        self.give_in(room, back);
+        Ok(self.come_out(room, board, row, back))
+    }
+
+    // The body goes into its room, where it isn't there yet and the room takes it.
+    fn give_in<J: Errand>(&mut self, room: &mut Room<N, J>, back: Back)
+        requires stopped { self.old.state ≡ IsAtPoll back }
+        ensures state { self.new.state ≡ self.old.state }
+        ensures room { room.new.place ≡ room.old.place }
+        ensures same { SameThread self.old self.new }
+    {
+        if let Standing::Given(_, _) = &self.standing {
+            return;
+        }
+        let body = self.standing.take_body();
+        self.standing = match room.give(body) {
+            Ok(receipt) => Standing::Given(back, receipt),
+            Err(body) => Standing::AtPoll(back, body),
+        };
+    }
+
+    // The body comes out of its room to serve, where it is there and no census keeps it.
+    fn come_out<J: Errand>(
+        &mut self,
+        room: &mut Room<N, J>,
+        board: &Board,
+        row: &PollRow,
+        back: Back,
+    ) -> Option<u64>
+        requires board { board.now ≡ N.board }
+        requires row { row.now ≡ N.poll_row }
+        requires stopped { self.old.state ≡ IsAtPoll back }
+        requires place { room.old.place ≡ self.old.place }
+        ensures next { IfSome result (StopsNext self.old self.new) }
+        ensures again { IfNone result (self.new.state ≡ self.old.state) }
+        ensures same { SameThread self.old self.new }
+    {
+        let given = self.standing.take_given()?;
+        let (outgoing, told, outing) = match room.serve(given) {
+            Ok(served) => served,
+            Err(given) => {
+                self.standing = Standing::Given(back, given);
+                return None;
+            }
+        };
+        let mut body = outgoing.in_hand(&OwnHand);
+        body.publish(board);
+        self.crossed = outing.out();
+        match told {
+            Some(job) => {
+                let number = job.number();
+                let done = job.run_on(&body).to_record(&OwnRecorder);
+                self.standing = Standing::Serves(back, body, done);
+                Some(number)
+            }
+            None => {
+                let found = body.poll(row);
+                self.standing = after_poll(back, body, found);
+                if found == 0 { Some(0) } else { None }
+            }
+        }
+    }
+
+    /// What the job of a thread that serves answered is entered, the operation cleared, and the thread polls: it goes on, or stops again.
+    /// Answers what the poll answered, with the receipt of the entry. None where the desk doesn't enter it, and nothing is done. A thread
+    /// that doesn't serve is refused with its state.
+    pub fn stop_serve<J: Errand>(
+        &mut self,
+        desk: &mut Desk<N, J>,
+        row: &PollRow,
+    ) -> Result<Option<(Poll, Finished<N>)>, State>
+        requires row { row.now ≡ N.poll_row }
+        ensures ends { IfOk result (λ o. IfSome o (λ r. EndsServing self.old self.new r.0 r.1)) }
+        ensures again { IfOk result (λ o. IfNone o ((self.new ≡ self.old) × (desk.new ≡ desk.old))) }
+        ensures same { SameThread self.old self.new }
+        ensures err { IfErr result (λ s. (s ≡ self.old.state) × (self.new ≡ self.old) × (desk.new ≡ desk.old)) }
+    {
+        let Some((back, mut body, done)) = self.standing.take_answered() else {
+            return Err(self.state());
+        };
+        let op = done.op();
+        match desk.finish(&body, done) {
+            Ok(finished) => {
+                body.clear(row, op);
+                let found = body.poll(row);
+                self.standing = after_poll(back, body, found);
+                Ok(Some((poll_of(found), finished)))
+            }
+            Err(done) => {
+                self.standing = Standing::Serves(back, body, done);
+                Ok(None)
+            }
+        }
+    }
+}
