@@ -1,0 +1,24 @@
+-- The tickets of each stream rise.
+use Rattle.std.specs.Prelude.{ℕ, ◌+◌, nat_lt, nat_le, Bool, true, false, ◌&&◌, List, [], ◌∷◌, replicate, slice_get, slice_set, Option, Some, None, if◌then◌else◌}
+use Rattle.call_log.specs.declared.entry.Entry.{Entry}
+
+-- The first ticket that may come behind a call.
+abbrev pub free_from : Option ℕ → ℕ
+free_from None = 1099511627776
+free_from (Some ticket) = if nat_lt ticket 1099511627776 then ticket + 1 else 1099511627776
+
+abbrev pub is_late : Option ℕ → Entry → Bool
+is_late None entry = false
+is_late (Some first) entry = nat_le first entry.before && nat_lt entry.before (free_from entry.after)
+
+-- The call has a lawful stream, begins behind the calls of its stream, and ends behind its beginning.
+abbrev pub starts_late : List ℕ → Entry → Bool
+starts_late least entry = is_late (slice_get least entry.stream) entry
+
+-- By stream, the first ticket that may come next.
+abbrev pub rise : List ℕ → List Entry → Bool
+rise least [] = true
+rise least (entry ∷ calls) = if starts_late least entry then rise (slice_set least entry.stream (free_from entry.after)) calls else false
+
+abbrev pub all_rise : List Entry → Bool
+all_rise calls = rise (replicate 1024 0) calls

@@ -1,0 +1,7 @@
+//! The checker of an order: whether recorded calls are explained by events of the core, each event being of one call.
+#![tactic(auto)]
+
+pub mod check;
+mod seen;
+mod streams;
+mod walk;

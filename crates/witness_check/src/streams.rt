@@ -1,0 +1,47 @@
+//! Whether the tickets of each stream rise.
+ghost use Rattle.std.specs.Prelude.{◌≡◌, IfOk};
+ghost use Rattle.witness_check.specs.Streams.{free_from, starts_late, all_rise};
+
+use call_log::entry::Entry;
+use std::alloc::{AllocError, Global};
+
+/// Streams are numbered below this.
+const STREAMS: usize = 1024;
+
+/// A ticket behind all of a log.
+const NEVER: u64 = 1_099_511_627_776;
+
+/// The first ticket that may come behind the call; none may where the call hadn't returned.
+fn free_from(after: Option<u64>) -> u64
+    ensures { result ≡ free_from after }
+{
+    match after {
+        None => NEVER,
+        Some(ticket) => { if ticket < NEVER { ticket + 1 } else { NEVER } }
+    }
+}
+
+/// Whether the call has a lawful stream, begins behind the calls of its stream, and ends behind its beginning.
+fn starts_late(least: &[u64], entry: &Entry) -> bool
+    ensures { result ≡ starts_late least.now entry.now }
+{
+    match least.get(entry.stream as usize) {
+        None => false,
+        Some(first) => *first <= entry.before && entry.before < free_from(entry.after),
+    }
+}
+
+/// Whether the tickets of each stream rise.
+pub(crate) fn all_rise(alloc: Global, calls: &[Entry]) -> Result<bool, AllocError>
+    ensures { IfOk result (λ yes. yes ≡ all_rise calls.now) }
+{
+    let mut least = vec![in alloc; 0u64; STREAMS]?;
+    for entry in calls {
+        let stream = entry.stream as usize;
+        if stream >= least.len() || !starts_late(least.as_slice(), entry) {
+            return Ok(false);
+        }
+        least[stream] = free_from(entry.after);
+    }
+    Ok(true)
+}
