@@ -1,62 +1,87 @@
-# `make run` builds the proved program and shows its main job on a shipped example; `make test` is the gate, and then the programs
-# that it built and the library for C, from outside. `make examples` runs the program alone from outside, on all shipped examples too, and
-# what `make embed` runs: the toy runtimes in C and in Rust that step the model beside them, over the static library; `make bench` times
-# the program, and the calls and stops of running threads; `make scale` times how the stops grow, and draws docs/scale.svg;
-# `make runs` runs scripts on threads, each a hundred times, and then with each thread and each growth of memory refused in turn;
-# `make hostile` runs the tests of threads twenty times, and those of refused memory with each growth refused in turn;
-# `make soak` runs threads at random over what they share, with one seed after the other, for MINUTES.
-# `make side SEEDS=1000 FIRST=22` plays as many random schedules, from that seed on, on the running layer and on the core beside it.
-# `make pictures` draws the pictures of PICTURES, which are in examples, again.
-# `make edits` tries the wrong bodies alone, all of them or those of CRATES, over what the gate keeps of its last run on this machine.
-.PHONY: run test examples embed bench scale hostile runs soak side edits pictures
+# make run       answers at once: runs the program on a shipped example, proved where it is built, else before any proof
+# make build     proves and builds the programs and the library for C, and says how far it is; PROGRAMS names others
+# make test      the gate, then further wrong bodies, the built programs and the library for C from outside
+# make examples  the built program on all examples, on bad words and with each fault; then make embed
+# make embed     the toy runtimes in C and in Rust that step the model beside them, over the static library
+# make pictures  draws the pictures of PICTURES, which are in examples, again, and the small one of the README
+# make random    compares pictures of 100,000 random lines, over all events, with what the core answers
+# make parts     times pictures of 500 lines of runs of ten million, beside `monitor replay`
+# make edits     the wrong bodies alone, all or those of CRATES, over what the gate keeps of its last run on this machine
+# make bench     times the program, and the calls and stops of running threads
+# make scale     times how the stops grow, and draws docs/project/scale.svg
+# make hostile   tests of threads twenty times, tests of refused memory with each growth refused in turn
+# make runs      scripts on threads a hundred times each, then with each thread and each growth of memory refused in turn
+# make soak      threads at random over what they share, with one seed after the other, for MINUTES
+# make side      random schedules on the running layer and on the core beside it: SEEDS of them, from seed FIRST on
+# make safepoint  builds the library by which C, C++ and Rust stop threads, and tries it from each
+.PHONY: run build test examples embed safepoint pictures random parts edits bench scale hostile runs soak side
 
+PROGRAMS ?= monitor timeline model
+PICTURES = handshake_native four_handshakes safepoint_census reclaiming
+CRATES ?=
 MINUTES ?= 10
 SEEDS ?= 1000
 FIRST ?= 22
-CRATES ?=
-PICTURES = handshake_native safepoint_census reclaiming
 
 run:
-	@cd crates/monitor && rt run -- replay < ../../examples/one_publication.lines
+	@tests/first_run.py monitor replay < examples/one_publication.lines
+
+build:
+	@tests/build.py $(PROGRAMS)
 
 test:
 	@tests/all.sh
 
-examples: run embed
+examples: embed
+	@tests/build.py monitor
 	@tests/program.py crates/monitor/out/monitor
 
+safepoint:
+	@tests/build.py safepoint
+	@tests/safepoint.py crates/safepoint/out/libsafepoint.a
+
 embed:
-	@cd crates/model && rt lib
+	@tests/build.py model
 	@tests/embed.py crates/model/out/libmodel.a
 
-bench: run
-	@bench/replay.py crates/monitor/out/monitor
-	@cd crates/running_bench && rt run
-	@bench/running.py crates/running_bench/out/running_bench
-	@bench/scale.py crates/running_bench/out/running_bench
+pictures:
+	@tests/build.py timeline
+	@for name in $(PICTURES); do crates/timeline/out/timeline < examples/$$name.lines > examples/$$name.svg; done
+	@bench/small.py examples/handshake_native.svg > examples/handshake_small.svg
 
-scale:
-	@cd crates/running_bench && rt run
-	@bench/scale.py crates/running_bench/out/running_bench --plot docs/scale.svg
+random:
+	@tests/build.py monitor timeline
+	@tests/random_pictures.py crates/monitor/out/monitor crates/timeline/out/timeline 100000
 
-hostile:
-	@tests/hostile.py
-
-runs: run
-	@tests/runs.py crates/monitor/out/monitor
-	@tests/refused.py crates/monitor/out/monitor
-
-soak:
-	@cd crates/soak && rt run
-	@tests/soak.py crates/soak/out/soak $(MINUTES)
-
-side:
-	@cd crates/side_by_side && rt run
-	@crates/side_by_side/out/side_by_side $(SEEDS) $(FIRST)
+parts:
+	@tests/build.py monitor timeline
+	@bench/pictures.py
 
 edits:
 	@tests/edits.sh $(CRATES)
 
-pictures:
-	@cd crates/timeline && rt run < ../../examples/reclaiming.lines > /dev/null
-	@for name in $(PICTURES); do crates/timeline/out/timeline < examples/$$name.lines > examples/$$name.svg; done
+bench:
+	@tests/build.py monitor running_bench
+	@bench/replay.py crates/monitor/out/monitor
+	@bench/running.py crates/running_bench/out/running_bench
+	@bench/scale.py crates/running_bench/out/running_bench
+
+scale:
+	@tests/build.py running_bench
+	@bench/scale.py crates/running_bench/out/running_bench --plot docs/project/scale.svg
+
+hostile:
+	@tests/hostile.py
+
+runs:
+	@tests/build.py monitor
+	@tests/runs.py crates/monitor/out/monitor
+	@tests/refused.py crates/monitor/out/monitor
+
+soak:
+	@tests/build.py soak
+	@tests/soak.py crates/soak/out/soak $(MINUTES)
+
+side:
+	@tests/build.py side_by_side
+	@crates/side_by_side/out/side_by_side $(SEEDS) $(FIRST)

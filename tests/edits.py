@@ -1,9 +1,10 @@
 #!/usr/bin/env python3
-"""Tries the wrong bodies, of all crates or of those named: edits.py [--all | CRATE ..]
+"""Tries the wrong bodies, of all crates or of those named: edits.py [--stand | --all | CRATE ..]
 
-A crate's folder must-fail holds edits, each of which gives one of its functions a wrong body; that function's contract must refuse it. An edit
+A crate's folders must-fail and wrong-bodies hold edits, each of which gives one of its functions a wrong body; that function's contract must
+refuse it. Those of must-fail tell most, and `rt ci` tries them; here they are tried only where their crate is named, or with --all. An edit
 has the lines `file:`, `old:` and `new:`. One that changes a constant has the line `of:` too, after `file:`, with the function whose contract
-must refuse it. One with which tests of the gate fail has a line `caught by:`, which names them; those are tried only where their crate is
+must refuse it. One with which tests of the gate fail has a line `caught by:`, which names them; those too are tried only where their crate is
 named, or with --all. An edit of a folder must-pass means the same as before, and must be proved: it shows that not all there is is refused.
 
 `rt ci` tries each edit in a check of its own, which costs 15 seconds or more, most of them spent on reading what the crate stands on. A check
@@ -16,7 +17,8 @@ An edit counts as refused where a goal of the function that has it is not proved
 something which it calls is not proved counts for nothing. A function that no edit changes must be proved beside them. What isn't settled so
 (a check that doesn't end, a function that is proved all the same) is tried by itself, in a check of the whole crate.
 
-The libraries are those that `rt ci` left (tests/gate.sh). The status is 0 where each edit was refused, and each of must-pass proved.
+The libraries are those that `rt ci` left here; with --stand the status alone says whether it left them, where it is 0. Else the status is 0
+where each edit was refused, and each of must-pass proved.
 """
 import concurrent.futures
 import os
@@ -31,6 +33,9 @@ import threading
 from toolchain import ROOT, is_of_the_gate, toolchain
 from wrong_bodies import PARTS, Bad, Edit, Trial, cycle_mates, grouped, types_of, write
 
+# The folders of a crate's edits, and those of them that the gate doesn't read.
+FOLDERS = ("must-fail", "must-pass", "wrong-bodies")
+FURTHER = FOLDERS[1:]
 # A line that says where something is not proved, and what it says.
 TOLD = re.compile(r"(?:note: (?=\S+ it is not proved that )|(?=\S+ error: ))(?:\./)?((?:src|proofs)/\S+?):(\d+):\d+: (.*)")
 # What is said where a text names something that an edit took away or that is itself not proved, which shows little of a contract.
@@ -137,15 +142,16 @@ class Bench:
         return False, "\n".join([f"NOT TRIED: its check ended with status {ran.returncode}", *lines[:6]])
 
 
-def tried(rtlib, crate, room, with_caught):
-    """Tries a crate's edits, also those that tests catch or not; returns, for each, its name, whether it is refused, and what to say."""
+def tried(rtlib, crate, room, with_all):
+    """Tries a crate's edits, with those that the gate tries and those that tests catch or not; returns, for each, its name, whether it is
+    refused, and what to say."""
     bench, edits, results = Bench(rtlib, crate, room), [], []
-    for path in sorted(pathlib.Path(crate.folder).glob("must-*/*.edit")):
+    for path in edits_of(crate.folder, FOLDERS if with_all else FURTHER):
         try:
             edits.append(Edit(path, bench.folder, bench.types))
         except Bad as why:
             results.append((path.name, False, f"BAD EDIT: {why}"))
-    edits = [it for it in edits if with_caught or not it.is_caught]
+    edits = [it for it in edits if with_all or not it.is_caught]
     pending = edits
     while pending:
         beside = []
@@ -165,14 +171,26 @@ def verdict(bench, edit):
     return is_refused, why or f"refused, as it must be: {edit.said[:160]}"
 
 
+def edits_of(folder, folders):
+    return sorted(it for name in folders for it in pathlib.Path(folder, name).glob("*.edit"))
+
+
+def crates_with_edits(rtlib, names):
+    """The crates that have edits, all or those of the names, the largest first."""
+    known, size = {}, lambda it: -sum(f.stat().st_size for f in it.glob("src/**/*.rt"))
+    folders = sorted((it for it in ROOT.glob("crates/*") if edits_of(it, FOLDERS)), key=size)
+    return [rtlib.Crate(str(it), str(ROOT), known) for it in folders if not names or it.name in names]
+
+
 def main(words):
-    names = [it for it in words if it != "--all"]
+    names = [it for it in words if not it.startswith("--")]
     rtlib, _ = toolchain()
-    known = {}
-    folders = sorted(ROOT.glob("crates/*/must-fail"), key=lambda it: -sum(f.stat().st_size for f in it.parent.glob("src/**/*.rt")))
-    crates = [rtlib.Crate(str(it.parent), str(ROOT), known) for it in folders if not names or it.parent.name in names]
+    crates = crates_with_edits(rtlib, names)
     rtlib.guarded()  # its first call sets a handler of signals, which the main thread alone may
-    if not all(is_of_the_gate(dep) for it in crates for dep in it.below()):
+    stand = all(is_of_the_gate(dep) for it in crates for dep in it.below())
+    if "--stand" in words:
+        return 0 if stand else 1
+    if not stand:
         print("edits.py: no libraries that rt ci left: run it by make edits")
         return 1
     passed = failed = 0
@@ -183,7 +201,7 @@ def main(words):
             results = tried(rtlib, crate, room, bool(words))
         with printing:
             for name, _, text in results:
-                print(f"must-fail {crate.name}/{name}: {text}", flush=True)
+                print(f"wrong body {crate.name}/{name}: {text}", flush=True)
         return [is_refused for _, is_refused, _ in results]
 
     with concurrent.futures.ThreadPoolExecutor(len(os.sched_getaffinity(0))) as pool:

@@ -43,7 +43,7 @@ THREADS = {
         "tests::invalidated::no_call_enters_what_is_seen_invalidated",
         "tests::leaving::a_thread_that_exits_is_gone_or_has_answered",
     ],
-    "workers_tests": ["tests::meeting::four_ticks_meet", "tests::replaced::codes_are_replaced_while_threads_run"],
+    "workers_tests": ["tests::runs::four_ticks_meet", "tests::runs::codes_are_replaced_while_threads_run"],
     "commands_tests": ["tests::running::four_threads_run_a_loop_of_calls", "tests::running::two_ticks_meet"],
 }
 
@@ -58,17 +58,19 @@ MEMORY = {
     ],
     "script_tests": [["tests::refused_memory::refused_memory_is_told"], ["tests::refused_memory::refused_memory_leaves_a_beginning"]],
     "words_tests": [["tests::poll_rows::a_row_is_made_whole_or_not_at_all"], ["tests::boards::a_board_is_made_whole_or_not_at_all"]],
-    "running_tests": [["tests::memory::what_lacks_memory_is_tried_again"]],
+    "run_tests": [["tests::counted::what_lacks_memory_is_tried_again"]],
 }
 NONE_REFUSED = "no growth was refused"
 # What runs of these must have met, each in some of them.
 TO_MEET = {
-    "running_tests": [
+    "run_tests": [
         "a coordinator was refused",
-        "the submit of a census was refused",
-        "the list of a census was refused",
-        "the submit of a handshake was refused",
-        "a reclaim was refused",
+        "install 0 was refused",
+        "start was refused",
+        "submit census was refused",
+        "drive was refused",
+        "submit count_of 1 of 1 2 was refused",
+        "reclaim 1 depth of 1 2 was refused",
     ]
 }
 PASSED = "test result: ok"

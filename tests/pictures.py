@@ -2,7 +2,8 @@
 """Runs the built program that draws runs from outside: pictures.py TIMELINE ..
 
 Each TIMELINE draws every run of `examples/`. The picture must be XML with one mark for each line, in their order, which tells the line and the
-answer that is stored for it; where a picture is stored, it must be that one. Then it is run with each fault that can be made from outside.
+answer that is stored for it, and the kind of the answer; where a picture is stored, it must be that one. Parts must have the marks of the whole, and the
+page the picture, and its colours must be told apart in a grey print and without red or green. Then it is run with each fault that can be made from outside.
 The last line is `N passed, M failed`; the status is 0 where none failed.
 """
 import os
@@ -11,7 +12,9 @@ import subprocess
 import sys
 import xml.etree.ElementTree as xml
 
+from colours import ROWS, colours_of, too_near
 from program import EXAMPLES, SECONDS, Tally, closing
+from random_pictures import shape
 
 SVG = "{http://www.w3.org/2000/svg}"
 ONE_LINE = b"size 1 1 1\n"
@@ -31,12 +34,20 @@ def wanted_marks(path):
     answers = path.with_suffix(".out").read_bytes().split(b"\n")[:-1]
     lines = path.read_bytes().split(b"\n")
     both = zip(lines if lines[-1] else lines[:-1], answers, strict=True)
-    return [(f"line{n}", outcome(answer), f"{shown(line)}\n{answer.decode()}\n") for n, (line, answer) in enumerate(both, 1)]
+    return [(f"line{n}", f"{outcome(answer)} {shape(line.decode('latin-1'), answer.decode())}", f"{shown(line)}\n{answer.decode()}\n")
+            for n, (line, answer) in enumerate(both, 1)]
 
 
 def marks(picture):
     """What the marks of a picture tell."""
     return [(it.get("id"), it.get("class"), it.findtext(f"{SVG}title")) for it in xml.fromstring(picture).iter(f"{SVG}g")]
+
+
+def coloured(tally):
+    """Each meaning has a colour, which a grey print and those who don't see red or green tell from the others."""
+    colours = colours_of(subprocess.run([tally.program], input=ONE_LINE, capture_output=True, timeout=SECONDS).stdout)
+    tally.judge("a colour for each meaning", (sorted(colours), b"", 0), (sorted(name for row in ROWS.values() for name in row), b"", 0))
+    tally.judge("colours that are too near", (too_near(colours), b"", 0), ([], b"", 0))
 
 
 def drawn(tally, path):
@@ -46,13 +57,28 @@ def drawn(tally, path):
     except xml.ParseError as why:
         found = why
     tally.judge(f"the marks of {path.name}", (found, ran.stderr, ran.returncode), (wanted_marks(path), b"", 0))
+    parted(tally, path, ran.stdout)
     stored = path.with_suffix(".svg")
     if stored.exists():
         tally.judge(stored.name, (ran.stdout, ran.stderr, ran.returncode), (stored.read_bytes(), b"", 0))
 
 
+def parted(tally, path, whole):
+    """Parts have the marks that the whole has there, and a page has the picture."""
+    given = path.read_bytes()
+    wanted = wanted_marks(path)
+    middle = len(wanted) // 2 + 1
+    for words, part in ((["--from", str(middle)], wanted[middle - 1:]), (["--to", str(middle)], wanted[:middle]),
+                        (["--from", str(middle), "--to", str(middle)], wanted[middle - 1:middle]), (["--from", "1000000"], [])):
+        ran = subprocess.run([tally.program, *words], input=given, capture_output=True, timeout=SECONDS)
+        tally.judge(f"{' '.join(words)} of {path.name}", (marks(ran.stdout), ran.stderr, ran.returncode), (part, b"", 0))
+    page = subprocess.run([tally.program, "--html"], input=given, capture_output=True, timeout=SECONDS)
+    tally.judge(f"the page of {path.name}", (whole in page.stdout, page.stderr, page.returncode), (True, b"", 0))
+
+
 def faults(tally):
-    for words in ([""], ["replay"], ["--help"], [b"\xff"], ["a", "b"]):
+    numbers = [[flag, number] for flag in ("--from", "--to") for number in ("", "0", "01", "+1", "x", "1099511627776")]
+    for words in ([""], ["replay"], ["--help"], [b"\xff"], ["a", "b"], ["--from"], ["--html", "--html"], ["--to", "2", "--from", "1"], *numbers):
         tally.run(f"words {words}", words, b"", b"timeline: bad words\n", 2, given=ONE_LINE)
     folder = os.open(EXAMPLES, os.O_RDONLY)
     try:
@@ -73,6 +99,7 @@ def tested(program):
         return tally
     for path in sorted(pathlib.Path(EXAMPLES).glob("*.lines")):
         drawn(tally, path)
+    coloured(tally)
     faults(tally)
     return tally
 

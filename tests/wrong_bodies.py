@@ -1,4 +1,4 @@
-"""The edits of a crate's folder must-fail, and the crate's text with some of them in place."""
+"""The edits of a crate, and the crate's text with some of them in place."""
 import collections
 import pathlib
 import re

@@ -1,0 +1,364 @@
+/* Each call of safepoint.h with its refusals, from one thread, so that no lock is ever taken: SP_AGAIN says then that what a call needs isn't
+   there. Where memory is refused the call is made again, so it prints the same whichever growth is refused. tests/safepoint.py builds and
+   runs it. */
+#include <stdio.h>
+
+#include "../crates/safepoint/include/safepoint_wait.h"
+
+static int failed;
+
+static void judge(int line, const char *call, int64_t found, int64_t wanted) {
+    if (found == wanted) return;
+    printf("%d: %s: %lld (%s), and not %lld\n", line, call, (long long)found, sp_text(found), (long long)wanted);
+    failed = 1;
+}
+
+#define IS(call, wanted)                                                                                                                   \
+    do {                                                                                                                                   \
+        int64_t found_ = (call);                                                                                                           \
+        if (found_ == SP_NO_MEMORY) found_ = (call);                                                                                       \
+        judge(__LINE__, #call, found_, (wanted));                                                                                          \
+    } while (0)
+
+static struct sp_party none, c, a, b, d; /* no party, the coordinator, three others */
+
+static void no_party_does_nothing(void) {
+    IS(sp_fork(&none, &a), SP_NOT_THIS);
+    IS(sp_start(&none), SP_NOT_THIS);
+    IS(sp_back_edge(&none), SP_NOT_THIS);
+    IS(sp_target(&none, 1), SP_NOT_THIS);
+    IS(sp_submit(&none, SP_DEPTH, 0), SP_NOT_THIS);
+    IS(sp_open(&none), SP_NOT_THIS);
+    sp_free(&none);
+    IS(none.made, 0);
+}
+
+static void making(void) {
+    IS(sp_make(&c, 0, 4, 2), SP_BAD_SIZE);
+    IS(sp_make(&c, 65, 4, 2), SP_BAD_SIZE);
+    IS(sp_make(&c, 2, 1025, 2), SP_BAD_SIZE);
+    IS(sp_make(&c, 2, 4, 257), SP_BAD_SIZE);
+    IS(sp_make(&c, 2, 4, 2), 0);
+    IS(sp_make(&c, 2, 4, 2), SP_MADE);
+    IS(sp_fork(&c, &a), 0);
+    IS(sp_fork(&c, &b), 0);
+    IS(sp_fork(&a, &d), 0);
+    IS(sp_fork(&c, &d), SP_MADE);
+}
+
+static void another_part_is_refused(void) {
+    IS(sp_start(&c), SP_NOT_THIS);
+    IS(sp_call(&c, 0), SP_NOT_THIS);
+    IS(sp_ret(&a), SP_NOT_THIS);
+    IS(sp_back_edge(&a), SP_NOT_THIS);
+    IS(sp_publish(&a), SP_NOT_THIS);
+    IS(sp_to_vm(&a), SP_NOT_THIS);
+    IS(sp_from_vm(&a), SP_NOT_THIS);
+    IS(sp_to_native(&a), SP_NOT_THIS);
+    IS(sp_from_native(&a), SP_NOT_THIS);
+    IS(sp_block(&a), SP_NOT_THIS);
+    IS(sp_unblock(&a), SP_NOT_THIS);
+    IS(sp_stop_next(&a), SP_NOT_THIS);
+    IS(sp_stop_serve(&a), SP_NOT_THIS);
+    IS(sp_exit(&a), SP_NOT_THIS);
+    IS(sp_name(&a), SP_NOT_THIS);
+    IS(sp_place(&a), SP_NOT_THIS);
+    IS(sp_state(&a), SP_NOT_THIS);
+    IS(sp_open(&a), SP_NOT_THIS);
+    IS(sp_tell(&a, 1), SP_NOT_THIS);
+    IS(sp_hold(&a, 0), SP_NOT_THIS);
+    IS(sp_serve(&a, 0), SP_NOT_THIS);
+    IS(sp_release(&a, 0), SP_NOT_THIS);
+    IS(sp_operate(&a), SP_NOT_THIS);
+    IS(sp_close(&a), SP_NOT_THIS);
+    IS(sp_close_of(&a, 1), SP_NOT_THIS);
+    IS(sp_reclaim_end(&a, 1), SP_NOT_THIS);
+}
+
+static void threads_start(void) {
+    IS(sp_live_after(&c, 0), 0);
+    IS(sp_start(&a), 1);
+    IS(sp_start(&a), SP_NOT_THIS);
+    IS(sp_start(&b), 2);
+    IS(sp_start(&d), SP_PLACES_FULL);
+    IS(sp_name(&b), 2);
+    IS(sp_place(&a), 0);
+    IS(sp_place(&b), 1);
+    IS(sp_state(&a), SP_IN_JAVA);
+    IS(sp_live_after(&d, 0), 1);
+    IS(sp_live_after(&d, 1), 2);
+    IS(sp_live_after(&d, 2), 0);
+}
+
+static void a_thread_goes_through_its_states(void) {
+    IS(sp_back_edge(&a), 0);
+    IS(sp_ret(&a), SP_EMPTY_STACK);
+    IS(sp_call(&a, 2), SP_NO_SUCH_METHOD);
+    IS(sp_call(&a, 0), 0);
+    IS(sp_exit(&a), SP_STACK_NOT_EMPTY);
+    for (int depth = 1; depth < 256; depth++) IS(sp_call(&a, 1), 0);
+    IS(sp_call(&a, 1), SP_DEPTH_FULL);
+    for (int depth = 0; depth < 256; depth++) IS(sp_ret(&a), 0);
+    IS(sp_publish(&a), 0);
+    IS(sp_from_vm(&a), SP_ILLEGAL);
+    IS(sp_block(&a), SP_ILLEGAL);
+    IS(sp_from_native(&a), SP_ILLEGAL);
+    IS(sp_stop_next(&a), SP_ILLEGAL);
+    IS(sp_stop_serve(&a), SP_ILLEGAL);
+    IS(sp_to_vm(&a), 0);
+    IS(sp_state(&a), SP_IN_VM);
+    IS(sp_publish(&a), 0);
+    IS(sp_to_vm(&a), SP_ILLEGAL);
+    IS(sp_call(&a, 0), SP_ILLEGAL);
+    IS(sp_ret(&a), SP_ILLEGAL);
+    IS(sp_back_edge(&a), SP_ILLEGAL);
+    IS(sp_unblock(&a), SP_ILLEGAL);
+    IS(sp_block(&a), 0);
+    IS(sp_state(&a), SP_BLOCKED);
+    IS(sp_publish(&a), SP_ILLEGAL);
+    IS(sp_exit(&a), SP_ILLEGAL);
+    IS(sp_unblock(&a), 0);
+    IS(sp_to_native(&a), 0);
+    IS(sp_state(&a), SP_IN_NATIVE);
+    IS(sp_to_native(&a), SP_ILLEGAL);
+    IS(sp_from_native(&a), 0);
+    IS(sp_from_vm(&a), 0);
+    IS(sp_state(&a), SP_IN_JAVA);
+}
+
+static void codes_are_installed(void) {
+    IS(sp_install(&d, 2), SP_NO_SUCH_METHOD);
+    IS(sp_install(&d, 0), 1);
+    IS(sp_call(&a, 0), 1);
+    IS(sp_install(&a, 0), 2);
+    IS(sp_call(&a, 0), 2);
+    IS(sp_install(&d, 1), 3);
+    IS(sp_install(&d, 1), 4);
+    IS(sp_install(&d, 1), SP_TABLE_FULL);
+    IS(sp_invalidate(&d, 9), SP_UNKNOWN);
+    IS(sp_invalidate(&d, 1), SP_NOT_IN_USE);
+    IS(sp_invalidate(&d, 4), 0);
+    IS(sp_call(&b, 1), 0);
+}
+
+static void requests_are_refused(void) {
+    IS(sp_open(&c), SP_QUEUE_EMPTY);
+    IS(sp_tell(&c, 1), SP_NOTHING_OPEN);
+    IS(sp_hold(&c, 0), SP_NOTHING_OPEN);
+    IS(sp_close(&c), SP_NOTHING_OPEN);
+    IS(sp_operate(&c), SP_NOTHING_OPEN);
+    IS(sp_serve(&c, 0), SP_NOT_HELD);
+    IS(sp_release(&c, 0), SP_NOT_HELD);
+    IS(sp_submit(&d, SP_DEPTH, 0), SP_NO_TARGETS);
+    IS(sp_submit(&d, 3, 0), SP_BAD_ASK);
+    IS(sp_target(&d, 1), 0);
+    IS(sp_target(&d, 1), 0);
+    IS(sp_submit(&d, SP_DEPTH, 0), SP_BAD_TARGETS);
+    IS(sp_submit(&d, SP_DEPTH, 0), SP_NO_TARGETS);
+}
+
+/* The stack of a has frames of codes 1 and 2, that of b an interpreted one. */
+static void a_thread_serves_itself(void) {
+    IS(sp_target(&d, 1), 0);
+    IS(sp_submit(&d, SP_DEPTH, 0), 1);
+    IS(sp_reply(&d, 1, 1), SP_NOT_ANSWERED);
+    IS(sp_open(&c), 1);
+    IS(sp_back_edge(&a), 0);
+    IS(sp_tell(&c, 2), SP_NOT_OF);
+    IS(sp_hold(&c, 0), SP_NOT_TOLD);
+    IS(sp_tell(&c, 1), 1);
+    IS(sp_tell(&c, 1), SP_ALREADY_TOLD);
+    IS(sp_hold(&c, 0), SP_NOT_SAFE);
+    IS(sp_close(&c), SP_NOT_DONE);
+    IS(sp_back_edge(&a), 1);
+    IS(sp_state(&a), SP_AT_POLL);
+    IS(sp_back_edge(&a), SP_ILLEGAL);
+    IS(sp_stop_serve(&a), SP_ILLEGAL);
+    IS(sp_stop_next(&a), 1);
+    IS(sp_state(&a), SP_SERVING);
+    IS(sp_stop_next(&a), SP_ILLEGAL);
+    IS(sp_stop_serve(&a), 0);
+    IS(sp_stop_serve(&a), SP_ILLEGAL);
+    IS(sp_state(&a), SP_IN_JAVA);
+    IS(sp_hold(&c, 0), SP_ALREADY_DONE);
+    IS(sp_operate(&c), SP_NOT_OF);
+    IS(sp_close_of(&c, 7), SP_NOT_OF);
+    IS(sp_close(&c), 1);
+    IS(sp_reply(&d, 1, 1), 2);
+    IS(sp_reply(&d, 1, 2), SP_NOT_ANSWERED);
+}
+
+static void a_held_thread_is_served(void) {
+    IS(sp_to_native(&a), 0);
+    IS(sp_target(&a, 1), 0);
+    IS(sp_target(&a, 2), 0);
+    IS(sp_submit(&a, SP_TOP, 0), 2);
+    IS(sp_open(&c), 2);
+    IS(sp_tell(&c, 1), 2);
+    IS(sp_tell(&c, 2), 2);
+    IS(sp_hold(&c, 2), SP_NO_SUCH_PLACE);
+    IS(sp_serve(&c, 2), SP_NO_SUCH_PLACE);
+    IS(sp_release(&c, 2), SP_NO_SUCH_PLACE);
+    IS(sp_hold(&c, 0), 2);
+    IS(sp_hold(&c, 0), SP_HELD);
+    IS(sp_from_native(&a), SP_AGAIN);
+    IS(sp_serve(&c, 1), SP_NOT_HELD);
+    IS(sp_serve(&c, 0), 2);
+    IS(sp_serve(&c, 0), SP_ALREADY_DONE);
+    IS(sp_close(&c), SP_HELD);
+    IS(sp_release(&c, 0), 0);
+    IS(sp_release(&c, 0), SP_NOT_HELD);
+    IS(sp_from_native(&a), 0);
+    IS(sp_ret(&b), 2);
+    IS(sp_stop_next(&b), 2);
+    IS(sp_stop_serve(&b), 0);
+    IS(sp_close_of(&c, 2), 2);
+    IS(sp_reply(&c, 2, 1), 2);
+    IS(sp_reply(&c, 2, 2), 0);
+}
+
+/* A thread at a poll has given its stack away while it waits for what to serve: here a census keeps it. */
+static void a_census_is_operated(void) {
+    IS(sp_census(&d), 3);
+    IS(sp_open(&c), 3);
+    IS(sp_start(&d), SP_SAFEPOINT_OPEN);
+    IS(sp_tell(&c, 1), 3);
+    IS(sp_tell(&c, 2), 3);
+    IS(sp_tell(&c, 9), SP_NOT_OF);
+    IS(sp_operate(&c), SP_NOT_ALL_HELD);
+    IS(sp_close(&c), SP_NOT_DONE);
+    IS(sp_back_edge(&a), 3);
+    IS(sp_stop_next(&a), SP_AGAIN);
+    IS(sp_to_native(&b), 0);
+    IS(sp_hold(&c, 0), 3);
+    IS(sp_serve(&c, 0), SP_NOT_OF);
+    IS(sp_operate(&c), SP_NOT_ALL_HELD);
+    IS(sp_hold(&c, 1), 3);
+    IS(sp_operate(&c), 3);
+    IS(sp_operate(&c), SP_ALREADY_DONE);
+    IS(sp_counted(&c, 1), 1);
+    IS(sp_counted(&c, 2), 1);
+    IS(sp_counted(&c, 3), 0);
+    IS(sp_close(&c), SP_HELD);
+    IS(sp_release(&c, 0), 0);
+    IS(sp_release(&c, 1), 0);
+    IS(sp_stop_next(&a), 0);
+    IS(sp_from_native(&b), 0);
+    IS(sp_close(&c), 3);
+}
+
+static void four_are_open(void) {
+    for (int64_t number = 4; number < 8; number++) {
+        IS(sp_target(&d, 2), 0);
+        IS(sp_submit(&d, SP_COUNT_OF, 3), number);
+        IS(sp_open(&c), number);
+    }
+    IS(sp_target(&d, 2), 0);
+    IS(sp_submit(&d, SP_DEPTH, 0), 8);
+    IS(sp_open(&c), SP_ALREADY_OPEN);
+    for (int64_t number = 4; number < 8; number++) IS(sp_tell(&c, 2), number);
+    IS(sp_tell(&c, 2), SP_ALREADY_TOLD);
+    IS(sp_back_edge(&b), 7);
+    for (int64_t number = 4; number < 8; number++) {
+        IS(sp_stop_next(&b), number);
+        IS(sp_stop_serve(&b), number < 7 ? 7 : 0);
+    }
+    for (int64_t number = 4; number < 8; number++) IS(sp_close(&c), number);
+    IS(sp_open(&c), 8);
+    IS(sp_tell(&c, 2), 8);
+    IS(sp_back_edge(&b), 8);
+    IS(sp_stop_next(&b), 8);
+    IS(sp_stop_serve(&b), 0);
+    IS(sp_close(&c), 8);
+}
+
+static void the_queue_is_full(void) {
+    for (int waiting = 0; waiting < 64; waiting++) IS(sp_census(&d), 9 + waiting);
+    IS(sp_census(&d), SP_QUEUE_FULL);
+    IS(sp_reclaim_begin(&d, 1), SP_ALREADY_OPEN);
+}
+
+/* A party with its own coordinator, so that nothing waits. */
+static void a_code_is_reclaimed(void) {
+    struct sp_party one = {0}, thread = {0};
+    IS(sp_make(&one, 1, 2, 1), 0);
+    IS(sp_fork(&one, &thread), 0);
+    IS(sp_start(&thread), 1);
+    IS(sp_install(&one, 0), 1);
+    IS(sp_call(&thread, 0), 1);
+    IS(sp_reclaim_begin(&one, 5), SP_UNKNOWN);
+    IS(sp_reclaim_begin(&one, 1), SP_STILL_IN_USE);
+    IS(sp_reclaim_end(&one, 1), SP_NOT_WEIGHED);
+    IS(sp_install(&one, 0), 2);
+    IS(sp_reclaim_begin(&one, 1), 0);
+    IS(sp_reclaim_end(&one, 1), SP_LATE);
+    IS(sp_publish(&thread), 0);
+    IS(sp_reclaim_end(&one, 1), 1);
+    IS(sp_ret(&thread), 0);
+    IS(sp_target(&one, 1), 0);
+    IS(sp_reclaim_begin(&one, 1), 1);
+    IS(sp_open(&one), 1);
+    IS(sp_tell(&one, 1), 1);
+    IS(sp_back_edge(&thread), 1);
+    IS(sp_stop_next(&thread), 1);
+    IS(sp_stop_serve(&thread), 0);
+    IS(sp_close(&one), 1);
+    IS(sp_reply(&one, 1, 1), 0);
+    IS(sp_reclaim_end(&one, 1), 0);
+    IS(sp_reclaim_end(&one, 1), SP_NOT_WEIGHED);
+    IS(sp_forget(&one), 0);
+    IS(sp_reply(&one, 1, 1), SP_NOT_ANSWERED);
+    IS(sp_exit(&thread), 0);
+    sp_free(&thread);
+    sp_free(&one);
+}
+
+static void threads_exit(void) {
+    IS(sp_ret(&a), 0);
+    IS(sp_ret(&a), 0);
+    IS(sp_exit(&a), 0);
+    IS(sp_exit(&a), SP_NOT_THIS);
+    IS(sp_hold(&c, 0), SP_VACANT);
+    IS(sp_serve(&c, 0), SP_VACANT);
+    IS(sp_release(&c, 0), SP_VACANT);
+    sp_free(&a);
+    IS(sp_back_edge(&a), SP_NOT_THIS);
+    IS(sp_open(&c), 9);
+    IS(sp_tell(&c, 1), 0);
+    IS(sp_tell(&c, 2), 9);
+    IS(sp_exit(&b), 9);
+    IS(sp_stop_next(&b), SP_AGAIN);
+    IS(sp_hold(&c, 1), 9);
+    IS(sp_operate(&c), 9);
+    IS(sp_release(&c, 1), 0);
+    IS(sp_close(&c), 9);
+    IS(sp_stop_next(&b), 0);
+    IS(sp_exit(&b), 0);
+    IS(sp_fork(&d, &a), 0);
+    IS(sp_start(&a), 3);
+    IS(sp_place(&a), 0);
+}
+
+int main(void) {
+    no_party_does_nothing();
+    making();
+    another_part_is_refused();
+    threads_start();
+    a_thread_goes_through_its_states();
+    codes_are_installed();
+    requests_are_refused();
+    a_thread_serves_itself();
+    a_held_thread_is_served();
+    a_census_is_operated();
+    four_are_open();
+    the_queue_is_full();
+    a_code_is_reclaimed();
+    threads_exit();
+    sp_free(&a);
+    sp_free(&b);
+    sp_free(&c);
+    sp_free(&d);
+    if (failed) return 1;
+    puts("ok");
+    return 0;
+}

@@ -1,0 +1,100 @@
+#!/usr/bin/env python3
+"""Runs the commands and programs of docs/start/TUTORIAL.md, in a copy of the checkout: tutorial.py
+
+A fenced block whose first line names a file, as `rust FILE`, is written into that file; with `>>` before the name it goes behind what the file
+has. In a block `console` each line that begins with `$ ` is a command, and the lines behind it are what it must print on standard output; `..`
+stands for any lines. Programs that are built and proved are copied too, so what the tutorial runs of them is at once. The last line counts what
+was tried; the status is 0 where nothing failed.
+"""
+import pathlib
+import re
+import shutil
+import subprocess
+import sys
+import tempfile
+
+ROOT = pathlib.Path(__file__).resolve().parent.parent
+PAGE = ROOT / "docs" / "start" / "TUTORIAL.md"
+COPIED = ("src", "specs", "proofs", "args", "stdin", "stdout")
+BLOCK = re.compile(r"^```(\w+)(?: (>> )?(\S+))?\n(.*?)^```$", re.MULTILINE | re.DOTALL)
+
+
+def copy_crate(crate, to):
+    for part in COPIED:
+        if (crate / part).is_dir():
+            shutil.copytree(crate / part, to / part)
+        elif (crate / part).is_file():
+            to.mkdir(parents=True, exist_ok=True)
+            shutil.copy(crate / part, to / part)
+    for built in (crate / "out").glob(f"{crate.name}*"):
+        if built.is_file():
+            (to / "out").mkdir(parents=True, exist_ok=True)
+            shutil.copy2(built, to / "out" / built.name)
+
+
+def copy_to(room):
+    for name in ("crates.txt", "HANDLES", "Makefile"):
+        shutil.copy(ROOT / name, room / name)
+    for name in ("tests", "examples"):
+        shutil.copytree(ROOT / name, room / name, ignore=shutil.ignore_patterns("out", "__pycache__", "target"))
+    (room / "docs" / "project").mkdir(parents=True)
+    for crate in sorted(it for it in (ROOT / "crates").iterdir() if it.is_dir()):
+        copy_crate(crate, room / "crates" / crate.name)
+
+
+def write(room, behind, name, text):
+    file = room / name
+    file.parent.mkdir(parents=True, exist_ok=True)
+    before = file.read_text() if behind else ""
+    file.write_text(before + ("\n" if behind and name.endswith(".rt") else "") + text)
+
+
+def commands(text):
+    """Each command of a console block, with the lines that it must print."""
+    found = []
+    for line in text.splitlines():
+        if line.startswith("$ "):
+            found.append((line[2:], []))
+        else:
+            found[-1][1].append(line)
+    return found
+
+
+def is_said(wanted, said):
+    """Whether these lines were said, where `..` stands for any."""
+    if not wanted:
+        return not said
+    if wanted[0] == "..":
+        return any(is_said(wanted[1:], said[at:]) for at in range(len(said) + 1))
+    return bool(said) and said[0] == wanted[0] and is_said(wanted[1:], said[1:])
+
+
+def run(room, command, wanted):
+    """Whether the command prints just this, with status 0. What differs is shown."""
+    ran = subprocess.run(["bash", "-c", command], cwd=room, capture_output=True, text=True, errors="replace")
+    said = ran.stdout.splitlines()
+    if ran.returncode == 0 and is_said(wanted, said):
+        print(f"ok: {command}", flush=True)
+        return True
+    print(f"failed: {command}: status {ran.returncode}, wanted {wanted}, said {said}\n{ran.stderr[-2000:]}", flush=True)
+    return False
+
+
+def main():
+    passed = failed = 0
+    with tempfile.TemporaryDirectory() as folder:
+        room = pathlib.Path(folder)
+        copy_to(room)
+        for kind, behind, name, text in BLOCK.findall(PAGE.read_text()):
+            if name:
+                write(room, behind, name, text)
+            elif kind == "console":
+                for command, wanted in commands(text):
+                    is_right = run(room, command, wanted)
+                    passed, failed = passed + is_right, failed + (not is_right)
+    print(f"{passed} passed, {failed} failed")
+    return 1 if failed or not passed else 0
+
+
+if __name__ == "__main__":
+    sys.exit(main())
