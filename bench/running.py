@@ -2,21 +2,28 @@
 """Times the calls and the stops of running threads: running.py [PROGRAM] [calls|stops ..]
 
 PROGRAM is crates/running_bench/out/running_bench by default; it and the kinds that it measures are told in its source. Where cargo is there the
-plain Rust program in twin/ runs the same loops in turn with it, and each row ends in the ratio of the two. A row of calls has nanoseconds a turn,
-the least and the median of seven runs; one of stops microseconds, the median and the 99th percentile of the stops of three runs.
+plain Rust program in twin/ runs the same loops in turn with it, and each row has the ratio of the two. A row of calls has nanoseconds a turn,
+the least and the median of seven runs; one of stops microseconds, the median and the 99th percentile of the stops of three runs. Where a
+`javac` of a JDK 17 is there, HotSpot makes its own such stops in turn with them (hotspot/), and the row of stops ends in the ratio to it.
 
 Only ratios of one run carry: the same machine differs by two from minute to minute.
 """
 import os
 import pathlib
+import re
 import shutil
 import statistics
 import subprocess
 import sys
 import tempfile
 
+from plain import plain
+
 HERE = pathlib.Path(__file__).resolve().parent
 PROGRAM = HERE.parent / "crates/running_bench/out/running_bench"
+
+# What HotSpot's calls for tests and its handshake of all threads take.
+JAVA_FLAGS = ["--add-modules", "jdk.incubator.foreign", "-XX:+UnlockDiagnosticVMOptions", "-XX:+WhiteBoxAPI", "-XX:-DisplayVMOutput", "-Xmx256m"]
 
 # What, the kind, threads, turns, the argument, how the twin is built, and which ratio is wanted at most.
 CALLS = [
@@ -43,13 +50,17 @@ THREADS = (1, 4, 16, 64)
 BUSY = {1: 300, 4: 60, 16: 15, 64: 15}
 
 
-def twin(folder):
-    """The built twin, or nothing where there is no cargo."""
-    if shutil.which("cargo") is None:
+def hotspot(folder):
+    """The words that run HotSpot's stops, or nothing, and a line that says so, where there is no JDK 17."""
+    said = subprocess.run(["javac", "-version"], capture_output=True, text=True).stdout if shutil.which("javac") else ""
+    if not re.match(r"javac 17\b", said):
+        print(f"HotSpot isn't measured: {said.strip() or 'no javac'} is here, and it takes that of a JDK 17", flush=True)
         return None
-    words = ["cargo", "build", "-q", "--release", "--manifest-path", str(HERE / "twin/Cargo.toml"), "--target-dir", folder]
-    subprocess.run(words, check=True)
-    return os.path.join(folder, "release/twin")
+    boot, main = os.path.join(folder, "boot"), os.path.join(folder, "main")
+    subprocess.run(["javac", "-nowarn", "-d", boot, HERE / "hotspot/sun/hotspot/WhiteBox.java"], check=True)
+    words = ["javac", "-nowarn", "--add-modules", "jdk.incubator.foreign", "-cp", boot, "-d", main, HERE / "hotspot/Stops.java"]
+    subprocess.run(words, check=True, stderr=subprocess.DEVNULL)
+    return ["java", f"-Xbootclasspath/a:{boot}", *JAVA_FLAGS, "-cp", main, "Stops"]
 
 
 def times(words):
@@ -62,34 +73,50 @@ def percentile(values, part):
     return sorted(values)[min(len(values) - 1, len(values) * part // 100)]
 
 
-def call_row(program, plain, row):
+def call_row(program, twin, row):
     what, kind, threads, turns, arg, engine, wanted = row
     ours, theirs = [], []
     for _ in range(7):
         words = [kind, threads, turns, arg]
         ours.append(statistics.mean(times([program, *words])) / turns)
-        if plain:
-            theirs.append(statistics.mean(times([plain, *words, *([engine] if engine else [])])) / turns)
+        if twin:
+            theirs.append(statistics.mean(times([twin, *words, *([engine] if engine else [])])) / turns)
     line = f"{what:34} {min(ours):9.2f} {statistics.median(ours):9.2f}"
-    if plain:
+    if twin:
         least, middle = min(ours) / min(theirs), statistics.median(ours) / statistics.median(theirs)
         line += f" {min(theirs):9.2f} {statistics.median(theirs):9.2f} {least:6.2f} {middle:6.2f}   {wanted or '-'}"
     print(line, flush=True)
 
 
-def stop_row(program, plain, what, kind, threads, native):
-    ours, theirs = [], []
+def two(values):
+    """The median and the 99th percentile in microseconds."""
+    return f"{percentile(values, 50) / 1e3:9.1f} {percentile(values, 99) / 1e3:9.1f}"
+
+
+def stop_row(program, beside, what, kind, threads, native):
+    """Runs the program and those beside it in turn: each of these is what runs it, and the words that it takes behind the others."""
+    runs = [[] for _ in range(1 + len(beside))]
     for _ in range(3):
         words = [kind, threads, 300 if native else BUSY[threads], 1 if native else 0]
-        ours += times([program, *words])
-        if plain:
-            theirs += times([plain, *words, "16yields"])
+        for values, (command, more) in zip(runs, [([program], []), *beside]):
+            values += times([*command, *words, *more])
     name = f"{what}, {threads} {'in native code' if native else 'busy'}"
-    line = f"{name:34} {percentile(ours, 50) / 1e3:9.1f} {percentile(ours, 99) / 1e3:9.1f}"
-    if plain:
-        ratio = percentile(ours, 50) / percentile(theirs, 50)
-        line += f" {percentile(theirs, 50) / 1e3:9.1f} {percentile(theirs, 99) / 1e3:9.1f} {ratio:6.2f}"
+    line = f"{name:34} {two(runs[0])}"
+    for values in runs[1:]:
+        # HotSpot may make none in its time
+        line += f" {two(values)} {percentile(runs[0], 50) / percentile(values, 50):8.3g}" if values else f" {'-':>9} {'-':>9} {'-':>8}"
     print(line, flush=True)
+
+
+def stop_table(program, twin, java):
+    both = (("plain", twin and ([twin], ["16yields"])), ("HotSpot", java and (java, [])))
+    beside = [(name, run) for name, run in both if run]
+    head = "".join(f" {name:>9} {'':>9} {'ratio':>8}" for name, _ in beside)
+    print(f"{'us a stop: median, 99th percentile':34} {'product':>9} {'':>9}{head}")
+    for what, kind in STOPS:
+        for native in (True, False):
+            for threads in THREADS:
+                stop_row(program, [run for _, run in beside], what, kind, threads, native)
 
 
 def main():
@@ -98,18 +125,14 @@ def main():
     rest = [word for word in words if word not in ("calls", "stops")]
     program = os.path.abspath(rest[0] if rest else PROGRAM)
     with tempfile.TemporaryDirectory() as folder:
-        plain = twin(folder)
-        beside = f" {'plain':>9} {'':>9} {'ratio':>6}" if plain else ""
+        twin = plain("twin", folder)
         if "calls" in tables:
-            print(f"{'ns a turn: least, median':34} {'product':>9} {'':>9}{beside}{' median  wanted' if plain else ''}")
+            beside = f" {'plain':>9} {'':>9} {'ratio':>6}" if twin else ""
+            print(f"{'ns a turn: least, median':34} {'product':>9} {'':>9}{beside}{' median  wanted' if twin else ''}")
             for row in CALLS:
-                call_row(program, plain, row)
+                call_row(program, twin, row)
         if "stops" in tables:
-            print(f"{'us a stop: median, 99th percentile':34} {'product':>9} {'':>9}{beside}")
-            for what, kind in STOPS:
-                for native in (True, False):
-                    for threads in THREADS:
-                        stop_row(program, plain, what, kind, threads, native)
+            stop_table(program, twin, hotspot(folder))
 
 
 if __name__ == "__main__":

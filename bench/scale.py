@@ -1,11 +1,13 @@
 #!/usr/bin/env python3
-"""Shows that what a stop costs doesn't grow with what it doesn't touch: scale.py [PROGRAM] [--plot FILE]
+"""Shows that what a stop costs doesn't grow with what it doesn't touch: scale.py [PROGRAM] [--of PAGE] [--plot FILE]
 
 PROGRAM is crates/running_bench/out/running_bench by default; its kinds are told in its source. For stops of threads in native code it prints
 microseconds for each thread, from 1 to 64 threads; for the replies of a handshake, an install and a reclaiming (with the handshake of one thread)
 nanoseconds behind histories of up to a million entries, and for the last two among up to 1024 codes. Each is the median of a run.
 
-With --plot the same goes into an SVG file: a panel for each, all from 0. Only the shapes carry: the same machine differs by two from minute to minute.
+With --plot the same goes into an SVG file of 800 pixels: a panel for each, all from 0, with what its lines are below it. With --of nothing is
+measured: the figures are read from the tables that an earlier run printed, as a page keeps them. Only the shapes carry: the same machine differs by
+two from minute to minute.
 """
 import os
 import pathlib
@@ -29,7 +31,8 @@ PANELS = [
 TURNS = 300
 RUNS = 3
 
-COLORS = ("#1b6ca8", "#c0504d", "#4f8a3d")
+# A line has its colour on each panel.
+COLORS = {"handshake": "#1b6ca8", "census": "#c0504d", "reclaim": "#4f8a3d", "replies": "#7a5ca8", "install": "#b8860b"}
 
 
 def median(program, *words):
@@ -54,6 +57,13 @@ def measured(program, panel):
     return lines
 
 
+def kept(page, panel):
+    """The same of a table that was printed before."""
+    title, _, unit, kinds, places = panel
+    rows = pathlib.Path(page).read_text().split(f"{title} ({unit})\n", 1)[1].splitlines()[1 : 1 + len(kinds)]
+    return [(row.split()[0], [float(it) for it in row.split()[1 : 1 + len(places)]]) for row in rows]
+
+
 def table(panel, lines):
     title, grows, unit, _, places = panel
     print(f"{title} ({unit})")
@@ -75,50 +85,62 @@ def round_up(value):
     return next(step * times for times in (1, 2, 3, 4, 5, 6, 8, 10, 20) if step * times >= value)
 
 
+def short(number):
+    return f"{number // 1000}k" if number >= 10_000 else f"{number:,}"
+
+
 def drawn(panel, lines, left, top, wide, high):
-    """One panel. Its places stand evenly, and its values rise from 0."""
+    """One panel. Its places stand evenly, its values rise from 0, and the names of its lines stand below it."""
     title, grows, unit, _, places = panel
     most = round_up(max(max(values) for _, values in lines) * 1.1)
-    across = lambda at: left + 20 + at * (wide - 40) / (len(places) - 1)
+    across = lambda at: left + 14 + at * (wide - 28) / (len(places) - 1)
     up = lambda value: top + high - value / most * high
-    said = [f'<rect x="{left}" y="{top}" width="{wide}" height="{high}" fill="#fafafa" stroke="#ccc"/>', text(left + wide / 2, top - 12, title, size=13)]
+    said = [f'<rect x="{left}" y="{top}" width="{wide}" height="{high}" fill="#fafafa" stroke="#ccc"/>', text(left + wide / 2, top - 24, title, size=13)]
     for part in range(5):
         value = most * part / 4
         said.append(f'<line x1="{left}" x2="{left + wide}" y1="{up(value):.1f}" y2="{up(value):.1f}" stroke="#e4e4e4"/>')
-        said.append(text(left - 6, up(value) + 4, f"{value:g}", "end", 11))
-    said.append(text(left - 6, top - 12, unit, "end", 11))
+        said.append(text(left - 6, up(value) + 4, f"{value:g}", "end"))
+    said.append(text(left - 6, top - 8, unit, "end"))
     for at, place in enumerate(places):
-        said.append(text(across(at), top + high + 16, f"{place:,}", size=10))
-    said.append(text(left + wide / 2, top + high + 34, grows, size=11))
-    for (name, values), color in zip(lines, COLORS):
+        said.append(text(across(at), top + high + 17, short(place)))
+    said.append(text(left + wide / 2, top + high + 35, grows))
+    x, y = left, top + high + 55
+    for name, values in lines:
+        color = COLORS[name]
         points = " ".join(f"{across(at):.1f},{up(value):.1f}" for at, value in enumerate(values))
         said.append(f'<polyline points="{points}" fill="none" stroke="{color}" stroke-width="2"/>')
         said += [f'<circle cx="{across(at):.1f}" cy="{up(value):.1f}" r="3" fill="{color}"/>' for at, value in enumerate(values)]
-    for at, ((name, _), color) in enumerate(zip(lines, COLORS)):
-        said.append(text(left + wide - 10, top + 18 + 15 * at, name, "end", 11, color))
+        said.append(f'<line x1="{x:.0f}" x2="{x + 12:.0f}" y1="{y - 4}" y2="{y - 4}" stroke="{color}" stroke-width="3"/>')
+        said.append(text(x + 16, y, name, "start"))
+        x += 30 + 7 * len(name)
     return said
 
 
 def plot(file, found):
-    wide, high, gap = 300, 200, 70
-    whole = gap + len(found) * (wide + gap)
-    said = [f'<svg xmlns="http://www.w3.org/2000/svg" width="{whole}" height="{high + 100}" font-family="sans-serif">', f'<rect width="{whole}" height="{high + 100}" fill="white"/>']
+    whole, high, gap = 800, 190, 46
+    wide = (whole - 10 - len(found) * (gap + 10)) / len(found)
+    said = [f'<svg xmlns="http://www.w3.org/2000/svg" width="{whole}" height="{high + 112}" viewBox="0 0 {whole} {high + 112}" font-family="sans-serif">']
+    said.append(f'<rect width="{whole}" height="{high + 112}" fill="white"/>')
     for at, (panel, lines) in enumerate(found):
-        said += drawn(panel, lines, gap + at * (wide + gap), 40, wide, high)
+        said += drawn(panel, lines, gap + at * (wide + gap + 10), 44, wide, high)
     pathlib.Path(file).write_text("\n".join([*said, "</svg>"]) + "\n")
+
+
+def taken(words, name):
+    """The word behind this one, without the two; nothing where it isn't there."""
+    if name not in words:
+        return None
+    at = words.index(name)
+    return [words.pop(at), words.pop(at)][1]
 
 
 def main():
     words = sys.argv[1:]
-    file = None
-    if "--plot" in words:
-        at = words.index("--plot")
-        file = words[at + 1]
-        del words[at : at + 2]
+    file, page = taken(words, "--plot"), taken(words, "--of")
     program = os.path.abspath(words[0] if words else PROGRAM)
     found = []
     for panel in PANELS:
-        lines = measured(program, panel)
+        lines = kept(page, panel) if page else measured(program, panel)
         table(panel, lines)
         found.append((panel, lines))
     if file:
