@@ -13,10 +13,12 @@ import shutil
 import subprocess
 import sys
 import tempfile
+import time
 
 EXAMPLES = pathlib.Path(__file__).resolve().parent.parent / "examples"
 RUN = "four_handshakes"
 SECONDS = 60
+PATIENCE = 10
 NAMES = ("chromium", "chromium-browser", "google-chrome")
 FLAGS = ["--headless=new", "--no-sandbox", "--disable-gpu", "--disable-dev-shm-usage", "--no-first-run", "--host-resolver-rules=MAP * ~NOTFOUND",
          "--remote-debugging-pipe", "--window-size=1300,800"]
@@ -84,6 +86,15 @@ class Browser:
             raise RuntimeError(said["exceptionDetails"])
         return said["result"].get("value")
 
+    def until(self, is_wanted, code):
+        """The value of the code once it is as wanted, or as it is after some seconds: a busy browser draws and moves late."""
+        end = time.monotonic() + PATIENCE
+        while True:
+            found = self.value(code)
+            if is_wanted(found) or time.monotonic() > end:
+                return found
+            time.sleep(0.05)
+
     def key(self, key, text=None, shift=False):
         codes = {"ArrowDown": 40, "ArrowUp": 38, "ArrowLeft": 37, "ArrowRight": 39, "Home": 36, "End": 35, "Enter": 13, "Tab": 9}
         known = {"key": key, "code": key, "windowsVirtualKeyCode": codes.get(key, ord(key[0]))}
@@ -100,7 +111,15 @@ class Browser:
     def mouse(self, kind, x, y, **more):
         self.call("Input.dispatchMouseEvent", type=kind, x=x, y=y, **more)
 
-    def click(self, x, y):
+    def drawn(self):
+        """Waits until what the page is now is on the screen, since a pointer meets what is drawn."""
+        frames = "new Promise(done => requestAnimationFrame(() => requestAnimationFrame(done)))"
+        self.call("Runtime.evaluate", expression=frames, awaitPromise=True)
+
+    def click(self, what):
+        """Clicks the middle of an element."""
+        self.drawn()
+        x, y = middle(self, what)
         self.mouse("mousePressed", x, y, button="left", clickCount=1)
         self.mouse("mouseReleased", x, y, button="left", clickCount=1)
 
@@ -122,11 +141,25 @@ class Tried:
             self.failed += 1
             print(f"FAILED: {name}: {found!r}, and not {wanted!r}")
 
+    def sees(self, name, browser, code, wanted):
+        """Judges the value that the code comes to."""
+        self.judge(name, browser.until(lambda it: it == wanted, code), wanted)
+
+    def finds(self, name, browser, code, is_wanted):
+        """Judges by a test the value that the code comes to."""
+        found = browser.until(is_wanted, code)
+        self.judge(f"{name} ({found!r})", is_wanted(found), True)
+
 
 PICKED = "(document.querySelector('#lines [aria-selected=true]') || {id: ''}).id"
 SHOWN = "document.querySelectorAll('#lines li:not([hidden])').length"
 BOX = "document.querySelector('#view svg').getAttribute('viewBox').split(' ').map(Number)"
 CURSOR = "Number(document.getElementById('cursor').getAttribute('x')) + 7"
+
+
+def stands_at(x):
+    """Whether a picture's box has this place in its middle."""
+    return lambda box: abs(box[0] + box[2] / 2 - x) < 2
 
 
 def middle(browser, what):
@@ -135,37 +168,36 @@ def middle(browser, what):
 
 
 def list_and_search(browser, tried, lines, answers):
-    tried.judge("a row for each line", browser.value(SHOWN), len(lines))
+    tried.sees("a row for each line", browser, SHOWN, len(lines))
     text = browser.value("document.getElementById('item20').textContent")
     tried.judge("a row has number, line and answer", text.split(), ["20", *lines[19].split(), *answers[19].split()])
-    browser.click(*middle(browser, "#search"))
+    browser.click("#search")
     browser.typed("refused")
     refused = [n for n, answer in enumerate(answers, 1) if answer.startswith("refused")]
-    tried.judge("a search leaves what has the word", browser.value(SHOWN), len(refused))
-    tried.judge("and says how many", browser.value("document.getElementById('found').textContent"), f"{len(refused)} of {len(lines)} lines")
+    tried.sees("a search leaves what has the word", browser, SHOWN, len(refused))
+    tried.sees("and says how many", browser, "document.getElementById('found').textContent", f"{len(refused)} of {len(lines)} lines")
     browser.key("Enter", "\r")
-    tried.judge("enter picks the first", browser.value(PICKED), f"item{refused[0]}")
+    tried.sees("enter picks the first", browser, PICKED, f"item{refused[0]}")
     browser.key("ArrowDown")
-    tried.judge("down picks the next that is found", browser.value(PICKED), f"item{refused[1]}")
+    tried.sees("down picks the next that is found", browser, PICKED, f"item{refused[1]}")
     browser.value("document.getElementById('search').value = ''; document.getElementById('search').oninput()")
     browser.key("End")
-    tried.judge("end picks the last", browser.value(PICKED), f"item{len(lines)}")
+    tried.sees("end picks the last", browser, PICKED, f"item{len(lines)}")
     browser.key("ArrowUp")
-    tried.judge("up picks the one before", browser.value(PICKED), f"item{len(lines) - 1}")
+    tried.sees("up picks the one before", browser, PICKED, f"item{len(lines) - 1}")
     browser.key("Home")
-    tried.judge("home picks the first", browser.value(PICKED), "item1")
+    tried.sees("home picks the first", browser, PICKED, "item1")
 
 
 def picking(browser, tried):
     browser.value("document.getElementById('item30').scrollIntoView()")
-    browser.click(*middle(browser, "#item30"))
-    tried.judge("a click picks a line", browser.value(PICKED), "item30")
+    browser.click("#item30")
+    tried.sees("a click picks a line", browser, PICKED, "item30")
     x = browser.value("Number(document.querySelector('#line30 use').getAttribute('x'))")
-    tried.judge("which is shown in the picture", browser.value(CURSOR), x)
-    box = browser.value(BOX)
-    tried.judge("and stands in the middle of it", abs(box[0] + box[2] / 2 - x) < 2, True)
-    browser.click(*middle(browser, "#line31 use"))
-    tried.judge("a click on a mark picks its line", browser.value(PICKED), "item31")
+    tried.sees("which is shown in the picture", browser, CURSOR, x)
+    tried.finds("and stands in the middle of it", browser, BOX, stands_at(x))
+    browser.click("#line31 use")
+    tried.sees("a click on a mark picks its line", browser, PICKED, "item31")
 
 
 FOCUSED = "document.activeElement.id"
@@ -174,63 +206,62 @@ FOCUSED = "document.activeElement.id"
 def keyboard(browser, tried, lines, answers):
     """All of it without a pointer, from the page as it comes: tab leads from the search to the list and to the picture."""
     browser.key("Tab")
-    tried.judge("tab leads to the search", browser.value(FOCUSED), "search")
+    tried.sees("tab leads to the search", browser, FOCUSED, "search")
     for letter in "told":
         browser.key(letter, letter)
     told = [n for n, (line, answer) in enumerate(zip(lines, answers), 1) if "told" in f"{line} {answer}".lower()]
-    tried.judge("typed letters search", browser.value(SHOWN), len(told))
+    tried.sees("typed letters search", browser, SHOWN, len(told))
     browser.key("Tab")
-    tried.judge("tab leads to the list", browser.value(FOCUSED), "lines")
+    tried.sees("tab leads to the list", browser, FOCUSED, "lines")
     browser.key("ArrowDown")
-    tried.judge("down picks the first that is found", browser.value(PICKED), f"item{told[0]}")
+    tried.sees("down picks the first that is found", browser, PICKED, f"item{told[0]}")
     browser.key("ArrowDown")
     x = browser.value(f"Number(document.querySelector('#line{told[1]} use').getAttribute('x'))")
-    tried.judge("down again the second, which the picture shows", (browser.value(PICKED), browser.value(CURSOR)), (f"item{told[1]}", x))
-    box = browser.value(BOX)
-    tried.judge("in its middle", abs(box[0] + box[2] / 2 - x) < 2, True)
-    seen = browser.value(f"(e => {{ const r = e.getBoundingClientRect(), l = e.parentNode.getBoundingClientRect(); "
+    tried.sees("down again the second, which the picture shows", browser, f"[{PICKED}, {CURSOR}]", [f"item{told[1]}", x])
+    tried.finds("in its middle", browser, BOX, stands_at(x))
+    seen = (f"(e => {{ const r = e.getBoundingClientRect(), l = e.parentNode.getBoundingClientRect(); "
                          f"return r.top >= l.top - 1 && r.bottom <= l.bottom + 1 }})(document.getElementById('item{told[1]}'))")
-    tried.judge("and the list shows its row", seen, True)
+    tried.sees("and the list shows its row", browser, seen, True)
     browser.key("End")
-    tried.judge("end picks the last that is found", browser.value(PICKED), f"item{told[-1]}")
+    tried.sees("end picks the last that is found", browser, PICKED, f"item{told[-1]}")
     browser.key("Tab")
-    tried.judge("tab leads to the picture", browser.value(FOCUSED), "view")
+    tried.sees("tab leads to the picture", browser, FOCUSED, "view")
     browser.key("1", "1")
-    tried.judge("1 shows a pixel as a pixel", browser.value("Math.round(document.querySelector('#view svg').viewBox.baseVal.width)"),
-                browser.value("document.getElementById('view').clientWidth"))
+    tried.sees("1 shows a pixel as a pixel", browser, "Math.round(document.querySelector('#view svg').viewBox.baseVal.width)",
+               browser.value("document.getElementById('view').clientWidth"))
     for key, axis, sign in (("ArrowRight", 0, 1), ("ArrowLeft", 0, -1), ("ArrowDown", 1, 1), ("ArrowUp", 1, -1)):
         before = browser.value(BOX)
         browser.key(key)
-        after = browser.value(BOX)
-        tried.judge(f"{key} moves the picture", (sign * (after[axis] - before[axis]) > 0, after[1 - axis] == before[1 - axis]), (True, True))
+        tried.finds(f"{key} moves the picture, from {before}", browser, BOX,
+                    lambda now: sign * (now[axis] - before[axis]) > 0 and now[1 - axis] == before[1 - axis])
     for key, is_nearer in (("+", True), ("-", False)):
         before = browser.value(BOX)
         browser.key(key, key)
-        tried.judge(f"{key} zooms", (browser.value(BOX)[2] < before[2], browser.value(BOX)[2] > before[2]), (is_nearer, not is_nearer))
+        tried.finds(f"{key} zooms, from {before}", browser, BOX, lambda now: now[2] != before[2] and (now[2] < before[2]) == is_nearer)
     browser.key("Tab", shift=True)
-    tried.judge("shift and tab lead back to the list", browser.value(FOCUSED), "lines")
+    tried.sees("shift and tab lead back to the list", browser, FOCUSED, "lines")
 
 
 def moving(browser, tried):
     browser.value("document.getElementById('view').focus()")
     browser.key("0", "0")
-    width = browser.value("document.querySelector('#view svg').viewBox.baseVal.width")
-    tried.judge("0 shows all", width >= 1200, True)
+    tried.finds("0 shows all", browser, BOX, lambda now: now[2] >= 1200)
     before = browser.value(BOX)
     browser.key("+", "+")
-    tried.judge("plus zooms", browser.value(BOX)[2] < before[2], True)
+    tried.finds(f"plus zooms, from {before}", browser, BOX, lambda now: now[2] < before[2])
     before = browser.value(BOX)
     browser.key("ArrowRight")
-    tried.judge("an arrow moves", browser.value(BOX)[0] > before[0], True)
+    tried.finds(f"an arrow moves, from {before}", browser, BOX, lambda now: now[0] > before[0])
+    browser.drawn()
     x, y = middle(browser, "#view")
     before = browser.value(BOX)
     browser.mouse("mouseWheel", x, y, deltaX=0, deltaY=-200)
-    tried.judge("the wheel zooms", browser.value(BOX)[2] < before[2], True)
+    tried.finds(f"the wheel zooms, from {before}", browser, BOX, lambda now: now[2] < before[2])
     before = browser.value(BOX)
     browser.mouse("mousePressed", x, y, button="left", clickCount=1)
     browser.mouse("mouseMoved", x - 90, y, button="left", buttons=1)
     browser.mouse("mouseReleased", x - 90, y, button="left", clickCount=1)
-    tried.judge("the pointer drags", browser.value(BOX)[0] > before[0], True)
+    tried.finds(f"the pointer drags, from {before}", browser, BOX, lambda now: now[0] > before[0])
 
 
 def tested(timeline, name):
@@ -253,7 +284,7 @@ def tested(timeline, name):
             keyboard(browser, tried, lines, answers)
             browser.show("about:blank")
             browser.show(page.as_uri() + "#line12")
-            tried.judge("a line behind the page's name is picked", browser.value(PICKED), "item12")
+            tried.sees("a line behind the page's name is picked", browser, PICKED, "item12")
             tried.judge("nothing was asked for but the page", {url.split("#")[0] for url in browser.asked}, {page.as_uri()})
         finally:
             browser.end()
