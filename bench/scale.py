@@ -15,6 +15,8 @@ import statistics
 import subprocess
 import sys
 
+from looks import said_once
+
 HERE = pathlib.Path(__file__).resolve().parent
 PROGRAM = HERE.parent / "crates/running_bench/out/running_bench"
 
@@ -95,11 +97,11 @@ def drawn(panel, lines, left, top, wide, high):
     most = round_up(max(max(values) for _, values in lines) * 1.1)
     across = lambda at: left + 14 + at * (wide - 28) / (len(places) - 1)
     up = lambda value: top + high - value / most * high
-    said = [f'<rect x="{left}" y="{top}" width="{wide}" height="{high}" fill="#fafafa" stroke="#ccc"/>', text(left + wide / 2, top - 24, title, size=13)]
-    for part in range(5):
-        value = most * part / 4
-        said.append(f'<line x1="{left}" x2="{left + wide}" y1="{up(value):.1f}" y2="{up(value):.1f}" stroke="#e4e4e4"/>')
-        said.append(text(left - 6, up(value) + 4, f"{value:g}", "end"))
+    said = [f'<rect x="{left:.0f}" y="{top}" width="{wide:.0f}" height="{high}" fill="#fafafa" stroke="#ccc"/>', text(left + wide / 2, top - 24, title, size=13)]
+    marks = [most * part / 4 for part in range(5)]
+    grid = "".join(f"M{left:.0f},{up(value):.1f}h{wide:.0f}" for value in marks)
+    said.append(f'<path d="{grid}" stroke="#e4e4e4"/>')
+    said += [text(left - 6, up(value) + 4, f"{value:g}", "end") for value in marks]
     said.append(text(left - 6, top - 8, unit, "end"))
     for at, place in enumerate(places):
         said.append(text(across(at), top + high + 17, short(place)))
@@ -107,10 +109,11 @@ def drawn(panel, lines, left, top, wide, high):
     x, y = left, top + high + 55
     for name, values in lines:
         color = COLORS[name]
-        points = " ".join(f"{across(at):.1f},{up(value):.1f}" for at, value in enumerate(values))
-        said.append(f'<polyline points="{points}" fill="none" stroke="{color}" stroke-width="2"/>')
-        said += [f'<circle cx="{across(at):.1f}" cy="{up(value):.1f}" r="3" fill="{color}"/>' for at, value in enumerate(values)]
-        said.append(f'<line x1="{x:.0f}" x2="{x + 12:.0f}" y1="{y - 4}" y2="{y - 4}" stroke="{color}" stroke-width="3"/>')
+        points = [f"{across(at):.1f},{up(value):.1f}" for at, value in enumerate(values)]
+        said.append(f'<polyline points="{" ".join(points)}" fill="none" stroke="{color}" stroke-width="2"/>')
+        dots = "".join(f"M{it}h0" for it in points)
+        said.append(f'<path d="{dots}" stroke="{color}" stroke-width="6" stroke-linecap="round"/>')
+        said.append(f'<path d="M{x:.0f},{y - 4}h12" stroke="{color}" stroke-width="3"/>')
         said.append(text(x + 16, y, name, "start"))
         x += 30 + 7 * len(name)
     return said
@@ -123,7 +126,7 @@ def plot(file, found):
     said.append(f'<rect width="{whole}" height="{high + 112}" fill="white"/>')
     for at, (panel, lines) in enumerate(found):
         said += drawn(panel, lines, gap + at * (wide + gap + 10), 44, wide, high)
-    pathlib.Path(file).write_text("\n".join([*said, "</svg>"]) + "\n")
+    pathlib.Path(file).write_text(said_once("\n".join([*said, "</svg>"]) + "\n"))
 
 
 def taken(words, name):

@@ -1,10 +1,12 @@
 #!/usr/bin/env python3
-"""Draws the two pictures of DESIGN.md beside it: drawings.py. architecture.svg has the crates, stop.svg one stop step by step."""
+"""Draws two pictures of docs/running: drawings.py. architecture.svg has the crates, stop.svg one stop step by step."""
 import pathlib
+
+from looks import said_once
 
 WIDE = 800
 DARK, GREY, PALE, LINE = "#222222", "#d4d4d4", "#f3f3f3", "#444444"
-HERE = pathlib.Path(__file__).resolve().parent
+THERE = pathlib.Path(__file__).resolve().parent.parent / "docs/running"
 
 ARROWS = (
     '<defs><marker id="full" viewBox="0 0 10 10" refX="10" refY="5" markerWidth="9" markerHeight="9" orient="auto"><path d="M0,0 L10,5 L0,10 z" fill="#222"/></marker>'
@@ -14,30 +16,30 @@ ARROWS = (
 
 def text(x, y, said, size=12, anchor="middle", fill="#111", weight="normal", style="normal", halo=None):
     behind = f' stroke="{halo}" stroke-width="4" paint-order="stroke"' if halo else ""
-    return f'<text x="{x}" y="{y}" font-size="{size}" text-anchor="{anchor}" fill="{fill}" font-weight="{weight}" font-style="{style}"{behind}>{said}</text>'
+    return f'<text x="{x:g}" y="{y:g}" font-size="{size}" text-anchor="{anchor}" fill="{fill}" font-weight="{weight}" font-style="{style}"{behind}>{said}</text>'
 
 
 def line(*points, dash=None, end=None, wide=1.2):
-    path = " ".join(f"{x},{y}" for x, y in points)
+    path = " ".join(f"{x:g},{y:g}" for x, y in points)
     more = (f' stroke-dasharray="{dash}"' if dash else "") + (f' marker-end="url(#{end})"' if end else "")
     return f'<polyline points="{path}" fill="none" stroke="{LINE}" stroke-width="{wide}"{more}/>'
 
 
 def rect(x, y, wide, high, fill="white", stroke=LINE, dash=None, round=0, thick=1.2):
-    more = f' stroke-dasharray="{dash}"' if dash else ""
-    return f'<rect x="{x}" y="{y}" width="{wide}" height="{high}" rx="{round}" fill="{fill}" stroke="{stroke}" stroke-width="{thick}"{more}/>'
+    more = (f' stroke-dasharray="{dash}"' if dash else "") + (f' rx="{round}"' if round else "")
+    return f'<rect x="{x:g}" y="{y:g}" width="{wide:g}" height="{high:g}" fill="{fill}" stroke="{stroke}" stroke-width="{thick}"{more}/>'
 
 
 def hexagon(x, y, wide, high):
     cut = 12
     points = [(x, y + high / 2), (x + cut, y), (x + wide - cut, y), (x + wide, y + high / 2), (x + wide - cut, y + high), (x + cut, y + high)]
-    path = " ".join(f"{a},{b}" for a, b in points)
+    path = " ".join(f"{a:g},{b:g}" for a, b in points)
     return f'<polygon points="{path}" fill="{GREY}" stroke="{DARK}" stroke-width="2"/>'
 
 
 def written(name, high, parts):
     head = f'<svg xmlns="http://www.w3.org/2000/svg" width="{WIDE}" height="{high}" viewBox="0 0 {WIDE} {high}" font-family="DejaVu Sans, Verdana, Arial, sans-serif">'
-    (HERE / name).write_text("\n".join([head, ARROWS, rect(0, 0, WIDE, high, stroke="none"), *parts, "</svg>"]) + "\n")
+    (THERE / name).write_text(said_once("\n".join([head, ARROWS, rect(0, 0, WIDE, high, stroke="none"), *parts, "</svg>"]) + "\n"))
 
 
 # The architecture.
