@@ -79,8 +79,10 @@ def architecture():
     for upper in (0, 1, 2, 3):
         parts.append(line((343, foot(upper)), (343, row(upper + 1))))
     parts.append(line((402, row(2) + 19), (422, row(2) + 19), (422, row(3) + 19), (d, row(3) + 19)))
-    parts.append(line((560, foot(0)), (560, row(3))))
-    parts.append(line((700, foot(0)), (700, row(2) + 19), (790, row(2) + 19), (790, row(5) + 19), (780, row(5) + 19)))
+    parts.append(line((448, foot(0)), (448, row(3))))
+    parts += [line((697, foot(0)), (697, row(1))), line((622, foot(1)), (622, row(2))), line((747, foot(1)), (747, row(2))), line((562, foot(1)), (562, row(2)))]
+    parts += [line((x, foot(2)), (x, foot(2) + 8), (790, foot(2) + 8), (790, row(5) + 19), (780, row(5) + 19)) for x in (530, 653)]
+    parts += [line((205, foot(4)), (205, row(5))), line((150, row(5) + 19), (110, row(5) + 19), (110, row(6)))]
     parts += [line((608, foot(3)), (608, row(4))), line((608, foot(4)), (608, row(5)))]
     for x in (519, 697):
         parts += [line((x, foot(5)), (x, row(6))), line((x, foot(6)), (x, row(7))), line((x, foot(7)), (x, row(8))), line((x, foot(8)), (x, row(9) + 22))]
@@ -95,6 +97,8 @@ def architecture():
     parts += named("crate", a, row(3), 118, "replay", "lines in and out")
     parts += named("crate", a, row(6), 118, "system", "the core")
     parts += named("program", b, row(0), 110, "model", "libmodel.a, for C")
+    parts += named("crate", b, row(4), 110, "witness_check", "checks an order")
+    parts += named("crate", b, row(5), 110, "call_runs", "on call_log")
     parts += named("crate", b, row(6), 110, "rows", "worked runs")
     parts += named("program", c, row(0), 118, "monitor")
     parts += named("crate", c, row(1), 118, "commands")
@@ -102,7 +106,12 @@ def architecture():
     parts += named("crate", c, row(3), 118, "interp")
     parts += named("crate", c, row(4), 118, "script")
     parts += named("laws", c, row(6), 118, "tie", "joins the two")
-    parts += named("yours", d, row(0), 344, "your runtime")
+    parts += named("yours", d, row(0), 166, "your runtime", "in Rattle")
+    parts += named("program", e, row(0), 166, "safepoint", "libsafepoint.a, for C")
+    parts += named("crate", 548, row(1), 232, "parties", "acts that never wait")
+    parts += named("crate", 462, row(2), 136, "coordinator_steps")
+    parts += named("crate", 604, row(2), 98, "thread_steps")
+    parts += named("crate", 708, row(2), 78, "tried_lock")
     parts += named("crate", d, row(3), 344, "coordinator", "Coordinator: drive, reclaim; owns the armer")
     parts += named("crate", d, row(4), 344, "held_threads", "held bodies; arms places")
     parts += named("crate", d, row(5), 344, "thread_list", "Shared, and a Mutator for each thread")
