@@ -16,7 +16,8 @@ ARROWS = (
 
 def text(x, y, said, size=12, anchor="middle", fill="#111", weight="normal", style="normal", halo=None):
     behind = f' stroke="{halo}" stroke-width="4" paint-order="stroke"' if halo else ""
-    return f'<text x="{x:g}" y="{y:g}" font-size="{size}" text-anchor="{anchor}" fill="{fill}" font-weight="{weight}" font-style="{style}"{behind}>{said}</text>'
+    kind = "".join(f' font-{name}="{value}"' for name, value in (("weight", weight), ("style", style)) if value != "normal")
+    return f'<text x="{x:g}" y="{y:g}" font-size="{size}" text-anchor="{anchor}" fill="{fill}"{kind}{behind}>{said}</text>'
 
 
 def line(*points, dash=None, end=None, wide=1.2):
@@ -155,7 +156,7 @@ def actor(x, name):
 
 
 def badge(x, y, number):
-    return [rect(x, y - 9, 24, 18, DARK, DARK, round=9), text(x + 12, y + 4, number, 11, fill="white", weight="bold")]
+    return [f'<path d="M{x + 9:g},{y:g}h6" stroke="{DARK}" stroke-width="18" stroke-linecap="round"/>', text(x + 12, y + 4, number, 11, fill="white", weight="bold")]
 
 
 def step(start, end, y, number, said, locked, halo):
