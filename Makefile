@@ -8,7 +8,7 @@
 # make parts     times pictures of 500 lines of runs of ten million, beside `monitor replay`
 # make edits     the wrong bodies alone, all or those of CRATES, over what the gate keeps of its last run on this machine
 # make bench     times the program, and the calls and stops of running threads
-# make scale     times how the stops grow, and draws bench/scale.svg
+# make scale     times how the stops grow, prints it to bench/scale.txt, and draws bench/scale.svg
 # make hostile   tests of threads twenty times, tests of refused memory with each growth refused in turn
 # make runs      scripts on threads a hundred times each, then with each thread and each growth of memory refused in turn
 # make soak      threads at random over what they share, with one seed after the other, for MINUTES
@@ -68,7 +68,7 @@ bench:
 
 scale:
 	@tests/build.py running_bench
-	@bench/scale.py crates/running_bench/out/running_bench --plot bench/scale.svg
+	@bench/scale.py crates/running_bench/out/running_bench --plot bench/scale.svg > bench/scale.txt && cat bench/scale.txt
 
 hostile:
 	@tests/hostile.py

@@ -6,7 +6,7 @@ microseconds for each thread, from 1 to 64 threads; for the replies of a handsha
 nanoseconds behind histories of up to a million entries, and for the last two among up to 1024 codes. Each is the median of a run.
 
 With --plot the same goes into an SVG file of 800 pixels: a panel for each, all from 0, with what its lines are below it. With --of nothing is
-measured: the figures are read from the tables that an earlier run printed, as a page keeps them. Only the shapes carry: the same machine differs by
+measured: the figures are read from the tables that an earlier run printed, as scale.txt keeps them. Only the shapes carry: the same machine differs by
 two from minute to minute.
 """
 import os
