@@ -207,7 +207,8 @@ def stop():
     first, second, closing = 166, 446, 768
     panels = [(first, 264, "The thread has its body: it serves itself"), (second, 280, "The body is in its berth: the coordinator serves it")]
     parts = [rect(8, top, 784, high, PALE, round=4) for top, high, _ in panels]
-    parts += [line((x, 40), (x, closing + 12), dash="1 3") for x, _ in ACTORS]
+    lives = "".join(f"M{x},40V{closing + 12}" for x, _ in ACTORS)
+    parts.append(f'<path d="{lives}" stroke="{LINE}" stroke-width="1.2" stroke-dasharray="1 3"/>')
     for x, name in ACTORS:
         parts += actor(x, name)
     for top, _, title in panels:

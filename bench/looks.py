@@ -17,5 +17,5 @@ def said_once(svg):
 
     head, body = svg.split("\n", 1)
     body = SHAPE.sub(shape, body)
-    style = "\n".join(f".{name}{{{look}}}" for look, name in classes.items())
-    return f"{head}\n<style>\n{style}\n</style>\n{body}"
+    style = "".join(f".{name}{{{look}}}" for look, name in classes.items())
+    return f"{head}\n<style>{style}</style>\n{body}"
