@@ -1,12 +1,12 @@
 #!/usr/bin/env python3
-"""Draws two pictures of the pages: drawings.py. crates/architecture.svg has the crates, docs/running/stop.svg one stop step by step."""
+"""Draws two pictures of the pages beside it: drawings.py. architecture.svg has the crates, stop.svg one stop step by step."""
 import pathlib
 
 from looks import said_once
 
 WIDE = 800
 DARK, GREY, PALE, LINE = "#222222", "#d4d4d4", "#f3f3f3", "#444444"
-ROOT = pathlib.Path(__file__).resolve().parent.parent
+HERE = pathlib.Path(__file__).resolve().parent
 
 ARROWS = (
     '<defs><marker id="full" viewBox="0 0 10 10" refX="10" refY="5" markerWidth="9" markerHeight="9" orient="auto"><path d="M0,0 L10,5 L0,10 z" fill="#222"/></marker>'
@@ -40,7 +40,7 @@ def hexagon(x, y, wide, high):
 
 def written(name, high, parts):
     head = f'<svg xmlns="http://www.w3.org/2000/svg" width="{WIDE}" height="{high}" viewBox="0 0 {WIDE} {high}" font-family="DejaVu Sans, Verdana, Arial, sans-serif">'
-    (ROOT / name).write_text(said_once("\n".join([head, ARROWS, rect(0, 0, WIDE, high, stroke="none"), *parts, "</svg>"]) + "\n"))
+    (HERE / name).write_text(said_once("\n".join([head, ARROWS, rect(0, 0, WIDE, high, stroke="none"), *parts, "</svg>"]) + "\n"))
 
 
 # The architecture.
@@ -136,7 +136,7 @@ def architecture():
     for kind, x, wide, said in keys:
         parts += named(kind, x, key, wide, said)
     parts.append(text(400, key + HIGH + 20, "A line leads from a crate down, or sideways, to one that it stands on.", 12))
-    written("crates/architecture.svg", key + HIGH + 34, parts)
+    written("architecture.svg", key + HIGH + 34, parts)
 
 
 # One stop.
@@ -222,7 +222,7 @@ def stop():
     parts += [line((16, key), (76, key), end="full", wide=1.6), text(84, key + 4, "under the lock of whom it leads to", 11.5, "start")]
     parts += [line((316, key), (376, key), dash="6 4", end="open", wide=1.6), text(384, key + 4, "on the word alone, no lock", 11.5, "start")]
     parts += [rect(570, key - 8, 12, 16, DARK, DARK), text(590, key + 4, "works", 11.5, "start"), rect(650, key - 8, 12, 16, "white", LINE, dash="2 2"), text(670, key + 4, "sleeps", 11.5, "start")]
-    written("docs/running/stop.svg", key + 22, parts)
+    written("stop.svg", key + 22, parts)
 
 
 if __name__ == "__main__":
