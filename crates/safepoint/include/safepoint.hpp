@@ -1,4 +1,5 @@
-/* safepoint_wait.h for C++17: a system, and threads of it, by RAII. What a call may answer and who may call it is said in safepoint.h. */
+/* safepoint_wait.h for C++17: a system, and threads of it, by RAII. What a call may answer and
+   who may call it is said in safepoint.h. */
 #ifndef SAFEPOINT_HPP
 #define SAFEPOINT_HPP
 
@@ -37,7 +38,8 @@ template <class Call> std::uint64_t wait(Call call) {
 
 using Callback = std::function<void(const sp_served &)>;
 
-/* Calls a `Callback` that stands behind `with`, which may be null. It throws nothing: a callback at a safe point ends by itself. */
+/* Calls a `Callback` that stands behind `with`, which may be null. It throws nothing: a callback
+   at a safe point ends by itself. */
 inline void at_safe_point(void *with, const sp_served *served) noexcept {
     auto callback = static_cast<const Callback *>(with);
     if (callback && *callback) (*callback)(*served);
@@ -63,7 +65,8 @@ public:
         wait([&] { return sp_invalidate(&party_, serial); });
     }
     /* A handshake of these names waits: its number. */
-    std::uint64_t submit(const std::vector<std::uint64_t> &names, std::uint32_t asks = SP_DEPTH, std::uint64_t serial = 0) {
+    std::uint64_t submit(const std::vector<std::uint64_t> &names, std::uint32_t asks = SP_DEPTH,
+                         std::uint64_t serial = 0) {
         for (auto name : names) must(sp_target(&party_, name));
         return wait([&] { return sp_submit(&party_, asks, serial); });
     }
@@ -96,11 +99,17 @@ protected:
 /* A system, as its coordinator. */
 class System : public Party {
 public:
-    System(std::size_t places, std::size_t slots, std::size_t methods) { must(sp_make(&party_, places, slots, methods)); }
+    System(std::size_t places, std::size_t slots, std::size_t methods) {
+        must(sp_make(&party_, places, slots, methods));
+    }
 
     /* Works the oldest request to its Close: its number. */
-    std::uint64_t drive(Callback callback = {}) { return must(sp_drive(&party_, at_safe_point, &callback)); }
-    std::uint64_t drive_four(Callback callback = {}) { return must(sp_drive_four(&party_, at_safe_point, &callback)); }
+    std::uint64_t drive(Callback callback = {}) {
+        return must(sp_drive(&party_, at_safe_point, &callback));
+    }
+    std::uint64_t drive_four(Callback callback = {}) {
+        return must(sp_drive_four(&party_, at_safe_point, &callback));
+    }
     std::uint64_t counted(std::uint64_t serial) { return must(sp_counted(&party_, serial)); }
 
     enum class Code { freed, used, late };
@@ -111,10 +120,12 @@ public:
     }
 };
 
-/* The thread that makes it, as long as it stands: it starts, serves what it is told with its callback, and exits. It isn't passed on. */
+/* The thread that makes it, as long as it stands: it starts, serves what it is told with its
+   callback, and exits. It isn't passed on. */
 class Thread {
 public:
-    Thread(Party party, Callback callback = {}) : party_(std::move(party)), callback_(std::move(callback)) {
+    Thread(Party party, Callback callback = {})
+        : party_(std::move(party)), callback_(std::move(callback)) {
         name_ = must(sp_start_thread(get(), at_safe_point, &callback_));
     }
     Thread(const Thread &) = delete;
@@ -130,14 +141,17 @@ public:
     void poll() { polled(sp_back_edge(get())); }
     void publish() { must(sp_publish(get())); }
 
-    /* A frame of a method, from the call to the return: the serial of its code, 0 where it is interpreted. */
+    /* A frame of a method, from the call to the return: the serial of its code, 0 where it is
+       interpreted. */
     class Frame {
     public:
-        Frame(Thread &thread, std::uint32_t method) : thread_(thread), serial_(must(sp_call(thread.get(), method))) {}
+        Frame(Thread &thread, std::uint32_t method)
+            : thread_(thread), serial_(must(sp_call(thread.get(), method))) {}
         Frame(const Frame &) = delete;
         Frame &operator=(const Frame &) = delete;
         ~Frame() {
-            if (sp_ret(thread_.get()) > 0) sp_stop(thread_.get(), at_safe_point, &thread_.callback_);
+            if (sp_ret(thread_.get()) > 0)
+                sp_stop(thread_.get(), at_safe_point, &thread_.callback_);
         }
         std::uint64_t serial() const noexcept { return serial_; }
 
@@ -165,7 +179,8 @@ private:
     }
     void bring_back() noexcept {
         if (sp_state(get()) == SP_IN_NATIVE) sp_leave_native(get(), at_safe_point, &callback_);
-        if (sp_state(get()) == SP_IN_VM && sp_from_vm(get()) > 0) sp_stop(get(), at_safe_point, &callback_);
+        if (sp_state(get()) == SP_IN_VM && sp_from_vm(get()) > 0)
+            sp_stop(get(), at_safe_point, &callback_);
     }
 
     Party party_;

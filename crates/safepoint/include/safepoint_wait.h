@@ -1,7 +1,9 @@
-/* The loops that wait, over libsafepoint.a: they spin a little, let others run, then sleep until something may have changed. An embedder with
-   its own way to park threads writes these again: they are safepoint_wait.c, which stands on nothing but safepoint.h.
+/* The loops that wait, over libsafepoint.a: they spin a little, let others run, then sleep until
+   something may have changed. An embedder with its own way to park threads writes these again: they
+   are safepoint_wait.c, which stands on nothing but safepoint.h.
 
-   Each answers what the call in it answers, and never SP_AGAIN. With -DSP_PTHREAD it sleeps on a pthread condition, else on a futex. */
+   Each answers what the call in it answers, and never SP_AGAIN. With -DSP_PTHREAD it sleeps on a
+   pthread condition, else on a futex. */
 #ifndef SAFEPOINT_WAIT_H
 #define SAFEPOINT_WAIT_H
 
@@ -11,9 +13,10 @@
 extern "C" {
 #endif
 
-/* An operation that is served at a safe point. `thread` is the thread that has stopped and runs the callback itself, or NULL where the
-   coordinator runs it for the held thread of the place. The stack is published, and neither runs on meanwhile. The callback makes no call
-   with that thread, and none that waits. */
+/* An operation that is served at a safe point. `thread` is the thread that has stopped and runs
+   the callback itself, or NULL where the coordinator runs it for the held thread of the place.
+   The stack is published, and neither runs on meanwhile. The callback makes no call with that
+   thread, and none that waits. */
 struct sp_served {
     uint64_t operation;
     size_t place;
@@ -28,23 +31,28 @@ const char *sp_text(int64_t answer);
 struct sp_pause {
     unsigned turns, seen;
 };
-void sp_look(struct sp_pause *pause);                       /* before a try */
-bool sp_again(int64_t answer, struct sp_pause *pause);      /* behind it: true, after a rest, where it is to be made again */
-void sp_ring(void);                                         /* behind a call that may let another go on */
+/* Before a try. */
+void sp_look(struct sp_pause *pause);
+/* Behind it: true, after a rest, where it is to be made again. */
+bool sp_again(int64_t answer, struct sp_pause *pause);
+/* Behind a call that may let another go on. */
+void sp_ring(void);
 
-/* `answer` is what the call answers once it doesn't answer SP_AGAIN. The call may name it: it keeps its value until then. */
-#define SP_WAIT(answer, call)                                                                                                              \
-    do {                                                                                                                                   \
-        struct sp_pause pause_ = {0, 0};                                                                                                   \
-        int64_t found_;                                                                                                                    \
-        do {                                                                                                                               \
-            sp_look(&pause_);                                                                                                              \
-            found_ = (call);                                                                                                               \
-        } while (sp_again(found_, &pause_));                                                                                               \
-        (answer) = found_;                                                                                                                 \
+/* `answer` is what the call answers once it doesn't answer SP_AGAIN. The call may name it: it
+   keeps its value until then. */
+#define SP_WAIT(answer, call)                                                 \
+    do {                                                                      \
+        struct sp_pause pause_ = {0, 0};                                      \
+        int64_t found_;                                                       \
+        do {                                                                  \
+            sp_look(&pause_);                                                 \
+            found_ = (call);                                                  \
+        } while (sp_again(found_, &pause_));                                  \
+        (answer) = found_;                                                    \
     } while (0)
 
-/* A thread. After a poll that answered a number: serves what is told until the thread goes on: 0. */
+/* A thread. After a poll that answered a number: serves what is told until the thread goes on:
+   0. */
 int64_t sp_stop(struct sp_party *thread, sp_callback call, void *with);
 int64_t sp_start_thread(struct sp_party *thread, sp_callback call, void *with);
 int64_t sp_exit_thread(struct sp_party *thread, sp_callback call, void *with);
@@ -53,11 +61,13 @@ int64_t sp_leave_native(struct sp_party *thread, sp_callback call, void *with);
 int64_t sp_enter_blocked(struct sp_party *thread);
 int64_t sp_leave_blocked(struct sp_party *thread, sp_callback call, void *with);
 
-/* The coordinator. Works the oldest open request, or else the oldest that waits, to its Close: its number; SP_QUEUE_EMPTY. */
+/* The coordinator. Works the oldest open request, or else the oldest that waits, to its Close:
+   its number; SP_QUEUE_EMPTY. */
 int64_t sp_drive(struct sp_party *coordinator, sp_callback call, void *with);
 /* The same of up to four handshakes at once: how many were closed. */
 int64_t sp_drive_four(struct sp_party *coordinator, sp_callback call, void *with);
-/* Reclaims a code that isn't entered any more, by a handshake of all that live: 0 where it is freed, or how many frames stand; SP_LATE. */
+/* Reclaims a code that isn't entered any more, by a handshake of all that live: 0 where it is
+   freed, or how many frames stand; SP_LATE. */
 int64_t sp_reclaim(struct sp_party *coordinator, uint64_t serial, sp_callback call, void *with);
 
 #ifdef __cplusplus
