@@ -1,6 +1,7 @@
 # make run       answers at once: runs the program on a shipped example, proved where it is built, else before any proof
-# make build     proves and builds the programs and the library for C, and says how far it is; PROGRAMS names others
-# make test      the gate, then further wrong bodies, the built programs and the library for C from outside
+# make build     proves and builds the programs and the libraries for C, and says how far it is; PROGRAMS names others
+# make install   puts what is built below PREFIX (/usr/local), with DESTDIR before it; make uninstall takes it away
+# make test      the gate, then further wrong bodies, the built programs and the libraries for C from outside
 # make examples  the built program on all examples, on bad words and with each fault; then make embed
 # make embed     the toy runtimes in C and in Rust that step the model beside them, over the static library
 # make pictures  draws the pictures of PICTURES, which are in examples, again, and the small one of the README
@@ -14,9 +15,11 @@
 # make soak      threads at random over what they share, with one seed after the other, for MINUTES
 # make side      random schedules on the running layer and on the core beside it: SEEDS of them, from seed FIRST on
 # make safepoint  builds the library by which C, C++ and Rust stop threads, and tries it from each
-.PHONY: run build test examples embed safepoint pictures random parts edits bench scale hostile runs soak side
+.PHONY: run build install uninstall test examples embed safepoint pictures random parts edits bench scale hostile runs soak side
 
-PROGRAMS ?= monitor timeline model
+PROGRAMS ?= monitor timeline model safepoint
+PREFIX ?= /usr/local
+DESTDIR ?=
 PICTURES = handshake_native four_handshakes safepoint_census reclaiming
 CRATES ?=
 MINUTES ?= 10
@@ -28,6 +31,9 @@ run:
 
 build:
 	@tests/build.py $(PROGRAMS)
+
+install uninstall:
+	@PREFIX='$(PREFIX)' DESTDIR='$(DESTDIR)' install/install.py $@
 
 test:
 	@tests/all.sh

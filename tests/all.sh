@@ -1,7 +1,9 @@
 #!/usr/bin/env bash
-# All tests: the gate, `rt ci`; then what it can't do: the further wrong bodies, and, from outside, the programs that it built and the
-# library that C links. The last line counts them all; the status is 0 where none failed.
-# out/gate.log has what the gate said, out/minutes.log what each of its checks took (tests/minutes.py makes docs/project/MINUTES.md of both).
+# All tests: the gate, `rt ci`; then what it can't do: the further wrong bodies, and, from outside, the programs that it built, the libraries
+# that C links, and what is installed of them. The last line counts them all; the status is 0 where none failed. Right before it stand once
+# more, under `failed:`, the lines that say why something failed (tests/failures.py).
+# out/gate.log has what the gate said, out/parts.log what the others did, out/minutes.log what each of its checks took (tests/minutes.py makes
+# docs/project/MINUTES.md of both).
 set -uo pipefail
 cd "$(dirname "$0")/.."
 export PYTHONUNBUFFERED=1
@@ -14,12 +16,28 @@ counts() {
     tail -n 1 "$1" | sed -nE 's/^([0-9]+) passed, ([0-9]+) failed$/\1 \2/p'
 }
 
-# Runs a command that ends in such a line, and adds its counts. One that ends without that line counts as one failure.
+# Says that a part failed which doesn't say so itself.
+untold() {
+    echo "FAILED: $1; it said last"
+    tail -n 5 out/said | sed 's/^/  /'
+}
+
+# Runs a command that ends in such a line, and adds its counts. One that ends without that line counts as one failure. The status is its own.
 count() {
-    local more bad
-    "$@" | tee out/said || status=1
-    read -r more bad < <(counts out/said)
-    passed=$((passed + ${more:-0})) failed=$((failed + ${bad:-1}))
+    local more bad ended
+    "$@" 2>&1 | tee out/said
+    ended=${PIPESTATUS[0]}
+    cat out/said >> out/parts.log
+    if ! read -r more bad < <(counts out/said); then
+        more=0 bad=1 ended=1
+        untold "$* ended without its counts" | tee -a out/parts.log
+    elif ((ended && !bad)); then
+        bad=1
+        untold "$* ended with status $ended" | tee -a out/parts.log
+    fi
+    passed=$((passed + more)) failed=$((failed + bad))
+    ((ended)) && status=1
+    return "$ended"
 }
 
 # The wrong bodies beside those of the gate: over the libraries that it left here, or else over those of a copy.
@@ -31,27 +49,41 @@ edits() {
     fi
 }
 
-embed() {
-    tests/archive.py && tests/embed.py crates/model/out/libmodel.a
+# The libraries for C, what C, C++ and Rust do with them, and what is installed.
+libraries() {
+    if ! command -v "${CC:-cc}" > /dev/null; then
+        echo "left out: the libraries for C, since there is no C compiler"
+        return
+    fi
+    count tests/archive.py model safepoint || return
+    count tests/embed.py crates/model/out/libmodel.a
+    count tests/safepoint.py crates/safepoint/out/libsafepoint.a
+    count tests/install.py
 }
 
 tests/minutes.py watch $$ > out/minutes.log &
 watch=$!
-rt ci | tee out/gate.log || exit
+: > out/parts.log
+if ! rt ci 2>&1 | tee out/gate.log; then
+    tests/failures.py out/gate.log
+    tail -n 1 out/gate.log
+    exit 1
+fi
 tests/proved.py note
 read -r passed _ < <(counts out/gate.log)
 failed=0 status=0
 # (beside what runs one program after the other)
-edits > "$refused" &
+edits > "$refused" 2>&1 &
 edits=$!
 count tests/program.py crates/monitor/out/monitor crates/monitor/out/monitor.by-rattle
 count tests/pictures.py crates/timeline/out/timeline crates/timeline/out/timeline.by-rattle
 count tests/random_pictures.py crates/monitor/out/monitor crates/timeline/out/timeline 20000
 count tests/pages.py crates/timeline/out/timeline
-count embed
+libraries
 count tests/links.py
 count tests/tutorial.py
 wait "$edits" || status=1
 count cat "$refused"
+tests/failures.py out/parts.log
 echo "$passed passed, $failed failed"
 exit "$status"

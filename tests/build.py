@@ -14,6 +14,7 @@ import sys
 import tempfile
 import time
 
+import proved
 from minutes import minutes_of
 from toolchain import ROOT, toolchain
 
@@ -51,8 +52,8 @@ def command_of(crate):
     return ["rt", "run", "--", *words], given.open("rb") if given.is_file() else subprocess.DEVNULL
 
 
-def build(crate, progress):
-    """Proves and builds one crate. What it says is kept, and shown where it fails."""
+def build(rtlib, crate, progress):
+    """Proves and builds one crate, and notes of a library for C that it is proved. What it says is kept, and shown where it fails."""
     command, given = command_of(crate)
     progress.say(crate.name)
     with tempfile.TemporaryFile("w+", errors="replace") as log:
@@ -66,11 +67,13 @@ def build(crate, progress):
             if told:
                 progress.say(crate.name, int(told[1]), int(told[2]))
         if running.wait() == 0:
+            if crate.is_static:
+                proved.note(rtlib, crate.name)
             progress.done += progress.minutes[crate.name]
             return True
         log.seek(0)
         print(log.read(), end="")
-        print(f"{crate.name} is not proved")
+        print(f"FAILED: {crate.name} is not proved")
         return False
 
 
@@ -82,7 +85,7 @@ def main(names):
         crate = rtlib.Crate(str(ROOT / "crates" / name), str(ROOT), known)
         crates += [it for it in [*sorted(crate.below(), key=lambda it: len(it.below())), crate] if it not in crates]
     progress = Progress(crates)
-    return 0 if all(build(it, progress) for it in crates) else 1
+    return 0 if all(build(rtlib, it, progress) for it in crates) else 1
 
 
 if __name__ == "__main__":

@@ -139,7 +139,7 @@ class Bench:
         if ran.returncode == 1 and lines[-1].startswith("logic=not-proved") and told:
             edit.said = told
             return True, ""
-        return False, "\n".join([f"NOT TRIED: its check ended with status {ran.returncode}", *lines[:6]])
+        return False, "\n  ".join([f"NOT TRIED: its check ended with status {ran.returncode}", *lines[:6]])
 
 
 def tried(rtlib, crate, room, with_all):
@@ -191,7 +191,7 @@ def main(words):
     if "--stand" in words:
         return 0 if stand else 1
     if not stand:
-        print("edits.py: no libraries that rt ci left: run it by make edits")
+        print("FAILED: edits.py: no libraries that rt ci left: run it by make edits")
         return 1
     passed = failed = 0
     printing = threading.Lock()
@@ -200,8 +200,8 @@ def main(words):
         with tempfile.TemporaryDirectory(prefix="edits-") as room:
             results = tried(rtlib, crate, room, bool(words))
         with printing:
-            for name, _, text in results:
-                print(f"wrong body {crate.name}/{name}: {text}", flush=True)
+            for name, is_refused, text in results:
+                print(f"{'' if is_refused else 'FAILED: '}wrong body {crate.name}/{name}: {text}", flush=True)
         return [is_refused for _, is_refused, _ in results]
 
     with concurrent.futures.ThreadPoolExecutor(len(os.sched_getaffinity(0))) as pool:

@@ -71,7 +71,7 @@ def main():
     passed = failed = 0
     for file, link, why in checked():
         if why:
-            print(f"{file.relative_to(ROOT)}: {link}: {why}")
+            print(f"FAILED: {file.relative_to(ROOT)}: {link}: {why}")
         passed, failed = passed + (not why), failed + bool(why)
     print(f"{passed} passed, {failed} failed")
     return 1 if failed or not passed else 0

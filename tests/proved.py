@@ -1,40 +1,50 @@
 #!/usr/bin/env python3
-"""Whether a built program is a proved one of the present state: proved.py note | proved.py PROGRAM
+"""Whether a built program or library is a proved one of the present state: proved.py note | proved.py CRATE
 
-`rt run` leaves a stamp beside a program that it proved and built, by all that the program is made from. `rt ci` leaves none, so `note`, after
-a gate that passed, puts one like it, PROGRAM.proved, beside each program in crates/*/out. With a program's name the status is 0 where one of
-the two is of the present state, and else 1.
+`rt run` leaves a stamp beside a program that it proved and built, by all that the program is made from. `rt ci` and `rt lib` leave none, so
+`note`, after a gate that passed, puts one like it, PROGRAM.proved, beside each program in crates/*/out; whoever builds a library for C puts one
+beside that. With a crate's name the status is 0 where one of the two is of the present state, and else 1.
 """
-import pathlib
 import sys
 
 from toolchain import ROOT, toolchain
 
 
+def built(name):
+    """What a build of the crate left: its program, or the library that C links. None where there is none."""
+    out = ROOT / "crates" / name / "out"
+    return next((it for it in (out / name, out / f"lib{name}.a") if it.is_file()), None)
+
+
 def stamp_of(rtlib, name):
-    """What a proved build of the program in its present state has as its stamp, or nothing where none is built."""
-    program = ROOT / "crates" / name / "out" / name
-    if not program.is_file():
+    """What a proved build of the crate in its present state has as its stamp, or nothing where none is built."""
+    file = built(name)
+    if file is None:
         return None
-    return rtlib.Crate(str(ROOT / "crates" / name), str(ROOT), {}).stamp() + rtlib.sum_of(str(program))
+    return rtlib.Crate(str(ROOT / "crates" / name), str(ROOT), {}).stamp() + rtlib.sum_of(str(file))
 
 
-def note(rtlib):
+def note(rtlib, name):
+    file = built(name)
+    file.with_name(f"{file.name}.proved").write_text(stamp_of(rtlib, name))
+
+
+def note_programs(rtlib):
     for program in ROOT.glob("crates/*/out/*"):
         if program.name == program.parent.parent.name and program.is_file():
-            program.with_name(f"{program.name}.proved").write_text(stamp_of(rtlib, program.name))
+            note(rtlib, program.name)
 
 
 def is_proved(rtlib, name):
-    stamp, folder = stamp_of(rtlib, name), ROOT / "crates" / name / "out"
-    kept = [folder / f"{name}.{end}" for end in ("stamp", "proved")]
-    return stamp is not None and any(it.is_file() and it.read_text() == stamp for it in kept)
+    file, stamp = built(name), stamp_of(rtlib, name)
+    kept = [file.with_name(f"{file.name}.{end}") for end in ("stamp", "proved")] if file else []
+    return any(it.is_file() and it.read_text() == stamp for it in kept)
 
 
 def main(words):
     rtlib, _ = toolchain()
     if words == ["note"]:
-        note(rtlib)
+        note_programs(rtlib)
         return 0
     return 0 if is_proved(rtlib, words[0]) else 1
 

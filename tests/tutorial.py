@@ -76,7 +76,8 @@ def run(room, command, wanted):
     if ran.returncode == 0 and is_said(wanted, said):
         print(f"ok: {command}", flush=True)
         return True
-    print(f"failed: {command}: status {ran.returncode}, wanted {wanted}, said {said}\n{ran.stderr[-2000:]}", flush=True)
+    more = "".join(f"\n  {line}" for line in ran.stderr[-2000:].splitlines())
+    print(f"FAILED: {command}: status {ran.returncode}, wanted {wanted}, said {said}{more}", flush=True)
     return False
 
 
