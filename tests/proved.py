@@ -5,6 +5,7 @@
 `note`, after a gate that passed, puts one like it, PROGRAM.proved, beside each program in crates/*/out; whoever builds a library for C puts one
 beside that. With a crate's name the status is 0 where one of the two is of the present state, and else 1.
 """
+import functools
 import sys
 
 from toolchain import ROOT, toolchain
@@ -21,6 +22,9 @@ def stamp_of(rtlib, name):
     file = built(name)
     if file is None:
         return None
+    if not hasattr(rtlib.Crate.stamp, "cache_info"):
+        # (else a crate's stamp is made once for each way that leads to it)
+        rtlib.Crate.stamp = functools.cache(rtlib.Crate.stamp)
     return rtlib.Crate(str(ROOT / "crates" / name), str(ROOT), {}).stamp() + rtlib.sum_of(str(file))
 
 
