@@ -3,7 +3,7 @@
 
 `make install` puts all below a prefix, once straight there and once with DESTDIR before it. There the C program of docs/start/EMBEDDING.md, one
 that steps the model, and the C++ of that page are built by what pkg-config says of the installed `.pc` files, and run; so are the installed
-programs. Where there is no pkg-config, this script reads those files itself, and says so. `make uninstall` must leave no file and none of the
+programs. The C of the README is compiled. Where there is no pkg-config, this script reads those files itself, and says so. `make uninstall` must leave no file and none of the
 project's own folders, and must leave a file that is another's. What can't be built for want of a compiler is told and left out.
 The last line is `N passed, M failed`; the status is 0 where none failed.
 """
@@ -94,9 +94,9 @@ class Installed:
         return [re.sub(r"^-([IL])", rf"-\1{self.destdir}", it) for it in words]
 
 
-def block(kind):
-    """The first program of the page in this language."""
-    return re.search(rf"^```{kind}\n(.*?)^```$", PAGE.read_text(), re.MULTILINE | re.DOTALL)[1]
+def block(kind, page=PAGE):
+    """The first program of a page in this language."""
+    return re.search(rf"^```{kind}\n(.*?)^```$", page.read_text(), re.MULTILINE | re.DOTALL)[1]
 
 
 def program(tests, installed, folder, name, text, package, says, compiler, standard):
@@ -111,6 +111,9 @@ def uses(tests, installed, folder):
     compiler = os.environ.get("CC", "cc")
     program(tests, installed, folder, "first_stop.c", block("c first_stop.c"), "safepoint", FIRST_STOP, compiler, "-std=c11")
     program(tests, installed, folder, "model.c", MODEL, "model", MODEL_SAYS, compiler, "-std=c11")
+    (source := folder / "readme.c").write_text(block("c", ROOT / "README.md"))
+    words = [compiler, "-std=c11", *WARNINGS, "-c", source, "-o", folder / "readme.o", *installed.flags("safepoint")]
+    tests.run(f"{installed.name}: the C of the README is compiled", words)
     compiler = os.environ.get("CXX", "c++")
     if shutil.which(compiler) is None:
         print("left out: the C++ of the page, since there is no C++ compiler")
