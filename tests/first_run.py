@@ -20,7 +20,7 @@ def main(name, *words):
     folder = ROOT / "crates" / name
     if proved.is_proved(rtlib, name):
         return subprocess.call([folder / "out" / name, *words])
-    print(f"{name}: this build isn't proved: `make build` proves and builds it", file=sys.stderr, flush=True)
+    print(f"{name}: this build isn't proved: `make build PROGRAMS={name}` proves and builds it", file=sys.stderr, flush=True)
     ran = subprocess.run(["rt", "try", "--", *words], cwd=folder, stderr=subprocess.PIPE)
     sys.stderr.buffer.write(OF_THE_TRY.sub(b"", ran.stderr))
     return ran.returncode

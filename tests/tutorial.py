@@ -1,8 +1,8 @@
 #!/usr/bin/env python3
 """Runs the commands and programs of docs/start/TUTORIAL.md, in a copy of the checkout: tutorial.py
 
-A fenced block whose first line names a file, as `rust FILE`, is written into that file; with `>>` before the name it goes behind what the file
-has. In a block `console` each line that begins with `$ ` is a command, and the lines behind it are what it must print on standard output; `..`
+A fenced block whose first line names a file, as `rust FILE`, is written into that file where the repository has none; else the file must have
+those lines, behind those of the block before. In a block `console` each line that begins with `$ ` is a command, and the lines behind it are what it must print on standard output; `..`
 stands for any lines. Programs that are built and proved are copied too, so what the tutorial runs of them is at once. The last line counts what
 was tried; the status is 0 where nothing failed.
 """
@@ -16,7 +16,7 @@ import tempfile
 ROOT = pathlib.Path(__file__).resolve().parent.parent
 PAGE = ROOT / "docs" / "start" / "TUTORIAL.md"
 COPIED = ("src", "specs", "proofs", "args", "stdin", "stdout")
-BLOCK = re.compile(r"^```(\w+)(?: (>> )?(\S+))?\n(.*?)^```$", re.MULTILINE | re.DOTALL)
+BLOCK = re.compile(r"^```(\w+)(?: (\S+))?\n(.*?)^```$", re.MULTILINE | re.DOTALL)
 
 
 def copy_crate(crate, to):
@@ -42,11 +42,23 @@ def copy_to(room):
         copy_crate(crate, room / "crates" / crate.name)
 
 
-def write(room, behind, name, text):
-    file = room / name
-    file.parent.mkdir(parents=True, exist_ok=True)
-    before = file.read_text() if behind else ""
-    file.write_text(before + ("\n" if behind and name.endswith(".rt") else "") + text)
+class Files:
+    """The files that the page's blocks name, in the copy."""
+
+    def __init__(self, room):
+        self.room, self.read = room, {}
+
+    def has(self, name, text):
+        """Whether the file has the block's lines, behind those of the block before. One that the repository doesn't have gets them."""
+        if not (ROOT / name).exists():
+            (self.room / name).write_text(text)
+            return True
+        at = (ROOT / name).read_text().find(text, self.read.get(name, 0))
+        self.read[name] = at + len(text)
+        if at < 0:
+            lines = "".join(f"\n  {line}" for line in text.splitlines())
+            print(f"FAILED: {name} doesn't have these lines of the page:{lines}", flush=True)
+        return at >= 0
 
 
 def commands(text):
@@ -86,13 +98,13 @@ def main():
     with tempfile.TemporaryDirectory() as folder:
         room = pathlib.Path(folder)
         copy_to(room)
-        for kind, behind, name, text in BLOCK.findall(PAGE.read_text()):
+        files = Files(room)
+        for kind, name, text in BLOCK.findall(PAGE.read_text()):
             if name:
-                write(room, behind, name, text)
-            elif kind == "console":
-                for command, wanted in commands(text):
-                    is_right = run(room, command, wanted)
-                    passed, failed = passed + is_right, failed + (not is_right)
+                tried = [files.has(name, text)]
+            else:
+                tried = [run(room, command, wanted) for command, wanted in commands(text)] if kind == "console" else []
+            passed, failed = passed + sum(tried), failed + len(tried) - sum(tried)
     print(f"{passed} passed, {failed} failed")
     return 1 if failed or not passed else 0
 

@@ -1,0 +1,12 @@
+pub use Rattle.bodies.specs.Bodies
+pub use Rattle.bodies.specs.Census
+pub use Rattle.operations.specs.Asks
+pub use Rattle.operations.specs.Jobs
+pub use Rattle.operations.specs.Requests
+pub use Rattle.thread_list.specs.Moves
+pub use Rattle.thread_list.specs.Sharing
+pub use Rattle.thread_list.specs.Standings
+pub use Rattle.coordinator.specs.Driving
+pub use Rattle.coordinator.specs.Holding
+pub use Rattle.coordinator.specs.Reclaiming
+pub use Rattle.coordinator.specs.Receipts

@@ -1,0 +1,27 @@
+//! The running layer behind one door: what a runtime in Rattle names to stop its threads and free its code.
+//! Runtimes in Rattle use it, with this one crate on their line of crates.txt; `first_stop` is the smallest of them.
+//! Read docs/running/API.md first, then `thread_list` for threads and `coordinator` for stops.
+#![tactic(auto)]
+
+// A system: its size, and what its threads share.
+pub use bodies::Name;
+pub use thread_list::{Parts, PartsFault, Shared};
+
+// A thread, and what its calls answer.
+pub use bodies::Called;
+pub use thread_list::{CallFault, ExitFault, Exited, Mutator, Poll, ReturnFault, Turn};
+pub use thread_state::{Illegal, State};
+
+// Requests, and jobs that run in them.
+pub use operations::job::{Errand, Job, Query};
+pub use operations::{Ask, Request, Targets};
+
+// Who works on requests, and what its calls answer.
+pub use coordinator::{
+    Coordinator, DriveFault, Driven, HoldFault, NotReclaimed, OperateFault, ReclaimFault, Reclaimed,
+    ReleaseFault, ServeFault, TellFault, Told,
+};
+pub use poll::Armer;
+
+// What the calls of a system answer, and what shows that an entry of the history was made.
+pub use desk::{AskFault, CloseFault, CodeFault, NotLive, OpenFault, Receipt, Refused, StartFault};
