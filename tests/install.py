@@ -3,7 +3,7 @@
 
 `make install` puts all below a prefix, once straight there and once with DESTDIR before it. There the C program of docs/start/EMBEDDING.md, one
 that steps the model, and the C++ of that page are built by what pkg-config says of the installed `.pc` files, and run; so are the installed
-programs. The C of the README is compiled. Where there is no pkg-config, this script reads those files itself, and says so. `make uninstall` must leave no file and none of the
+programs. The C of the README is compiled, and the pages for man are read by groff where it is. Where there is no pkg-config, this script reads those files itself, and says so. `make uninstall` must leave no file and none of the
 project's own folders, and must leave a file that is another's. What can't be built for want of a compiler is told and left out.
 The last line is `N passed, M failed`; the status is 0 where none failed.
 """
@@ -135,6 +135,9 @@ def whole(tests, installed, folder):
     named = [it for it in installed.files() if installed.destdir and it.suffix == ".pc" and installed.destdir in it.read_text()]
     tests.judge(f"{installed.name}: no file names DESTDIR", not named, f"{named}")
     uses(tests, installed, folder)
+    if shutil.which("groff"):
+        for page in sorted(installed.top.glob("share/man/*/*")):
+            tests.run(f"{installed.name}: {page.name} is a page for man", ["groff", "-man", "-ww", "-z", page], b"")
     other = installed.top / "share" / "safepoint" / "another"
     other.touch()
     tests.run(f"{installed.name}: make uninstall", installed.make("uninstall"), b"")
