@@ -1,8 +1,8 @@
 #!/usr/bin/env python3
-"""Runs the commands and programs of docs/start/TUTORIAL.md, in a copy of the checkout: tutorial.py
+"""Runs the commands of docs/start/TUTORIAL.md, in a copy of the checkout, and compares its programs and README's with their files: tutorial.py
 
 A fenced block whose first line names a file, as `rust FILE`, is written into that file where the repository has none; else the file must have
-those lines, behind those of the block before. In a block `console` each line that begins with `$ ` is a command, and the lines behind it are what it must print on standard output; `..`
+those lines, behind those of the page's block before. In a block `console` each line that begins with `$ ` is a command, and the lines behind it are what it must print on standard output; `..`
 stands for any lines. Programs that are built and proved are copied too, so what the tutorial runs of them is at once. The last line counts what
 was tried; the status is 0 where nothing failed.
 """
@@ -14,7 +14,7 @@ import sys
 import tempfile
 
 ROOT = pathlib.Path(__file__).resolve().parent.parent
-PAGE = ROOT / "docs" / "start" / "TUTORIAL.md"
+PAGES = (ROOT / "docs" / "start" / "TUTORIAL.md", ROOT / "README.md")
 COPIED = ("src", "specs", "proofs", "args", "stdin", "stdout")
 BLOCK = re.compile(r"^```(\w+)(?: (\S+))?\n(.*?)^```$", re.MULTILINE | re.DOTALL)
 
@@ -93,18 +93,23 @@ def run(room, command, wanted):
     return False
 
 
+def tried(files, room, kind, name, text):
+    """Whether the file of a block has its lines, or each command of a block prints what it must."""
+    if name:
+        return [files.has(name, text)]
+    return [run(room, command, wanted) for command, wanted in commands(text)] if kind == "console" else []
+
+
 def main():
     passed = failed = 0
     with tempfile.TemporaryDirectory() as folder:
         room = pathlib.Path(folder)
         copy_to(room)
-        files = Files(room)
-        for kind, name, text in BLOCK.findall(PAGE.read_text()):
-            if name:
-                tried = [files.has(name, text)]
-            else:
-                tried = [run(room, command, wanted) for command, wanted in commands(text)] if kind == "console" else []
-            passed, failed = passed + sum(tried), failed + len(tried) - sum(tried)
+        for page in PAGES:
+            files = Files(room)
+            for kind, name, text in BLOCK.findall(page.read_text()):
+                went = tried(files, room, kind, name, text)
+                passed, failed = passed + sum(went), failed + len(went) - sum(went)
     print(f"{passed} passed, {failed} failed")
     return 1 if failed or not passed else 0
 
