@@ -80,6 +80,9 @@ count tests/links.py
 count tests/tutorial.py
 wait "$archives" && archived=yes
 count cat "$built"
+# (threads of C have the machine for themselves)
+wait "$edits" || status=1
+count cat "$refused"
 if [[ -z $archived ]]; then
     echo "left out: what is done with the libraries for C, since these aren't built"
 elif ! command -v "${CC:-cc}" > /dev/null; then
@@ -87,8 +90,6 @@ elif ! command -v "${CC:-cc}" > /dev/null; then
 else
     libraries
 fi
-wait "$edits" || status=1
-count cat "$refused"
 tests/failures.py out/parts.log
 echo "$passed passed, $failed failed"
 exit "$status"
