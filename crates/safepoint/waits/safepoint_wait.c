@@ -4,29 +4,61 @@
 #include <sched.h>
 #include <stdatomic.h>
 
-/* Something may have changed: a stack was given back, an answer entered, a thread told. One count serves all systems: a thread that wakes
-   for nothing asks again. */
-static atomic_uint rings, sleepers;
+/* What is shared here is hints: how many came, for how many a coordinator waits, who sleeps. One set serves all systems. Where a hint is wrong,
+   as where two systems are driven at a time, somebody asks again too early, or sleeps for a nap; nothing else hangs on it. */
 
-enum { SPINS = 100, YIELDS = 64, GIVES = 4, NAP = 500000 /* nanoseconds at most, since a lock that was taken doesn't ring */ };
+/* Sleepers wait until it is rung. */
+struct bell {
+    atomic_uint rings, sleepers;
+};
+
+static struct {
+    _Alignas(64) struct bell come;  /* where coordinators sleep */
+    _Alignas(64) struct bell gone;  /* where all others sleep: rung when stacks were given back */
+    _Alignas(64) atomic_uint came;  /* threads that served what they were told, or gave their stack away */
+    _Alignas(64) atomic_uint wanted; /* how many of these a coordinator waits for */
+    atomic_uint begun, ended;        /* requests that were worked on so far, and to their ends */
+} all;
+
+enum {
+    TRIES = 8,      /* of a call that found a lock taken, with pauses that grow, before the thread yields */
+    YIELDS = 64,    /* before it sleeps; and the most with which a thread that has served gives way */
+    GIVES = 4,      /* the least where it has woken the coordinator, which may wait for this very processor */
+    LOOKS = 40,     /* of the coordinator whether those that are late have come, before it sleeps */
+    NAP = 500000,   /* nanoseconds, which the first sleep of a wait lasts at most, since a lock that is given back doesn't ring */
+    DOUBLED = 5,    /* so often a further one lasts twice as long */
+    PLACES = 64     /* the most that a system has */
+};
+
+#if defined(__x86_64__) || defined(__i386__)
+#define PAUSE() __builtin_ia32_pause()
+#elif defined(__aarch64__)
+#define PAUSE() __asm__ volatile("isb")
+#else
+#define PAUSE() ((void)0)
+#endif
+
+/* In nanoseconds, of a sleep behind so many. */
+static long length_of(unsigned before) { return (long)NAP << (before < DOUBLED ? before : DOUBLED); }
 
 #ifdef SP_PTHREAD
 #include <pthread.h>
 #include <time.h>
 static pthread_mutex_t mutex = PTHREAD_MUTEX_INITIALIZER;
-static pthread_cond_t bell = PTHREAD_COND_INITIALIZER;
-static void nap(unsigned seen) {
+static pthread_cond_t changed = PTHREAD_COND_INITIALIZER; /* of both bells: who wakes for nothing asks again */
+static void nap(struct bell *bell, unsigned seen, unsigned before) {
     struct timespec until;
     clock_gettime(CLOCK_REALTIME, &until);
-    until.tv_nsec += NAP;
+    until.tv_nsec += length_of(before);
     if (until.tv_nsec >= 1000000000) until.tv_sec++, until.tv_nsec -= 1000000000;
     pthread_mutex_lock(&mutex);
-    if (atomic_load(&rings) == seen) pthread_cond_timedwait(&bell, &mutex, &until);
+    if (atomic_load(&bell->rings) == seen) pthread_cond_timedwait(&changed, &mutex, &until);
     pthread_mutex_unlock(&mutex);
 }
-static void wake(void) {
+static void wake(struct bell *bell) {
+    (void)bell;
     pthread_mutex_lock(&mutex);
-    pthread_cond_broadcast(&bell);
+    pthread_cond_broadcast(&changed);
     pthread_mutex_unlock(&mutex);
 }
 #else
@@ -35,29 +67,39 @@ static void wake(void) {
 #include <sys/syscall.h>
 #include <time.h>
 #include <unistd.h>
-static void nap(unsigned seen) {
-    struct timespec most = {0, NAP};
-    syscall(SYS_futex, &rings, FUTEX_WAIT_PRIVATE, seen, &most, NULL, 0);
+static void nap(struct bell *bell, unsigned seen, unsigned before) {
+    struct timespec most = {0, length_of(before)};
+    syscall(SYS_futex, &bell->rings, FUTEX_WAIT_PRIVATE, seen, &most, NULL, 0);
 }
-static void wake(void) { syscall(SYS_futex, &rings, FUTEX_WAKE_PRIVATE, INT_MAX, NULL, NULL, 0); }
+static void wake(struct bell *bell) { syscall(SYS_futex, &bell->rings, FUTEX_WAKE_PRIVATE, INT_MAX, NULL, NULL, 0); }
 #endif
 
-void sp_ring(void) {
-    atomic_fetch_add(&rings, 1);
-    if (atomic_load(&sleepers)) wake();
+/* Whether anybody slept there. */
+static bool ring(struct bell *bell) {
+    atomic_fetch_add(&bell->rings, 1);
+    if (!atomic_load(&bell->sleepers)) return false;
+    wake(bell);
+    return true;
 }
 
-void sp_look(struct sp_pause *pause) { pause->seen = atomic_load(&rings); }
+void sp_ring(void) {
+    ring(&all.come);
+    ring(&all.gone);
+}
+
+void sp_look(struct sp_pause *pause) { pause->seen = atomic_load(&all.gone.rings); }
 
 static void rest(struct sp_pause *pause) {
-    if (pause->turns++ < SPINS) return;
-    if (pause->turns < SPINS + YIELDS) {
+    unsigned turn = pause->turns++;
+    if (turn < TRIES) {
+        for (unsigned i = 0; i < 1u << turn / 2; i++) PAUSE();
+    } else if (turn < TRIES + YIELDS) {
         sched_yield();
-        return;
+    } else {
+        atomic_fetch_add(&all.gone.sleepers, 1);
+        nap(&all.gone, pause->seen, turn - TRIES - YIELDS);
+        atomic_fetch_sub(&all.gone.sleepers, 1);
     }
-    atomic_fetch_add(&sleepers, 1);
-    nap(pause->seen);
-    atomic_fetch_sub(&sleepers, 1);
 }
 
 bool sp_again(int64_t answer, struct sp_pause *pause) {
@@ -68,32 +110,54 @@ bool sp_again(int64_t answer, struct sp_pause *pause) {
 
 /* --- a thread --- */
 
-/* A thread that had to wait, or let another go on, gives way: that one may wait for this very processor. */
-static void give_way(const struct sp_pause *pause) {
-    if (!pause->turns && !atomic_load(&sleepers)) return;
-    for (int i = 0; i < GIVES; i++) sched_yield();
+static unsigned driven(void) { return atomic_load(&all.begun) - atomic_load(&all.ended); }
+
+static bool are_here(unsigned wanted) { return (int)(atomic_load(&all.came) - wanted) >= 0; }
+
+/* It has come: what it was told is served, or its stack is where a coordinator finds it. Whether it has woken that. */
+static bool come(void) {
+    atomic_fetch_add(&all.came, 1);
+    return (are_here(atomic_load(&all.wanted)) || driven() > 1) && ring(&all.come);
+}
+
+/* Lets others run while some have still to come for what was driven when so many had ended: where more threads run than there are processors,
+   these come within a round of the scheduler, and not after a time slice of each. */
+static void give_way(unsigned ended, bool has_woken) {
+    for (int turn = 0; turn < YIELDS && atomic_load(&all.ended) == ended; turn++) {
+        if (are_here(atomic_load(&all.wanted)) && (!has_woken || turn >= GIVES)) return;
+        sched_yield();
+    }
+}
+
+/* The operation to serve now, or 0. Where a census keeps its stack, it has come and waits. */
+static int64_t next_of(struct sp_party *thread) {
+    struct sp_pause pause = {0, 0};
+    int64_t operation;
+    do {
+        if (pause.turns == 2) come(); /* not for a lock that was taken once */
+        sp_look(&pause);
+        operation = sp_stop_next(thread);
+    } while (sp_again(operation, &pause));
+    return operation;
 }
 
 int64_t sp_stop(struct sp_party *thread, sp_callback call, void *with) {
     for (;;) {
-        struct sp_pause pause = {0, 0};
-        int64_t operation, told;
-        do {
-            sp_look(&pause);
-            operation = sp_stop_next(thread);
-            if (!pause.turns) sp_ring(); /* its stack is given, or taken back */
-        } while (sp_again(operation, &pause));
+        int64_t told, operation = next_of(thread);
         if (operation <= 0) return operation;
         if (call) call(with, &(struct sp_served){(uint64_t)operation, (size_t)sp_place(thread), thread});
+        unsigned ended = atomic_load(&all.ended);
         SP_WAIT(told, sp_stop_serve(thread));
-        sp_ring();
-        give_way(&pause);
-        if (told <= 0) return told;
+        bool has_woken = come();
+        if (told > 0) continue;
+        give_way(ended, has_woken);
+        return told;
     }
 }
 
-static int64_t ringing(int64_t answer) {
-    sp_ring();
+/* Behind a call by which a thread gave its stack or its place away. */
+static int64_t given(int64_t answer) {
+    if (driven()) come();
     return answer;
 }
 
@@ -104,7 +168,6 @@ static int64_t polled(int64_t answer, struct sp_party *thread, sp_callback call,
 int64_t sp_start_thread(struct sp_party *thread, sp_callback call, void *with) {
     int64_t name, stopped = 0;
     SP_WAIT(name, sp_start(thread));
-    sp_ring();
     if (name > 0 && sp_state(thread) == SP_AT_POLL) stopped = sp_stop(thread, call, with);
     return stopped < 0 ? stopped : name;
 }
@@ -113,7 +176,7 @@ int64_t sp_exit_thread(struct sp_party *thread, sp_callback call, void *with) {
     for (;;) {
         int64_t answer;
         SP_WAIT(answer, sp_exit(thread));
-        if (answer <= 0) return ringing(answer);
+        if (answer <= 0) return given(answer);
         answer = sp_stop(thread, call, with);
         if (answer < 0) return answer;
     }
@@ -122,7 +185,7 @@ int64_t sp_exit_thread(struct sp_party *thread, sp_callback call, void *with) {
 int64_t sp_enter_native(struct sp_party *thread) {
     int64_t answer;
     SP_WAIT(answer, sp_to_native(thread));
-    return ringing(answer);
+    return given(answer);
 }
 
 int64_t sp_leave_native(struct sp_party *thread, sp_callback call, void *with) {
@@ -134,7 +197,7 @@ int64_t sp_leave_native(struct sp_party *thread, sp_callback call, void *with) {
 int64_t sp_enter_blocked(struct sp_party *thread) {
     int64_t answer;
     SP_WAIT(answer, sp_block(thread));
-    return ringing(answer);
+    return given(answer);
 }
 
 int64_t sp_leave_blocked(struct sp_party *thread, sp_callback call, void *with) {
@@ -145,87 +208,165 @@ int64_t sp_leave_blocked(struct sp_party *thread, sp_callback call, void *with) 
 
 /* --- the coordinator --- */
 
-/* Tells each live name all that is open and of it. */
-static int64_t tell_all(struct sp_party *coordinator) {
-    for (int64_t name = 0;;) {
+/* What is worked on. */
+struct drive {
+    struct sp_party *coordinator;
+    sp_callback call;
+    void *with;
+    int64_t newest; /* the number that was opened last, 0 where there may be others */
+    int told;       /* how many names were told, below 0 where nobody knows */
+    int looks;      /* that are left */
+    unsigned naps;
+    unsigned came;  /* how many had come before the last pass */
+    uint64_t late;  /* the places whose threads had still to come in that */
+    uint64_t held;  /* the places whose threads a census holds */
+};
+
+enum { ALL = -1 };
+
+/* Tells a name all that is open and of it: whether that was anything. */
+static bool is_told(struct drive *it, int64_t name) {
+    for (bool any = false;; any = true) {
         int64_t told;
-        SP_WAIT(name, sp_live_after(coordinator, (uint64_t)name));
-        if (name <= 0) return name;
-        do SP_WAIT(told, sp_tell(coordinator, (uint64_t)name));
-        while (told > 0);
+        SP_WAIT(told, sp_tell(it->coordinator, (uint64_t)name));
+        if (told <= 0) return any;
+        if (told == it->newest) return true;
     }
 }
 
-/* Serves for each thread that can be held what it owes, and lets it go: 0, or why not. */
-static int64_t serve_held(struct sp_party *coordinator, sp_callback call, void *with) {
-    for (size_t place = 0;;) {
-        int64_t owed, served, released;
-        SP_WAIT(owed, sp_hold(coordinator, place));
-        if (owed == SP_NO_SUCH_PLACE) return 0;
-        if (owed < 0) {
-            place++;
-            continue;
+/* Tells each live name: 0, or why not. Names rise by one, so behind one that was told the next is tried: to ask which lives goes through all. */
+static int64_t tell_all(struct drive *it) {
+    unsigned came = atomic_load(&all.came);
+    int64_t name = 0;
+    for (it->told = 0;;) {
+        SP_WAIT(name, sp_live_after(it->coordinator, (uint64_t)name));
+        if (name <= 0) break;
+        for (;; name++, it->told++) {
+            atomic_store(&all.wanted, came + (unsigned)it->told + 1); /* before it can come */
+            if (!is_told(it, name)) break;
         }
-        if (call) call(with, &(struct sp_served){(uint64_t)owed, place, NULL});
-        SP_WAIT(served, sp_serve(coordinator, place));
-        SP_WAIT(released, sp_release(coordinator, place));
-        sp_ring(); /* and once more: it may owe the next */
-        if (served < 0) return served;
-        if (released < 0) return released;
     }
+    if (!it->told) it->told = ALL;
+    return name;
 }
 
-static void for_each_place(struct sp_party *coordinator, int64_t (*act)(struct sp_party *, size_t)) {
-    for (size_t place = 0;; place++) {
-        int64_t answer;
-        SP_WAIT(answer, act(coordinator, place));
-        if (answer == SP_NO_SUCH_PLACE) return;
+/* Serves for a held thread what it owes, and lets it go: 0, or why not. */
+static int64_t serve_held(struct drive *it, size_t place, int64_t owed) {
+    int64_t served, released;
+    if (it->call) it->call(it->with, &(struct sp_served){(uint64_t)owed, place, NULL});
+    SP_WAIT(served, sp_serve(it->coordinator, place));
+    SP_WAIT(released, sp_release(it->coordinator, place));
+    return served < 0 ? served : released < 0 ? released : 0;
+}
+
+/* A pass over the places that are late: holds each thread that can be held. Of a handshake it serves all that the thread owes, and lets it
+   go; of a census it keeps it. 0, or why not. Once it has seen as many as were told it looks no further. */
+static int64_t pass(struct drive *it, bool serves) {
+    uint64_t late = it->late;
+    int found = 0;
+    bool has_served = false;
+    int64_t answer = 0;
+    it->came = atomic_load(&all.came);
+    it->late = 0;
+    for (size_t place = 0; place < PLACES && found != it->told && answer >= 0;) {
+        int64_t owed = SP_VACANT;
+        if (late >> place & 1) SP_WAIT(owed, sp_hold(it->coordinator, place));
+        if (owed == SP_NO_SUCH_PLACE) break;
+        if (owed >= 0 && serves) {
+            answer = serve_held(it, place, owed);
+            has_served = true;
+            if (owed != it->newest) continue; /* it may owe the next */
+        }
+        uint64_t bit = (uint64_t)1 << place;
+        if (owed == SP_NOT_SAFE) it->late |= bit;
+        if (owed == SP_HELD || (owed >= 0 && !serves)) it->held |= bit;
+        found += owed >= 0 || owed == SP_NOT_SAFE || owed == SP_ALREADY_DONE;
+        place++;
     }
+    if (has_served) ring(&all.gone);
+    return answer;
+}
+
+/* Waits until all that were late in the last pass have come, or for a nap. */
+static void wait_for_late(struct drive *it) {
+    unsigned wanted = it->came + (unsigned)__builtin_popcountll(it->late), seen = atomic_load(&all.come.rings);
+    atomic_store(&all.wanted, wanted);
+    for (; it->looks > 0; it->looks--) {
+        if (are_here(wanted)) return;
+        PAUSE();
+    }
+    atomic_fetch_add(&all.come.sleepers, 1);
+    if (!are_here(wanted)) nap(&all.come, seen, it->naps++);
+    atomic_fetch_sub(&all.come.sleepers, 1);
+}
+
+/* The next pass is over all places: somebody owes still whom the last one didn't see. */
+static void look_everywhere(struct drive *it, struct sp_pause *pause) {
+    it->late = UINT64_MAX;
+    it->told = ALL;
+    sp_look(pause);
+    rest(pause);
 }
 
 /* The open census: all are held, it is operated, all are let go. A name that started meanwhile is no part of it. */
-static int64_t work_census(struct sp_party *coordinator) {
-    for (struct sp_pause pause = {0, 0};;) {
-        int64_t answer;
-        sp_look(&pause);
-        for_each_place(coordinator, sp_hold);
-        SP_WAIT(answer, sp_operate(coordinator));
-        if (answer != SP_NOT_ALL_HELD) {
-            for_each_place(coordinator, sp_release);
-            return ringing(answer);
+static int64_t work_census(struct drive *it) {
+    struct sp_pause pause = {0, 0};
+    int64_t answer, released = 0;
+    for (;;) {
+        pass(it, false);
+        if (it->late) {
+            wait_for_late(it);
+            continue;
         }
-        rest(&pause);
+        SP_WAIT(answer, sp_operate(it->coordinator));
+        if (answer != SP_NOT_ALL_HELD) break;
+        look_everywhere(it, &pause);
     }
+    for (size_t place = 0; place < PLACES; place++) {
+        if (it->held >> place & 1) SP_WAIT(released, sp_release(it->coordinator, place));
+    }
+    ring(&all.gone);
+    return released < 0 ? released : answer;
 }
 
-static int64_t work_handshake(struct sp_party *coordinator, sp_callback call, void *with) {
-    for (struct sp_pause pause = {0, 0};;) {
-        int64_t closed;
-        sp_look(&pause);
-        SP_WAIT(closed, sp_close(coordinator));
+static int64_t work_handshake(struct drive *it) {
+    struct sp_pause pause = {0, 0};
+    for (;;) {
+        int64_t closed = pass(it, true);
+        if (closed < 0) return closed;
+        if (it->late) wait_for_late(it);
+        SP_WAIT(closed, sp_close(it->coordinator));
         if (closed != SP_NOT_DONE) return closed;
-        if (pause.turns >= SPINS / 4 && (closed = serve_held(coordinator, call, with)) < 0) return closed;
-        rest(&pause);
+        if (!it->late) look_everywhere(it, &pause);
     }
 }
 
 /* Works the oldest open request to its Close. */
-static int64_t work(struct sp_party *coordinator, sp_callback call, void *with) {
-    int64_t kind, told = tell_all(coordinator);
-    if (told < 0) return told;
-    SP_WAIT(kind, sp_operate(coordinator));
-    if (kind == SP_NOT_OF) return work_handshake(coordinator, call, with);
-    if (kind == SP_NOT_ALL_HELD) kind = work_census(coordinator);
+static int64_t work_told(struct drive *it) {
+    int64_t kind = tell_all(it);
+    if (kind < 0) return kind;
+    SP_WAIT(kind, sp_operate(it->coordinator));
+    if (kind == SP_NOT_OF) return work_handshake(it);
+    if (kind == SP_NOT_ALL_HELD) kind = work_census(it);
     if (kind < 0 && kind != SP_ALREADY_DONE) return kind;
-    SP_WAIT(kind, sp_close(coordinator));
+    SP_WAIT(kind, sp_close(it->coordinator));
     return kind;
+}
+
+/* The same, where `newest` is the number that was opened last, or 0 where there may be others. */
+static int64_t work(struct sp_party *coordinator, int64_t newest, sp_callback call, void *with) {
+    struct drive it = {coordinator, call, with, newest, ALL, LOOKS, 0, 0, UINT64_MAX, 0};
+    atomic_fetch_add(&all.begun, 1);
+    int64_t closed = work_told(&it);
+    atomic_fetch_add(&all.ended, 1);
+    return closed;
 }
 
 int64_t sp_drive(struct sp_party *coordinator, sp_callback call, void *with) {
     int64_t opened, closed;
     SP_WAIT(opened, sp_open(coordinator));
     if (opened < 0 && opened != SP_ALREADY_OPEN && opened != SP_QUEUE_EMPTY) return opened;
-    closed = work(coordinator, call, with);
+    closed = work(coordinator, opened > 0 ? opened : 0, call, with);
     return closed == SP_NOTHING_OPEN ? SP_QUEUE_EMPTY : closed;
 }
 
@@ -234,7 +375,7 @@ int64_t sp_drive_four(struct sp_party *coordinator, sp_callback call, void *with
     do SP_WAIT(opened, sp_open(coordinator));
     while (opened > 0);
     if (opened != SP_ALREADY_OPEN && opened != SP_QUEUE_EMPTY) return opened;
-    while ((closed = work(coordinator, call, with)) > 0) count++;
+    while ((closed = work(coordinator, 0, call, with)) > 0) count++;
     return closed == SP_NOTHING_OPEN ? count : closed;
 }
 
