@@ -1,11 +1,14 @@
 /* Refuses one growth of memory, or one thread, of a program that is started with this library: the one whose number is in
-   REFUSE_GROWTH or REFUSE_THREAD, from 1 on. tests/refusing.py builds it. */
+   REFUSE_GROWTH or REFUSE_THREAD, from 1 on. Where COUNT_GROWTHS names a file, the number of growths so far goes into it at the end.
+   tests/refusing.py builds it. */
 #define _GNU_SOURCE
 #include <dlfcn.h>
 #include <errno.h>
+#include <fcntl.h>
 #include <pthread.h>
 #include <stdatomic.h>
 #include <stdlib.h>
+#include <unistd.h>
 
 extern void *__libc_malloc(size_t size);
 extern void *__libc_realloc(void *block, size_t size);
@@ -22,6 +25,16 @@ static long number_of(const char *name) {
 __attribute__((constructor)) static void read_numbers(void) {
     refused_growth = number_of("REFUSE_GROWTH");
     refused_thread = number_of("REFUSE_THREAD");
+}
+
+__attribute__((destructor)) static void tell_growths(void) {
+    char digits[24], *digit = digits + sizeof digits;
+    long left = atomic_load(&growths);
+    const char *name = getenv("COUNT_GROWTHS");
+    int file = name ? open(name, O_WRONLY | O_CREAT | O_TRUNC, 0600) : -1;
+    do *--digit = (char)('0' + left % 10);
+    while (left /= 10);
+    if (file >= 0 && write(file, digit, (size_t)(digits + sizeof digits - digit)) < 0) _exit(9);
 }
 
 static int is_refused(void) {

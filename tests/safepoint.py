@@ -1,9 +1,17 @@
 #!/usr/bin/env python3
-"""Builds and runs what C does with the library of safe points: safepoint.py LIBSAFEPOINT
+"""Builds and runs what C does with the library of safe points: safepoint.py LIBSAFEPOINT [--long] [LIBMODEL]
 
-`safepoint_calls.c` makes each call with its refusals, once as it is, under valgrind where that is there, and with each of its first growths of
-memory refused in turn, and must print the same. `safepoint_threads.c` has threads at random beside a coordinator: with few threads and many,
-with the futex and with the pthread condition, and once under ThreadSanitizer and AddressSanitizer of the C side where the compiler has them.
+LIBMODEL is crates/model/out/libmodel.a by default. Without --long it takes less than a minute on a quiet machine, with it some ten minutes.
+
+| what | how |
+|---|---|
+| `safepoint_calls.c` makes each call with its refusals | as it is; under valgrind; with each growth of memory refused in turn |
+| `safepoint_beside.c` makes random schedules of calls, each beside the model | as it is; under AddressSanitizer; with growths refused in turn |
+| `safepoint_threads.c` has threads at random beside a coordinator, with few threads and many | with the futex and with the pthread condition; under ThreadSanitizer and AddressSanitizer of the C side |
+| `safepoint_soak.c` has threads that start, ask and exit at random | the same |
+| `examples/jit` unmaps codes under its threads | with 1, 4 and 16 threads; with --careless it dies of SIGSEGV |
+| `safepoint_scopes.cpp`, `bindings/rust` | from C++ and Rust |
+
 What can't be built or run for want of a tool is told and left out. The last line is `N passed, M failed`; the status is 0 where none failed.
 """
 import os
@@ -17,15 +25,21 @@ import tempfile
 import refusing
 
 TESTS = pathlib.Path(__file__).resolve().parent
-CRATE = TESTS.parent / "crates" / "safepoint"
-JIT = TESTS.parent / "examples" / "jit" / "jit.c"
-BINDINGS = TESTS.parent / "bindings"
-JIT_SECONDS = 3
-SECONDS = 300
-GROWTHS = 60
-# (threads, requests, seed) of each run
-RUNS = ((1, 4000, 1), (2, 4000, 2), (4, 2000, 3), (16, 300, 4), (16, 300, 5), (64, 40, 6))
-SLOW_RUNS = ((4, 300, 7), (16, 60, 8))
+ROOT = TESTS.parent
+CRATE = ROOT / "crates" / "safepoint"
+WAITS = [CRATE / "waits" / f"{name}.c" for name in ("safepoint_wait", "safepoint_text")]
+JIT = ROOT / "examples" / "jit" / "jit.c"
+BINDINGS = ROOT / "bindings"
+SECONDS = 600
+FLAGS = ("-O2", "-g", "-Wall", "-Wextra", "-Werror")
+CONDITION, RACES, MEMORY = "-DSP_PTHREAD", "-fsanitize=thread", "-fsanitize=address,undefined"
+# What takes memory, and so is refused it.
+GROWING = {"sp_make", "sp_fork", "sp_start", "sp_target", "sp_submit", "sp_census", "sp_install", "sp_reclaim_begin", "sp_reply", "sp_live_after", "sp_operate"}
+# Threads, requests and the seed of each run of safepoint_threads.
+RUNS = ((1, 4000, 1), (4, 1000, 3), (16, 200, 5), (64, 20, 6))
+SLOW_RUNS = ((4, 200, 7), (16, 40, 8))
+# ThreadSanitizer doesn't see the library's locks: blocks of the library go from thread to thread under them.
+KNOWN = "race:rattle_alloc\nrace:rattle_realloc\nrace:rattle_dealloc\n"
 
 
 def kit():
@@ -35,71 +49,122 @@ def kit():
 
 
 class Tests:
-    def __init__(self, library, folder):
-        self.archives, self.folder = [library, kit() / "c" / "liblibc_c.a"], folder
+    def __init__(self, library, model, is_long, folder):
+        self.allocator = kit() / "c" / "liblibc_c.a"
+        self.archives, self.model, self.is_long, self.folder = [library, self.allocator], model, is_long, folder
         self.passed = self.failed = 0
+        (folder / "known").write_text(KNOWN)
+        self.refuse = refusing.built_in(folder)
 
-    def judge(self, what, ran, wanted=None):
+    def judge(self, what, ran, wanted=None, shows=False):
         """Passed where the status is 0, nothing went to standard error, and (where it is given) what was printed is this."""
         if ran.returncode == 0 and not ran.stderr and wanted in (None, ran.stdout):
             self.passed += 1
+            if shows:
+                print(f"{what}: {ran.stdout.decode().strip()}", flush=True)
             return True
         self.failed += 1
-        print(f"FAILED: {what}: status {ran.returncode}, {ran.stdout!r}, {ran.stderr!r}")
+        print(f"FAILED: {what}: status {ran.returncode}, {ran.stdout!r}, {ran.stderr!r}", flush=True)
         return False
 
-    def built(self, name, *words):
-        program = self.folder / f"{name}{''.join(words).replace('-', '_').replace('=', '_')}"
-        sources = [TESTS / f"{name}.c", CRATE / "waits" / "safepoint_wait.c", CRATE / "waits" / "safepoint_text.c"]
-        common = [os.environ.get("CC", "cc"), "-std=gnu11", "-O2", "-g", "-Wall", "-Wextra", "-Werror", "-I", CRATE / "include"]
-        made = subprocess.run([*common, *words, "-o", program, *sources, *self.archives, "-lpthread"], capture_output=True, timeout=SECONDS)
-        if made.returncode != 0:
-            print(f"left out: {name} {' '.join(words)}, which can't be built: {made.stderr.decode(errors='replace')[-300:]}")
-            return None
-        return program
+    def built(self, source, *words, archives=()):
+        """The program of a source in C, or None where the compiler lacks what the words ask for."""
+        program = self.folder / f"{source.stem}{''.join(words)}".replace(",", "_")
+        command = [os.environ.get("CC", "cc"), "-std=gnu11", *FLAGS, "-I", CRATE / "include", *words]
+        made = subprocess.run([*command, "-o", program, source, *WAITS, *archives, *self.archives, "-lpthread"], capture_output=True, timeout=SECONDS)
+        if made.returncode == 0:
+            return program
+        said = made.stderr.decode(errors="replace")
+        if not any(word in (RACES, MEMORY) for word in words):
+            self.failed += 1
+            print(f"FAILED: {source.name} isn't built: {said}")
+        else:
+            print(f"left out: {source.name} {' '.join(words)}, which can't be built: {said[-300:]}")
+        return None
 
     def run(self, program, *words, under=(), env=None):
-        return subprocess.run([*under, program, *map(str, words)], capture_output=True, timeout=SECONDS, env=env)
+        known = {"TSAN_OPTIONS": f"suppressions={self.folder / 'known'}"}
+        return subprocess.run([*under, program, *map(str, words)], capture_output=True, timeout=SECONDS, env={**(env or os.environ), **known})
+
+    def refused(self, program, *words, step=1):
+        """What the program prints with one growth refused, for each of them, or for one of so many."""
+        growths = refusing.growths_of(self.refuse, [str(program), *map(str, words)], self.folder)
+        for growth in range(1, growths + 1, step):
+            yield growth, self.run(program, *words, env=refusing.asking(self.refuse, "REFUSE_GROWTH", growth))
 
 
 def calls(tests):
-    program = tests.built("safepoint_calls")
+    program = tests.built(TESTS / "safepoint_calls.c")
     if program is None:
-        tests.failed += 1
         return
     tests.judge("each call", tests.run(program), b"ok\n")
     if shutil.which("valgrind"):
         tests.judge("each call, under valgrind", tests.run(program, under=("valgrind", "-q", "--leak-check=full", "--error-exitcode=9")), b"ok\n")
     else:
         print("left out: valgrind, which isn't there")
-    library = refusing.built_in(tests.folder)
-    for growth in range(1, GROWTHS + 1):
-        ran = tests.run(program, env=refusing.asking(library, "REFUSE_GROWTH", growth))
-        if (ran.returncode, ran.stdout, ran.stderr) != (0, b"ok\n", b""):
+    met = set()
+    for growth, ran in tests.refused(program):
+        name = ran.stdout.decode().removeprefix("ok, and ").removesuffix(" was refused\n")
+        met.add(name)
+        if ran.returncode or ran.stderr or name not in {"ok\n", *GROWING}:
             tests.judge(f"each call, growth {growth} refused", ran, b"ok\n")
+            return
+    if met >= GROWING:
+        tests.passed += 1
+    else:
+        tests.failed += 1
+        print(f"FAILED: never refused memory: {' '.join(GROWING - met)}")
+
+
+def beside(tests):
+    """Random schedules beside the model."""
+    if not tests.model.is_file():
+        print(f"left out: the schedules beside the model, since there is no {tests.model}")
+        return
+    source = TESTS / "safepoint_beside.c"
+    program = tests.built(source, archives=[tests.model])
+    if program is None:
+        return
+    tests.judge("beside the model", tests.run(program, 20000 if tests.is_long else 400, 1, 1000), shows=True)
+    checked = tests.built(source, MEMORY, archives=[tests.model])
+    if checked:
+        tests.judge("beside the model, with AddressSanitizer", tests.run(checked, 400 if tests.is_long else 40, 50_000, 1000))
+    whole = tests.run(program, 3, 7, 300).stdout
+    for growth, ran in tests.refused(program, 3, 7, 300, step=1 if tests.is_long else 31):
+        if (ran.returncode, ran.stdout, ran.stderr) != (0, whole, b""):
+            tests.judge(f"beside the model, growth {growth} refused", ran, whole)
             return
     tests.passed += 1
 
 
 def threads(tests):
-    for words, runs in (((), RUNS), (("-DSP_PTHREAD",), RUNS[:4]), (("-fsanitize=thread",), SLOW_RUNS), (("-fsanitize=address,undefined",), SLOW_RUNS)):
-        program = tests.built("safepoint_threads", *words)
+    source = TESTS / "safepoint_threads.c"
+    for words, runs in (((), RUNS), ((CONDITION,), RUNS[:3]), ((RACES,), SLOW_RUNS), ((MEMORY,), SLOW_RUNS)):
+        program = tests.built(source, *words)
         for count, requests, seed in runs if program else ():
-            what = f"{count} threads, {requests} requests, seed {seed} {' '.join(words)}"
-            ran = tests.run(program, count, requests, seed)
-            if tests.judge(what, ran):
-                print(f"{what}: {ran.stdout.decode().strip()}")
+            requests *= 10 if tests.is_long else 1
+            tests.judge(" ".join((f"{count} threads, {requests} requests, seed {seed}", *words)), tests.run(program, count, requests, seed), shows=True)
+
+
+def soak(tests):
+    source = TESTS / "safepoint_soak.c"
+    for words, count, seconds in (((), 16, 4), ((CONDITION,), 8, 2), ((RACES,), 8, 2), ((MEMORY,), 16, 2)):
+        program = tests.built(source, *words)
+        if program:
+            seconds *= 30 if tests.is_long else 1
+            tests.judge(" ".join(("a soak of", str(seconds), "s", *words)), tests.run(program, count, seconds, count), shows=True)
 
 
 def jit(tests):
     """The runtime that compiles under its threads: without a fault, and --careless of SIGSEGV."""
-    program = tests.folder / "jit"
-    sources = [JIT, CRATE / "waits" / "safepoint_wait.c", CRATE / "waits" / "safepoint_text.c"]
-    subprocess.run([os.environ.get("CC", "cc"), "-std=gnu11", "-O2", "-Wall", "-Wextra", "-Werror", "-I", CRATE / "include", "-o", program, *sources, *tests.archives, "-lpthread"], check=True)
+    program = tests.built(JIT)
+    if program is None:
+        return
     for count in (1, 4, 16):
-        ran = tests.run(program, count, JIT_SECONDS)
-        if tests.judge(f"jit, {count} threads", ran):
-            print(f"jit: {ran.stdout.decode().strip()}")
+        ran = tests.run(program, count, 60 if tests.is_long else 2)
+        if tests.judge(f"jit, {count} threads", ran, shows=True) and tests.is_long:
+            unmapped = int(ran.stdout.split(b" compilations, ")[1].split()[0])
+            tests.passed, tests.failed = tests.passed + (unmapped >= 1000), tests.failed + (unmapped < 1000)
     ran = tests.run(program, "--careless", 4, 10)
     if ran.returncode == -signal.SIGSEGV:
         tests.passed += 1
@@ -124,27 +189,27 @@ def cpp(tests):
     if shutil.which(compiler) is None:
         print("left out: safepoint.hpp, since there is no C++ compiler")
         return
-    objects = []
-    for name in ("safepoint_wait", "safepoint_text"):
-        objects.append(tests.folder / f"{name}.o")
-        subprocess.run([os.environ.get("CC", "cc"), "-std=gnu11", "-O2", "-I", CRATE / "include", "-c", CRATE / "waits" / f"{name}.c", "-o", objects[-1]], check=True)
+    objects = [tests.folder / f"{source.stem}.o" for source in WAITS]
+    for source, made in zip(WAITS, objects):
+        subprocess.run([os.environ.get("CC", "cc"), "-std=gnu11", *FLAGS, "-I", CRATE / "include", "-c", source, "-o", made], check=True)
     program = tests.folder / "scopes"
-    subprocess.run([compiler, "-std=c++17", "-O2", "-Wall", "-Wextra", "-Werror", "-I", CRATE / "include", "-o", program, TESTS / "safepoint_scopes.cpp", *objects, *tests.archives, "-lpthread"], check=True)
+    sources = [TESTS / "safepoint_scopes.cpp", *objects, *tests.archives]
+    subprocess.run([compiler, "-std=c++17", *FLAGS, "-I", CRATE / "include", "-o", program, *sources, "-lpthread"], check=True)
     tests.judge("scopes of C++", tests.run(program), b"ok\n")
 
 
 def main():
-    library = pathlib.Path(sys.argv[1]).resolve()
+    words = [word for word in sys.argv[1:] if word != "--long"]
+    if not 1 <= len(words) <= 2:
+        sys.exit("safepoint.py LIBSAFEPOINT [--long] [LIBMODEL]")
+    library, model = pathlib.Path(words[0]).resolve(), pathlib.Path(*words[1:] or [ROOT / "crates/model/out/libmodel.a"]).resolve()
     if shutil.which(os.environ.get("CC", "cc")) is None:
         print("left out: all, since there is no C compiler\n0 passed, 0 failed")
         return 0
     with tempfile.TemporaryDirectory() as folder:
-        tests = Tests(library, pathlib.Path(folder))
-        calls(tests)
-        threads(tests)
-        jit(tests)
-        cpp(tests)
-        rust(tests)
+        tests = Tests(library, model, "--long" in sys.argv, pathlib.Path(folder))
+        for part in (calls, beside, threads, soak, jit, cpp, rust):
+            part(tests)
     print(f"{tests.passed} passed, {tests.failed} failed")
     return 1 if tests.failed else 0
 

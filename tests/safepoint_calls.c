@@ -1,11 +1,13 @@
 /* Each call of safepoint.h with its refusals, from one thread, so that no lock is ever taken: SP_AGAIN says then that what a call needs isn't
-   there. Where memory is refused the call is made again, so it prints the same whichever growth is refused. tests/safepoint.py builds and
-   runs it. */
+   there. Where memory is refused the call is made again, and answers as if nothing had been refused; the last line tells which was.
+   tests/safepoint.py builds and runs it. */
 #include <stdio.h>
+#include <string.h>
 
 #include "../crates/safepoint/include/safepoint_wait.h"
 
 static int failed;
+static const char *refused; /* the call that was refused memory */
 
 static void judge(int line, const char *call, int64_t found, int64_t wanted) {
     if (found == wanted) return;
@@ -16,7 +18,7 @@ static void judge(int line, const char *call, int64_t found, int64_t wanted) {
 #define IS(call, wanted)                                                                                                                   \
     do {                                                                                                                                   \
         int64_t found_ = (call);                                                                                                           \
-        if (found_ == SP_NO_MEMORY) found_ = (call);                                                                                       \
+        if (found_ == SP_NO_MEMORY) refused = #call, found_ = (call);                                                                      \
         judge(__LINE__, #call, found_, (wanted));                                                                                          \
     } while (0)
 
@@ -359,6 +361,7 @@ int main(void) {
     sp_free(&c);
     sp_free(&d);
     if (failed) return 1;
-    puts("ok");
+    if (refused) printf("ok, and %.*s was refused\n", (int)strcspn(refused, "("), refused);
+    else puts("ok");
     return 0;
 }

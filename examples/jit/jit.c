@@ -384,11 +384,16 @@ static void unmap(struct pages *pages) {
     freed++;
 }
 
-/* Unmaps old code that no thread stands in or can enter any more. */
+/* Unmaps old code that no thread stands in or can enter any more. The first is reclaimed with a handshake of all threads, in which each tells
+   what it stands in. That does for the others too, so of these only the end is asked for. */
 static void reclaim(void) {
+    bool has_asked = false;
     for (int i = 0; i < SLOTS; i++) {
+        int64_t stand;
         if (!old[i].serial) continue;
-        int64_t stand = sp_reclaim(&coordinator, old[i].serial, NULL, NULL);
+        if (has_asked) SP_WAIT(stand, sp_reclaim_end(&coordinator, old[i].serial));
+        else stand = sp_reclaim(&coordinator, old[i].serial, NULL, NULL);
+        has_asked = true;
         if (stand > 0 || stand == SP_LATE) continue; /* later */
         must("sp_reclaim", stand);
         unmap(&old[i].pages);
