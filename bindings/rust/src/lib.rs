@@ -34,7 +34,7 @@ pub use refusal::Refusal;
 
 use std::marker::PhantomData;
 use std::ptr;
-use waiting::{answer, wait, Pause};
+use waiting::{answer, ended, give_way, wait, Driving, Pause};
 
 /// What a handshake asks of each target.
 #[derive(Clone, Copy, Debug, PartialEq, Eq)]
@@ -182,6 +182,7 @@ impl Safepoints {
 
     /// Works the oldest request to its Close: its number. The callback runs for each target that is held.
     pub fn drive(&mut self, mut callback: impl FnMut(Served)) -> Result<u64, Refusal> {
+        let _driving = Driving::begin();
         match wait(|| unsafe { sys::sp_open(self.party.at()) }) {
             Ok(_) | Err(Refusal::AlreadyOpen | Refusal::QueueEmpty) => {}
             Err(refusal) => return Err(refusal),
@@ -349,7 +350,11 @@ impl Thread<'_> {
             }
             let place = unsafe { sys::sp_place(self.party.at()) } as usize;
             (self.callback)(Served { operation, place, is_held: false });
+            let before = ended();
             polled = wait(|| unsafe { sys::sp_stop_serve(self.party.at()) })?;
+            if polled == 0 {
+                give_way(before);
+            }
         }
         Ok(())
     }
