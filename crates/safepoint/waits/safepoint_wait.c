@@ -256,6 +256,7 @@ static int64_t serve_held(struct drive *it, size_t place, int64_t owed) {
     if (it->call) it->call(it->with, &(struct sp_served){(uint64_t)owed, place, NULL});
     SP_WAIT(served, sp_serve(it->coordinator, place));
     SP_WAIT(released, sp_release(it->coordinator, place));
+    if (atomic_load(&all.gone.sleepers)) ring(&all.gone);
     return served < 0 ? served : released < 0 ? released : 0;
 }
 
@@ -283,7 +284,7 @@ static int64_t pass(struct drive *it, bool serves) {
         found += owed >= 0 || owed == SP_NOT_SAFE || owed == SP_ALREADY_DONE;
         place++;
     }
-    if (has_served) ring(&all.gone);
+    if (has_served) ring(&all.gone); /* also for those that were about to sleep */
     return answer;
 }
 
@@ -341,10 +342,9 @@ static int64_t work_handshake(struct drive *it) {
     }
 }
 
-/* Works the oldest open request to its Close. */
+/* Works the oldest open request to its Close, once all are told. */
 static int64_t work_told(struct drive *it) {
-    int64_t kind = tell_all(it);
-    if (kind < 0) return kind;
+    int64_t kind;
     SP_WAIT(kind, sp_operate(it->coordinator));
     if (kind == SP_NOT_OF) return work_handshake(it);
     if (kind == SP_NOT_ALL_HELD) kind = work_census(it);
@@ -353,30 +353,37 @@ static int64_t work_told(struct drive *it) {
     return kind;
 }
 
-/* The same, where `newest` is the number that was opened last, or 0 where there may be others. */
-static int64_t work(struct sp_party *coordinator, int64_t newest, sp_callback call, void *with) {
+/* Works the oldest open request, and all others that are open too, as far as they are wanted: the number of the one, or why not. The number that
+   was opened last is given, or 0 where there may be others. */
+static int64_t work(struct sp_party *coordinator, int64_t newest, int64_t *others, sp_callback call, void *with) {
     struct drive it = {coordinator, call, with, newest, ALL, LOOKS, 0, 0, UINT64_MAX, 0};
+    struct sp_pause pause = {0, 0};
     atomic_fetch_add(&all.begun, 1);
-    int64_t closed = work_told(&it);
+    int64_t next, closed = tell_all(&it);
+    if (closed >= 0) closed = work_told(&it);
+    for (next = closed; others && next > 0; *others += next > 0) {
+        SP_WAIT(next, sp_close(coordinator)); /* in the passes for the first the others were served too */
+        if (next == SP_NOT_DONE) look_everywhere(&it, &pause), next = work_handshake(&it);
+    }
     atomic_fetch_add(&all.ended, 1);
-    return closed;
+    return closed > 0 && next < 0 && next != SP_NOTHING_OPEN ? next : closed;
 }
 
 int64_t sp_drive(struct sp_party *coordinator, sp_callback call, void *with) {
     int64_t opened, closed;
     SP_WAIT(opened, sp_open(coordinator));
     if (opened < 0 && opened != SP_ALREADY_OPEN && opened != SP_QUEUE_EMPTY) return opened;
-    closed = work(coordinator, opened > 0 ? opened : 0, call, with);
+    closed = work(coordinator, opened > 0 ? opened : 0, NULL, call, with);
     return closed == SP_NOTHING_OPEN ? SP_QUEUE_EMPTY : closed;
 }
 
 int64_t sp_drive_four(struct sp_party *coordinator, sp_callback call, void *with) {
-    int64_t opened, closed, count = 0;
+    int64_t opened, closed, others = 0;
     do SP_WAIT(opened, sp_open(coordinator));
     while (opened > 0);
     if (opened != SP_ALREADY_OPEN && opened != SP_QUEUE_EMPTY) return opened;
-    while ((closed = work(coordinator, 0, call, with)) > 0) count++;
-    return closed == SP_NOTHING_OPEN ? count : closed;
+    closed = work(coordinator, 0, &others, call, with);
+    return closed > 0 ? 1 + others : closed == SP_NOTHING_OPEN ? 0 : closed;
 }
 
 int64_t sp_reclaim(struct sp_party *coordinator, uint64_t serial, sp_callback call, void *with) {
