@@ -31,7 +31,7 @@ VERSION = "0.1.0"
 
 def plain_files():
     """The files that are installed as they are: where to, below the prefix, and from where."""
-    yield from ((f"include/{it}", INCLUDE / it) for it in ("safepoint.h", "safepoint_wait.h", "safepoint.hpp"))
+    yield from ((f"include/{it}", INCLUDE / it) for it in ("safepoint.h", "safepoint_wait.h", "safepoint_record.h", "safepoint.hpp"))
     yield "include/model.h", CRATES / "model" / "include" / "model.h"
     yield from ((f"share/safepoint/{it.name}", it) for it in sorted(WAITS.glob("*.c")))
     yield from ((f"share/man/man{it.suffix[1:]}/{it.name}", it) for it in sorted(HERE.glob("*.[13]")))

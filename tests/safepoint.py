@@ -1,13 +1,14 @@
 #!/usr/bin/env python3
-"""Builds and runs what C does with the library of safe points: safepoint.py LIBSAFEPOINT [--long] [LIBMODEL]
+"""Builds and runs what C does with the library of safe points: safepoint.py LIBSAFEPOINT [--long] [LIBMODEL [WITNESS]]
 
-LIBMODEL is crates/model/out/libmodel.a by default. Without --long it takes less than a minute on a quiet machine, with it some ten minutes.
+LIBMODEL is crates/model/out/libmodel.a by default, and WITNESS the program crates/witness/out/witness. Without --long it takes less than a minute on a quiet machine, with it some ten minutes.
 
 | what | how |
 |---|---|
 | `safepoint_calls.c` makes each call with its refusals | as it is; under valgrind; with each growth of memory refused in turn |
 | `safepoint_beside.c` makes random schedules of calls, each beside the model | as it is; under AddressSanitizer; with growths refused in turn |
 | `safepoint_threads.c` has threads at random beside a coordinator, with few threads and many | with the futex and with the pthread condition; under ThreadSanitizer and AddressSanitizer of the C side |
+| `safepoint_threads.c` notes its calls as a log, which `witness` explains where it is built | with -DSP_RECORD, with the futex and with the pthread condition |
 | `safepoint_soak.c` has threads that start, ask and exit at random | the same |
 | `examples/jit` unmaps codes under its threads | with 1, 4 and 16 threads; with --careless it dies of SIGSEGV |
 | `safepoint_scopes.cpp`, `bindings/rust` | from C++ and Rust |
@@ -27,7 +28,7 @@ import refusing
 TESTS = pathlib.Path(__file__).resolve().parent
 ROOT = TESTS.parent
 CRATE = ROOT / "crates" / "safepoint"
-WAITS = [CRATE / "waits" / f"{name}.c" for name in ("safepoint_wait", "safepoint_text")]
+WAITS = sorted((CRATE / "waits").glob("*.c"))
 JIT = ROOT / "examples" / "jit" / "jit.c"
 BINDINGS = ROOT / "bindings"
 SECONDS = 600
@@ -38,6 +39,8 @@ GROWING = {"sp_make", "sp_fork", "sp_start", "sp_target", "sp_submit", "sp_censu
 # Threads, requests and the seed of each run of safepoint_threads.
 RUNS = ((1, 4000, 1), (4, 1000, 3), (16, 200, 5), (64, 20, 6))
 SLOW_RUNS = ((4, 200, 7), (16, 40, 8))
+# The same of runs that are recorded.
+RECORDED_RUNS = ((2, 60, 9), (3, 60, 10), (4, 40, 11), (8, 20, 12))
 # ThreadSanitizer doesn't see the library's locks: blocks of the library go from thread to thread under them.
 KNOWN = "race:rattle_alloc\nrace:rattle_realloc\nrace:rattle_dealloc\n"
 
@@ -49,9 +52,9 @@ def kit():
 
 
 class Tests:
-    def __init__(self, library, model, is_long, folder):
+    def __init__(self, library, model, witness, is_long, folder):
         self.allocator = kit() / "c" / "liblibc_c.a"
-        self.archives, self.model, self.is_long, self.folder = [library, self.allocator], model, is_long, folder
+        self.archives, self.model, self.witness, self.is_long, self.folder = [library, self.allocator], model, witness, is_long, folder
         self.passed = self.failed = 0
         (folder / "known").write_text(KNOWN)
         self.refuse = refusing.built_in(folder)
@@ -66,6 +69,11 @@ class Tests:
         self.failed += 1
         print(f"FAILED: {what}: status {ran.returncode}, {ran.stdout!r}, {ran.stderr!r}", flush=True)
         return False
+
+    def holds(self, what, is_so):
+        self.passed, self.failed = self.passed + is_so, self.failed + (not is_so)
+        if not is_so:
+            print(f"FAILED: {what}", flush=True)
 
     def built(self, source, *words, archives=()):
         """The program of a source in C, or None where the compiler lacks what the words ask for."""
@@ -155,6 +163,36 @@ def soak(tests):
             tests.judge(" ".join(("a soak of", str(seconds), "s", *words)), tests.run(program, count, seconds, count), shows=True)
 
 
+def is_whole(log, count):
+    """The log is of this form, each stream's tickets rise, each thread started and exited, and no operation was closed twice."""
+    lines = log.decode().splitlines()
+    last, called = {}, []
+    for line in lines[2:]:
+        stream, before, after, call = line.split()[:4]
+        if int(before) <= last.get(stream, 0) or after != "-" and int(after) <= int(before):
+            return False
+        last[stream] = int(after) if after != "-" else 1 << 40
+        called.append((call, line.partition(" : ")[2]))
+    closed = [said for call, said in called if call == "close" and said.startswith("closed")]
+    starts, exits = (sum(call == what for call, _ in called) for what in ("start", "exit"))
+    return lines[0] == "witness 1" and lines[1].startswith("size ") and starts == exits == count and len(closed) == len(set(closed)) > 0
+
+
+def recorded(tests):
+    """Logs of calls: each is whole, and explained where the program that explains them is built."""
+    for words in (("-DSP_RECORD",), ("-DSP_RECORD", CONDITION)):
+        program = tests.built(TESTS / "safepoint_threads.c", *words)
+        for count, requests, seed in RECORDED_RUNS if program else ():
+            what = " ".join((f"recorded: {count} threads, {requests} requests, seed {seed}", *words[1:]))
+            ran = tests.run(program, count, requests, seed)
+            if not tests.judge(what, ran):
+                continue
+            tests.holds(f"{what}: the log is whole", is_whole(ran.stdout, count))
+            if tests.witness.is_file():
+                said = subprocess.run([tests.witness], input=ran.stdout, capture_output=True, timeout=SECONDS)
+                tests.holds(f"{what}: the log is explained: {said.stderr[-300:]!r}", said.returncode == 0)
+
+
 def jit(tests):
     """The runtime that compiles under its threads: without a fault, and --careless of SIGSEGV."""
     program = tests.built(JIT)
@@ -165,7 +203,7 @@ def jit(tests):
         if tests.judge(f"jit, {count} threads", ran, shows=True) and tests.is_long:
             unmapped = int(ran.stdout.split(b" compilations, ")[1].split()[0])
             tests.passed, tests.failed = tests.passed + (unmapped >= 1000), tests.failed + (unmapped < 1000)
-    ran = tests.run(program, "--careless", 4, 10)
+    ran = tests.run(program, "--careless", 4, 60)
     if ran.returncode == -signal.SIGSEGV:
         tests.passed += 1
     else:
@@ -200,15 +238,16 @@ def cpp(tests):
 
 def main():
     words = [word for word in sys.argv[1:] if word != "--long"]
-    if not 1 <= len(words) <= 2:
-        sys.exit("safepoint.py LIBSAFEPOINT [--long] [LIBMODEL]")
-    library, model = pathlib.Path(words[0]).resolve(), pathlib.Path(*words[1:] or [ROOT / "crates/model/out/libmodel.a"]).resolve()
+    if not 1 <= len(words) <= 3:
+        sys.exit("safepoint.py LIBSAFEPOINT [--long] [LIBMODEL [WITNESS]]")
+    built = [ROOT / "crates/model/out/libmodel.a", ROOT / "crates/witness/out/witness"]
+    library, model, witness = (pathlib.Path(it).resolve() for it in [*words, *built[len(words) - 1 :]])
     if shutil.which(os.environ.get("CC", "cc")) is None:
         print("left out: all, since there is no C compiler\n0 passed, 0 failed")
         return 0
     with tempfile.TemporaryDirectory() as folder:
-        tests = Tests(library, model, "--long" in sys.argv, pathlib.Path(folder))
-        for part in (calls, beside, threads, soak, jit, cpp, rust):
+        tests = Tests(library, model, witness, "--long" in sys.argv, pathlib.Path(folder))
+        for part in (calls, beside, threads, recorded, soak, jit, cpp, rust):
             part(tests)
     print(f"{tests.passed} passed, {tests.failed} failed")
     return 1 if tests.failed else 0

@@ -1,6 +1,6 @@
 /* Threads at random over one system, a coordinator beside them: safepoint_threads THREADS REQUESTS SEED. Each operation's callback runs once
    for each target, by the thread itself or for it while it is held; no stack that is served changes meanwhile; codes are replaced and freed.
-   The last line counts. tests/safepoint.py builds and runs it. */
+   The last line counts; with -DSP_RECORD the log of all calls is printed instead. tests/safepoint.py builds and runs it. */
 #include <pthread.h>
 #include <stdatomic.h>
 #include <stdio.h>
@@ -8,7 +8,7 @@
 
 #include "../crates/safepoint/include/safepoint_wait.h"
 
-enum { MOST = 64, METHODS = 4, SLOTS = 16, LONGEST = 1 << 20 };
+enum { MOST = 64, METHODS = 4, SLOTS = 16, LONGEST = 1 << 20, PACE = 10 };
 
 struct one {
     struct sp_party party;
@@ -22,7 +22,7 @@ static struct one all[MOST];
 static int count;
 static atomic_int ready, ends;
 static atomic_int served[LONGEST]; /* how often an operation's callback ran */
-static atomic_long own, held, freed, failures;
+static atomic_long own, held, freed, failures, paced;
 
 static void fail(const char *what, int64_t answer) {
     printf("FAILED: %s: %lld, %s\n", what, (long long)answer, sp_text(answer));
@@ -86,12 +86,28 @@ static void step(struct one *me) {
     }
 }
 
+/* A log is kept short: a thread makes a few steps for each request, and waits for the next in native code. */
+static void pace(struct one *me, long steps) {
+#ifdef SP_RECORD
+    while (steps >= atomic_load(&paced) && !atomic_load(&ends)) {
+        must("sp_enter_native", sp_enter_native(&me->party));
+        for (int i = 0; i < 100 && steps >= atomic_load(&paced); i++) sched_yield();
+        must("sp_leave_native", sp_leave_native(&me->party, at_safe_point, me));
+    }
+#else
+    (void)me, (void)steps;
+#endif
+}
+
 static void live(struct one *me) {
     int64_t name = sp_start_thread(&me->party, at_safe_point, me);
     must("sp_start", name);
     me->name = (uint64_t)name;
     atomic_fetch_add(&ready, 1);
-    while (!atomic_load(&ends)) step(me);
+    for (long steps = 0; !atomic_load(&ends); steps++) {
+        pace(me, steps);
+        step(me);
+    }
     while (me->depth) {
         int64_t polled = sp_ret(&me->party);
         me->depth--;
@@ -162,6 +178,7 @@ int main(int argc, char **argv) {
     }
     while (atomic_load(&ready) < count) sched_yield();
     for (long i = 0; i < requests; i++) {
+        atomic_fetch_add(&paced, PACE);
         if (i % 16 == 7) count_frames();
         else if (i % 8 == 3) replace((uint32_t)(i / 8 % METHODS), codes);
         else shake(i % 3), shakes++;
@@ -175,6 +192,10 @@ int main(int argc, char **argv) {
     }
     sp_free(&coordinator);
     (void)forgotten;
+#ifdef SP_RECORD
+    must("sp_record_write", sp_record_write(stdout));
+    return failures ? 1 : 0;
+#endif
     printf("threads %d, handshakes %ld, callbacks %ld by the thread and %ld for a held one, codes freed %ld\n", count, shakes, own, held, freed);
     return failures ? 1 : 0;
 }

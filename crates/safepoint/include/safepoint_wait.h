@@ -3,7 +3,7 @@
    are safepoint_wait.c, which stands on nothing but safepoint.h.
 
    Each answers what the call in it answers, and never SP_AGAIN. With -DSP_PTHREAD it sleeps on a
-   pthread condition, else on a futex. */
+   pthread condition, else on a futex. With -DSP_RECORD the calls are noted (safepoint_record.h). */
 #ifndef SAFEPOINT_WAIT_H
 #define SAFEPOINT_WAIT_H
 
@@ -72,6 +72,10 @@ int64_t sp_reclaim(struct sp_party *coordinator, uint64_t serial, sp_callback ca
 
 #ifdef __cplusplus
 }
+#endif
+
+#ifdef SP_RECORD
+#include "safepoint_record.h"
 #endif
 
 #endif
