@@ -44,7 +44,11 @@ fn are_lawful(
 }
 
 /// What the core answers to the events from the start; none where it has no system of the log's sizes.
-fn answers_of(alloc: Global, log: &Log, events: &[Event]) -> Result<Option<Vec<Answer>>, AllocError>
+pub fn answers_of(
+    alloc: Global,
+    log: &Log,
+    events: &[Event],
+) -> Result<Option<Vec<Answer>>, AllocError>
     ensures { IfOk result (λ told. MatchOption told (is_sized log.now ≡ false) (λ said. AreAnswers log.now events.now said.items)) }
 {
     match System::new(

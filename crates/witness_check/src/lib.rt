@@ -2,6 +2,6 @@
 #![tactic(auto)]
 
 pub mod check;
-mod seen;
-mod streams;
-mod walk;
+pub mod seen;
+pub mod streams;
+pub mod walk;

@@ -11,7 +11,7 @@ use system::events::Event;
 
 /// What the answers so far tell.
 #[derive(Debug, Drop)]
-pub(crate) struct Seen {
+pub struct Seen {
     /// The names that were given out, in their order.
     pub started: Vec<u64>,
     pub exited: Vec<u64>,

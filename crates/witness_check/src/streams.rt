@@ -32,7 +32,7 @@ fn starts_late(least: &[u64], entry: &Entry) -> bool
 }
 
 /// Whether the tickets of each stream rise.
-pub(crate) fn all_rise(alloc: Global, calls: &[Entry]) -> Result<bool, AllocError>
+pub fn all_rise(alloc: Global, calls: &[Entry]) -> Result<bool, AllocError>
     ensures { IfOk result (λ yes. yes ≡ all_rise calls.now) }
 {
     let mut least = vec![in alloc; 0u64; STREAMS]?;

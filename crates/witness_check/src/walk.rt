@@ -13,7 +13,7 @@ use system::events::Event;
 
 /// How far the calls are, after some of the events.
 #[derive(Debug, Drop)]
-pub(crate) struct Walk {
+pub struct Walk {
     /// By call.
     pub stages: Vec<Stage>,
     /// The latest ticket before a call that has had an event.
@@ -48,7 +48,7 @@ fn job_of(entry: &Entry, stage: Stage) -> Option<Job>
 }
 
 /// No call has had an event.
-pub(crate) fn fresh_walk(alloc: Global, calls: &[Entry]) -> Result<Walk, AllocError>
+pub fn fresh_walk(alloc: Global, calls: &[Entry]) -> Result<Walk, AllocError>
     ensures { IfOk result (λ walk. walked walk ≡ fresh_walk calls.now) }
 {
     let mut stages = Vec::new(alloc);
@@ -99,7 +99,7 @@ impl Walk {
 }
 
 /// Whether all calls are over.
-pub(crate) fn all_over(recorded: bool, calls: &[Entry], stages: &[Stage]) -> bool
+pub fn all_over(recorded: bool, calls: &[Entry], stages: &[Stage]) -> bool
     ensures { result ≡ all_over recorded calls.now stages.now }
 {
     let mut calls = calls;
