@@ -6,3 +6,4 @@ mod OpenNumber
 mod Staying
 mod Asked
 mod Opens
+mod Tellings

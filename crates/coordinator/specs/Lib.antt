@@ -4,3 +4,4 @@ pub mod Driving
 pub mod Reclaiming
 pub mod Rounds
 pub mod Receipts
+pub mod Telling

@@ -1,23 +1,44 @@
 //! That telling is done, as a value: serving takes it, so that all targets are told before any is served.
-ghost use Rattle.std.specs.Prelude.{◌≡◌, false, length, OnSome};
+ghost use Rattle.std.specs.Prelude.{◌≡◌};
+ghost use Rattle.desk.specs.Fields.{at};
+ghost use Rattle.coordinator.specs.Telling.{IsAllTold};
 
-use crate::telling::Untold;
+use bodies::Name;
+use desk::Desk;
+use held_threads::Teller;
+use operations::job::Errand;
+use std::marker::Model;
+use std::snapshot::Snapshot;
 
-/// All that was listed is told, and there was nothing more to list. It is made where that is so, and nowhere else.
-#[derive(Clone, Copy, Drop)]
-pub struct AllTold {
-    seal: (),
+/// Each thread that was due for an open request was told all that was open then, by what its place is armed with. It is made where that
+/// is so, and nowhere else. Contracts see the desk then.
+#[derive(Drop)]
+pub struct AllTold<N: Name, J: Errand> {
+    seen: Snapshot<Desk<N, J>>,
+    armer: Snapshot<Teller>,
 }
 
-impl AllTold {
-    /// Where what is still to be told is this list, and whether more is to be listed.
+impl<N: Name, J: Errand> Model for AllTold<N, J> {
+    ghost use Rattle.desk.specs.Fields.{DeskSeen, at};
+    ghost use Rattle.coordinator.specs.Telling.{IsAllTold};
+
+    ghost Value = { DeskSeen };
+
+    ghost view = { λ a. a.seen.value };
+
+    ghost invariant = { λ a. IsAllTold (at a.seen.value) a.armer.value.seen };
+}
+
+impl<N: Name, J: Errand> AllTold<N, J> {
+    /// By the desk as it was looked at, and the armer now.
     #[inline(always)]
-    pub fn of<J>(left: &[Untold<J>], has_more: bool) -> Option<AllTold>
-        ensures { OnSome result ((has_more ≡ false) × (length left.now ≡ 0)) }
+    pub fn of(seen: Snapshot<Desk<N, J>>, armer: &Teller) -> AllTold<N, J>
+        requires told { IsAllTold (at seen.value) armer.now.seen }
+        ensures { result ≡ seen.value }
     {
-        if has_more || !left.is_empty() {
-            return None;
+        AllTold {
+            seen,
+            armer: Snapshot::of(armer),
         }
-        Some(AllTold { seal: () })
     }
 }

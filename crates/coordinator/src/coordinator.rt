@@ -9,7 +9,7 @@ ghost use Rattle.coordinator.specs.Driving.{WasOldest};
 ghost use Rattle.coordinator.specs.Refused.{MayClose, not_closed};
 
 use crate::closed::Closed;
-use crate::telling::Untold;
+use crate::listing::Untold;
 use bodies::Name;
 use desk::{CloseFault, Live, OpenFault, Receipt};
 use held_threads::{Held, Teller};
@@ -68,7 +68,8 @@ impl<'a, N: Name, J: Errand> Coordinator<'a, N, J> {
         let Ok(untold) = Vec::with_capacity(alloc, places) else {
             return Err(armer);
         };
-        let Ok(due) = Vec::with_capacity(alloc, places) else {
+        // Where it is full, there may be more than it has room for.
+        let Ok(due) = Vec::with_capacity(alloc, places.saturating_add(1)) else {
             return Err(armer);
         };
         let (bodies, teller) = Held::with_teller(alloc, places, armer)?;

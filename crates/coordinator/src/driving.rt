@@ -1,15 +1,17 @@
 //! Working one request from its Open to its Close: how it begins, and how all that is held goes back.
-ghost use Rattle.std.specs.Prelude.{◌≡◌, ◌⊎◌, [], ℕ, Some, IfOk, OnOk, IfErr, IfSome, IfNone, false};
+ghost use Rattle.std.specs.Prelude.{◌≡◌, ◌⊎◌, [], ℕ, Some, IfOk, OnOk, IfErr, IfSome, IfNone, OnSome, false, length};
 ghost use Rattle.desk.specs.declared.entries.Entry.{Entry};
 ghost use Rattle.desk.specs.Machine.{State as DeskState, Stands};
 ghost use Rattle.desk.specs.Fields.{Enters, at};
 ghost use Rattle.coordinator.specs.Holding.{ArmsOn};
 ghost use Rattle.coordinator.specs.Driving.{number_of, open_kind, IsWorked, IsListed, drive_refused};
+ghost use Rattle.coordinator.specs.Telling.{IsListing};
 
 use crate::all_told::AllTold;
 use crate::coordinator::Coordinator;
 use crate::faults::{DriveFault, Driven};
 use crate::kinds::open_kind;
+use crate::listing::Listed;
 use bodies::Name;
 use desk::{Desk, Receipt};
 use held_threads::Held;
@@ -63,19 +65,22 @@ impl<'a, N: Name, J: Errand> Coordinator<'a, N, J> {
 
     // Opens the oldest request where nothing is open, and tells all targets of what is open. Answers which kind that is; None where
     // nothing is open and nothing waits.
-    pub(crate) fn begin<R: Wait>(&mut self, rt: &R) -> Option<(Kind, AllTold)>
+    pub(crate) fn begin<R: Wait>(&mut self, rt: &R) -> Option<(Kind, AllTold<N, J>)>
         ensures empty { IfNone result ((self.new ≡ self.old)
             × ((s : DeskState) × (s.opened ≡ []) × (s.waiting ≡ []))) }
         ensures held { (self.new.held ≡ self.old.held) × (self.new.operated ≡ self.old.operated) }
         ensures arms { ArmsOn self.old.armer self.new.armer }
     {
-        let (kind, has_more) = self.open_listed(rt)?;
-        Some((kind, self.tell_on(rt, has_more)))
+        let (kind, listed) = self.open_listed(rt)?;
+        Some((kind, self.tell_on(rt, listed)))
     }
 
     // Opens the oldest request where nothing is open, and lists what is to be told under the same hold of the desk's lock. Answers which
-    // kind is open, and whether any is to be told more.
-    fn open_listed<R: Wait>(&mut self, rt: &R) -> Option<(Kind, bool)>
+    // kind is open, and what was listed.
+    fn open_listed<R: Wait>(&mut self, rt: &R) -> Option<(Kind, Listed<N, J>)>
+        ensures places { OnSome result (length self.new.armer.armed ≡ N.board.places) }
+        ensures listed { IfSome result (λ r. IsListing self.new.armer r.1) }
+        ensures kind { IfSome result (λ r. open_kind (at r.1.seen) ≡ Some r.0) }
         ensures empty { IfNone result ((s : DeskState) × (s.opened ≡ []) × (s.waiting ≡ [])) }
         ensures same { self.new ≡ self.old }
     {

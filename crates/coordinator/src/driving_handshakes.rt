@@ -28,14 +28,14 @@ const PATIENCE: u32 = 250;
 /// The passes over the targets that are due, once all are told: the first over those that telling listed, each further one over those
 /// that are due for the oldest open request.
 #[derive(Drop)]
-pub struct Passes {
-    told: AllTold,
+pub struct Passes<N: Name, J: Errand> {
+    told: AllTold<N, J>,
     looks: Looks,
     is_first: bool,
 }
 
-impl Passes {
-    pub fn new(told: AllTold) -> Passes {
+impl<N: Name, J: Errand> Passes<N, J> {
+    pub fn new(told: AllTold<N, J>) -> Passes<N, J> {
         Passes {
             told,
             looks: Looks::new(SPINS),
@@ -65,7 +65,11 @@ fn is_awaited<N: Name, J: Errand>(desk: &Desk<N, J>, name: u64) -> bool {
 
 impl<'a, N: Name, J: Errand> Coordinator<'a, N, J> {
     // Serves the targets, pass by pass, until the oldest open handshake is closed.
-    pub(crate) fn drive_handshake<R: Wait>(&mut self, rt: &R, told: AllTold) -> (Driven, Receipt<N>)
+    pub(crate) fn drive_handshake<R: Wait>(
+        &mut self,
+        rt: &R,
+        told: AllTold<N, J>,
+    ) -> (Driven, Receipt<N>)
         ensures closed { result.1.entry ≡ Entry.Close (number_of result.0) }
         ensures worked { IsWorked result.0 }
         ensures listed { IsListed result.0 }
@@ -84,7 +88,7 @@ impl<'a, N: Name, J: Errand> Coordinator<'a, N, J> {
     }
 
     // Makes a pass: serves each target that is due, in the order of their names.
-    pub(crate) fn serve_pass<R: Wait>(&mut self, rt: &R, passes: &mut Passes)
+    pub(crate) fn serve_pass<R: Wait>(&mut self, rt: &R, passes: &mut Passes<N, J>)
         ensures { self.new ≡ self.old }
     {
         if !passes.is_first {
@@ -94,7 +98,7 @@ impl<'a, N: Name, J: Errand> Coordinator<'a, N, J> {
         passes.is_first = false;
     }
 
-    fn serve_listed<R: Wait>(&self, rt: &R, passes: &mut Passes) {
+    fn serve_listed<R: Wait>(&self, rt: &R, passes: &mut Passes<N, J>) {
         for who in self.due.as_slice() {
             self.serve_due(rt, passes, *who);
         }
@@ -102,12 +106,12 @@ impl<'a, N: Name, J: Errand> Coordinator<'a, N, J> {
 
     // Serves a target at once where its body is in its berth, and else waits for it.
     #[inline(always)]
-    fn serve_due<R: Wait>(&self, rt: &R, passes: &mut Passes, who: Live) {
+    fn serve_due<R: Wait>(&self, rt: &R, passes: &mut Passes<N, J>, who: Live) {
         if who.place >= self.places {
             return;
         }
         let is_out = (self.out >> (who.place % 64)) & 1 == 1;
-        if is_out || !self.attend(rt, passes.told, who) {
+        if is_out || !self.attend(rt, &passes.told, who) {
             self.serve_later(rt, passes, who);
         }
     }
@@ -117,17 +121,17 @@ impl<'a, N: Name, J: Errand> Coordinator<'a, N, J> {
     // comes for what it was told serves itself, and is waited for only in a further pass: what another runs until then may wait for
     // those that come after it.
     #[inline(never)]
-    fn serve_later<R: Wait>(&self, rt: &R, passes: &mut Passes, who: Live)
+    fn serve_later<R: Wait>(&self, rt: &R, passes: &mut Passes<N, J>, who: Live)
         requires { who.place < N.board.places }
     {
-        if self.comes(who.place, &mut passes.looks) || self.attend(rt, passes.told, who) {
+        if self.comes(who.place, &mut passes.looks) || self.attend(rt, &passes.told, who) {
             return;
         }
         let Some(number) = self.awaited(rt, who.name) else {
             return;
         };
         if self.shared.berth(who.place).wait_for(rt, who.name, number) {
-            let _ = self.attend(rt, passes.told, who);
+            let _ = self.attend(rt, &passes.told, who);
         } else if !passes.is_first {
             self.shared.wait_finished(rt, who.name);
         }
@@ -156,7 +160,7 @@ impl<'a, N: Name, J: Errand> Coordinator<'a, N, J> {
     // Serves a target where its body is in its berth. Answers whether it was there: without a job it stays, since its thread has served
     // itself.
     #[inline(always)]
-    fn attend<R: Wait>(&self, rt: &R, told: AllTold, due: Live) -> bool
+    fn attend<R: Wait>(&self, rt: &R, told: &AllTold<N, J>, due: Live) -> bool
         requires { due.place < N.board.places }
     {
         match self.serve_at(rt, told, due) {
@@ -171,7 +175,7 @@ impl<'a, N: Name, J: Errand> Coordinator<'a, N, J> {
     fn serve_at<R: Wait>(
         &self,
         rt: &R,
-        told: AllTold,
+        told: &AllTold<N, J>,
         due: Live,
     ) -> Result<Brought<N>, BerthReceipt<N>>
         requires { due.place < N.board.places }

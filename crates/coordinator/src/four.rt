@@ -48,7 +48,7 @@ impl<'a, N: Name, J: Errand> Coordinator<'a, N, J> {
     }
 
     // Serves the targets, pass by pass, until nothing is open. Answers how many were closed.
-    fn drive_handshakes<R: Wait>(&mut self, rt: &R, told: AllTold) -> u32
+    fn drive_handshakes<R: Wait>(&mut self, rt: &R, told: AllTold<N, J>) -> u32
         ensures free { (self.new.held ≡ []) × (self.new.operated ≡ false) }
         ensures armer { self.new.armer ≡ self.old.armer }
     {

@@ -18,6 +18,7 @@ mod faults;
 mod four;
 mod holding;
 mod kinds;
+mod listing;
 mod looks;
 mod reclaiming;
 mod rounds;

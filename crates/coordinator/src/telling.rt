@@ -1,23 +1,23 @@
 //! Telling a name: its job, or the mark of a census, goes into the berth of its thread, and the thread's place is armed.
-ghost use Rattle.std.specs.Prelude.{◌≡◌, ◌<◌, true, false, length, slice_index, IfSome, IfNone, OnSome};
+ghost use Rattle.std.specs.Prelude.{◌≡◌, ◌<◌, ◌≤◌, true, length, map, slice_index, IfSome, IfNone, OnSome};
 ghost use Rattle.thread_state.specs.PollRule.{armed_with};
 ghost use Rattle.desk.specs.Fields.{at};
 ghost use Rattle.coordinator.specs.Holding.{ArmsOn};
 ghost use Rattle.coordinator.specs.Refused.{IsFound, tell_said, told_act};
+ghost use Rattle.coordinator.specs.Telling.{IsListing, AreArmed};
 ghost use Rattle.berths.specs.Berths.{acted};
 
 use crate::all_told::AllTold;
 use crate::coordinator::Coordinator;
 use crate::faults::{TellFault, Told};
-use crate::kinds::open_kind;
+use crate::listing::{Listed, Untold, job_of};
 use berths::{BerthReceipt, locked};
 use bodies::Name;
-use desk::{Desk, Live, Standing, Target};
+use desk::{Desk, Standing, Target};
 use held_threads::Teller;
-use operations::Kind;
 use operations::job::Errand;
 use std::sync::Wait;
-use std::thread;
+use std::{mem, thread};
 
 /// What a look at the desk finds for a name that is to be told.
 pub enum Found<N: Name> {
@@ -52,106 +52,6 @@ fn look_up<N: Name, J: Errand>(
         Some(number) => Found::Untold(target, number),
         None => Found::Said(Err(TellFault::AlreadyTold)),
     }
-}
-
-// The job of the name in an operation, where it is wanted.
-#[inline(always)]
-fn job_of<N: Name, J: Errand>(
-    desk: &mut Desk<N, J>,
-    number: u64,
-    name: u64,
-    is_wanted: bool,
-) -> Option<J>
-    ensures job { IfSome result (λ j. (J.whom j ≡ name) × (J.number j ≡ number)) }
-    ensures same { (desk.new.book ≡ desk.old.book) × (desk.new.keeper ≡ desk.old.keeper) }
-{
-    if is_wanted {
-        desk.take_job(number, name)
-    } else {
-        None
-    }
-}
-
-/// What a thread is to be told: the number of the oldest open request that is of it and wasn't told to it, with its job there.
-#[derive(Drop)]
-pub struct Untold<J> {
-    name: u64,
-    target: Target,
-    number: u64,
-    job: Option<J>,
-}
-
-impl<J> Untold<J> {
-    // The same, with the job, which is no longer here then.
-    #[inline(always)]
-    fn taken(&mut self) -> Untold<J> {
-        Untold {
-            name: self.name,
-            target: self.target,
-            number: self.number,
-            job: self.job.take(),
-        }
-    }
-}
-
-// The same of a live thread, and whether it is to be told more. None where it was told all, or the desk names a place that there isn't.
-#[inline(always)]
-fn untold_of<N: Name, J: Errand>(
-    desk: &mut Desk<N, J>,
-    armer: &Teller,
-    places: usize,
-    who: Live,
-    kind: Kind,
-) -> Option<(Untold<J>, bool)>
-    requires places { places ≡ length armer.now.seen.armed }
-{
-    if who.place >= places {
-        return None;
-    }
-    let number = desk.untold(who.name, armer.last(who.place))?;
-    let has_more = desk.open_count() > 1 && desk.untold(who.name, number).is_some();
-    let is_census = kind == Kind::Census;
-    let target = Target {
-        place: who.place,
-        is_census,
-    };
-    let job = job_of(desk, number, who.name, !is_census);
-    Some((
-        Untold {
-            name: who.name,
-            target,
-            number,
-            job,
-        },
-        has_more,
-    ))
-}
-
-// Lists each thread that is due, and what it is to be told next, as far as there is room. Answers whether any is to be told more.
-fn list_untold<N: Name, J: Errand>(
-    desk: &mut Desk<N, J>,
-    armer: &Teller,
-    places: usize,
-    due: &mut Vec<Live>,
-    list: &mut Vec<Untold<J>>,
-) -> bool
-    requires places { places ≡ length armer.now.seen.armed }
-{
-    let Some(kind) = open_kind(desk) else {
-        return false;
-    };
-    desk.list_due(false, due);
-    let mut has_more = false;
-    for who in due.as_slice() {
-        if list.len() >= list.capacity() {
-            return true;
-        }
-        if let Some((untold, more)) = untold_of(desk, armer, places, *who, kind) {
-            list.push_reserved(untold);
-            has_more = has_more || more;
-        }
-    }
-    has_more
 }
 
 impl<'a, N: Name, J: Errand> Coordinator<'a, N, J> {
@@ -215,80 +115,96 @@ impl<'a, N: Name, J: Errand> Coordinator<'a, N, J> {
     }
 
     // Tells what was listed, and then lists and tells as long as there is more.
-    pub(crate) fn tell_on<R: Wait>(&mut self, rt: &R, has_more: bool) -> AllTold
+    pub(crate) fn tell_on<R: Wait>(&mut self, rt: &R, listed: Listed<N, J>) -> AllTold<N, J>
+        requires places { length self.old.armer.armed ≡ N.board.places }
+        requires listed { IsListing self.old.armer listed }
         ensures held { (self.new.held ≡ self.old.held) × (self.new.operated ≡ self.old.operated) }
         ensures arms { ArmsOn self.old.armer self.new.armer }
     {
-        let mut has_more = has_more;
+        let mut listed = listed;
         for _ in rt.forever() {
-            self.tell_listed(rt);
-            if let Some(told) = AllTold::of(self.untold.as_slice(), has_more) {
+            if let Some(told) = self.tell_listed(rt, listed) {
                 return told;
             }
-            has_more = self.list_untold(rt);
+            listed = self.list_untold(rt);
         }
         unreachable!()
     }
 
-    // Lists each thread that is due, and what it is to be told next, under one hold of the desk's lock. Answers whether any is to be told
-    // more.
-    fn list_untold<R: Wait>(&mut self, rt: &R) -> bool
-        ensures { self.new ≡ self.old }
+    // Lists each thread that is due, and what it is to be told next, under one hold of the desk's lock.
+    fn list_untold<R: Wait>(&mut self, rt: &R) -> Listed<N, J>
+        ensures same { self.new ≡ self.old }
+        ensures places { length self.new.armer.armed ≡ N.board.places }
+        ensures listed { IsListing self.new.armer result }
     {
         let mut desk = self.shared.desk().lock(rt);
         self.list_from(&mut desk)
     }
 
     // The same under a hold of the desk's lock.
-    pub(crate) fn list_from(&mut self, desk: &mut Desk<N, J>) -> bool
-        ensures { self.new ≡ self.old }
+    pub(crate) fn list_from(&mut self, desk: &mut Desk<N, J>) -> Listed<N, J>
+        ensures same { self.new ≡ self.old }
+        ensures seen { result.seen ≡ desk.old }
+        ensures places { length self.new.armer.armed ≡ N.board.places }
+        ensures listed { IsListing self.new.armer result }
     {
-        self.due.clear();
         self.out = 0;
-        list_untold(
-            desk,
-            &self.armer,
-            self.places,
-            &mut self.due,
-            &mut self.untold,
-        )
+        let list = mem::replace(&mut self.untold, Vec::new(self.alloc));
+        Listed::list(desk, &self.armer, self.places, &mut self.due, list)
     }
 
-    // Tells each thread of the list, in the order of their names, and empties it.
-    fn tell_listed<R: Wait>(&mut self, rt: &R)
+    // Tells what was listed. None where there is more, or a thread that was listed wasn't told that.
+    fn tell_listed<R: Wait>(&mut self, rt: &R, listed: Listed<N, J>) -> Option<AllTold<N, J>>
+        requires places { length self.old.armer.armed ≡ N.board.places }
+        requires listed { IsListing self.old.armer listed }
+        ensures seen { IfSome result (λ told. told ≡ listed.seen) }
         ensures held { (self.new.held ≡ self.old.held) × (self.new.operated ≡ self.old.operated) }
         ensures arms { ArmsOn self.old.armer self.new.armer }
     {
-        for at in 0..self.untold.len() {
-            if at >= self.untold.len() {
-                break;
-            }
-            let untold = self.untold[at].taken();
-            self.tell_at(rt, untold);
+        let (seen, mut list, has_more) = listed.parts();
+        let is_told = self.tell_each(rt, &mut list);
+        self.untold = list;
+        if has_more || !is_told {
+            return None;
         }
-        self.untold.clear();
+        Some(AllTold::of(seen, &self.armer))
     }
 
-    // Tells a thread what was listed for it. Where its berth bears another name or none, the name is told as by `tell`.
+    // Tells each thread of the list, in the order of their names. Answers whether each was told what was listed for it.
+    fn tell_each<R: Wait>(&mut self, rt: &R, list: &mut Vec<Untold<J>>) -> bool
+        ensures told { result ≡ true → AreArmed self.new.armer (map (λ u. u.what) list.old.items) }
+        ensures held { (self.new.held ≡ self.old.held) × (self.new.operated ≡ self.old.operated) }
+        ensures arms { ArmsOn self.old.armer self.new.armer }
+    {
+        let mut is_told = true;
+        for at in 0..list.len() {
+            let untold = list[at].taken();
+            is_told = self.tell_at(rt, untold) && is_told;
+        }
+        is_told
+    }
+
+    // Tells a thread what was listed for it. Where its berth bears another name or none, the name is told as by `tell`. Answers whether
+    // it was told what was listed.
     #[inline(always)]
-    fn tell_at<R: Wait>(&mut self, rt: &R, untold: Untold<J>)
+    fn tell_at<R: Wait>(&mut self, rt: &R, untold: Untold<J>) -> bool
+        ensures told { result ≡ true
+            → untold.what.number ≤ slice_index self.new.armer.armed untold.what.target.place }
         ensures held { (self.new.held ≡ self.old.held) × (self.new.operated ≡ self.old.operated) }
         ensures arms { ArmsOn self.old.armer self.new.armer }
     {
-        let Untold {
-            name,
-            target,
-            number,
-            job,
-        } = untold;
+        let Untold { what, job } = untold;
         let mut hand = job;
-        if target.place < self.places
-            && self.armer.last(target.place) < number
-            && self.put(rt, name, target, number, &mut hand).is_some()
+        if what.target.place < self.places
+            && self.armer.last(what.target.place) < what.number
+            && self
+                .put(rt, what.name, what.target, what.number, &mut hand)
+                .is_some()
         {
-            return;
+            return true;
         }
-        let _ = self.tell_with(rt, name, hand);
+        let _ = self.tell_with(rt, what.name, hand);
+        false
     }
 
     // Notes whether the thread of the place has its body as it is told.
