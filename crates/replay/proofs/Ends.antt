@@ -1,6 +1,7 @@
 -- The first newline, as a search of bytes finds it.
-use Rattle.std.proofs.Common.{◌≡◌, ℕ, ◌<◌, ◌≤◌, ◌∙◌, suc, zero, Bool, List, [], ◌∷◌, length, refl, sym, cond, arith, true, false}
+use Rattle.std.proofs.Common.{◌≡◌, ℕ, ◌+◌, ◌<◌, ◌≤◌, ◌∙◌, suc, zero, Bool, List, [], ◌∷◌, length, take, refl, sym, cond, not, arith, true, false}
 use Rattle.std.specs.Prelude.{◌==◌, nat_lt, slice_index}
+use Rattle.std.specs.List.{prefix_len}
 use Rattle.std.proofs.lemmas.Bool.{false≢true}
 use Rattle.memchr.specs.Find.{is_byte, places}
 use Rattle.memchr.proofs.lemmas.PlaceLemmas.{places_between-first, places_between-none}
@@ -61,3 +62,18 @@ first_none byte bytes e = by_test (nat_lt (first_at byte bytes) (length bytes)) 
     by_test : (t : Bool) → nat_lt (first_at byte bytes) (length bytes) ≡ t → first_at byte bytes ≡ length bytes
     by_test true below = let begin = places_begin byte bytes (grind (arith, below)) in absurd (cc (sym begin.1 ∙ e))
     by_test false past = grind (arith, past, first_within byte bytes)
+
+-- The first newline, where it stands in a beginning.
+near_in : (n : ℕ) (bytes : List ℕ) → prefix_len (λ b. not (b == 10)) (take n bytes) < n → n ≤ length bytes → prefix_len (λ b. not (b == 10)) (take n bytes) ≡ first_at 10 bytes
+near_in zero bytes below room = absurd (omega (arith, below))
+near_in (suc n) [] below room = absurd (omega (arith, room))
+near_in (suc n) (b ∷ bytes) below room = by_test (b == 10) below (λ less. near_in n bytes less (omega (arith, room)))
+  where
+    by_test : (t : Bool) → cond (not t) (1 + prefix_len (λ b. not (b == 10)) (take n bytes)) 0 < suc n
+        → (prefix_len (λ b. not (b == 10)) (take n bytes) < n → prefix_len (λ b. not (b == 10)) (take n bytes) ≡ first_at 10 bytes)
+        → cond (not t) (1 + prefix_len (λ b. not (b == 10)) (take n bytes)) 0 ≡ cond t 0 (suc (first_at 10 bytes))
+    by_test true below more = refl
+    by_test false below more = let same = more (omega (arith, below)) in omega (arith, same)
+
+pub end_near : (bytes : List ℕ) (near : ℕ) → 16 ≤ length bytes → near ≡ prefix_len (λ b. not (b == 10)) (take 16 bytes) → near < 16 → near ≡ first_at 10 bytes
+end_near bytes near room counted below = counted ∙ near_in 16 bytes (omega (arith, counted, below)) room

@@ -12,3 +12,4 @@ pub mod Taking
 pub mod Spellings
 pub mod Keys
 pub mod Reading
+pub mod Decimals

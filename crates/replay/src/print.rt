@@ -14,7 +14,69 @@ use std::alloc::AllocError;
 use system::answers::{Answer, CodeCount, Refusal};
 use thread_state::{Back, State};
 
+/// A number. Most have few digits, and those go without a buffer between.
+#[inline(always)]
 fn put_number(text: &mut Vec<u8>, n: u64) -> Result<(), AllocError>
+    ensures text { OnOk result (text.new.items ≡ text.old.items ++ decimal n) }
+    ensures grows { OnOk result (vec_len text.new ≤ vec_len text.old + 40) }
+    ensures room { OnErr result (vec_capacity text.old < vec_len text.old + 40) }
+    ensures kept { vec_capacity text.old ≤ vec_capacity text.new }
+{
+    if n < 10 {
+        put_one_digit(text, n)
+    } else if n < 100 {
+        put_two_digits(text, n)
+    } else if n < 1000 {
+        put_three_digits(text, n)
+    } else {
+        put_digits(text, n)
+    }
+}
+
+#[inline(always)]
+#[tactic(auto, using(crate::proofs::Decimals::one_digit))]
+fn put_one_digit(text: &mut Vec<u8>, n: u64) -> Result<(), AllocError>
+    requires { n < 10 }
+    ensures text { OnOk result (text.new.items ≡ text.old.items ++ decimal n) }
+    ensures grows { OnOk result (vec_len text.new ≤ vec_len text.old + 40) }
+    ensures room { OnErr result (vec_capacity text.old < vec_len text.old + 40) }
+    ensures kept { vec_capacity text.old ≤ vec_capacity text.new }
+{
+    text.extend_from_slice(&[b'0' + n as u8])
+}
+
+#[inline(always)]
+#[tactic(auto, using(crate::proofs::Decimals::two_digits))]
+fn put_two_digits(text: &mut Vec<u8>, n: u64) -> Result<(), AllocError>
+    requires { (10 ≤ n) × (n < 100) }
+    ensures text { OnOk result (text.new.items ≡ text.old.items ++ decimal n) }
+    ensures grows { OnOk result (vec_len text.new ≤ vec_len text.old + 40) }
+    ensures room { OnErr result (vec_capacity text.old < vec_len text.old + 40) }
+    ensures kept { vec_capacity text.old ≤ vec_capacity text.new }
+{
+    text.extend_from_slice(&[b'0' + (n / 10) as u8, b'0' + (n % 10) as u8])
+}
+
+#[inline(always)]
+#[tactic(auto, using(crate::proofs::Decimals::three_digits))]
+fn put_three_digits(text: &mut Vec<u8>, n: u64) -> Result<(), AllocError>
+    requires { (100 ≤ n) × (n < 1000) }
+    ensures text { OnOk result (text.new.items ≡ text.old.items ++ decimal n) }
+    ensures grows { OnOk result (vec_len text.new ≤ vec_len text.old + 40) }
+    ensures room { OnErr result (vec_capacity text.old < vec_len text.old + 40) }
+    ensures kept { vec_capacity text.old ≤ vec_capacity text.new }
+{
+    let tens = n / 10;
+    text.extend_from_slice(&[
+        b'0' + (tens / 10) as u8,
+        b'0' + (tens % 10) as u8,
+        b'0' + (n % 10) as u8,
+    ])
+}
+
+/// The same of a number of any length.
+#[inline(never)]
+fn put_digits(text: &mut Vec<u8>, n: u64) -> Result<(), AllocError>
     ensures text { OnOk result (text.new.items ≡ text.old.items ++ decimal n) }
     ensures grows { OnOk result (vec_len text.new ≤ vec_len text.old + 40) }
     ensures room { OnErr result (vec_capacity text.old < vec_len text.old + 40) }
@@ -24,7 +86,35 @@ fn put_number(text: &mut Vec<u8>, n: u64) -> Result<(), AllocError>
     text.extend_from_slice(buffer.format(n).as_bytes())
 }
 
+/// A number that ends a line.
+#[inline(always)]
+fn put_last_number(text: &mut Vec<u8>, n: u64) -> Result<(), AllocError>
+    ensures text { OnOk result (text.new.items ≡ text.old.items ++ (decimal n ++ 10 ∷ [])) }
+    ensures grows { OnOk result (vec_len text.new ≤ vec_len text.old + 41) }
+    ensures room { OnErr result (vec_capacity text.old < vec_len text.old + 41) }
+    ensures kept { vec_capacity text.old ≤ vec_capacity text.new }
+{
+    if n < 10 {
+        return put_last_digit(text, n);
+    }
+    put_number(text, n)?;
+    Ok(text.push(b'\n')?)
+}
+
+#[inline(always)]
+#[tactic(auto, using(crate::proofs::Decimals::one_digit))]
+fn put_last_digit(text: &mut Vec<u8>, n: u64) -> Result<(), AllocError>
+    requires { n < 10 }
+    ensures text { OnOk result (text.new.items ≡ text.old.items ++ (decimal n ++ 10 ∷ [])) }
+    ensures grows { OnOk result (vec_len text.new ≤ vec_len text.old + 41) }
+    ensures room { OnErr result (vec_capacity text.old < vec_len text.old + 41) }
+    ensures kept { vec_capacity text.old ≤ vec_capacity text.new }
+{
+    text.extend_from_slice(&[b'0' + n as u8, b'\n'])
+}
+
 /// A word, and a number behind it.
+#[inline(always)]
 fn put_counted(text: &mut Vec<u8>, word: &[u8], n: u64) -> Result<(), AllocError>
     ensures text { OnOk result (text.new.items ≡ text.old.items ++ (word.now ++ decimal n)) }
     ensures grows { OnOk result (vec_len text.new ≤ vec_len text.old + (length word.now + 40)) }
@@ -33,6 +123,18 @@ fn put_counted(text: &mut Vec<u8>, word: &[u8], n: u64) -> Result<(), AllocError
 {
     text.extend_from_slice(word)?;
     put_number(text, n)
+}
+
+/// A line of a word and a number.
+#[inline(always)]
+fn put_counted_line(text: &mut Vec<u8>, word: &[u8], n: u64) -> Result<(), AllocError>
+    ensures text { OnOk result (text.new.items ≡ text.old.items ++ ((word.now ++ decimal n) ++ 10 ∷ [])) }
+    ensures grows { OnOk result (vec_len text.new ≤ vec_len text.old + (length word.now + 41)) }
+    ensures room { OnErr result (vec_capacity text.old < vec_len text.old + (length word.now + 41)) }
+    ensures kept { vec_capacity text.old ≤ vec_capacity text.new }
+{
+    text.extend_from_slice(word)?;
+    put_last_number(text, n)
 }
 
 fn back_name(back: Back) -> &'static [u8]
@@ -127,18 +229,18 @@ fn put_refusal(text: &mut Vec<u8>, refusal: Refusal) -> Result<(), AllocError>
     }
 }
 
+/// A space and a number with its sign, which end a line.
 fn put_signed(text: &mut Vec<u8>, by: i32) -> Result<(), AllocError>
-    ensures text { OnOk result (text.new.items ≡ text.old.items ++ signed_text by) }
-    ensures grows { OnOk result (vec_len text.new ≤ vec_len text.old + 41) }
-    ensures room { OnErr result (vec_capacity text.old < vec_len text.old + 41) }
+    ensures text { OnOk result (text.new.items ≡ text.old.items ++ ((codes " " ++ signed_text by) ++ 10 ∷ [])) }
+    ensures grows { OnOk result (vec_len text.new ≤ vec_len text.old + 43) }
+    ensures room { OnErr result (vec_capacity text.old < vec_len text.old + 43) }
     ensures kept { vec_capacity text.old ≤ vec_capacity text.new }
 {
     if by < 0 {
-        text.push(b'-')?;
+        put_counted_line(text, b" -", by.unsigned_abs() as u64)
     } else {
-        text.push(b'+')?;
+        put_counted_line(text, b" +", by.unsigned_abs() as u64)
     }
-    put_number(text, by.unsigned_abs() as u64)
 }
 
 fn put_frame(text: &mut Vec<u8>, frame: Frame) -> Result<(), AllocError>
@@ -187,91 +289,105 @@ fn put_census(text: &mut Vec<u8>, counts: &[CodeCount]) -> Result<(), AllocError
 }
 
 fn put_thread(text: &mut Vec<u8>, name: u64, place: usize) -> Result<(), AllocError>
-    ensures text { OnOk result (text.new.items ≡ text.old.items ++ (codes "thread " ++ decimal name ++ codes " place " ++ decimal place)) }
-    ensures grows { OnOk result (vec_len text.new ≤ vec_len text.old + 94) }
-    ensures room { OnErr result (vec_capacity text.old < vec_len text.old + 94) }
+    ensures text { OnOk result (text.new.items ≡ text.old.items ++ ((codes "thread " ++ decimal name ++ codes " place " ++ decimal place) ++ 10 ∷ [])) }
+    ensures grows { OnOk result (vec_len text.new ≤ vec_len text.old + 95) }
+    ensures room { OnErr result (vec_capacity text.old < vec_len text.old + 95) }
     ensures kept { vec_capacity text.old ≤ vec_capacity text.new }
 {
     put_counted(text, b"thread ", name)?;
-    put_counted(text, b" place ", place as u64)
+    put_counted_line(text, b" place ", place as u64)
 }
 
 fn put_change(text: &mut Vec<u8>, serial: u64, by: i32) -> Result<(), AllocError>
-    ensures text { OnOk result (text.new.items ≡ text.old.items ++ (codes "change " ++ decimal serial ++ codes " " ++ signed_text by)) }
-    ensures grows { OnOk result (vec_len text.new ≤ vec_len text.old + 89) }
-    ensures room { OnErr result (vec_capacity text.old < vec_len text.old + 89) }
+    ensures text { OnOk result (text.new.items ≡ text.old.items ++ ((codes "change " ++ decimal serial ++ codes " " ++ signed_text by) ++ 10 ∷ [])) }
+    ensures grows { OnOk result (vec_len text.new ≤ vec_len text.old + 90) }
+    ensures room { OnErr result (vec_capacity text.old < vec_len text.old + 90) }
     ensures kept { vec_capacity text.old ≤ vec_capacity text.new }
 {
     put_counted(text, b"change ", serial)?;
-    text.push(b' ')?;
     put_signed(text, by)
 }
 
 fn put_opened(text: &mut Vec<u8>, operation: u64, kind: Kind) -> Result<(), AllocError>
-    ensures text { OnOk result (text.new.items ≡ text.old.items ++ (codes "open " ++ decimal operation ++ kind_text kind)) }
-    ensures grows { OnOk result (vec_len text.new ≤ vec_len text.old + 55) }
-    ensures room { OnErr result (vec_capacity text.old < vec_len text.old + 55) }
+    ensures text { OnOk result (text.new.items ≡ text.old.items ++ ((codes "open " ++ decimal operation ++ kind_text kind) ++ 10 ∷ [])) }
+    ensures grows { OnOk result (vec_len text.new ≤ vec_len text.old + 56) }
+    ensures room { OnErr result (vec_capacity text.old < vec_len text.old + 56) }
     ensures kept { vec_capacity text.old ≤ vec_capacity text.new }
 {
     put_counted(text, b"open ", operation)?;
     match kind {
-        Kind::Handshake => text.extend_from_slice(b" handshake"),
-        Kind::Census => text.extend_from_slice(b" census"),
+        Kind::Handshake => text.extend_from_slice(b" handshake\n"),
+        Kind::Census => text.extend_from_slice(b" census\n"),
     }
 }
 
 fn put_code_state(text: &mut Vec<u8>, state: CodeState) -> Result<(), AllocError>
-    ensures text { OnOk result (text.new.items ≡ text.old.items ++ code_state_text state) }
+    ensures text { OnOk result (text.new.items ≡ text.old.items ++ (code_state_text state ++ 10 ∷ [])) }
     ensures grows { OnOk result (vec_len text.new ≤ vec_len text.old + 12) }
     ensures room { OnErr result (vec_capacity text.old < vec_len text.old + 12) }
     ensures kept { vec_capacity text.old ≤ vec_capacity text.new }
 {
     match state {
-        CodeState::InUse => text.extend_from_slice(b"in use"),
-        CodeState::NotEntrant => text.extend_from_slice(b"not entrant"),
-        CodeState::Zombie => text.extend_from_slice(b"zombie"),
-        CodeState::Freed => text.extend_from_slice(b"freed"),
+        CodeState::InUse => text.extend_from_slice(b"in use\n"),
+        CodeState::NotEntrant => text.extend_from_slice(b"not entrant\n"),
+        CodeState::Zombie => text.extend_from_slice(b"zombie\n"),
+        CodeState::Freed => text.extend_from_slice(b"freed\n"),
     }
 }
 
+fn put_refused(text: &mut Vec<u8>, why: Refusal) -> Result<(), AllocError>
+    ensures text { OnOk result (text.new.items ≡ text.old.items ++ ((codes "refused " ++ refusal_text why) ++ 10 ∷ [])) }
+    ensures grows { OnOk result (vec_len text.new ≤ vec_len text.old + 41) }
+    ensures room { OnErr result (vec_capacity text.old < vec_len text.old + 41) }
+    ensures kept { vec_capacity text.old ≤ vec_capacity text.new }
+{
+    text.extend_from_slice(b"refused ")?;
+    put_refusal(text, why)?;
+    Ok(text.push(b'\n')?)
+}
+
+/// The line of an answer.
 #[inline(always)]
 fn put_answer(text: &mut Vec<u8>, answer: &Answer) -> Result<(), AllocError>
-    ensures text { OnOk result (text.new.items ≡ text.old.items ++ answer_text answer.now) }
-    ensures grows { is_short answer.now ≡ true → OnOk result (vec_len text.new ≤ vec_len text.old + 96) }
-    ensures room { is_short answer.now ≡ true → OnErr result (vec_capacity text.old < vec_len text.old + 96) }
+    ensures text { OnOk result (text.new.items ≡ text.old.items ++ (answer_text answer.now ++ 10 ∷ [])) }
+    ensures grows { is_short answer.now ≡ true → OnOk result (vec_len text.new ≤ vec_len text.old + 97) }
+    ensures room { is_short answer.now ≡ true → OnErr result (vec_capacity text.old < vec_len text.old + 97) }
     ensures kept { vec_capacity text.old ≤ vec_capacity text.new }
 {
     match answer {
-        Answer::Done => text.extend_from_slice(b"ok"),
+        Answer::Done => text.extend_from_slice(b"ok\n"),
         Answer::Thread(name, place) => put_thread(text, *name, *place),
-        Answer::Exited(name) => put_counted(text, b"exited ", *name),
+        Answer::Exited(name) => put_counted_line(text, b"exited ", *name),
         Answer::Changed(serial, by) => put_change(text, *serial, *by),
-        Answer::NoChange => text.extend_from_slice(b"change none"),
-        Answer::Go => text.extend_from_slice(b"go"),
-        Answer::Stop(operation) => put_counted(text, b"stop ", *operation),
-        Answer::Entered => text.extend_from_slice(b"entered"),
-        Answer::WrongMethod => text.extend_from_slice(b"wrong method"),
-        Answer::Reply(n) => put_counted(text, b"reply ", *n),
-        Answer::Frames(frames) => put_frames(text, frames.as_slice()),
-        Answer::Code(serial) => put_counted(text, b"code ", *serial),
-        Answer::NoCode => text.extend_from_slice(b"none"),
-        Answer::Clear => text.extend_from_slice(b"clear"),
-        Answer::Late => text.extend_from_slice(b"late"),
-        Answer::NotLooked(place) => put_counted(text, b"not looked ", *place as u64),
-        Answer::Used(n) => put_counted(text, b"used ", *n as u64),
-        Answer::Retired => text.extend_from_slice(b"retired"),
-        Answer::Asked(operation) => put_counted(text, b"asked ", *operation),
-        Answer::Opened(operation, kind) => put_opened(text, *operation, *kind),
-        Answer::Closed(operation) => put_counted(text, b"closed ", *operation),
-        Answer::Told => text.extend_from_slice(b"told"),
-        Answer::Gone => text.extend_from_slice(b"gone"),
-        Answer::Census(counts) => put_census(text, counts.as_slice()),
-        Answer::Count(n) => put_counted(text, b"count ", *n as u64),
-        Answer::State(state) => put_code_state(text, *state),
-        Answer::Refused(why) => {
-            text.extend_from_slice(b"refused ")?;
-            put_refusal(text, *why)
+        Answer::NoChange => text.extend_from_slice(b"change none\n"),
+        Answer::Go => text.extend_from_slice(b"go\n"),
+        Answer::Stop(operation) => put_counted_line(text, b"stop ", *operation),
+        Answer::Entered => text.extend_from_slice(b"entered\n"),
+        Answer::WrongMethod => text.extend_from_slice(b"wrong method\n"),
+        Answer::Reply(n) => put_counted_line(text, b"reply ", *n),
+        Answer::Frames(frames) => {
+            put_frames(text, frames.as_slice())?;
+            Ok(text.push(b'\n')?)
         }
+        Answer::Code(serial) => put_counted_line(text, b"code ", *serial),
+        Answer::NoCode => text.extend_from_slice(b"none\n"),
+        Answer::Clear => text.extend_from_slice(b"clear\n"),
+        Answer::Late => text.extend_from_slice(b"late\n"),
+        Answer::NotLooked(place) => put_counted_line(text, b"not looked ", *place as u64),
+        Answer::Used(n) => put_counted_line(text, b"used ", *n as u64),
+        Answer::Retired => text.extend_from_slice(b"retired\n"),
+        Answer::Asked(operation) => put_counted_line(text, b"asked ", *operation),
+        Answer::Opened(operation, kind) => put_opened(text, *operation, *kind),
+        Answer::Closed(operation) => put_counted_line(text, b"closed ", *operation),
+        Answer::Told => text.extend_from_slice(b"told\n"),
+        Answer::Gone => text.extend_from_slice(b"gone\n"),
+        Answer::Census(counts) => {
+            put_census(text, counts.as_slice())?;
+            Ok(text.push(b'\n')?)
+        }
+        Answer::Count(n) => put_counted_line(text, b"count ", *n as u64),
+        Answer::State(state) => put_code_state(text, *state),
+        Answer::Refused(why) => put_refused(text, *why),
     }
 }
 
@@ -301,9 +417,8 @@ pub fn put_reply(text: &mut Vec<u8>, reply: &Reply) -> Result<(), AllocError>
     ensures kept { vec_capacity text.old ≤ vec_capacity text.new }
 {
     match reply {
-        Reply::BadLine => text.extend_from_slice(b"bad line")?,
-        Reply::BadSize => text.extend_from_slice(b"refused BadSize")?,
-        Reply::Answered(answer) => put_answer(text, answer)?,
+        Reply::BadLine => text.extend_from_slice(b"bad line\n"),
+        Reply::BadSize => text.extend_from_slice(b"refused BadSize\n"),
+        Reply::Answered(answer) => put_answer(text, answer),
     }
-    Ok(text.push(b'\n')?)
 }

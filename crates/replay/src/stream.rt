@@ -129,6 +129,7 @@ fn turn(
 }
 
 /// Ends the line that was held.
+#[inline(always)]
 fn end_line(
     system: &mut Option<System>,
     held: &mut Held,

@@ -1,13 +1,18 @@
 // Words and numbers of a line.
-ghost use Rattle.std.specs.Prelude.{◌≡◌, ◌≤◌, ◌<◌, ◌==◌, ℕ, length, ◌∷◌, List, option_map, Some, None, IfSome};
+ghost use Rattle.std.specs.Prelude.{◌≡◌, ◌≤◌, ◌<◌, ◌==◌, not, ℕ, length, take, ◌∷◌, List, option_map, Some, None, IfSome};
+ghost use Rattle.std.specs.List.{prefix_len};
 ghost use Rattle.replay.specs.Words.{words, words_after, is_nil};
 ghost use Rattle.replay.specs.Scanned.{first_at, digits_from, begins_well};
 ghost use Rattle.replay.specs.Grammar.{took, last_number};
 
 use memchr::memchr_iter;
+use std::simd::prelude::*;
 
 /// The greatest number of a line.
 const GREATEST: u64 = 1_099_511_627_775;
+
+/// The bytes that are looked at first for the end of a line.
+const NEAR: usize = 16;
 
 /// Where the byte stands first, or the length.
 pub(crate) fn find(byte: u8, bytes: &[u8]) -> usize
@@ -22,8 +27,39 @@ pub(crate) fn find(byte: u8, bytes: &[u8]) -> usize
     bytes.len()
 }
 
-/// Where the line that begins the bytes ends, or the length. It mostly ends within the 32 bytes that an iterator looks at first.
+/// Where the line that begins the bytes ends, or the length. Mostly that is within the first 16 bytes, which are looked at at once.
+#[inline(always)]
+#[tactic(auto, using(crate::proofs::Ends::end_near))]
 pub(crate) fn find_end(bytes: &[u8]) -> usize
+    ensures at { result ≡ first_at 10 bytes.now }
+    ensures bound { result ≤ length bytes.now }
+{
+    if bytes.len() < NEAR {
+        return far_end(bytes);
+    }
+    let near = near_end(bytes);
+    if near < NEAR { near } else { far_end(bytes) }
+}
+
+/// How many of the first 16 bytes stand before a newline.
+#[inline(always)]
+fn near_end(bytes: &[u8]) -> usize
+    requires { 16 ≤ length bytes.now }
+    ensures { result ≡ prefix_len (λ b. not (b == 10)) (take 16 bytes.now) }
+{
+    let ends = u8x16::from_slice(bytes)
+        .simd_eq(u8x16::splat(b'\n'))
+        .to_bitmask();
+    if ends == 0 {
+        NEAR
+    } else {
+        ends.trailing_zeros() as usize
+    }
+}
+
+/// The same as `find_end`, for a line of any length.
+#[inline(never)]
+fn far_end(bytes: &[u8]) -> usize
     ensures at { result ≡ first_at 10 bytes.now }
     ensures bound { result ≤ length bytes.now }
 {
@@ -50,6 +86,7 @@ pub(crate) fn is_end(tail: &[u8]) -> bool
 }
 
 /// The digits up to a space, and what stands from the space on.
+#[inline(always)]
 fn digits(bytes: &[u8]) -> Option<(u64, &[u8])>
     ensures taken { option_map (λ taken. (taken.0, taken.1.now)) result ≡ digits_from 0 bytes.now }
     ensures rest { IfSome result (λ taken. length taken.1.now ≤ length bytes.now) }
@@ -72,6 +109,7 @@ fn digits(bytes: &[u8]) -> Option<(u64, &[u8])>
 }
 
 /// A number may begin the bytes: there is a word, and it doesn't begin with a 0 that more follows.
+#[inline(always)]
 fn begins_well(bytes: &[u8]) -> bool
     ensures { result ≡ begins_well bytes.now }
 {
@@ -83,6 +121,7 @@ fn begins_well(bytes: &[u8]) -> bool
 }
 
 /// The number that is the next word, and what stands after it.
+#[inline(always)]
 pub(crate) fn next(tail: &[u8]) -> Option<(u64, &[u8])>
     ensures taken { option_map (λ taken. (taken.0, words_after taken.1.now)) result ≡ took (words_after tail.now) }
     ensures shorter { IfSome result (λ taken. length taken.1.now < length tail.now) }
