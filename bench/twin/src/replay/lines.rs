@@ -82,16 +82,17 @@ fn first_word(bytes: &[u8], count: usize) -> (u64, Words<'_>) {
     ((eight & !behind) | (SPACES & behind), Words(&bytes[length..count]))
 }
 
-/// Answers the line that is so many of the bytes. At least eight bytes stand there.
+/// Answers the line that is so many of the bytes. What is done ends its own line. At least eight bytes stand there.
 #[inline(always)]
 pub fn answer(bytes: &[u8], count: usize, system: &mut Option<System>, out: &mut Out) {
     let (key, words) = first_word(bytes, count);
     match obey(key, words, system, out) {
-        None => out.text(b"bad line"),
+        None => out.text(b"bad line\n"),
         Some(Ok(())) => {}
         Some(Err(refusal)) => {
             out.text(b"refused ");
             out.text(refusal.as_bytes());
+            out.end_line();
         }
     }
 }
@@ -145,7 +146,7 @@ fn obey(key: u64, mut words: Words<'_>, system: &mut Option<System>, out: &mut O
 fn size(mut words: Words<'_>, system: &mut Option<System>, out: &mut Out) -> Option<Done> {
     let (places, slots, methods) = (words.number()?, words.number()?, words.last()?);
     *system = System::new(places, slots, methods);
-    Some(if system.is_some() { Ok(out.text(b"ok")) } else { Err("BadSize") })
+    Some(if system.is_some() { Ok(out.text(b"ok\n")) } else { Err("BadSize") })
 }
 
 #[inline(always)]

@@ -25,7 +25,29 @@ unsafe extern "C" {
     fn memchr(bytes: *const u8, byte: i32, count: usize) -> *const u8;
 }
 
+/// A bit of each newline.
+#[cfg(target_arch = "x86_64")]
+#[inline(always)]
+fn newlines(bytes: &[u8; 16]) -> i32 {
+    use std::arch::x86_64::{_mm_cmpeq_epi8, _mm_loadu_si128, _mm_movemask_epi8, _mm_set1_epi8};
+    unsafe { _mm_movemask_epi8(_mm_cmpeq_epi8(_mm_loadu_si128(bytes.as_ptr().cast()), _mm_set1_epi8(10))) }
+}
+
+#[cfg(not(target_arch = "x86_64"))]
+fn newlines(bytes: &[u8; 16]) -> i32 {
+    (0..16).fold(0, |all, at| all | i32::from(bytes[at] == b'\n') << at)
+}
+
+/// Mostly a line ends within the first 16 bytes, which are looked at at once.
+#[inline(always)]
 fn line_end(bytes: &[u8]) -> Option<usize> {
+    match bytes.first_chunk().map(newlines) {
+        Some(ends) if ends != 0 => Some(ends.trailing_zeros() as usize),
+        _ => far_line_end(bytes),
+    }
+}
+
+fn far_line_end(bytes: &[u8]) -> Option<usize> {
     let at = unsafe { memchr(bytes.as_ptr(), i32::from(b'\n'), bytes.len()) };
     if at.is_null() { None } else { Some(at as usize - bytes.as_ptr() as usize) }
 }
@@ -54,11 +76,10 @@ impl Lines {
 
     fn answer_one(&mut self, count: usize, system: &mut Option<System>, out: &mut Out) {
         if std::mem::take(&mut self.skips) || count > LONGEST {
-            out.text(b"bad line");
+            out.text(b"bad line\n");
         } else {
             answer(&self.block[self.at..], count, system, out);
         }
-        out.end_line();
     }
 
     /// Brings what is left to the front, for more behind it.

@@ -28,8 +28,12 @@ impl Out {
     }
 
     pub fn number(&mut self, number: u64) {
-        if number < 10 {
-            return self.bytes.push(b'0' + number as u8);
+        let digit = |number: u64| b'0' + (number % 10) as u8;
+        match number {
+            0..10 => return self.bytes.push(digit(number)),
+            10..100 => return self.text(&[digit(number / 10), digit(number)]),
+            100..1000 => return self.text(&[digit(number / 100), digit(number / 10), digit(number)]),
+            _ => {}
         }
         let (mut digits, mut at, mut left) = ([0; 20], 20, number);
         while left > 0 {
@@ -44,5 +48,11 @@ impl Out {
     pub fn counted(&mut self, text: &[u8], number: u64) {
         self.text(text);
         self.number(number);
+    }
+
+    #[inline(always)]
+    pub fn counted_line(&mut self, text: &[u8], number: u64) {
+        self.counted(text, number);
+        self.end_line();
     }
 }

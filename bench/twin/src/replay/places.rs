@@ -199,16 +199,16 @@ impl Thread {
     fn poll(&mut self, goes: State, stops: State, out: &mut Out) {
         if self.armed == 0 {
             self.state = goes;
-            out.text(b"go");
+            out.text(b"go\n");
         } else {
             self.state = stops;
-            out.counted(b"stop ", self.armed);
+            out.counted_line(b"stop ", self.armed);
         }
     }
 
     fn moves(&mut self, state: State, out: &mut Out) -> Done {
         self.state = state;
-        out.text(b"ok");
+        out.text(b"ok\n");
         Ok(())
     }
 
@@ -231,12 +231,14 @@ impl Thread {
                 out.counted(b":", frame.serial);
             }
         }
+        out.end_line();
     }
 }
 
 fn illegal(state: State, out: &mut Out) -> Done {
     out.text(b"refused Illegal ");
     out.text(state.text().as_bytes());
+    out.end_line();
     Ok(())
 }
 
@@ -249,7 +251,7 @@ impl System {
             return Err("NoSuchPlace");
         };
         let Some(thread) = thread.as_deref_mut() else {
-            out.text(b"refused Illegal Vacant");
+            out.text(b"refused Illegal Vacant\n");
             return Ok(());
         };
         if thread.publishing && !matches!(act, Act::Change | Act::End | Act::Stack) {
@@ -293,7 +295,7 @@ impl System {
         let moment = self.moment;
         let thread = self.thread(place);
         (thread.publishing, thread.begun, thread.are_listed) = (true, moment, false);
-        out.text(b"ok");
+        out.text(b"ok\n");
         Ok(())
     }
 
@@ -303,11 +305,11 @@ impl System {
             return Err("NotBegun");
         }
         let Some((serial, slot, by)) = thread.next_change() else {
-            out.text(b"change none");
+            out.text(b"change none\n");
             return Ok(());
         };
         out.counted(b"change ", serial);
-        out.counted(if by > 0 { b" +" } else { b" -" }, u64::from(by.unsigned_abs()));
+        out.counted_line(if by > 0 { b" +" } else { b" -" }, u64::from(by.unsigned_abs()));
         self.codes.change_count(slot, by);
         Ok(())
     }
@@ -321,7 +323,7 @@ impl System {
             return Err("ChangesLeft");
         }
         (thread.publishing, thread.published, thread.stored) = (false, true, thread.begun);
-        out.text(b"ok");
+        out.text(b"ok\n");
         Ok(())
     }
 
@@ -368,7 +370,7 @@ impl System {
             self.thread(place).frame_refusal()?;
         }
         self.thread(place).push(frame);
-        out.text(b"entered");
+        out.text(b"entered\n");
         Ok(())
     }
 
@@ -377,7 +379,7 @@ impl System {
         if self.codes.get(serial).is_ok_and(|code| code.state == super::codes::State::InUse) {
             return Err("NotOf");
         }
-        out.text(b"wrong method");
+        out.text(b"wrong method\n");
         Ok(())
     }
 
@@ -406,7 +408,7 @@ impl System {
         if thread.armed != 0 {
             return Err("OperationPending");
         }
-        out.counted(b"exited ", thread.name);
+        out.counted_line(b"exited ", thread.name);
         self.vacate(place);
         Ok(())
     }
@@ -436,7 +438,7 @@ impl System {
             return Err("Unpublished");
         }
         open.set_done(bit);
-        out.counted(b"reply ", thread.reply(ask));
+        out.counted_line(b"reply ", thread.reply(ask));
         Ok(())
     }
 
@@ -453,7 +455,7 @@ impl System {
         if thread.armed == open.number {
             thread.armed = 0;
         }
-        out.text(b"ok");
+        out.text(b"ok\n");
         Ok(())
     }
 
@@ -470,7 +472,7 @@ impl System {
             return Err("NotSafe");
         }
         self.held |= bit;
-        out.text(b"ok");
+        out.text(b"ok\n");
         Ok(())
     }
 
@@ -479,7 +481,7 @@ impl System {
             return Err("NotHeld");
         }
         self.held &= !(1 << place);
-        out.text(b"ok");
+        out.text(b"ok\n");
         Ok(())
     }
 }

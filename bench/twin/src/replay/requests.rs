@@ -144,7 +144,7 @@ impl Requests {
     fn push(&mut self, request: Request, out: &mut Out) {
         self.numbers += 1;
         self.waiting.push_back((self.numbers, request));
-        out.counted(b"asked ", self.numbers);
+        out.counted_line(b"asked ", self.numbers);
     }
 
     fn may_open(&self) -> bool {
@@ -162,7 +162,7 @@ impl System {
         let name = |place: usize| self.threads[place].as_ref().map_or(0, |thread| thread.name);
         let live = places_of(self.live()).filter(|place| request.is_target(name(*place))).fold(0, |all, place| all | 1 << place);
         out.counted(b"open ", number);
-        out.text(if request.is_census() { b" census" } else { b" handshake" });
+        out.text(if request.is_census() { b" census\n" } else { b" handshake\n" });
         self.requests.opens.push(Open { number, request, operated: false, live, told: 0, done: 0, cleared: 0 });
         Ok(())
     }
@@ -182,7 +182,7 @@ impl System {
         if let (Some(open), Some(place)) = (self.requests.opens.iter_mut().find(|open| open.live & !open.told & bit != 0), place) {
             open.told |= bit;
             self.threads[place].as_mut().unwrap().armed = open.number;
-            out.text(b"told");
+            out.text(b"told\n");
             return Ok(());
         }
         if !self.may_tell(name) {
@@ -191,7 +191,7 @@ impl System {
         if self.requests.opens.iter().any(|open| open.live & bit != 0) {
             return Err("AlreadyTold");
         }
-        out.text(b"gone");
+        out.text(b"gone\n");
         Ok(())
     }
 
@@ -210,6 +210,7 @@ impl System {
             out.counted(b" ", serial);
             out.counted(b":", u64::from(count));
         }
+        out.end_line();
         Ok(())
     }
 
@@ -227,7 +228,7 @@ impl System {
         if open.request.is_census() && !open.operated || open.live & !open.cleared != 0 {
             return Err("NotDone");
         }
-        out.counted(b"closed ", open.number);
+        out.counted_line(b"closed ", open.number);
         self.requests.opens.remove(at);
         Ok(())
     }

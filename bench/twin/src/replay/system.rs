@@ -84,7 +84,7 @@ impl System {
         thread.begin_anew(self.names);
         self.threads[place] = Some(thread);
         out.counted(b"thread ", self.names);
-        out.counted(b" place ", place as u64);
+        out.counted_line(b" place ", place as u64);
         Ok(())
     }
 
@@ -98,19 +98,19 @@ impl System {
         if method >= self.codes.current.len() as u64 {
             return Err("NoSuchMethod");
         }
-        out.counted(b"code ", self.codes.install(method as usize, self.moment)?);
+        out.counted_line(b"code ", self.codes.install(method as usize, self.moment)?);
         Ok(())
     }
 
     pub fn invalidate(&mut self, serial: u64, out: &mut Out) -> Done {
         self.codes.invalidate(serial, self.moment)?;
-        out.text(b"ok");
+        out.text(b"ok\n");
         Ok(())
     }
 
     pub fn free(&mut self, serial: u64, out: &mut Out) -> Done {
         self.codes.free(serial)?;
-        out.text(b"ok");
+        out.text(b"ok\n");
         Ok(())
     }
 
@@ -119,7 +119,7 @@ impl System {
             return Err("Spent");
         }
         self.moment += 1;
-        out.text(b"ok");
+        out.text(b"ok\n");
         Ok(())
     }
 
@@ -131,7 +131,7 @@ impl System {
         let thread = self.threads.get(place as usize).ok_or("NoSuchPlace")?;
         let is_covered = thread.as_ref().is_none_or(|thread| !thread.published || thread.stored > code.moment);
         code.looked |= u64::from(is_covered) << place;
-        out.text(if is_covered { b"clear" } else { b"late" });
+        out.text(if is_covered { b"clear\n" } else { b"late\n" });
         Ok(())
     }
 
@@ -143,18 +143,18 @@ impl System {
         }
         let missing = !code.looked & all;
         if missing != 0 {
-            out.counted(b"not looked ", u64::from(missing.trailing_zeros()));
+            out.counted_line(b"not looked ", u64::from(missing.trailing_zeros()));
         } else if code.count != 0 {
-            out.counted(b"used ", u64::from(code.count));
+            out.counted_line(b"used ", u64::from(code.count));
         } else {
             code.state = CodeState::Zombie;
-            out.text(b"retired");
+            out.text(b"retired\n");
         }
         Ok(())
     }
 
     pub fn count(&self, serial: u64, out: &mut Out) -> Done {
-        out.counted(b"count ", u64::from(self.codes.get(serial)?.count));
+        out.counted_line(b"count ", u64::from(self.codes.get(serial)?.count));
         Ok(())
     }
 
@@ -163,18 +163,18 @@ impl System {
             return Err("Unknown");
         }
         out.text(match self.codes.get(serial).map(|code| code.state) {
-            Err(_) => b"freed",
-            Ok(CodeState::InUse) => b"in use",
-            Ok(CodeState::NotEntrant) => b"not entrant",
-            Ok(CodeState::Zombie) => b"zombie",
+            Err(_) => b"freed\n",
+            Ok(CodeState::InUse) => b"in use\n",
+            Ok(CodeState::NotEntrant) => b"not entrant\n",
+            Ok(CodeState::Zombie) => b"zombie\n",
         });
         Ok(())
     }
 
     pub fn resolve(&self, method: u64, out: &mut Out) -> Done {
         match *self.codes.current.get(method as usize).ok_or("NoSuchMethod")? {
-            0 => out.text(b"none"),
-            serial => out.counted(b"code ", serial),
+            0 => out.text(b"none\n"),
+            serial => out.counted_line(b"code ", serial),
         }
         Ok(())
     }
