@@ -22,7 +22,6 @@ pub enum Command {
 const LONGEST: usize = 1024;
 
 /// The command that the line spells. The names of a handshake take memory, nothing else does.
-#[inline(always)]
 pub fn parse(alloc: Global, line: &[u8]) -> Result<Option<Command>, AllocError>
     ensures command { IfOk result (λ command. command ≡ command_of line.now) }
     ensures no_memory { OnErr result (is_handshake (command_of line.now) ≡ true) }
@@ -41,7 +40,6 @@ pub fn parse(alloc: Global, line: &[u8]) -> Result<Option<Command>, AllocError>
 }
 
 /// What a keyword and the words after it spell, where they take no memory.
-#[inline(always)]
 fn plain(word: Word, tail: &[u8]) -> Option<Command>
     requires { word ≢ Word.Ask }
     ensures { result ≡ of_word word (words_after tail.now) }
@@ -68,7 +66,6 @@ fn plain(word: Word, tail: &[u8]) -> Option<Command>
     }
 }
 
-#[inline(always)]
 fn alone(event: Event, tail: &[u8]) -> Option<Command>
     ensures { result ≡ alone event (words_after tail.now) }
 {
@@ -79,7 +76,6 @@ fn alone(event: Event, tail: &[u8]) -> Option<Command>
     }
 }
 
-#[inline(always)]
 fn enter(tail: &[u8]) -> Option<Command>
     ensures { result ≡ enter_of (words_after tail.now) }
 {
@@ -92,7 +88,6 @@ fn enter(tail: &[u8]) -> Option<Command>
     Some(Command::Do(Event::At(place as usize, Act::Enter(method, Some(serial)))))
 }
 
-#[inline(always)]
 fn close(tail: &[u8]) -> Option<Command>
     ensures { result ≡ close_of (words_after tail.now) }
 {
@@ -103,7 +98,6 @@ fn close(tail: &[u8]) -> Option<Command>
     Some(Command::Do(Event::Close(Some(number))))
 }
 
-#[inline(always)]
 fn look(tail: &[u8]) -> Option<Command>
     ensures { result ≡ of_two Event.Look (words_after tail.now) }
 {
@@ -111,7 +105,6 @@ fn look(tail: &[u8]) -> Option<Command>
     Some(Command::Do(Event::Look(serial, last(tail)? as usize)))
 }
 
-#[inline(always)]
 fn size(tail: &[u8]) -> Option<Command>
     ensures { result ≡ size_of (words_after tail.now) }
 {
@@ -121,7 +114,6 @@ fn size(tail: &[u8]) -> Option<Command>
 }
 
 /// What the words after `ask` spell.
-#[inline(never)]
 fn asking(alloc: Global, tail: &[u8]) -> Result<Option<Command>, AllocError>
     ensures command { IfOk result (λ command. command ≡ asking (words_after tail.now)) }
     ensures no_memory { OnErr result (is_handshake (asking (words_after tail.now)) ≡ true) }

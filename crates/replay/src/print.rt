@@ -14,6 +14,21 @@ use std::alloc::AllocError;
 use system::answers::{Answer, CodeCount, Refusal};
 use thread_state::{Back, State};
 
+/// A text of a few bytes. Where it is known, as mostly here, its bytes are put one by one, without a call.
+#[inline(always)]
+fn put_text(text: &mut Vec<u8>, word: &[u8]) -> Result<(), AllocError>
+    ensures text { OnOk result (text.new.items ≡ text.old.items ++ word.now) }
+    ensures grows { OnOk result (vec_len text.new ≤ vec_len text.old + length word.now) }
+    ensures room { OnErr result (vec_capacity text.old < vec_len text.old + length word.now) }
+    ensures kept { vec_capacity text.old ≤ vec_capacity text.new }
+{
+    text.reserve(word.len())?;
+    for b in word {
+        text.push_reserved(*b);
+    }
+    Ok(())
+}
+
 /// A number. Most have few digits, and those go without a buffer between.
 #[inline(always)]
 fn put_number(text: &mut Vec<u8>, n: u64) -> Result<(), AllocError>
@@ -42,7 +57,7 @@ fn put_one_digit(text: &mut Vec<u8>, n: u64) -> Result<(), AllocError>
     ensures room { OnErr result (vec_capacity text.old < vec_len text.old + 40) }
     ensures kept { vec_capacity text.old ≤ vec_capacity text.new }
 {
-    text.extend_from_slice(&[b'0' + n as u8])
+    put_text(text, &[b'0' + n as u8])
 }
 
 #[inline(always)]
@@ -54,7 +69,7 @@ fn put_two_digits(text: &mut Vec<u8>, n: u64) -> Result<(), AllocError>
     ensures room { OnErr result (vec_capacity text.old < vec_len text.old + 40) }
     ensures kept { vec_capacity text.old ≤ vec_capacity text.new }
 {
-    text.extend_from_slice(&[b'0' + (n / 10) as u8, b'0' + (n % 10) as u8])
+    put_text(text, &[b'0' + (n / 10) as u8, b'0' + (n % 10) as u8])
 }
 
 #[inline(always)]
@@ -67,11 +82,14 @@ fn put_three_digits(text: &mut Vec<u8>, n: u64) -> Result<(), AllocError>
     ensures kept { vec_capacity text.old ≤ vec_capacity text.new }
 {
     let tens = n / 10;
-    text.extend_from_slice(&[
-        b'0' + (tens / 10) as u8,
-        b'0' + (tens % 10) as u8,
-        b'0' + (n % 10) as u8,
-    ])
+    put_text(
+        text,
+        &[
+            b'0' + (tens / 10) as u8,
+            b'0' + (tens % 10) as u8,
+            b'0' + (n % 10) as u8,
+        ],
+    )
 }
 
 /// The same of a number of any length.
@@ -110,7 +128,7 @@ fn put_last_digit(text: &mut Vec<u8>, n: u64) -> Result<(), AllocError>
     ensures room { OnErr result (vec_capacity text.old < vec_len text.old + 41) }
     ensures kept { vec_capacity text.old ≤ vec_capacity text.new }
 {
-    text.extend_from_slice(&[b'0' + n as u8, b'\n'])
+    put_text(text, &[b'0' + n as u8, b'\n'])
 }
 
 /// A word, and a number behind it.
@@ -121,7 +139,7 @@ fn put_counted(text: &mut Vec<u8>, word: &[u8], n: u64) -> Result<(), AllocError
     ensures room { OnErr result (vec_capacity text.old < vec_len text.old + (length word.now + 40)) }
     ensures kept { vec_capacity text.old ≤ vec_capacity text.new }
 {
-    text.extend_from_slice(word)?;
+    put_text(text, word)?;
     put_number(text, n)
 }
 
@@ -133,7 +151,7 @@ fn put_counted_line(text: &mut Vec<u8>, word: &[u8], n: u64) -> Result<(), Alloc
     ensures room { OnErr result (vec_capacity text.old < vec_len text.old + (length word.now + 41)) }
     ensures kept { vec_capacity text.old ≤ vec_capacity text.new }
 {
-    text.extend_from_slice(word)?;
+    put_text(text, word)?;
     put_last_number(text, n)
 }
 
@@ -316,8 +334,8 @@ fn put_opened(text: &mut Vec<u8>, operation: u64, kind: Kind) -> Result<(), Allo
 {
     put_counted(text, b"open ", operation)?;
     match kind {
-        Kind::Handshake => text.extend_from_slice(b" handshake\n"),
-        Kind::Census => text.extend_from_slice(b" census\n"),
+        Kind::Handshake => put_text(text, b" handshake\n"),
+        Kind::Census => put_text(text, b" census\n"),
     }
 }
 
@@ -328,10 +346,10 @@ fn put_code_state(text: &mut Vec<u8>, state: CodeState) -> Result<(), AllocError
     ensures kept { vec_capacity text.old ≤ vec_capacity text.new }
 {
     match state {
-        CodeState::InUse => text.extend_from_slice(b"in use\n"),
-        CodeState::NotEntrant => text.extend_from_slice(b"not entrant\n"),
-        CodeState::Zombie => text.extend_from_slice(b"zombie\n"),
-        CodeState::Freed => text.extend_from_slice(b"freed\n"),
+        CodeState::InUse => put_text(text, b"in use\n"),
+        CodeState::NotEntrant => put_text(text, b"not entrant\n"),
+        CodeState::Zombie => put_text(text, b"zombie\n"),
+        CodeState::Freed => put_text(text, b"freed\n"),
     }
 }
 
@@ -355,32 +373,32 @@ fn put_answer(text: &mut Vec<u8>, answer: &Answer) -> Result<(), AllocError>
     ensures kept { vec_capacity text.old ≤ vec_capacity text.new }
 {
     match answer {
-        Answer::Done => text.extend_from_slice(b"ok\n"),
+        Answer::Done => put_text(text, b"ok\n"),
         Answer::Thread(name, place) => put_thread(text, *name, *place),
         Answer::Exited(name) => put_counted_line(text, b"exited ", *name),
         Answer::Changed(serial, by) => put_change(text, *serial, *by),
-        Answer::NoChange => text.extend_from_slice(b"change none\n"),
-        Answer::Go => text.extend_from_slice(b"go\n"),
+        Answer::NoChange => put_text(text, b"change none\n"),
+        Answer::Go => put_text(text, b"go\n"),
         Answer::Stop(operation) => put_counted_line(text, b"stop ", *operation),
-        Answer::Entered => text.extend_from_slice(b"entered\n"),
-        Answer::WrongMethod => text.extend_from_slice(b"wrong method\n"),
+        Answer::Entered => put_text(text, b"entered\n"),
+        Answer::WrongMethod => put_text(text, b"wrong method\n"),
         Answer::Reply(n) => put_counted_line(text, b"reply ", *n),
         Answer::Frames(frames) => {
             put_frames(text, frames.as_slice())?;
             Ok(text.push(b'\n')?)
         }
         Answer::Code(serial) => put_counted_line(text, b"code ", *serial),
-        Answer::NoCode => text.extend_from_slice(b"none\n"),
-        Answer::Clear => text.extend_from_slice(b"clear\n"),
-        Answer::Late => text.extend_from_slice(b"late\n"),
+        Answer::NoCode => put_text(text, b"none\n"),
+        Answer::Clear => put_text(text, b"clear\n"),
+        Answer::Late => put_text(text, b"late\n"),
         Answer::NotLooked(place) => put_counted_line(text, b"not looked ", *place as u64),
         Answer::Used(n) => put_counted_line(text, b"used ", *n as u64),
-        Answer::Retired => text.extend_from_slice(b"retired\n"),
+        Answer::Retired => put_text(text, b"retired\n"),
         Answer::Asked(operation) => put_counted_line(text, b"asked ", *operation),
         Answer::Opened(operation, kind) => put_opened(text, *operation, *kind),
         Answer::Closed(operation) => put_counted_line(text, b"closed ", *operation),
-        Answer::Told => text.extend_from_slice(b"told\n"),
-        Answer::Gone => text.extend_from_slice(b"gone\n"),
+        Answer::Told => put_text(text, b"told\n"),
+        Answer::Gone => put_text(text, b"gone\n"),
         Answer::Census(counts) => {
             put_census(text, counts.as_slice())?;
             Ok(text.push(b'\n')?)
@@ -417,8 +435,8 @@ pub fn put_reply(text: &mut Vec<u8>, reply: &Reply) -> Result<(), AllocError>
     ensures kept { vec_capacity text.old ≤ vec_capacity text.new }
 {
     match reply {
-        Reply::BadLine => text.extend_from_slice(b"bad line\n"),
-        Reply::BadSize => text.extend_from_slice(b"refused BadSize\n"),
+        Reply::BadLine => put_text(text, b"bad line\n"),
+        Reply::BadSize => put_text(text, b"refused BadSize\n"),
         Reply::Answered(answer) => put_answer(text, answer),
     }
 }

@@ -86,7 +86,6 @@ pub(crate) fn is_end(tail: &[u8]) -> bool
 }
 
 /// The digits up to a space, and what stands from the space on.
-#[inline(always)]
 fn digits(bytes: &[u8]) -> Option<(u64, &[u8])>
     ensures taken { option_map (λ taken. (taken.0, taken.1.now)) result ≡ digits_from 0 bytes.now }
     ensures rest { IfSome result (λ taken. length taken.1.now ≤ length bytes.now) }
@@ -109,7 +108,6 @@ fn digits(bytes: &[u8]) -> Option<(u64, &[u8])>
 }
 
 /// A number may begin the bytes: there is a word, and it doesn't begin with a 0 that more follows.
-#[inline(always)]
 fn begins_well(bytes: &[u8]) -> bool
     ensures { result ≡ begins_well bytes.now }
 {
@@ -121,7 +119,6 @@ fn begins_well(bytes: &[u8]) -> bool
 }
 
 /// The number that is the next word, and what stands after it.
-#[inline(always)]
 pub(crate) fn next(tail: &[u8]) -> Option<(u64, &[u8])>
     ensures taken { option_map (λ taken. (taken.0, words_after taken.1.now)) result ≡ took (words_after tail.now) }
     ensures shorter { IfSome result (λ taken. length taken.1.now < length tail.now) }
