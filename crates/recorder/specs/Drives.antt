@@ -1,5 +1,5 @@
 -- What a coordinator's drives and reclaimings note.
-use Rattle.std.specs.Prelude.{◌≡◌, ℕ, true, List, [], ◌∷◌, Option, Some, Result}
+use Rattle.std.specs.Prelude.{◌≡◌, ◌⊎◌, ℕ, true, List, [], ◌∷◌, Option, Some, Result}
 use Rattle.call_log.specs.declared.word.Word.{Word}
 use Rattle.call_log.specs.declared.word.Word.TheVariants as word
 use Rattle.call_log.specs.declared.lists.Job.{Job}
@@ -25,7 +25,8 @@ drove_numbers (Census n list) = n ∷ pairs list.items
 
 -- A drive answered this, and the coordinator ran some jobs.
 abbrev pub NotesDrive : Streaming → Streaming → Word → Word → List ℕ → Type 0
-NotesDrive old new call answer values = (jobs : List Job) × Takes Coordinator jobs × Adds old new call [] answer values jobs
+NotesDrive old new call answer values =
+    (new ≡ record old { lost = true }) ⊎ ((jobs : List Job) × Takes Coordinator jobs × Adds old new call [] answer values jobs)
 
 -- A drive was refused: where memory was, a census may be open, of which no entry tells.
 abbrev pub NotesRefused : Streaming → Streaming → Word → DriveFault → Type 0
@@ -34,4 +35,5 @@ NotesRefused old new call NoMemory = new ≡ record old { lost = true }
 
 -- A reclaiming answered this, and the coordinator ran some jobs.
 abbrev pub NotesReclaim : Streaming → Streaming → Word → List ℕ → Option Short → Type 0
-NotesReclaim old new call args said = (jobs : List Job) × Takes Coordinator jobs × Notes old new call args said jobs
+NotesReclaim old new call args said =
+    (new ≡ record old { lost = true }) ⊎ ((jobs : List Job) × Takes Coordinator jobs × Notes old new call args said jobs)

@@ -59,13 +59,16 @@ abbrev pub Notes : Streaming → Streaming → Word → List ℕ → Option Shor
 Notes old new call args None jobs = (new ≡ old) ⊎ (new ≡ record old { lost = true })
 Notes old new call args (Some said) jobs = Adds old new call args said.word (numbers_of said.value) jobs
 
--- A call in which the runner ran some jobs.
+-- A call in which the runner ran some jobs is noted with them, or the stream is lost.
 abbrev pub NotesServed : Streaming → Streaming → Word → List ℕ → Short → Runner → Type 0
-NotesServed old new call args said runner = (jobs : List Job) × Takes runner jobs × Notes old new call args (Some said) jobs
+NotesServed old new call args said runner =
+    (new ≡ record old { lost = true }) ⊎ ((jobs : List Job) × Takes runner jobs × Notes old new call args (Some said) jobs)
 
 -- A start that answered this name and place, in which the thread ran some jobs on itself.
 abbrev pub NotesStart : Streaming → Streaming → ℕ → ℕ → Type 0
-NotesStart old new name place = (jobs : List Job) × Takes (Thread name) jobs × Adds old new word.Start [] word.Thread (name ∷ place ∷ []) jobs
+NotesStart old new name place =
+    (new ≡ record old { lost = true })
+    ⊎ ((jobs : List Job) × Takes (Thread name) jobs × Adds old new word.Start [] word.Thread (name ∷ place ∷ []) jobs)
 
 -- No stream is lost.
 abbrev pub are_whole : List Streaming → Bool

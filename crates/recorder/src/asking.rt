@@ -57,7 +57,7 @@ impl<'a> Stream<'a> {
         jobs: Vec<Job>,
     )
         requires { IfSome begun.before (λ t. self.old.last < t) }
-        ensures ok { IfOk numbers (λ list. Adds self.old self.new called.0 called.1.now word
+        ensures ok { IfOk numbers (λ list. Adds self.old self.new called.entry.0 called.entry.1.now word
             list.items jobs.items) }
         ensures err { OnErr numbers (self.new ≡ record self.old { lost = true }) }
     {

@@ -44,8 +44,8 @@ impl<'a, J: Errand, R: Wait> RecordedJob<'a, J, R> {
 /// What a job answered, as a log has it.
 fn ran_job(done: &Done, ticket: u64, is_own: bool) -> RanJob
     ensures { result ≡ record {
-      job = record { op = done.now.op; name = done.now.target; reply = done.now.reply; ticket };
-      is_own;
+      job = record { op = done.now.op; name = done.now.target; reply = done.now.reply; ticket = ticket };
+      is_own = is_own;
     } }
 {
     let job = Job {

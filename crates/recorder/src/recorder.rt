@@ -1,5 +1,5 @@
 //! What all streams of a run share.
-ghost use Rattle.std.specs.Prelude.{◌≡◌, ◌++◌, [], true, IfSome};
+ghost use Rattle.std.specs.Prelude.{◌≡◌, [], false, IfSome};
 ghost use Rattle.recorder.specs.Ran.{taken, Takes};
 
 use crate::ran::{Ran, RanJob, Runner};

@@ -81,7 +81,7 @@ impl<'a> Stream<'a> {
         name: u64,
     )
         requires { IfSome begun.before (λ t. self.old.last < t) }
-        ensures { NotesServed self.old self.new called.0 called.1.now said (Runner.Thread name) }
+        ensures { NotesServed self.old self.new called.entry.0 called.entry.1.now said (Runner.Thread name) }
     {
         match self.recorder.take_jobs(rt, Runner::Thread(name)) {
             Some(jobs) => self.note_served(begun, called, Some(said), jobs),

@@ -57,8 +57,8 @@ fn entry_of(
     said: (Word, &[u64]),
     jobs: Vec<Job>,
 ) -> Result<Entry, AllocError>
-    ensures { IfOk result (λ e. e ≡ logged stream tickets.0 tickets.1 called.0 called.1.now said.0
-        said.1.now jobs.items) }
+    ensures { IfOk result (λ e. e ≡ logged stream tickets.0 tickets.1 called.entry.0 called.entry.1.now said.entry.0
+        said.entry.1.now jobs.items) }
 {
     Ok(Entry {
         stream,
@@ -75,7 +75,7 @@ fn entry_of(
 impl<'a> Stream<'a> {
     /// An empty stream.
     pub(crate) fn new(recorder: &'a Recorder, number: u64, alloc: Global) -> Stream<'a>
-        ensures { result ≡ record { number; last = 0; lost = false; calls = [] } }
+        ensures { result ≡ record { number = number; last = 0; lost = false; calls = [] } }
     {
         Stream {
             recorder,
@@ -145,7 +145,7 @@ impl<'a> Stream<'a> {
         jobs: Vec<Job>,
     )
         requires { IfSome begun.before (λ t. self.old.last < t) }
-        ensures { Adds self.old self.new called.0 called.1.now said.0 said.1.now jobs.items }
+        ensures { Adds self.old self.new called.entry.0 called.entry.1.now said.entry.0 said.entry.1.now jobs.items }
     {
         let Some(before) = begun.before else {
             self.lost = true;
@@ -169,7 +169,7 @@ impl<'a> Stream<'a> {
     /// The same of a call in which no job ran and which answered one number at most. A call without an answer of the core isn't noted.
     pub(crate) fn note_short(&mut self, begun: Begun, called: (Word, &[u64]), said: Option<Short>)
         requires { IfSome begun.before (λ t. self.old.last < t) }
-        ensures { Notes self.old self.new called.0 called.1.now said [] }
+        ensures { Notes self.old self.new called.entry.0 called.entry.1.now said [] }
     {
         self.note_served(begun, called, said, Vec::new(self.alloc));
     }
@@ -183,7 +183,7 @@ impl<'a> Stream<'a> {
         jobs: Vec<Job>,
     )
         requires { IfSome begun.before (λ t. self.old.last < t) }
-        ensures { Notes self.old self.new called.0 called.1.now said jobs.items }
+        ensures { Notes self.old self.new called.entry.0 called.entry.1.now said jobs.items }
     {
         let Some(said) = said else { return };
         match said.value {

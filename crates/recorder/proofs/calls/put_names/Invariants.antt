@@ -1,5 +1,4 @@
 use Rattle.std.proofs.Common.{◌≡◌, ◌++◌, map, length}
-
 use Rattle.recorder.proofs.calls.put_names.Given as goal
 
 abbrev pub decreases-loop-job : goal.decreases-loop-job
