@@ -8,8 +8,12 @@ use std::sync::Wait;
 const SERVES: u64 = 5;
 
 impl<'a, 'j: 'a, N: Name, R: Wait> Driver<'a, 'j, N, R> {
-    fn open(&mut self) -> bool {
-        self.stream.open(&mut self.coordinator, self.rt).is_ok()
+    // Opens the oldest that waits. Answers its number, 0 where it couldn't.
+    fn open(&mut self) -> u64 {
+        match self.stream.open(&mut self.coordinator, self.rt) {
+            Ok((number, _)) => number,
+            Err(_) => 0,
+        }
     }
 
     // Tells the names of all that live, and one that doesn't.
@@ -48,7 +52,9 @@ impl<'a, 'j: 'a, N: Name, R: Wait> Driver<'a, 'j, N, R> {
 
     // Opens a census, tells all, holds all, counts, and lets go.
     pub(crate) fn count_by_hand(&mut self) {
-        if self.submit_census() == 0 || !self.open() {
+        let census = self.submit_census();
+        if census == 0 || self.open() != census {
+            self.close_all();
             return;
         }
         self.tell_all();
@@ -79,7 +85,7 @@ impl<'a, 'j: 'a, N: Name, R: Wait> Driver<'a, 'j, N, R> {
         let mut open = 0u64;
         let rt = self.rt;
         for _ in rt.forever() {
-            if !self.open() {
+            if self.open() == 0 {
                 break;
             }
             open = open.saturating_add(1);
@@ -88,6 +94,7 @@ impl<'a, 'j: 'a, N: Name, R: Wait> Driver<'a, 'j, N, R> {
             self.tell_all();
         }
         self.close_open(open);
+        self.close_all();
     }
 
     // Serves what can be served, until so many are closed.
