@@ -3,7 +3,7 @@
 
 `make install` puts all below a prefix, once straight there and once with DESTDIR before it. There the C program of docs/start/EMBEDDING.md, one
 that steps the model, and the C++ of that page are built by what pkg-config says of the installed `.pc` files, and run; so are the installed
-programs. The C of the README is compiled, and the pages for man are read by groff where it is. Where there is no pkg-config, this script reads those files itself, and says so. `make uninstall` must leave no file and none of the
+programs. That C is built once more with the installed sources of the waits, so that its calls are noted. The C of the README is compiled, and the pages for man are read by groff where it is. Where there is no pkg-config, this script reads those files itself, and says so. `make uninstall` must leave no file and none of the
 project's own folders, and must leave a file that is another's. What can't be built for want of a compiler is told and left out.
 The last line is `N passed, M failed`; the status is 0 where none failed.
 """
@@ -99,10 +99,10 @@ def block(kind, page=PAGE):
     return re.search(rf"^```{kind}\n(.*?)^```$", page.read_text(), re.MULTILINE | re.DOTALL)[1]
 
 
-def program(tests, installed, folder, name, text, package, says, compiler, standard):
+def program(tests, installed, folder, name, text, package, says, compiler, *more):
     source, made = folder / name, folder / f"{name}.out"
     source.write_text(text)
-    words = [compiler, standard, *WARNINGS, source, "-o", made, *installed.flags(package)]
+    words = [compiler, *more, *WARNINGS, source, "-o", made, *installed.flags(package)]
     if tests.run(f"{installed.name}: {name} is built", words):
         tests.run(f"{installed.name}: {name}", [made], says)
 
@@ -110,6 +110,8 @@ def program(tests, installed, folder, name, text, package, says, compiler, stand
 def uses(tests, installed, folder):
     compiler = os.environ.get("CC", "cc")
     program(tests, installed, folder, "first_stop.c", block("c first_stop.c"), "safepoint", FIRST_STOP, compiler, "-std=c11")
+    waits = sorted((installed.top / "share" / "safepoint").glob("*.c"))
+    program(tests, installed, folder, "noted.c", block("c first_stop.c"), "safepoint", FIRST_STOP, compiler, "-std=gnu11", "-DSP_RECORD", *waits)
     program(tests, installed, folder, "model.c", MODEL, "model", MODEL_SAYS, compiler, "-std=c11")
     (source := folder / "readme.c").write_text(block("c", ROOT / "README.md"))
     words = [compiler, "-std=c11", *WARNINGS, "-c", source, "-o", folder / "readme.o", *installed.flags("safepoint")]

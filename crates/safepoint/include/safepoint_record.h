@@ -1,11 +1,15 @@
-/* A log of the calls that a host makes, for `witness`: with -DSP_RECORD safepoint_wait.h includes this page, each call of safepoint.h that a
-   file makes behind it is noted, and safepoint_record.c is built with the other files of `waits`.
+/* A log of the calls that a host makes, for `witness`: with -DSP_RECORD safepoint_wait.h includes
+   this page, each call of safepoint.h that a file makes behind it is noted, and safepoint_record.c
+   is built with the other files of `waits`.
 
-   Each thread notes its calls in memory of its own: a ticket before the call, one after it, what was called and what it answered. A try that
-   answered SP_AGAIN is no call: the ticket before is that of the first try. A thread that stops, starts or exits is one call from its first try
-   to where it goes on. So is a reclaiming from sp_reclaim_begin to sp_reclaim_end, and whoever makes it makes no other call in between, but
-   those that drive its handshake. Looks that change nothing (sp_reply, sp_live_after, sp_counted) aren't noted, nor is a refusal that the core
-   doesn't have (SP_NOT_THIS, SP_NO_MEMORY, SP_HISTORY_FULL, SP_BAD_ASK). One system is recorded: that of the first sp_make. */
+   Each thread notes its calls in memory of its own: a ticket before the call, one after it, what
+   was called and what it answered. A try that answered SP_AGAIN is no call: the ticket before is
+   that of the first try. A thread that stops, starts or exits is one call from its first try to
+   where it goes on. So is a reclaiming from sp_reclaim_begin to sp_reclaim_end, and whoever
+   makes it makes no other call in between, but those that drive its handshake. Looks that change
+   nothing (sp_reply, sp_live_after, sp_counted) aren't noted, nor is a refusal that the core
+   doesn't have (SP_NOT_THIS, SP_NO_MEMORY, SP_HISTORY_FULL, SP_BAD_ASK). One system is recorded:
+   that of the first sp_make. */
 #ifndef SAFEPOINT_RECORD_H
 #define SAFEPOINT_RECORD_H
 
@@ -17,7 +21,8 @@
 extern "C" {
 #endif
 
-/* Writes the log, once no thread calls any more: 0; SP_NO_MEMORY where a call couldn't be noted, and then nothing is written. */
+/* Writes the log, once no thread calls any more: 0; SP_NO_MEMORY where a call couldn't be noted,
+   and then nothing is written. */
 int64_t sp_record_write(FILE *file);
 
 int64_t sp_recorded_make(struct sp_party *coordinator, size_t places, size_t slots, size_t methods);
