@@ -1,10 +1,12 @@
 #!/usr/bin/env python3
 """Installs into folders of its own, uses what is installed, and takes it away again: install.py
 
-`make install` puts all below a prefix, once straight there and once with DESTDIR before it. There the C program of docs/start/EMBEDDING.md, one
-that steps the model, and the C++ of that page are built by what pkg-config says of the installed `.pc` files, and run; so are the installed
-programs. That C is built once more with the installed sources of the waits, so that its calls are noted. The C of the README is compiled, and the pages for man are read by groff where it is. Where there is no pkg-config, this script reads those files itself, and says so. `make uninstall` must leave no file and none of the
-project's own folders, and must leave a file that is another's. What can't be built for want of a compiler is told and left out.
+`make install` puts all below a prefix, once straight there and once with DESTDIR before it. There the C program of docs/start/EMBEDDING.md,
+one that steps the model, and the C++ of that page are built by what pkg-config says of the installed `.pc` files, and run; so are the
+installed programs. That C is built once more with the installed sources of the waits, so that its calls are noted. The C of the README is
+compiled, and the pages for man are read by groff where it is. Where there is no pkg-config, this script reads those files itself, and says
+so. `make uninstall` must leave no file and none of the project's own folders, and must leave a file that is another's. What can't be built
+for want of a compiler is told and left out.
 The last line is `N passed, M failed`; the status is 0 where none failed.
 """
 import os
