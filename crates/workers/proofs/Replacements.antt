@@ -1,9 +1,10 @@
 -- Codes that are installed, replaced and freed one after the other.
-use Rattle.std.proofs.Common.{◌≡◌, ◌∙◌, ◌+◌, ◌*◌, ℕ, suc, List, [], ◌∷◌, ◌++◌, length, length-append, inl, inr, refl, ap, sym, subst, append_assoc, slice_index, arith}
+use Rattle.std.proofs.Common.{◌≡◌, ◌∙◌, ◌+◌, ◌*◌, ℕ, suc, List, [], ◌∷◌, ◌++◌, Option, Some, None, length, length-append, inl, inr, refl, ap, sym, subst, append_assoc, slice_index, arith}
 use Rattle.std.proofs.lemmas.List.{length-set}
+use Rattle.std.specs.Prelude.{IfSome}
 use Rattle.desk.specs.Machine.{Stands}
 use Rattle.desk.specs.declared.entries.Entry.TheVariants.{Free}
-use Rattle.workers.specs.Replacing.{Codes, IsInstall, AreInstalls, InstallsEach, IsKept, Replaced, ReplacedFirst, ReplacedEach, CountsMore, AreFreed, FreesSome}
+use Rattle.workers.specs.Replacing.{Codes, IsInstall, AreInstalls, InstallsEach, IsKept, IsKeptBy, Replaced, ReplacedFirst, ReplacedEach, CountsMore, AreFreed, FreesSome}
 
 -- one more code behind the others
 installs_more : (method : ℕ) (ss : List ℕ) (rs : List Stands) (s : ℕ) (r : Stands)
@@ -56,6 +57,12 @@ kept_from serial other freed was left had freed' left' one is has (inl (r, free,
     inl (r, free ∙ ap (λ (n : ℕ). Free n) one, more ∙ ap (λ rs. rs ++ r ∷ []) is, same ∙ has)
 kept_from serial other freed was left had freed' left' one is has (inr (same, more)) =
     inr (same ∙ is, more ∙ ap (λ ss. ss ++ serial ∷ []) has ∙ ap (λ (n : ℕ). had ++ n ∷ []) one)
+
+-- by its receipt, where it is freed
+pub kept_by : (serial : ℕ) (said : Option Stands) (freed : List Stands) (left : List ℕ) (freed' : List Stands) (left' : List ℕ)
+    → IfSome said (λ r. r.entry ≡ Free serial) → IsKeptBy serial said freed left freed' left' → IsKept serial freed left freed' left'
+kept_by serial (Some r) freed left freed' left' free (more, same) = inl (r, free, more, same)
+kept_by serial None freed left freed' left' free kept = inr kept
 
 counts_one : (method : ℕ) (old new : Codes) → Replaced method old new → CountsMore 1 old new
 counts_one method old new (serial, r, install, in_use, installed, kept) = (

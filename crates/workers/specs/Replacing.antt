@@ -1,7 +1,9 @@
 -- The codes of a run, by their serials and the receipts of their entries.
-use Rattle.std.specs.Prelude.{◌≡◌, ◌⊎◌, ◌+◌, ◌++◌, ℕ, zero, suc, List, [], ◌∷◌, length, slice_index, slice_set, ⊤}
+use Rattle.std.specs.Prelude.{◌≡◌, ◌⊎◌, ◌+◌, ◌++◌, ℕ, zero, suc, List, [], ◌∷◌, Option, Some, None, length, slice_index, slice_set, ⊤}
 use Rattle.desk.specs.Machine.{Stands}
 use Rattle.desk.specs.declared.entries.Entry.TheVariants.{Install, Free}
+use Rattle.coordinator.specs.declared.faults.Reclaimed.{Reclaimed}
+use Rattle.coordinator.specs.declared.faults.Reclaimed.TheVariants.{Freed, Used, Late}
 
 -- The code of each method that is in use, the codes that are out of use and not freed, and the receipts of those that were installed and freed.
 pub record Codes : Type 0 where
@@ -30,6 +32,17 @@ InstallsEach methods c =
 abbrev pub IsKept : ℕ → List Stands → List ℕ → List Stands → List ℕ → Type 0
 IsKept serial freed left freed' left' =
     ((r : Stands) × (r.entry ≡ Free serial) × (freed' ≡ freed ++ r ∷ []) × (left' ≡ left)) ⊎ ((freed' ≡ freed) × (left' ≡ left ++ serial ∷ []))
+
+-- What was reclaimed wasn't freed: activations stand, or a place is late.
+abbrev pub IsLeft : {N : Type 0} → Reclaimed N → Type 0
+IsLeft (Freed r) = ⊥
+IsLeft (Used n) = ⊤
+IsLeft (Late place) = ⊤
+
+-- A code with the receipt of its Free goes to those that are freed, and one without to those that are left.
+abbrev pub IsKeptBy : ℕ → Option Stands → List Stands → List ℕ → List Stands → List ℕ → Type 0
+IsKeptBy serial (Some r) freed left freed' left' = (freed' ≡ freed ++ r ∷ []) × (left' ≡ left)
+IsKeptBy serial None freed left freed' left' = (freed' ≡ freed) × (left' ≡ left ++ serial ∷ [])
 
 -- Another code was installed for the method, and the one before is freed or left.
 abbrev pub Replaced : ℕ → Codes → Codes → Type 0

@@ -1,9 +1,11 @@
 //! The codes of a run: what the thread does that installs and reclaims them.
-ghost use Rattle.std.specs.Prelude.{◌≡◌, ◌==◌, ◌≤◌, ◌<◌, ◌+◌, IfOk, IfSome, OnOk, length};
+ghost use Rattle.std.specs.Prelude.{◌≡◌, ◌==◌, ◌≤◌, ◌<◌, ◌+◌, IfOk, IfSome, IfNone, OnOk, length};
 ghost use Rattle.std.specs.List.{filter, list_any};
 ghost use Rattle.poll.specs.Rows.{full_armer};
 ghost use Rattle.desk.specs.declared.entries.Entry.{Entry};
-ghost use Rattle.workers.specs.Replacing.{IsInstall, InstallsEach, IsKept, Replaced, ReplacedEach, FreesSome, Reclaims};
+ghost use Rattle.coordinator.specs.Reclaiming.{IsReclaimed};
+ghost use Rattle.coordinator.specs.declared.faults.Reclaimed.{Reclaimed};
+ghost use Rattle.workers.specs.Replacing.{IsInstall, InstallsEach, IsKeptBy, IsLeft, Replaced, ReplacedEach, FreesSome, Reclaims};
 
 use crate::fault::RunFault;
 use bodies::Name;
@@ -149,7 +151,7 @@ impl<'a, N: Name, J: Errand> Reclaimer<'a, N, J> {
     // A code that was taken out of use is freed, or left.
     fn keep(&mut self, serial: u64, freed: Option<Receipt<N>>) -> Result<(), RunFault>
         requires { IfSome freed (λ r. r.entry ≡ Entry.Free serial) }
-        ensures kept { OnOk result (IsKept serial self.old.freed self.old.left self.new.freed self.new.left) }
+        ensures kept { OnOk result (IsKeptBy serial freed self.old.freed self.old.left self.new.freed self.new.left) }
         ensures same { (self.new.in_use ≡ self.old.in_use) × (self.new.installed ≡ self.old.installed) }
     {
         match freed {
@@ -223,7 +225,9 @@ fn reclaim<N: Name, J: Errand, R: Wait>(
     serial: u64,
     jobs: Vec<J>,
 ) -> Result<Option<Receipt<N>>, RunFault>
-    ensures { IfOk result (λ said. IfSome said (λ r. r.entry ≡ Entry.Free serial)) }
+    ensures freed { IfOk result (λ said. IfSome said (λ r. r.entry ≡ Entry.Free serial)) }
+    ensures left { IfOk result (λ said. IfNone said
+        ((r : Reclaimed N) × IsReclaimed N.board.places serial r × IsLeft r)) }
 {
     let reclaimed = coordinator.reclaim(rt, serial, jobs);
     shared.forget(rt);

@@ -1,7 +1,7 @@
 use Rattle.std.proofs.Common.{rules, ◌≡◌, ◌∙◌, ◌<◌, ap, sym, subst, length, slice_index}
 use Rattle.std.proofs.lemmas.Grind.{get_or_default_zero}
 use Rattle.workers.specs.Replacing.{Codes}
-use Rattle.workers.proofs.Replacements.{kept_from}
+use Rattle.workers.proofs.Replacements.{kept_from, kept_by}
 use Rattle.workers.proofs.reclaimer.Reclaimer.replace.Goals as goal
 
 pub returns : goal.returns
@@ -17,5 +17,5 @@ returns g c =
       c.in_ok-new.ensures,
       search rules,
       search rules,
-      kept_from _ _ _ _ _ _ _ _ code freed left c.in_ok-keep.ensures.kept,
+      kept_from _ _ _ _ _ _ _ _ code freed left (kept_by _ _ _ _ _ _ c.in_ok-reclaimed.ensures.freed c.in_ok-keep.ensures.kept),
     )
