@@ -1,5 +1,5 @@
 -- What C is told of a party.
-use Rattle.std.specs.Prelude.{◌≡◌, ◌==◌, if◌then◌else◌, ℕ, ℤ, Bool, false, Option, Some, None, is_some, Err, List, []}
+use Rattle.std.specs.Prelude.{◌≡◌, ◌==◌, if◌then◌else◌, ℕ, ℤ, Bool, true, Option, Some, None, is_some, Err}
 use Rattle.operations.specs.declared.Ask.{Ask}
 use Rattle.operations.specs.declared.Ask.TheVariants.{Depth, CountOf, Top}
 use Rattle.parties.specs.declared.acts.Act.{Act}
@@ -7,7 +7,9 @@ use Rattle.parties.specs.declared.acts.Act.TheVariants as act
 use Rattle.parties.specs.declared.party.Role.{Role}
 use Rattle.parties.specs.declared.party.Role.TheVariants as role
 use Rattle.parties.specs.declared.acts.Fault.TheVariants as fault
-use Rattle.coordinator_steps.specs.Holding.{Holding}
+use Rattle.board.specs.Boards.{BoardId}
+use Rattle.poll.specs.Rows.{RowId}
+use Rattle.coordinator_steps.specs.Holding.{held_nothing}
 use Rattle.parties.specs.Acted.{Acts}
 use Rattle.parties.specs.Asked.{Told}
 use Rattle.safepoint.specs.Codes.{code_of}
@@ -24,11 +26,11 @@ Answers places (Some old) act said new = Obeys places (Some old) act said new
 
 -- A new party only shares the system.
 abbrev pub IsFresh : {N : Type 0} → Option (Role N) → Type 0
-IsFresh None = Unit {0}
-IsFresh (Some r) = r ≡ role.Shares
+IsFresh new = new ≡ Some role.Shares
 
+-- It is there where there was memory for it, and else there is none.
 abbrev pub Arises : {N : Type 0} → Option (Role N) → Bool → Type 0
-Arises new made = IsFresh new × (is_some new ≡ made)
+Arises new made = (is_some new ≡ made) × (made ≡ true → IsFresh new)
 
 abbrev pub Forks : {N : Type 0} → Option (Role N) → Option (Role N) → Option (Role N) → Bool → Type 0
 Forks old kept new made = (kept ≡ old) × Arises new made
@@ -46,10 +48,10 @@ abbrev pub Submits : {N : Type 0} → ℕ → Option Ask → ℤ → ℤ → Opt
 Submits places (Some ask) bad code old new = Replies places code (act.Submit (Some ask)) old new
 Submits places None bad code old new = (code ≡ bad) × (new ≡ old)
 
--- A new coordinator holds nothing.
-abbrev pub IsBegun : {N : Type 0} → Option (Role N) → Type 0
-IsBegun None = Unit {0}
-IsBegun (Some r) = (c : Holding) × (r ≡ role.Coordinates c) × (c.held ≡ []) × (c.operated ≡ false)
+-- A new coordinator of a system over this board and row holds nothing.
+abbrev pub IsBegun : {N : Type 0} → BoardId → RowId → Option (Role N) → Type 0
+IsBegun board row new = new ≡ Some (role.Coordinates (held_nothing row board.places))
 
-abbrev pub Begins : {N : Type 0} → Option (Role N) → Bool → Type 0
-Begins new made = IsBegun new × (is_some new ≡ made)
+-- It is there where there was memory for it, and else there is none.
+abbrev pub Begins : {N : Type 0} → BoardId → RowId → Option (Role N) → Bool → Type 0
+Begins board row new made = (is_some new ≡ made) × (made ≡ true → IsBegun board row new)

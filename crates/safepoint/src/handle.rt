@@ -1,9 +1,8 @@
 // What C holds of a party.
-ghost use Rattle.std.specs.Prelude.{◌≡◌, ℕ, OnOk, Option, Some, None, is_some, true, false};
+ghost use Rattle.std.specs.Prelude.{◌≡◌, ℕ, OnOk, OnErr, IfOk, Option, Some, None, is_some, true, false};
 ghost use Rattle.board.specs.Boards.{BoardId};
 ghost use Rattle.poll.specs.Rows.{RowId};
 ghost use Rattle.coordinator_steps.specs.Holding.{held_nothing};
-ghost use Rattle.parties.specs.Asked.{Told};
 ghost use Rattle.safepoint.specs.Held.{Seen, held_owns, board_coded, row_coded, held_coded};
 ghost use Rattle.safepoint.specs.Told.{Obeys, Answers, Forks, Arises, Begins, IsBegun, IsFresh};
 
@@ -84,7 +83,7 @@ fn boxed<N: Name>(alloc: Global, party: Party<N>) -> (Loose<Party<N>, Global>, b
 // The coordinator of a new system over these parts, and whether there was memory for it.
 fn make<N: Name>(alloc: Global, parts: Parts) -> (Loose<Party<N>, Global>, bool)
     requires { (parts.board ≡ N.board) × (parts.row ≡ N.poll_row) }
-    ensures { Begins result.0.value result.1 }
+    ensures { Begins N.board N.poll_row result.0.value result.1 }
 {
     let Ok((system, armer)) = System::<N>::new(alloc, parts) else {
         return (Loose::none(alloc), false);
@@ -104,7 +103,7 @@ fn begun<N: Name>(
     steps: Steps<N>,
 ) -> (Loose<Party<N>, Global>, bool)
     requires { steps ≡ held_nothing N.poll_row N.board.places }
-    ensures { Begins result.0.value result.1 }
+    ensures { Begins N.board N.poll_row result.0.value result.1 }
 {
     let party = Party::coordinator(alloc, system, steps);
     match Box::new(alloc, party) {
@@ -168,7 +167,7 @@ impl Handle {
     }
 
     fn make(alloc: Global, parts: Parts) -> (Handle, bool)
-        ensures { Begins result.0.value result.1 }
+        ensures { Begins result.0.board result.0.row result.0.value result.1 × (result.0.board ≡ parts.board) }
     {
         let (other, made) = make::<Brand>(alloc, parts);
         let Loose { at, alloc } = other;
@@ -260,7 +259,9 @@ impl Place {
     pub(crate) fn fork(&mut self, alloc: Global, other: &mut Place) -> Result<u64, Fault>
         requires { is_some other.old.handle.value ≡ false }
         ensures kept { self.new.handle.value ≡ self.old.handle.value }
-        ensures fresh { IsFresh other.new.handle.value }
+        ensures zero { IfOk result (λ n. n ≡ 0) }
+        ensures fresh { OnOk result (IsFresh other.new.handle.value) }
+        ensures none { OnErr result (is_some other.new.handle.value ≡ false) }
         ensures same { OnOk result ((other.new.handle.board ≡ self.old.handle.board) × (other.new.handle.row ≡ self.old.handle.row)) }
     {
         if !self.made {
@@ -274,7 +275,9 @@ impl Place {
     }
 
     pub(crate) fn make(&mut self, alloc: Global, parts: Parts) -> Result<u64, Fault>
-        ensures { IsBegun self.new.handle.value }
+        ensures zero { IfOk result (λ n. n ≡ 0) }
+        ensures begun { OnOk result (IsBegun self.new.handle.board self.new.handle.row self.new.handle.value × (self.new.handle.board ≡ parts.board)) }
+        ensures none { OnErr result (is_some self.new.handle.value ≡ false) }
     {
         let (handle, made) = Handle::make(alloc, parts);
         self.put(handle, made);

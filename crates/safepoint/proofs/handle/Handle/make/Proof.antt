@@ -113,8 +113,8 @@ module _ {M : Type 1} {𝓤 : Ura M} (𝓛 : Logic 𝓤) (𝓜 : Model 𝓤 𝓛
       enter ! 𝓣.C 𝓣.Λ code.function (wa ∷ wp ∷ []) Post $ alloc_all ! (λ l. pass_all ! refl (ga, (gp, tt)) $
       sets ! (of_opd ! (get ! refl)) refl gp $
       calls_at ! (fm 𝓛 𝓜 𝓡) k (met 𝓤 𝓛 𝓜 𝓡 (code.calls-safepoint::handle::make 𝓡.env wired) marker marker_laws gn dict (record {})) y (and_then ! (get ! refl) (and_then ! (get ! refl) (no_more !))) (λ u.
-      use1 𝓛 (later (some (λ (r : (Loose R Z LZ g).Denot × bool.Denot). ((‵ (flft [] full_share) ⊛ ‵ ftrue) ⊛ ‵ ((Tuple (Loose R Z LZ g ∷ bool ∷ [])).own_val r (u ∷ []))) ⊛ some (λ (ls : Lasts (callee.ended marker gn dict) ([], tt) y.0.3). ‵ (lasts (callee.ended marker gn dict) ([], tt) y.0.3 ls) ⊛ raw (fact 𝓤 (Begins r.0.value r.1)))))) (id⊢ 𝓤 (k.post y u)) $
-      await ! tt $ pick ! (λ r. split ! $ move ! (1 ∷ []) $ pick ! (λ _. split ! $ drop ! $ heard ! (Begins r.0.value r.1) (λ er. split ! $ drop ! $
+      use1 𝓛 (later (some (λ (r : (Loose R Z LZ g).Denot × bool.Denot). ((‵ (flft [] full_share) ⊛ ‵ ftrue) ⊛ ‵ ((Tuple (Loose R Z LZ g ∷ bool ∷ [])).own_val r (u ∷ []))) ⊛ some (λ (ls : Lasts (callee.ended marker gn dict) ([], tt) y.0.3). ‵ (lasts (callee.ended marker gn dict) ([], tt) y.0.3 ls) ⊛ raw (fact 𝓤 (Begins gn.board gn.poll_row r.0.value r.1)))))) (id⊢ 𝓤 (k.post y u)) $
+      await ! tt $ pick ! (λ r. split ! $ move ! (1 ∷ []) $ pick ! (λ _. split ! $ drop ! $ heard ! (Begins gn.board gn.poll_row r.0.value r.1) (λ er. split ! $ drop ! $
       two_out (Loose R Z LZ g) bool r.0 r.1 ! L₁.one yes_laws.one (L₁.lawful 𝓛) (yes_laws.lawful 𝓛) (u ∷ []) (λ v₁ n g₁ gn' eu.
       loose_out R Z LZ g ! r.0 (v₁ ∷ []) (λ hv₂ ws₂ fits₂.
       let l₂ = loose_good R Z LZ g r.0.at hv₂ fits₂ in let w₂ : Val = both (ptr_val r.0.at) hv₂ in
@@ -127,7 +127,7 @@ module _ {M : Type 1} {𝓤 : Ura M} (𝓛 : Logic 𝓤) (𝓜 : Model 𝓤 𝓛
       sets ! (agg ! (and_then ! (get ! refl) (and_then ! (get ! refl) (no_more !)))) refl outer $ returns ! (look_at ! 0 refl) $ free_all ! refl $
       loose_in R Z LZ g ! r.0.at hv₂ r.0.alloc r.0.value $ use1 𝓛 (‵ (H-row.own_val hr (w₂ ∷ []))) (id⊢ 𝓤 _) $
       pair_in H-row bool ! hr r.1 w₂ n $
-      suffices ! _ (ends_at 𝓛 F.ended stayed (F.clauses 𝓛 𝓜.mem 𝓡.returns) z (both w₂ n) (hr, r.1) (tt, (tt, tt)) (tt, (tt, tt))) $ says ! er $
+      suffices ! _ (ends_at 𝓛 F.ended stayed (F.clauses 𝓛 𝓜.mem 𝓡.returns) z (both w₂ n) (hr, r.1) (tt, (tt, tt)) (tt, (tt, tt))) $ says ! (er, refl) $
       nothing ! $ nothing ! $ join ! $ nothing ! $ join ! $ nothing ! $ done !)))))))))
 
 pub make_spec : {M : Type 1} → stated.statement M
