@@ -234,7 +234,6 @@ static void drive_by_steps(void) {
         SP_WAIT(answer, sp_close_of(&coordinator, (uint64_t)number));
         if (answer == number) return;
         if (answer != SP_NOT_DONE && answer != SP_HELD) fail("sp_close_of", answer);
-        sp_look(&pause);
         sp_again(SP_AGAIN, &pause);
     }
 }

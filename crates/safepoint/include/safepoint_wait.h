@@ -27,13 +27,11 @@ typedef void (*sp_callback)(void *with, const struct sp_served *served);
 /* Words for an answer. */
 const char *sp_text(int64_t answer);
 
-/* How long an asking loop has waited. */
+/* How long an asking loop has waited: all zeros at first. */
 struct sp_pause {
     unsigned turns, seen;
 };
-/* Before a try. */
-void sp_look(struct sp_pause *pause);
-/* Behind it: true, after a rest, where it is to be made again. */
+/* Behind a try: true, after a rest, where it is to be made again. */
 bool sp_again(int64_t answer, struct sp_pause *pause);
 /* Behind a call that may let another go on. */
 void sp_ring(void);
@@ -44,10 +42,9 @@ void sp_ring(void);
     do {                                                                      \
         struct sp_pause pause_ = {0, 0};                                      \
         int64_t found_;                                                       \
-        do {                                                                  \
-            sp_look(&pause_);                                                 \
+        do                                                                    \
             found_ = (call);                                                  \
-        } while (sp_again(found_, &pause_));                                  \
+        while (sp_again(found_, &pause_));                                    \
         (answer) = found_;                                                    \
     } while (0)
 

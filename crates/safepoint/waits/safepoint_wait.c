@@ -87,8 +87,7 @@ void sp_ring(void) {
     ring(&all.gone);
 }
 
-void sp_look(struct sp_pause *pause) { pause->seen = atomic_load(&all.gone.rings); }
-
+/* Between two tries. What it has seen when it sleeps was so before the last of them. */
 static void rest(struct sp_pause *pause) {
     unsigned turn = pause->turns++;
     if (turn < TRIES) {
@@ -100,6 +99,7 @@ static void rest(struct sp_pause *pause) {
         nap(&all.gone, pause->seen, turn - TRIES - YIELDS);
         atomic_fetch_sub(&all.gone.sleepers, 1);
     }
+    pause->seen = atomic_load(&all.gone.rings);
 }
 
 bool sp_again(int64_t answer, struct sp_pause *pause) {
@@ -135,7 +135,6 @@ static int64_t next_of(struct sp_party *thread) {
     int64_t operation;
     do {
         if (pause.turns == 2) come(); /* not for a lock that was taken once */
-        sp_look(&pause);
         operation = sp_stop_next(thread);
     } while (sp_again(operation, &pause));
     return operation;
@@ -305,7 +304,6 @@ static void wait_for_late(struct drive *it) {
 static void look_everywhere(struct drive *it, struct sp_pause *pause) {
     it->late = UINT64_MAX;
     it->told = ALL;
-    sp_look(pause);
     rest(pause);
 }
 
