@@ -140,13 +140,20 @@ static int64_t next_of(struct sp_party *thread) {
     return operation;
 }
 
+/* Serves the operation: what the poll behind it answers. */
+static int64_t serve(struct sp_party *thread, int64_t operation, sp_callback call, void *with) {
+    int64_t told;
+    if (call) call(with, &(struct sp_served){(uint64_t)operation, (size_t)sp_place(thread), thread});
+    SP_WAIT(told, sp_stop_serve(thread));
+    return told;
+}
+
 int64_t sp_stop(struct sp_party *thread, sp_callback call, void *with) {
     for (;;) {
         int64_t told, operation = next_of(thread);
         if (operation <= 0) return operation;
-        if (call) call(with, &(struct sp_served){(uint64_t)operation, (size_t)sp_place(thread), thread});
         unsigned ended = atomic_load(&all.ended);
-        SP_WAIT(told, sp_stop_serve(thread));
+        told = serve(thread, operation, call, with);
         bool has_woken = come();
         if (told > 0) continue;
         give_way(ended, has_woken);
@@ -171,13 +178,21 @@ int64_t sp_start_thread(struct sp_party *thread, sp_callback call, void *with) {
     return stopped < 0 ? stopped : name;
 }
 
+/* It has come once it has left, or is told more: who is woken before might tell it the next in time, and so on. */
 int64_t sp_exit_thread(struct sp_party *thread, sp_callback call, void *with) {
-    for (;;) {
-        int64_t answer;
+    for (bool has_served = false;;) {
+        int64_t operation, answer;
         SP_WAIT(answer, sp_exit(thread));
-        if (answer <= 0) return given(answer);
-        answer = sp_stop(thread, call, with);
-        if (answer < 0) return answer;
+        if (has_served || (answer <= 0 && driven())) come();
+        if (answer <= 0) return answer;
+        has_served = false;
+        while ((operation = next_of(thread)) > 0) {
+            answer = serve(thread, operation, call, with);
+            has_served = true;
+            if (answer <= 0) break;
+            come();
+        }
+        if (operation < 0 || answer < 0) return operation < 0 ? operation : answer;
     }
 }
 
