@@ -383,7 +383,8 @@ static void submit(struct sp_party *party) {
     }
     uint32_t asks = (uint32_t)drawn(3);
     uint64_t serial = drawn((uint64_t)serials + 2);
-    size_t at = (size_t)(asks == SP_COUNT_OF ? sprintf(line, "ask count %llu", (unsigned long long)serial) : sprintf(line, "ask %s", asks ? "top" : "depth"));
+    size_t at = (size_t)sprintf(line, "ask %s", asks == SP_DEPTH ? "depth" : asks == SP_TOP ? "top" : "count");
+    if (asks == SP_COUNT_OF) at += (size_t)sprintf(line + at, " %llu", (unsigned long long)serial);
     name_targets(party, &request, line, at, 5);
     play("%s", line);
     int64_t wanted = asked_of(&request);

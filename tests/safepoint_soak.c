@@ -54,7 +54,8 @@ static uint64_t drawn(uint64_t *random, uint64_t below) {
 static void at_safe_point(void *with, const struct sp_served *call) {
     struct one *it = call->thread ? with : atomic_load(&at_place[call->place]);
     uint64_t bit = (uint64_t)1 << call->place;
-    if (call->operation < OPERATIONS && atomic_fetch_or(&served_by[call->operation], bit) & bit) fail("an operation runs twice at a place", (int64_t)call->operation);
+    if (call->operation < OPERATIONS && atomic_fetch_or(&served_by[call->operation], bit) & bit)
+        fail("an operation runs twice at a place", (int64_t)call->operation);
     if (!it) return; /* it hasn't told where it is */
     if (atomic_exchange(&it->is_served, true)) fail("two callbacks on one stack", (int64_t)call->operation);
     int depth = it->depth;
@@ -287,7 +288,7 @@ int main(int argc, char **argv) {
     while (atomic_load(&still)) work();
     for (int i = 0; i < count; i++) pthread_join(all[i].id, NULL), sp_free(&all[i].client);
     sp_free(&coordinator);
-    printf("%d threads, %ld starts, %ld handshakes, %ld censuses by steps, %ld callbacks by the thread and %ld for a held one, %ld codes freed\n", count,
-           atomic_load(&starts), atomic_load(&handshakes), atomic_load(&censuses), atomic_load(&own), atomic_load(&held), atomic_load(&freed));
+    printf("%d threads, %ld starts, %ld handshakes, %ld censuses by steps, %ld callbacks by the thread and %ld for a held one, %ld codes freed\n",
+           count, atomic_load(&starts), atomic_load(&handshakes), atomic_load(&censuses), atomic_load(&own), atomic_load(&held), atomic_load(&freed));
     return 0;
 }
