@@ -2,7 +2,6 @@
    nothing else. The kinds, their loops and what they answer are those of crates/running_bench, which makes them in Rattle: bench/safepoint.py
    runs the two in turn. */
 #include <pthread.h>
-#include <sched.h>
 #include <stdatomic.h>
 #include <stdio.h>
 #include <stdlib.h>
@@ -156,7 +155,7 @@ static void time_stops(void) {
         must(sp_fork(&coordinator, &parties[i]));
         if (pthread_create(&ids[i], NULL, live, &parties[i])) exit(1);
     }
-    while (atomic_load(&ready) < threads) sched_yield();
+    while (atomic_load(&ready) < threads) nanosleep(&(struct timespec){0, 1000000}, NULL); /* a scheduler may hold yields against it */
     uint64_t start = now();
     for (long turn = 0; turn < turns + WARM_UP && now() - start < LONGEST * 1000000000ull; turn++) {
         uint64_t took = stop();

@@ -22,8 +22,7 @@ static struct {
 
 enum {
     TRIES = 8,      /* of a call that found a lock taken, with pauses that grow, before the thread yields */
-    YIELDS = 64,    /* before it sleeps */
-    GIVES = 8,      /* with which a thread that has served gives way, before it sleeps */
+    YIELDS = 64,    /* before it sleeps; and the most with which a thread that has served gives way */
     LEAST = 4,      /* of these where it has woken the coordinator, which may wait for this very processor */
     LOOKS = 40,     /* of the coordinator whether those that are late have come, before it sleeps */
     NAP = 500000,   /* nanoseconds, which the first sleep of a wait lasts at most, since a lock that is given back doesn't ring */
@@ -122,18 +121,13 @@ static bool come(void) {
 }
 
 /* Lets others run while some have still to come for what was driven when so many had ended: where more threads run than there are processors,
-   these come within a round of the scheduler, and not after a time slice of each. A scheduler that holds yields against a thread may let it come
-   late for the next: so the others don't go on to yield, but sleep. */
+   these come within a round of the scheduler, and not after a time slice of each. It doesn't sleep instead: a scheduler that holds yields
+   against a thread would then have the coordinator wait longest. */
 static void give_way(unsigned ended, bool has_woken) {
-    for (int turn = 0; turn < GIVES; turn++) {
-        if (atomic_load(&all.ended) != ended) return;
+    for (int turn = 0; turn < YIELDS && atomic_load(&all.ended) == ended; turn++) {
         if (are_here(atomic_load(&all.wanted)) && (!has_woken || turn >= LEAST)) return;
         sched_yield();
     }
-    atomic_fetch_add(&all.gone.sleepers, 1);
-    unsigned seen = atomic_load(&all.gone.rings);
-    if (atomic_load(&all.ended) == ended && !are_here(atomic_load(&all.wanted))) nap(&all.gone, seen, 0);
-    atomic_fetch_sub(&all.gone.sleepers, 1);
 }
 
 /* The operation to serve now, or 0. Where a census keeps its stack, it has come and waits. */
@@ -386,7 +380,6 @@ static int64_t work(struct sp_party *coordinator, int64_t newest, int64_t *other
         if (next == SP_NOT_DONE) look_everywhere(&it, &pause), next = work_handshake(&it);
     }
     atomic_fetch_add(&all.ended, 1);
-    if (atomic_load(&all.gone.sleepers)) ring(&all.gone);
     return closed > 0 && next < 0 && next != SP_NOTHING_OPEN ? next : closed;
 }
 
