@@ -12,11 +12,10 @@
 # make scale     times how the stops grow, prints it to bench/scale.txt, and draws bench/scale.svg
 # make hostile   tests of threads twenty times, tests of refused memory with each growth refused in turn
 # make runs      scripts on threads a hundred times each, then with each thread and each growth of memory refused in turn
-# make witness   looks for an order of the core's events that explains the recorded calls of threads at random, LOGS of them
 # make soak      threads at random over what they share, with one seed after the other, for MINUTES
 # make side      random schedules on the running layer and on the core beside it: SEEDS of them, from seed FIRST on
 # make safepoint  builds the library by which C, C++ and Rust stop threads, and tries it from each
-.PHONY: run build install uninstall test examples embed safepoint pictures random parts edits bench scale hostile runs witness soak side
+.PHONY: run build install uninstall test examples embed safepoint pictures random parts edits bench scale hostile runs soak side
 
 PROGRAMS ?= monitor timeline model safepoint
 PREFIX ?= /usr/local
@@ -25,7 +24,6 @@ PICTURES = handshake_native four_handshakes safepoint_census reclaiming
 CRATES ?=
 MINUTES ?= 10
 SEEDS ?= 1000
-LOGS ?= 100
 FIRST ?= 22
 
 run:
@@ -45,7 +43,7 @@ examples: embed
 	@tests/program.py crates/monitor/out/monitor
 
 safepoint:
-	@tests/build.py safepoint
+	@tests/build.py model safepoint
 	@tests/safepoint.py crates/safepoint/out/libsafepoint.a
 
 embed:
@@ -85,12 +83,6 @@ runs:
 	@tests/build.py monitor
 	@tests/runs.py crates/monitor/out/monitor
 	@tests/refused.py crates/monitor/out/monitor
-
-witness:
-	@tests/build.py recorded
-	@tests/build.py witness
-	@tests/build.py monitor
-	@tests/witness.py crates/recorded/out/recorded crates/witness/out/witness crates/monitor/out/monitor $(LOGS)
 
 soak:
 	@tests/build.py soak

@@ -1,4 +1,4 @@
-/* A log of the calls that a host makes, for `witness`: with -DSP_RECORD safepoint_wait.h includes
+/* A log of the calls that a host makes: with -DSP_RECORD safepoint_wait.h includes
    this page, each call of safepoint.h that a file makes behind it is noted, and safepoint_record.c
    is built with the other files of `waits`.
 
