@@ -1,2 +1,0 @@
-mod Rise
-pub mod Crosses
