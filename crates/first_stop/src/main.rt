@@ -6,7 +6,8 @@
 ghost use Rattle.std.specs.Prelude.{◌≡◌};
 
 use meqzhuly::{
-    Ask, Coordinator, Mutator, Name, Parts, Poll, Query, Reclaimed, Request, Shared, Targets,
+    Ask, Coordinator, Errand, Mutator, Name, Parts, Poll, Query, Reclaimed, Request, Shared,
+    Targets,
 };
 use std::alloc::Global;
 use std::marker::Brand;
@@ -51,25 +52,46 @@ fn run<N: Name + Send + Sync, R: Threads + Wait + Sync>(
         is_gone: AtomicBool::new(false),
     };
     shared.install(rt, 0).ok()?;
+    beside(
+        rt,
+        alloc,
+        &shared,
+        &signals,
+        || work(rt, alloc, &shared, coordinator, &signals),
+    )
+}
+
+// Runs the thread beside this work. Once it is gone nobody waits for it.
+fn beside<N: Name + Send + Sync, J: Errand + Send, R: Threads + Wait + Sync, F>(
+    rt: &R,
+    alloc: Global,
+    shared: &Shared<N, J>,
+    signals: &Signals,
+    work: F,
+) -> Option<u64>
+where
+    F: FnOnce() -> Option<u64>,
+    requires { F.IsAlwaysCallable work }
+{
     let (lived, worked) = join(
         rt,
         || {
-            let lived = live(rt, alloc, &shared, &signals);
+            let lived = live(rt, alloc, shared, signals);
             signals.is_there.store(true, Ordering::SeqCst);
             signals.is_gone.store(true, Ordering::SeqCst);
             lived
         },
-        || work(rt, alloc, &shared, coordinator, &signals),
+        work,
     );
     lived?;
     worked
 }
 
 // The thread's part.
-fn live<N: Name, R: Wait>(
+fn live<N: Name, J: Errand, R: Wait>(
     rt: &R,
     alloc: Global,
-    shared: &Shared<N, Query>,
+    shared: &Shared<N, J>,
     signals: &Signals,
 ) -> Option<()> {
     let (mut thread, _start) = shared.start(rt, alloc).ok()?;
@@ -89,7 +111,11 @@ fn live<N: Name, R: Wait>(
 }
 
 // Stops where the poll says so: the thread serves what it was told.
-fn heed<N: Name, R: Wait>(rt: &R, thread: &mut Mutator<'_, N, Query>, poll: Poll) -> Option<()> {
+fn heed<N: Name, J: Errand, R: Wait>(
+    rt: &R,
+    thread: &mut Mutator<'_, N, J>,
+    poll: Poll,
+) -> Option<()> {
     if let Poll::Stop(_) = poll {
         thread.stop(rt).ok()?;
     }
