@@ -18,8 +18,8 @@ pub use operations::{Ask, Request, Targets};
 
 // Who works on requests, and what its calls answer.
 pub use coordinator::{
-    Coordinator, DriveFault, Driven, HoldFault, NotReclaimed, OperateFault, ReclaimFault, Reclaimed,
-    ReleaseFault, ServeFault, TellFault, Told,
+    Coordinator, DriveFault, Driven, HoldFault, NotReclaimed, OperateFault, ReclaimFault,
+    Reclaimed, ReleaseFault, ServeFault, TellFault, Told,
 };
 pub use poll::Armer;
 
