@@ -1,0 +1,3 @@
+pub mod Spaced
+pub mod Taken
+pub mod Ran
