@@ -1,3 +1,0 @@
-pub mod Spaced
-pub mod Taken
-pub mod Ran
