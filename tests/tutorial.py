@@ -6,6 +6,7 @@ those lines, behind those of the page's block before. In a block `console` each 
 stands for any lines. Programs that are built and proved are copied too, so what the tutorial runs of them is at once. The last line counts what
 was tried; the status is 0 where nothing failed.
 """
+import os
 import pathlib
 import re
 import shutil
@@ -83,7 +84,9 @@ def is_said(wanted, said):
 
 def run(room, command, wanted):
     """Whether the command prints just this, with status 0. What differs is shown."""
-    ran = subprocess.run(["bash", "-c", command], cwd=room, capture_output=True, text=True, errors="replace")
+    # (a reader's shell has none of what a make tells those that it runs)
+    env = {name: value for name, value in os.environ.items() if name not in ("MAKEFLAGS", "MAKELEVEL", "MFLAGS")}
+    ran = subprocess.run(["bash", "-c", command], cwd=room, env=env, capture_output=True, text=True, errors="replace")
     said = ran.stdout.splitlines()
     if ran.returncode == 0 and is_said(wanted, said):
         print(f"ok: {command}", flush=True)
