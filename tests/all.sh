@@ -52,7 +52,7 @@ edits() {
 # What C, C++ and Rust do with the libraries for C, and what is installed.
 libraries() {
     count tests/embed.py crates/model/out/libmodel.a
-    count tests/safepoint.py crates/safepoint/out/libsafepoint.a
+    count tests/safepoint.py crates/safepoint/out/libsafepoint.a --quick
     count tests/install.py
 }
 

@@ -1,7 +1,7 @@
 #!/usr/bin/env python3
-"""Builds and runs what C does with the library of safe points: safepoint.py LIBSAFEPOINT [--long] [LIBMODEL]
+"""Builds and runs what C does with the library of safe points: safepoint.py LIBSAFEPOINT [--quick | --long] [LIBMODEL]
 
-LIBMODEL is crates/model/out/libmodel.a by default. Without --long it takes less than a minute on a quiet machine, with it some ten minutes.
+LIBMODEL is crates/model/out/libmodel.a by default. It takes a minute on a quiet machine, with --long some ten, and with --quick, which leaves the sanitizers and the soak out, less.
 
 | what | how |
 |---|---|
@@ -55,7 +55,7 @@ class Tests:
     def __init__(self, library, model, is_long, folder):
         self.allocator = kit() / "c" / "liblibc_c.a"
         self.archives, self.model, self.is_long, self.folder = [library, self.allocator], model, is_long, folder
-        self.passed = self.failed = 0
+        self.passed, self.failed, self.is_quick = 0, 0, False
         (folder / "known").write_text(KNOWN)
         self.refuse = refusing.built_in(folder)
 
@@ -76,7 +76,9 @@ class Tests:
             print(f"FAILED: {what}", flush=True)
 
     def built(self, source, *words, archives=()):
-        """The program of a source in C, or None where the compiler lacks what the words ask for."""
+        """The program of a source in C, or None where the compiler lacks what the words ask for, or they are left out."""
+        if self.is_quick and any(word in (RACES, MEMORY) for word in words):
+            return None
         program = self.folder / f"{source.stem}{''.join(words)}".replace(",", "_")
         command = [os.environ.get("CC", "cc"), "-std=gnu11", *FLAGS, "-I", CRATE / "include", *words]
         made = subprocess.run([*command, "-o", program, source, *WAITS, *archives, *self.archives, "-lpthread"], capture_output=True, timeout=SECONDS)
@@ -155,6 +157,8 @@ def threads(tests):
 
 
 def soak(tests):
+    if tests.is_quick:
+        return
     source = TESTS / "safepoint_soak.c"
     for words, count, seconds in (((), 16, 4), ((CONDITION,), 8, 2), ((RACES,), 8, 2), ((MEMORY,), 16, 2)):
         program = tests.built(source, *words)
@@ -234,15 +238,16 @@ def cpp(tests):
 
 
 def main():
-    words = [word for word in sys.argv[1:] if word != "--long"]
+    words = [word for word in sys.argv[1:] if word not in ("--long", "--quick")]
     if not 1 <= len(words) <= 2:
-        sys.exit("safepoint.py LIBSAFEPOINT [--long] [LIBMODEL]")
+        sys.exit("safepoint.py LIBSAFEPOINT [--quick | --long] [LIBMODEL]")
     library, model = pathlib.Path(words[0]).resolve(), pathlib.Path(*words[1:] or [ROOT / "crates/model/out/libmodel.a"]).resolve()
     if shutil.which(os.environ.get("CC", "cc")) is None:
         print("left out: all, since there is no C compiler\n0 passed, 0 failed")
         return 0
     with tempfile.TemporaryDirectory() as folder:
         tests = Tests(library, model, "--long" in sys.argv, pathlib.Path(folder))
+        tests.is_quick = "--quick" in sys.argv
         for part in (calls, beside, threads, recorded, soak, jit, cpp, rust):
             part(tests)
     print(f"{tests.passed} passed, {tests.failed} failed")
