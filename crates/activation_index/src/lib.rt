@@ -1,4 +1,6 @@
 //! How many activations each code has, by the code's serial.
+//! `system` counts in it, and `bodies` takes a census by it.
+//! Read `specs/Counts.antt` first, then `src/lib.rt` and `src/dense.rt`.
 //!
 //! An [`Index`] is a map from serials to counts. It is a list of entries in rising serial without
 //! zeros, reserved once and searched from the front, so a census is the list as it stands.

@@ -1,5 +1,6 @@
-//! The berths of a running system: for each place a room under a lock, where a thread's body is while the thread doesn't own itself,
-//! and what the thread is told.
+//! The berths of a running system: for each place a room under a lock, with the body of a thread that doesn't own itself and what it is told.
+//! `thread_list` puts bodies in and takes them out, and `held_threads` and `coordinator` do it for the coordinator.
+//! Read `src/room.rt` first, then `src/berth.rt` and `specs/Berths.antt`.
 //!
 //! A room takes a body, or gives it, by name and place alone, and answers each time with a receipt that only it can make. What was told
 //! to a thread leaves its room as a job that has to be run or handed on (`Due`), and what it answers has to be entered (`Answered`). A body

@@ -1,9 +1,10 @@
-//! The code board: which codes are in use, how often each is counted, and in which moment each place last published its stack,
-//! in words that the keeper and the threads of the places change in single atomic steps.
+//! The code board: which codes are in use, how often each is counted, and in which moment each place last published, in atomic words.
+//! `bodies` counts and publishes by it, and `desk` keeps its codes in it.
+//! Read `src/board.rt` first, then `src/thread_seat.rt`, `src/keeper.rt` and the rule in `frames/specs/BoardRule.antt`.
 //!
-//! `frames::board_rule` has the rule that the words and views meet between any two steps, and the twelve kinds of step. Here each
-//! call is one of these steps, or none, and nothing waits or takes memory once the board is made. What a call did is read off the
-//! view of its seat: the number of its steps, and the last one with the value that it met.
+//! The words and views meet the rule between any two steps, and there are twelve kinds of step. Each call is one of these steps, or none, and
+//! nothing waits or takes memory once the board is made. What a call did is read off the view of its seat: the number of its steps, and the
+//! last one with the value that it met.
 #![tactic(auto)]
 
 mod board;

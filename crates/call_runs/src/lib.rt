@@ -1,5 +1,6 @@
-//! Which events of the core each call of the running layer may be, and which answers they have. `witness_check` asks it event by
-//! event, by `next`. Read `runs.rt` first, then the file of the kind of call.
+//! Which events of the core each call of the running layer may be, and which answers they have.
+//! `witness_check` asks it event by event, by `next`.
+//! Read `src/runs.rt` first, then the file of the kind of call.
 #![tactic(auto)]
 
 mod driving;

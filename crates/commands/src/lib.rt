@@ -1,5 +1,9 @@
-//! What the program is asked to do, by the words of its command line, and each of its forms but the answering of lines: checking a
-//! script, and running it on threads. All devices are the caller's, and a fault is told with its text and its exit status.
+//! What `monitor` is asked to do, by the words of its command line, and each of its forms but the answering of lines.
+//! `monitor` calls it.
+//! Read `src/command_line.rt` first, then `src/check.rt`, `src/running.rt` and `specs/Faults.antt`.
+//!
+//! The forms are checking a script and running it on threads. All devices are the caller's, and a fault is told with its text and its exit
+//! status.
 #![tactic(auto)]
 
 mod check;

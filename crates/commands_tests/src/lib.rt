@@ -1,4 +1,6 @@
-//! Tests of the program's forms, through the public calls of `commands`. They stand in a crate of their own, so that a check of them doesn't prove `commands` once more.
+//! Tests of the program's forms, through the public calls of `commands`.
+//! `rt ci` runs them. They stand apart, so that a change of a test doesn't prove `commands` anew.
+//! Read `src/tests.rt` first.
 #![tactic(auto)]
 
 #[cfg(test)]

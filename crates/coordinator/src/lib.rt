@@ -1,5 +1,6 @@
-//! The coordinator of a running system: it opens requests, tells and holds threads, serves those that it holds, operates censuses,
-//! closes requests, and reclaims codes.
+//! The coordinator of a running system: it opens requests, tells, holds and serves threads, operates censuses, closes, and reclaims codes.
+//! A runtime's coordinator thread calls it, through `meqzhuly`; `workers` runs scripts by it.
+//! Read `src/coordinator.rt` first, then `src/driving.rt`, `specs/Driving.antt` and `docs/running/API.md`.
 //!
 //! `open`, `tell`, `hold`, `serve`, `operate`, `release`, `close` and `close_of` are a step of a request each; `drive` works one request
 //! from its Open to its Close, and `drive_four` up to four handshakes at once; `reclaim` does all that it takes to free a code.

@@ -1,4 +1,6 @@
 //! The steps of a coordinator over a desk and a room that are lent to it, with no lock of its own.
+//! `parties` makes acts of the coordinator of it.
+//! Read `src/steps.rt` first, then `specs/Holding.antt` and `specs/Refused.antt`.
 #![tactic(auto)]
 
 mod censuses;

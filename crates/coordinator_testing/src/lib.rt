@@ -1,4 +1,8 @@
-//! What the tests of requests over running threads share. It promises nothing: those tests compare what it answers.
+//! What the tests of requests over running threads share.
+//! `running_tests` and `workers_tests` use it.
+//! Read this file: it is all there is.
+//!
+//! It promises nothing: those tests compare what it answers.
 #![tactic(auto)]
 
 use bodies::Name;

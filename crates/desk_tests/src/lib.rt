@@ -1,4 +1,6 @@
-//! Tests of the desk through its public calls. They stand in a crate of their own, so that a check of them doesn't prove `desk` once more.
+//! Tests of the desk through its public calls.
+//! `rt ci` runs them. They stand apart, so that a change of a test doesn't prove `desk` anew.
+//! Read `src/tests/calls.rt` first.
 #![tactic(auto)]
 
 #[cfg(test)]

@@ -1,5 +1,5 @@
-//! The smallest running system: a thread loops in compiled code, and a coordinator asks how deep its stack is, replaces the code, and
-//! frees the old one. Nobody calls it: it is an example, which docs/start/TUTORIAL.md walks through.
+//! The smallest running system: a coordinator asks a running thread how deep its stack is, replaces its code, and frees the old one.
+//! Nobody calls it: it is an example, which docs/start/TUTORIAL.md walks through.
 //! Read docs/running/API.md beside it.
 #![tactic(auto)]
 

@@ -1,5 +1,8 @@
-//! A thread's stack as its publications show it: codes, frames, and the image that counts, code
-//! by code, what the thread published of its stack.
+//! A thread's stack as its publications show it: codes, frames, and the image that counts what the thread published of it.
+//! The core and the running layer use it: `method_table`, `operations`, `system`, `board`, `bodies` and all above them.
+//! Read `src/image.rt` first, then `specs/Stack.antt` and `specs/ImageView.antt`.
+//!
+//! The image counts code by code. The board's rule stands here too, since the core and the board both go by it.
 #![tactic(auto)]
 
 pub mod board_rule;

@@ -1,4 +1,6 @@
 //! The bodies of threads that a coordinator holds, the serving of them, and the arming of places.
+//! `coordinator` alone uses it.
+//! Read `src/held.rt` first, then `src/teller.rt` and `specs/Serves.antt`.
 //!
 //! `Held` lets a body go only into its berth. `Teller` arms a place only once what the thread finds there is in the place's berth.
 //! Each takes the lock of one berth or of the desk at a time, and none while it holds another.

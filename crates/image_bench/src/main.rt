@@ -1,5 +1,8 @@
-//! How long a call with its return takes on an image of a stack, and a publication: `image_bench times` prints nanoseconds.
-//! Without an argument it makes few turns and prints nothing, since times differ from run to run.
+//! How long a call with its return takes on an image of a stack, and a publication.
+//! `rt ci` runs a few turns; for times run `image_bench times`.
+//! Read `src/stacks.rt` first.
+//!
+//! `image_bench times` prints nanoseconds. Without an argument it makes few turns and prints nothing, since times differ from run to run.
 #![tactic(auto)]
 
 ghost use Rattle.std.specs.Prelude.{◌<◌};

@@ -1,4 +1,6 @@
 //! The interpreter of scripts: it makes a script's marks one by one.
+//! `workers` runs each thread of a script by it.
+//! Read `src/runner.rt` first, then `specs/Trace.antt`.
 #![tactic(auto)]
 
 mod frame;

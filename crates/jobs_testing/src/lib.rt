@@ -1,6 +1,9 @@
-//! Boxed jobs for tests of the layers that carry them. What a box of theirs answers has to be looked up among all closures that are boxed,
-//! in each function that makes some; here that is done once, and a test gets its jobs without knowing their box. It promises nothing: those
-//! tests compare what the jobs answer.
+//! Boxed jobs for tests of the layers that carry them.
+//! `desk_tests`, `run_tests` and `running_tests` take their jobs from it.
+//! Read this file: it is all there is.
+//!
+//! What a box of theirs answers has to be looked up among all closures that are boxed, in each function that makes some; here that is done
+//! once, and a test gets its jobs without knowing their box. It promises nothing: those tests compare what the jobs answer.
 #![tactic(auto)]
 
 ghost use Rattle.std.specs.Prelude.{◌≡◌};

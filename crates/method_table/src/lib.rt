@@ -1,4 +1,6 @@
 //! The codes that were ever installed, with their slots and states.
+//! `system` and `desk` keep their codes in it.
+//! Read `src/table.rt` first, then `specs/Codes.antt` and `specs/Edited.antt`.
 #![tactic(auto)]
 
 ghost use Rattle.std.specs.Prelude.{◌≡◌};

@@ -1,4 +1,6 @@
 //! The model, stepped line by line, for programs in C, Rust and other languages that call C.
+//! Programs link it, to step the core beside a runtime of their own in tests.
+//! Read `include/model.h` first, then `src/face.rt`.
 #![tactic(auto)]
 
 pub mod face;

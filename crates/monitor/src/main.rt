@@ -1,4 +1,6 @@
 //! The program: lines of events in, lines of answers out; or a script that is checked, or run on threads.
+//! People and scripts run it: `replay`, `check FILE`, `run FILE [--threads N]`.
+//! Read `commands/src/command_line.rt` first, then `docs/start/LINES.md` and `docs/start/SCRIPTS.md`.
 #![tactic(auto)]
 
 ghost use Rattle.std.specs.Prelude.{◌<◌, ◌≤◌};

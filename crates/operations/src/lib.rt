@@ -1,4 +1,6 @@
 //! What is asked of the threads: requests that wait in a queue, and the jobs that answer them.
+//! The core and the running layer use it: `system`, `bodies`, `desk` and all above them.
+//! Read `src/requests.rt` first, then `src/job.rt` and `specs/Asks.antt`.
 #![tactic(auto)]
 
 ghost use Rattle.std.specs.Prelude.{◌≡◌};

@@ -1,5 +1,8 @@
-//! The steps of a running system for callers that wait by themselves. Each act is one try: a lock that it needs is only tried, and where it
-//! is taken, or what the act needs isn't there, it answers that it may be asked again.
+//! The steps of a running system for callers that wait by themselves.
+//! `safepoint` serves it to C.
+//! Read `src/acts.rt` first, then `src/party.rt` and `specs/Acted.antt`.
+//!
+//! Each act is one try: a lock that it needs is only tried, and where it is taken, or what the act needs isn't there, it answers that it may be asked again.
 #![tactic(auto)]
 
 pub mod acts;

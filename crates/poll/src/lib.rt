@@ -1,4 +1,6 @@
 //! Poll words: one word a place, which an armer stores and the place's poller loads and clears, each in one atomic step.
+//! `bodies` polls by it, and `held_threads` and `coordinator_steps` arm by it.
+//! Read `src/words.rt` first, then `specs/Laws.antt` and the rule in `thread_state/specs/PollRule.antt`.
 #![tactic(auto)]
 
 mod law;

@@ -1,4 +1,6 @@
 //! Lines to events, and answers to text.
+//! `commands` answers lines by it, `model` steps it for C, and `run_lanes` reads with it.
+//! Read `src/stream.rt` first, then `specs/Spelling.antt` and `docs/start/LINES.md`.
 #![tactic(auto)]
 
 pub mod device;

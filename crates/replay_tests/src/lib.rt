@@ -1,4 +1,6 @@
-//! Runs of lines through `replay`: whole, cut, over failing devices, and with memory refused. They stand in a crate of their own, so that a check of them doesn't prove `replay` once more.
+//! Runs of lines through `replay`: whole, cut, over failing devices, and with memory refused.
+//! `rt ci` runs them. They stand apart, so that a change of a test doesn't prove `replay` anew.
+//! Read `src/tests/trap_runs.rt` first.
 #![tactic(auto)]
 
 #[cfg(test)]

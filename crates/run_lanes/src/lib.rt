@@ -1,4 +1,6 @@
 //! What the lanes of a run show: the states of threads, the operations and the codes, line by line.
+//! `run_picture` draws what it shows.
+//! Read `src/lanes.rt` first, then `specs/Lanes.antt`.
 #![tactic(auto)]
 
 mod codes;

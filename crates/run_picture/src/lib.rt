@@ -1,4 +1,6 @@
 //! A picture of a run: lines of events in, an SVG or a page out, over the caller's devices.
+//! `timeline` is the program over it.
+//! Read `src/picture.rt` first, then `specs/Drawn.antt` and `docs/start/TIMELINE.md`.
 #![tactic(auto)]
 
 mod answers;

@@ -1,6 +1,9 @@
-//! How long the calls and the stops of a running system take: `running_bench KIND THREADS ITERS ARG` prints times in nanoseconds,
-//! separated by spaces, and nothing else. Without words it makes a short run of each kind and prints `ok` alone, since times differ from
-//! run to run.
+//! How long the calls and the stops of a running system take.
+//! `rt ci` runs a few turns; `make bench` and `make scale` time it, through `bench/running.py` and `bench/scale.py`.
+//! Read `src/plan.rt` first, then `src/calls.rt` and `src/stops.rt`.
+//!
+//! `running_bench KIND THREADS ITERS ARG` prints times in nanoseconds, separated by spaces, and nothing else. Without words it makes a short
+//! run of each kind and prints `ok` alone, since times differ from run to run.
 #![tactic(auto)]
 
 ghost use Rattle.std.specs.Prelude.{◌≡◌};

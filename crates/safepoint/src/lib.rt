@@ -1,4 +1,6 @@
 //! What C calls of a running system.
+//! Runtimes in C, C++ and Rust link it, with `waits/` in C beside it.
+//! Read `crates/safepoint/README.md` and `include/safepoint.h` first, then `src/threads.rt`.
 #![tactic(auto)]
 
 pub mod asks;

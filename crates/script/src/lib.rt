@@ -1,4 +1,6 @@
 //! Scripts for threads: what a text of JSON says as a script, and that script as checked code.
+//! `commands` checks scripts by it, and `interp` and `workers` run what it checked.
+//! Read `src/reading.rt` first, then `specs/Checks.antt` and `docs/start/SCRIPTS.md`.
 #![tactic(auto)]
 
 mod checking;

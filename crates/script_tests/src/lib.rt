@@ -1,4 +1,6 @@
-//! Tests of `script` and `interp` through their public calls. They stand in a crate of their own, so that a check of them doesn't prove those two once more.
+//! Tests of `script` and `interp` through their public calls.
+//! `rt ci` runs them. They stand apart, so that a change of a test proves neither anew.
+//! Read `src/tests/scripts.rt` first.
 #![tactic(auto)]
 
 #[cfg(test)]

@@ -1,10 +1,11 @@
-//! The running layer beside the core, by a random schedule: `side_by_side` plays 21 schedules of 1,000 calls, those of the seeds from
-//! 1 on; `side_by_side SEEDS` plays as many, and `side_by_side SEEDS FIRST` those from FIRST on. One thread makes all calls of threads
-//! and of the coordinator, and plays the events that each call is on a `System`; after each call all that can be seen of both is
-//! compared. With words it prints what the calls came to. The first difference is printed in one line, and then the status is 1. So it
-//! is where a core that loses an event or a reply isn't told from the running layer: that is tried at the end.
+//! The running layer beside the core, by random schedules: what each answers, and all that can be seen of both, is compared after each call.
+//! `rt ci` runs it for a moment, and `make side` for as many schedules as are asked for.
+//! Read `side_schedule/src/play.rt` first, then `src/running.rt`.
 //!
-//! The schedules, the core's side and the comparison are `side_schedule`'s.
+//! `side_by_side` plays 21 schedules of 1,000 calls, those of the seeds from 1 on; `side_by_side SEEDS` plays as many, and
+//! `side_by_side SEEDS FIRST` those from FIRST on. One thread makes all calls of threads and of the coordinator, and plays the events that each
+//! call is on a `System`. With words it prints what the calls came to. The first difference is printed in one line, and then the status is 1.
+//! So it is where a core that loses an event or a reply isn't told from the running layer: that is tried at the end.
 #![tactic(auto)]
 
 mod faults;

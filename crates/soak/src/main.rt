@@ -1,4 +1,7 @@
-//! Runs threads hard over what they share, while codes are replaced and reclaimed under them, and says whether all came out right:
+//! Runs threads hard over what they share, while codes are replaced and reclaimed under them, and says whether all came out right.
+//! `rt ci` runs it for a moment, and `make soak` for minutes.
+//! Read `src/player.rt` first, then `src/driver.rt` and `src/verdict.rt`.
+//!
 //! `soak THREADS ROUNDS SEED` prints one line of what was done, or what was wrong first; with `forget` behind it what is closed is forgotten
 //! now and then. Without words it makes a short run of both kinds and prints `ok` alone, since what is done differs from run to run.
 #![tactic(auto)]

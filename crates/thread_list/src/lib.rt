@@ -1,4 +1,6 @@
 //! The threads of a running system: what they share, and a thread's own part.
+//! Threads of a runtime call it, through `meqzhuly`; `coordinator` and `thread_steps` stand on it.
+//! Read `src/mutator.rt` first, then `src/shared.rt`, `specs/Moves.antt` and `docs/running/API.md`.
 //!
 //! A thread that owns itself has its body in hand. It calls methods, returns, polls, publishes and crosses into the VM and back
 //! without a lock (`Mutator::call`, `ret`, `back_edge`, `publish`, `to_vm`, `from_vm`), and nobody can hold it. Where it doesn't own

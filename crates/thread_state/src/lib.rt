@@ -1,4 +1,6 @@
 //! The states of a thread, the moves between them, and the rule of the poll words.
+//! The core and both kinds of running threads go by its rules: `system`, `poll`, `desk` and all above them.
+//! Read `src/moves.rt` first, then `specs/States.antt`.
 #![tactic(auto)]
 
 mod moves;

@@ -1,4 +1,6 @@
 //! The program: lines of events in, a picture of the run out.
+//! People and scripts run it, on lines that a runtime recorded.
+//! Read `docs/start/TIMELINE.md` first, then `run_picture/src/picture.rt`.
 #![tactic(auto)]
 
 use replay::device::{FromReader, IntoWriter};

@@ -1,4 +1,8 @@
-//! A value under a lock that is only tried: who finds it taken is told so at once. No handle is needed, and nothing waits.
+//! A value under a lock that is only tried: who finds it taken is told so at once.
+//! `parties` keeps a system under it.
+//! Read `src/lock.rt` first, then `src/rule.rt`.
+//!
+//! No handle is needed, and nothing waits.
 #![tactic(auto)]
 
 mod crosses;

@@ -1,5 +1,8 @@
-//! How long the calls on shared words take, beside a plain atomic load and compare-exchange: `word_bench times` prints nanoseconds
-//! a turn. Without an argument it makes few turns and prints nothing, since times differ from run to run.
+//! How long the calls on shared words take, beside a plain atomic load and compare-exchange.
+//! `rt ci` runs a few turns; for times run `word_bench times`.
+//! Read `src/polls.rt` first.
+//!
+//! `word_bench times` prints nanoseconds a turn. Without an argument it makes few turns and prints nothing, since times differ from run to run.
 #![tactic(auto)]
 
 ghost use Rattle.std.specs.Prelude.{◌≡◌, ◌≢◌, ◌<◌, ◌≤◌, ◌^◌, ℕ};

@@ -1,5 +1,6 @@
-//! Tests of `poll`, `board` and `bodies`, and of their words beside the core, through public calls. They stand in a crate of their
-//! own, so that a check of them doesn't prove these crates once more.
+//! Tests of `poll`, `board` and `bodies`, and of their words beside the core, through public calls.
+//! `rt ci` runs them. They stand apart, so that a change of a test proves none of these crates anew.
+//! Read `src/tests/play.rt` first, then `src/tests/beside_core.rt`.
 #![tactic(auto)]
 
 #[cfg(test)]

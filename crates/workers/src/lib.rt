@@ -1,4 +1,6 @@
 //! Running a script on threads: each thread makes the marks of the script by its own calls.
+//! `commands` runs scripts by it.
+//! Read `src/running.rt` first, then `src/worker.rt`, `specs/Marks.antt` and `docs/start/SCRIPTS.md`.
 #![tactic(auto)]
 
 mod crossings;
