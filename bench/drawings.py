@@ -187,15 +187,15 @@ def served_by_itself(top):
     said += step(THREAD, BERTH, top + 84, "A2", "stop: the body in, and out with the job", True, PALE)
     said += alone(THREAD, top + 100, top + 142, "A3", ["publishes,", "runs the job"], "left", PALE)
     said += step(THREAD, DESK, top + 172, "A4", "Finish, with the reply; wakes who sleeps at the desk", True, PALE)
-    said += step(THREAD, WORD, top + 212, "A5", "clear: n becomes 0", False, PALE)
+    said += step(THREAD, WORD, top + 212, "A5", "clear: n to 0", False, PALE)
     return said + step(THREAD, WORD, top + 250, "A6", "load 0: goes on", False, PALE)
 
 
 def served_by_another(top):
     said = step(COORDINATOR, BERTH, top + 46, "B1", "the body comes out, with the job", True, PALE)
     said += alone(COORDINATOR, top + 60, top + 102, "B2", ["publishes,", "runs the job"], "right", PALE)
-    said += step(COORDINATOR, DESK, top + 132, "B3", "Finish, with the reply", True, PALE)
-    said += step(COORDINATOR, WORD, top + 168, "B4", "clear: n becomes 0", False, PALE)
+    said += step(COORDINATOR, DESK, top + 132, "B3", "Finish with reply", True, PALE)
+    said += step(COORDINATOR, WORD, top + 168, "B4", "clear: n to 0", False, PALE)
     said += step(COORDINATOR, BERTH, top + 204, "B5", "the body goes back; wakes who sleeps here", True, PALE)
     said += step(THREAD, BERTH, top + 90, "", "from_native meanwhile: no body here", True, PALE)
     said += alone(THREAD, top + 100, top + 196, "", ["sleeps at", "the berth", "until B5"], "left", PALE)

@@ -2,7 +2,7 @@
 """Makes a small form of a picture that `timeline` drew, for a page of 800 pixels: small.py PICTURE > SMALL
 
 The picture is one panel. What is behind its last line is cut off, its letters are made so large that they are at least 11 pixels high at 800, and
-the legend has those items alone that the picture shows.
+the legend has those items alone that the picture shows. A name on a lane stands behind the lines that would cross it.
 """
 import re
 import sys
@@ -13,9 +13,13 @@ COLUMNS = 6
 ROW = 20
 # How far the text of the last line leans to the right.
 LEANS = 55
+# How wide a letter of a name is, for one of height 1.
+WIDTH = 0.52
 
 LEGEND = re.compile(r"<symbol id='legend'.*?</symbol>\n", re.DOTALL)
 ITEM = re.compile(r"<(rect class|use href)='#?(\w+)'[^>]*/><text [^>]*>([^<]*)</text>")
+NAMES = re.compile(r"(<text class='label' x=')([\d.]+)(' y='([\d.]+)'>([^<]*)<)")
+TIES = re.compile(r"<path class='tie' d='M([\d.]+) ([\d.]+)V([\d.]+)'/>")
 LINES = re.compile(r"<text class='line [^>]*translate\(([\d.]+) ([\d.]+)\)")
 
 
@@ -33,13 +37,27 @@ def legend(svg, width):
     return svg.replace(old, "\n".join([*said, "</symbol>\n"]))
 
 
+def beside_ties(svg, size):
+    """The names on lanes, each so far to the right that no line crosses it."""
+    ties = [(float(x), *sorted((float(a), float(b)))) for x, a, b in TIES.findall(svg)]
+
+    def moved(name):
+        x, y = float(name[2]), float(name[4])
+        for tie, top, foot in sorted(ties):
+            if x < tie < x + len(name[5]) * size * WIDTH and top < y and foot > y - size:
+                x = tie + 5
+        return f"{name[1]}{x:g}{name[3]}"
+
+    return NAMES.sub(moved, svg)
+
+
 def small(svg):
     high = int(re.search(r"viewBox='0 0 \d+ (\d+)'", svg)[1])
     texts = [(float(x), float(y)) for x, y in LINES.findall(svg)]
     width, top = max(x for x, _ in texts) + LEANS, min(y for _, y in texts)
     size = LEAST * width / WIDE
     high = top + (high - top) * size / 11
-    svg = re.sub(r"(font(?:-size)?: )([\d.]+)px", lambda it: f"{it[1]}{max(float(it[2]), size):.1f}px", legend(svg, width))
+    svg = re.sub(r"(font(?:-size)?: )([\d.]+)px", lambda it: f"{it[1]}{max(float(it[2]), size):.1f}px", beside_ties(legend(svg, width), size))
     shape = f"width='{WIDE}' height='{high * WIDE / width:.0f}' viewBox='0 0 {width:.0f} {high:.0f}'"
     return re.sub(r"width='\d+' height='\d+' viewBox='[^']*'", shape, svg, count=1)
 
