@@ -22,8 +22,8 @@ use Rattle.desk.specs.declared.entries.Entry.TheVariants.{Start, Exit, Ask, Open
 use Rattle.desk.specs.declared.entries.Live.{Live}
 use Rattle.desk.specs.declared.entries.Carried.{Carried}
 use Rattle.desk.specs.declared.entries.Opened.{Opened}
-use Rattle.desk.specs.Machine.{State, step, lawful, start, after_from, legal_from, after, is_legal, needs, is_taken, is_live, without, Asked, Current, needs_of_asked, needs_of_opened, needs_of_codes, states_left, may_open_more, is_least, is_first, live_of, open_next, opened_of, rest_of, finished, as_operated, Book, has_census, passes, is_due, may_operate, may_close, at_number, without_number, steps_of, is_free_slot, targets_of, Stands, stands}
-use Rattle.desk.specs.Fields.{IsKept, AreFit, AreDistinct, state_of, asked_of, current_of, due_of, IsIndex, IsCarried, AreCarried, DeskSeen, Enters, EntersInstall, install_entries, kept_before, at}
+use Rattle.desk.specs.Machine.{State, step, open_of, lawful, start, after_from, legal_from, after, is_legal, needs, is_taken, is_live, without, Asked, Current, needs_of_asked, needs_of_opened, needs_of_codes, states_left, may_open_more, is_least, is_first, live_of, open_next, opened_of, rest_of, finished, as_operated, Book, has_census, passes, is_due, may_operate, may_close, at_number, without_number, steps_of, is_free_slot, targets_of, Stands, stands}
+use Rattle.desk.specs.Fields.{Fields, IsKept, AreFit, AreDistinct, state_of, asked_of, current_of, due_of, IsIndex, IsCarried, AreCarried, DeskSeen, Enters, EntersInstall, install_entries, kept_before, at}
 use Rattle.desk.proofs.Fewer.{filter_le, filter_less}
 use Rattle.desk.proofs.Distinct.{distinct_part}
 use Rattle.desk.proofs.CodeEntries.{unfreed_parts}
@@ -50,58 +50,94 @@ pub legal-push : (slots methods : ℕ) (h : List Entry) (e : Entry) → is_legal
 unfolding after is_legal
 legal-push slots methods h e legal may = legal_from-push (start slots methods) h e legal may
 
+-- what has to be shown of an entry
+record Entered {J : Type 0} (d d' : Fields J) (e : Entry) : Type 0 where
+  slots : d'.table.slots ≡ d.table.slots
+  methods : d'.table.methods ≡ d.table.methods
+  history : d'.book.history ≡ d.book.history ++ e ∷ []
+  may : lawful (state_of d) e ≡ true
+  next : step (state_of d) e ≡ state_of d'
+  needed : needs (state_of d') ≤ d'.book.reserved
+  fit : AreFit (map current_of d'.opened)
+  distinct : AreDistinct (map current_of d'.opened)
+
 -- what is kept stays so with one entry more
-pub keeps : (slots methods : ℕ) (b b' : Book) (e : Entry) (s s' : State) → is_legal slots methods b.history ≡ true → after slots methods b.history ≡ s → b'.history ≡ b.history ++ e ∷ [] → lawful s e ≡ true → step s e ≡ s'
-    → needs s' ≤ b'.reserved → AreFit s'.opened → AreDistinct s'.opened → IsKept slots methods b' s'
-keeps slots methods b b' e s s' legal at is may next needed fit distinct =
-    record {
-      legal = ap (is_legal slots methods) is ∙ legal-push slots methods b.history e legal (ap (λ (t : State). lawful t e) at ∙ may);
-      state = ap (after slots methods) is ∙ after-push slots methods b.history e ∙ ap (λ (t : State). step t e) at ∙ next;
-      needed = needed;
-      fit = fit;
-      distinct = distinct;
+keeps : {J : Type 0} {d d' : Fields J} (e : Entry) → IsKept d → Entered d d' e → IsKept d'
+keeps {d = d} {d' = d'} e k n = record {
+  legal = (λ i. is_legal (n.slots i) (n.methods i) (n.history i)) ∙ legal-push d.table.slots d.table.methods d.book.history e k.legal (ap (λ (t : State). lawful t e) k.state ∙ n.may);
+  state = (λ i. after (n.slots i) (n.methods i) (n.history i)) ∙ after-push d.table.slots d.table.methods d.book.history e ∙ ap (λ (t : State). step t e) k.state ∙ n.next;
+  needed = n.needed;
+  fit = n.fit;
+  distinct = n.distinct;
+}
+
+-- nothing was entered so far
+pub empty : {J : Type 0} (d : Fields J) → d.book.history ≡ [] → start d.table.slots d.table.methods ≡ state_of d → IsKept d
+unfolding after is_legal
+empty d none first = record {
+  legal = ap (is_legal d.table.slots d.table.methods) none;
+  state = ap (after d.table.slots d.table.methods) none ∙ first;
+  needed = subst (λ (s : State). needs s ≤ d.book.reserved) first (omega arith);
+  fit = subst (λ (s : State). AreFit s.opened) first tt;
+  distinct = subst (λ (s : State). AreDistinct s.opened) first tt;
+}
+
+pub start_keeps : {J : Type 0} {d : Fields J} (b : Book) (place : ℕ) (live : List Live)
+    → IsKept d → is_taken place d.live ≡ false → has_census (map current_of d.opened) ≡ false → live ≡ d.live ++ record { name = d.next_name; place = place } ∷ []
+    → b.history ≡ d.book.history ++ Start d.next_name place ∷ [] → b.reserved ≡ d.book.reserved + 1 → IsKept (record d { book = b; next_name = d.next_name + 1; live = live })
+start_keeps {d = d} b place live k free none is there kept =
+    let n : length live ≡ length d.live + 1 = omega (arith, ap length is, length-append d.live (record { name = d.next_name; place = place } ∷ [])) in
+    keeps (Start d.next_name place) k record {
+      slots = refl;
+      methods = refl;
+      history = there;
+      may = both_true _ _ (eq-eqb d.next_name d.next_name refl) (both_true _ _ (ap not free) (ap not none));
+      next = ap (λ (l : List Live). state_of (record d { next_name = d.next_name + 1; live = l })) (sym is);
+      needed = (let m = k.needed in omega arith);
+      fit = k.fit;
+      distinct = k.distinct;
     }
 
-pub empty : (slots methods : ℕ) (b : Book) → b.history ≡ [] → IsKept slots methods b (start slots methods)
-unfolding after is_legal
-empty slots methods b none = record { legal = ap (is_legal slots methods) none; state = ap (after slots methods) none; needed = omega arith; fit = tt; distinct = tt }
-
-pub start_keeps : {J : Type 0} (slots methods : ℕ) (b b' : Book) (nn place num : ℕ) (live live' : List Live) (q : List (Waiting (Carried J))) (os : List (Opened J)) (t : TableView)
-    → IsKept slots methods b (state_of nn live num q os t) → is_taken place live ≡ false → has_census (map current_of os) ≡ false → live' ≡ live ++ record { name = nn; place = place } ∷ []
-    → b'.history ≡ b.history ++ Start nn place ∷ [] → b'.reserved ≡ b.reserved + 1 → IsKept slots methods b' (state_of (nn + 1) live' num q os t)
-start_keeps slots methods b b' nn place num live live' q os t k free none is there kept =
-    let n : length live' ≡ length live + 1 = omega (arith, ap length is, length-append live (record { name = nn; place = place } ∷ [])) in
-    keeps slots methods b b' (Start nn place) _ _ k.legal k.state there
-    (both_true _ _ (eq-eqb nn nn refl) (both_true _ _ (ap not free) (ap not none)))
-    (ap (λ (l : List Live). state_of (nn + 1) l num q os t) (sym is))
-    (let m = k.needed in omega arith) k.fit k.distinct
-
-pub exit_keeps : {J : Type 0} (slots methods : ℕ) (b b' : Book) (nn name num : ℕ) (live live' : List Live) (q : List (Waiting (Carried J))) (os : List (Opened J)) (t : TableView)
-    → IsKept slots methods b (state_of nn live num q os t) → is_live name live ≡ true → live' ≡ without name live
-    → b'.history ≡ b.history ++ Exit name ∷ [] → b'.reserved + 1 ≡ b.reserved → IsKept slots methods b' (state_of nn live' num q os t)
-exit_keeps slots methods b b' nn name num live live' q os t k here is there kept =
-    let less = filter_less (λ (l : Live). l.name == name) live here in
-    let n : length live' + 1 ≤ length live = omega (arith, ap length is) in
-    keeps slots methods b b' (Exit name) _ _ k.legal k.state there here
-    (ap (λ (l : List Live). state_of nn l num q os t) (sym is))
-    (let m = k.needed in omega arith) k.fit k.distinct
+pub exit_keeps : {J : Type 0} {d : Fields J} (b : Book) (name : ℕ) (live : List Live)
+    → IsKept d → is_live name d.live ≡ true → live ≡ without name d.live
+    → b.history ≡ d.book.history ++ Exit name ∷ [] → b.reserved + 1 ≡ d.book.reserved → IsKept (record d { book = b; live = live })
+exit_keeps {d = d} b name live k here is there kept =
+    let less = filter_less (λ (l : Live). l.name == name) d.live here in
+    let n : length live + 1 ≤ length d.live = omega (arith, ap length is) in
+    keeps (Exit name) k record {
+      slots = refl;
+      methods = refl;
+      history = there;
+      may = here;
+      next = ap (λ (l : List Live). state_of (record d { live = l })) (sym is);
+      needed = (let m = k.needed in omega arith);
+      fit = k.fit;
+      distinct = k.distinct;
+    }
 
 needs_of_asked-push : (xs : List Asked) (a : Asked) → needs_of_asked (xs ++ a ∷ []) ≡ needs_of_asked xs + (2 + steps_of a.request)
 needs_of_asked-push [] a = omega arith
 needs_of_asked-push (x ∷ xs) a = let k = needs_of_asked-push xs a in omega arith
 
-pub ask_keeps : {J : Type 0} (slots methods : ℕ) (b b' : Book) (nn num : ℕ) (live : List Live) (q q' : List (Waiting (Carried J))) (w : Waiting (Carried J)) (os : List (Opened J)) (t : TableView)
-    → IsKept slots methods b (state_of nn live num q os t) → w.number ≡ num → q' ≡ q ++ w ∷ []
-    → b'.history ≡ b.history ++ Ask num w.request ∷ [] → b'.reserved ≡ b.reserved + (2 + steps_of w.request) → IsKept slots methods b' (state_of nn live (num + 1) q' os t)
-ask_keeps slots methods b b' nn num live q q' w os t k same is there kept =
-    let asked : map asked_of q' ≡ map asked_of q ++ record { number = num; request = w.request } ∷ [] =
-    ap (map asked_of) is ∙ map-append asked_of q (w ∷ []) ∙ ap (λ (n : ℕ). map asked_of q ++ record { number = n; request = w.request } ∷ []) same in
-    let more : needs_of_asked (map asked_of q') ≡ needs_of_asked (map asked_of q) + (2 + steps_of w.request) =
-    ap needs_of_asked asked ∙ needs_of_asked-push (map asked_of q) (record { number = num; request = w.request }) in
-    keeps slots methods b b' (Ask num w.request) _ _ k.legal k.state there
-    (eq-eqb num num refl)
-    (let F : List Asked → State = λ l. record { next_name = nn; live = live; next_number = num + 1; waiting = l; opened = map current_of os; table = t } in ap F (sym asked))
-    (let m = k.needed in omega arith) k.fit k.distinct
+pub ask_keeps : {J : Type 0} {d : Fields J} (b : Book) (queue : List (Waiting (Carried J))) (w : Waiting (Carried J))
+    → IsKept d → w.number ≡ d.next_number → queue ≡ d.queue ++ w ∷ []
+    → b.history ≡ d.book.history ++ Ask d.next_number w.request ∷ [] → b.reserved ≡ d.book.reserved + (2 + steps_of w.request)
+    → IsKept (record d { book = b; next_number = d.next_number + 1; queue = queue })
+ask_keeps {d = d} b queue w k same is there kept =
+    let asked : map asked_of queue ≡ map asked_of d.queue ++ record { number = d.next_number; request = w.request } ∷ [] =
+    ap (map asked_of) is ∙ map-append asked_of d.queue (w ∷ []) ∙ ap (λ (n : ℕ). map asked_of d.queue ++ record { number = n; request = w.request } ∷ []) same in
+    let more : needs_of_asked (map asked_of queue) ≡ needs_of_asked (map asked_of d.queue) + (2 + steps_of w.request) =
+    ap needs_of_asked asked ∙ needs_of_asked-push (map asked_of d.queue) (record { number = d.next_number; request = w.request }) in
+    keeps (Ask d.next_number w.request) k record {
+      slots = refl;
+      methods = refl;
+      history = there;
+      may = eq-eqb d.next_number d.next_number refl;
+      next = (let F : List Asked → State = λ l. record (state_of d) { next_number = d.next_number + 1; waiting = l } in ap F (sym asked));
+      needed = (let m = k.needed in omega arith);
+      fit = k.fit;
+      distinct = k.distinct;
+    }
 
 pub carried_push : {J : Type 0} (whom : J → ℕ) (q : List (Waiting (Carried J))) (w : Waiting (Carried J)) → AreCarried whom q → IsCarried whom w → AreCarried whom (q ++ w ∷ [])
 carried_push whom [] w are new = (new, tt)
@@ -114,120 +150,168 @@ due_opened before ls a = by a.request
     by Census = omega arith
     by (Handshake targets ask) = let l = filter_le (λ (t : ℕ). is_live t ls) targets in omega arith
 
-pub open_keeps : {J : Type 0} (whom : J → ℕ) (slots methods : ℕ) (b b' : Book) (nn num : ℕ) (live : List Live) (q q' : List (Waiting (Carried J))) (w : Waiting (Carried J)) (os os' : List (Opened J)) (o : Opened J) (t : TableView)
-    → IsKept slots methods b (state_of nn live num q os t) → AreCarried whom q → may_open_more (map asked_of q) (map current_of os) ≡ true → q ≡ w ∷ q' → os' ≡ os ++ o ∷ []
-    → o.number ≡ w.number → o.request ≡ w.request → o.before ≡ nn → o.left ≡ steps_of w.request → o.due.items ≡ live_of live w.load.due.items → o.operated ≡ false
-    → b'.history ≡ b.history ++ Open w.number ∷ [] → b'.reserved + 1 ≡ b.reserved → IsKept slots methods b' (state_of nn live num q' os' t) × AreCarried whom q'
-open_keeps whom slots methods b b' nn num live q q' w os os' o t k are none is there_is number request before left due operated there kept =
-    let carried : IsCarried whom w × AreCarried whom q' = subst (AreCarried whom) is are in
-    let asked : map asked_of q ≡ asked_of w ∷ map asked_of q' = ap (map asked_of) is in
-    let n : needs_of_asked (map asked_of q) ≡ (2 + steps_of w.request) + needs_of_asked (map asked_of q') = ap needs_of_asked asked in
-    let o_is : current_of o ≡ opened_of nn live (asked_of w) = λ i. record { number = number i; request = request i; before = before i; left = left i; due = (due ∙ ap (live_of live) carried.0.due) i; operated = operated i } in
-    let os_is : map current_of os' ≡ map current_of os ++ opened_of nn live (asked_of w) ∷ [] = ap (map current_of) there_is ∙ map-append current_of os (o ∷ []) ∙ ap (λ (c : Current). map current_of os ++ c ∷ []) o_is in
-    let m : needs_of_opened (map current_of os') ≡ needs_of_opened (map current_of os) + (1 + steps_of w.request) = ap needs_of_opened os_is ∙ needs_push (map current_of os) (opened_of nn live (asked_of w)) in (
-      keeps slots methods b b' (Open w.number) _ _ k.legal k.state there
-          (both_true _ _ none (ap (is_first w.number) asked ∙ eq-eqb w.number w.number refl))
-          (let F : List Asked → State = λ l. record { next_name = nn; live = live; next_number = num; waiting = rest_of l; opened = open_next nn live l (map current_of os); table = t } in
-          ap F asked ∙ ap (λ (cs : List Current). record { next_name = nn; live = live; next_number = num; waiting = map asked_of q'; opened = cs; table = t }) (sym os_is))
-          (let z = k.needed in omega arith)
-          (subst AreFit (sym os_is) (fit_push (map current_of os) (opened_of nn live (asked_of w)) k.fit carried.0.number (due_opened nn live (asked_of w))))
-          (subst AreDistinct (sym os_is) (distinct_push (map current_of os) (opened_of nn live (asked_of w)) k.distinct (distinct_part (λ (name : ℕ). is_live name live) (targets_of w.request) carried.0.distinct))),
+-- the request that is opened is the oldest that waits
+pub record OpensIt {J : Type 0} (d : Fields J) (w : Waiting (Carried J)) (o : Opened J) : Type 0 where
+  pub number : o.number ≡ w.number
+  pub request : o.request ≡ w.request
+  pub before : o.before ≡ d.next_name
+  pub left : o.left ≡ steps_of w.request
+  pub due : o.due.items ≡ live_of d.live w.load.due.items
+  pub operated : o.operated ≡ false
+
+pub open_keeps : {J : Type 0} {d : Fields J} (whom : J → ℕ) (b : Book) (queue : List (Waiting (Carried J))) (opened : List (Opened J)) (w : Waiting (Carried J)) (o : Opened J)
+    → IsKept d → AreCarried whom d.queue → may_open_more (map asked_of d.queue) (map current_of d.opened) ≡ true → d.queue ≡ w ∷ queue → opened ≡ d.opened ++ o ∷ [] → OpensIt d w o
+    → b.history ≡ d.book.history ++ Open w.number ∷ [] → b.reserved + 1 ≡ d.book.reserved → IsKept (record d { book = b; queue = queue; opened = opened }) × AreCarried whom queue
+open_keeps {d = d} whom b queue opened w o k are none is there_is opens there kept =
+    let carried : IsCarried whom w × AreCarried whom queue = subst (AreCarried whom) is are in
+    let asked : map asked_of d.queue ≡ asked_of w ∷ map asked_of queue = ap (map asked_of) is in
+    let n : needs_of_asked (map asked_of d.queue) ≡ (2 + steps_of w.request) + needs_of_asked (map asked_of queue) = ap needs_of_asked asked in
+    let new : Current = opened_of d.next_name d.live (asked_of w) in
+    let o_is : current_of o ≡ new = λ i. record { number = opens.number i; request = opens.request i; before = opens.before i; left = opens.left i; due = (opens.due ∙ ap (live_of d.live) carried.0.due) i; operated = opens.operated i } in
+    let os_is : map current_of opened ≡ map current_of d.opened ++ new ∷ [] = ap (map current_of) there_is ∙ map-append current_of d.opened (o ∷ []) ∙ ap (λ (c : Current). map current_of d.opened ++ c ∷ []) o_is in
+    let m : needs_of_opened (map current_of opened) ≡ needs_of_opened (map current_of d.opened) + (1 + steps_of w.request) = ap needs_of_opened os_is ∙ needs_push (map current_of d.opened) new in
+    let once = distinct_part (λ (name : ℕ). is_live name d.live) (targets_of w.request) carried.0.distinct in (
+      keeps (Open w.number) k record {
+        slots = refl;
+        methods = refl;
+        history = there;
+        may = both_true _ _ none (ap (is_first w.number) asked ∙ eq-eqb w.number w.number refl);
+        next = (let F : List Asked → State = λ l. record (state_of d) { waiting = rest_of l; opened = open_next d.next_name d.live l (map current_of d.opened) } in
+            ap F asked ∙ ap (λ (cs : List Current). record (state_of d) { waiting = map asked_of queue; opened = cs }) (sym os_is));
+        needed = (let z = k.needed in omega arith);
+        fit = subst AreFit (sym os_is) (fit_push (map current_of d.opened) new k.fit carried.0.number (due_opened d.next_name d.live (asked_of w)));
+        distinct = subst AreDistinct (sym os_is) (distinct_push (map current_of d.opened) new k.distinct once);
+      },
       carried.1,
     )
 
+-- the open request of a number, and where it stands
+pub record Found {J : Type 0} (opened : List (Opened J)) (n : ℕ) (o : Opened J) : Type 0 where
+  pub place : ℕ
+  pub index : IsIndex n opened (Some place)
+  pub here : slice_get opened place ≡ Some o
+
+pub found_is : {J : Type 0} {opened : List (Opened J)} {n : ℕ} {o : Opened J} → Found opened n o → open_of n (map current_of opened) ≡ Some (current_of o)
+found_is {opened = opened} {n = n} {o = o} f = open_at n f.place opened o f.index f.here
+
+-- it alone changes, into another
+pub record Changed {J : Type 0} (f : Current → Current) (n : ℕ) (old new : List (Opened J)) (o : Opened J) : Type 0 where
+  pub found : Found old n o
+  pub made : Opened J
+  pub set : new ≡ slice_set old found.place made
+  pub is : current_of made ≡ f (current_of o)
+
+pub changed_is : {J : Type 0} {f : Current → Current} {n : ℕ} {old new : List (Opened J)} {o : Opened J} → Changed f n old new o → map current_of new ≡ at_number f n (map current_of old)
+changed_is {f = f} {n = n} {old = old} {o = o} c = ap (map current_of) c.set ∙ set_at f n c.found.place old o c.made c.found.index c.found.here c.is
+
+-- a change takes one of the entries that are kept for the request, and no name is due twice then
+record Spends (f : Current → Current) (c : Current) : Type 0 where
+  number : (f c).number ≡ c.number
+  left : (f c).left + 1 ≡ c.left
+  fit : due_of (f c) ≤ (f c).left
+  distinct : is_distinct c.due ≡ true → is_distinct (f c).due ≡ true
+
 -- an entry that changes the open request of its number
-changes : {J : Type 0} (slots methods : ℕ) (b b' : Book) (e : Entry) (f : Current → Current) (nn num n i : ℕ) (live : List Live) (q : List (Waiting (Carried J))) (os os' : List (Opened J)) (o o' : Opened J) (t : TableView)
-    → IsKept slots methods b (state_of nn live num q os t) → IsIndex n os (Some i) → slice_get os i ≡ Some o → os' ≡ slice_set os i o' → current_of o' ≡ f (current_of o)
-    → lawful (state_of nn live num q os t) e ≡ true → step (state_of nn live num q os t) e ≡ record { next_name = nn; live = live; next_number = num; waiting = map asked_of q; opened = at_number f n (map current_of os); table = t }
-    → (f (current_of o)).number ≡ o.number → (f (current_of o)).left + 1 ≡ o.left → due_of (f (current_of o)) ≤ (f (current_of o)).left → (is_distinct o.due.items ≡ true → is_distinct (f (current_of o)).due ≡ true)
-    → b'.history ≡ b.history ++ e ∷ [] → b'.reserved + 1 ≡ b.reserved → IsKept slots methods b' (state_of nn live num q os' t)
-changes slots methods b b' e f nn num n i live q os os' o o' t k at here is new may next same_number less fit distinct there kept =
-    let found = open_at n i os o at here in
-    let os_is : map current_of os' ≡ at_number f n (map current_of os) = ap (map current_of) is ∙ set_at f n i os o o' at here new in
-    let m = needs_at f n (map current_of os) (current_of o) found in
-    let m' : needs_of_opened (map current_of os') ≡ needs_of_opened (at_number f n (map current_of os)) = ap needs_of_opened os_is in
-    keeps slots methods b b' e _ _ k.legal k.state there may
-    (next ∙ ap (λ (cs : List Current). record { next_name = nn; live = live; next_number = num; waiting = map asked_of q; opened = cs; table = t }) (sym os_is))
-    (let z = k.needed in omega arith)
-    (subst AreFit (sym os_is) (fit_at f n (map current_of os) (current_of o) k.fit found fit same_number))
-    (subst AreDistinct (sym os_is) (distinct_at f n (map current_of os) (current_of o) k.distinct found (distinct (distinct_of n (map current_of os) (current_of o) k.distinct found))))
+changes : {J : Type 0} {d : Fields J} {o : Opened J} (b : Book) (e : Entry) (f : Current → Current) (n : ℕ) (opened : List (Opened J))
+    → IsKept d → Changed f n d.opened opened o → Spends f (current_of o)
+    → lawful (state_of d) e ≡ true → step (state_of d) e ≡ record (state_of d) { opened = at_number f n (map current_of d.opened) }
+    → b.history ≡ d.book.history ++ e ∷ [] → b.reserved + 1 ≡ d.book.reserved → IsKept (record d { book = b; opened = opened })
+changes {d = d} {o = o} b e f n opened k c spends may next there kept =
+    let found = found_is c.found in
+    let os_is : map current_of opened ≡ at_number f n (map current_of d.opened) = changed_is c in
+    let m = needs_at f n (map current_of d.opened) (current_of o) found in
+    let m' : needs_of_opened (map current_of opened) ≡ needs_of_opened (at_number f n (map current_of d.opened)) = ap needs_of_opened os_is in
+    let less = spends.left in
+    let once = distinct_of n (map current_of d.opened) (current_of o) k.distinct found in
+    keeps e k record {
+      slots = refl;
+      methods = refl;
+      history = there;
+      may = may;
+      next = next ∙ ap (λ (cs : List Current). record (state_of d) { opened = cs }) (sym os_is);
+      needed = (let z = k.needed in omega arith);
+      fit = subst AreFit (sym os_is) (fit_at f n (map current_of d.opened) (current_of o) k.fit found spends.fit spends.number);
+      distinct = subst AreDistinct (sym os_is) (distinct_at f n (map current_of d.opened) (current_of o) k.distinct found (spends.distinct once));
+    }
 
 -- no name is due of an open request twice
-pub due_once : {J : Type 0} (slots methods : ℕ) (b : Book) (nn num n i : ℕ) (live : List Live) (q : List (Waiting (Carried J))) (os : List (Opened J)) (o : Opened J) (t : TableView)
-    → IsKept slots methods b (state_of nn live num q os t) → IsIndex n os (Some i) → slice_get os i ≡ Some o → is_distinct o.due.items ≡ true
-due_once slots methods b nn num n i live q os o t k at here = distinct_of n (map current_of os) (current_of o) k.distinct (open_at n i os o at here)
+pub due_once : {J : Type 0} {d : Fields J} {n : ℕ} {o : Opened J} → IsKept d → Found d.opened n o → is_distinct o.due.items ≡ true
+due_once {d = d} {n = n} {o = o} k found = distinct_of n (map current_of d.opened) (current_of o) k.distinct (found_is found)
 
 -- there is room for the entries of an open request
-pub open_room : {J : Type 0} (slots methods : ℕ) (b : Book) (nn num n i : ℕ) (live : List Live) (q : List (Waiting (Carried J))) (os : List (Opened J)) (o : Opened J) (t : TableView)
-    → IsKept slots methods b (state_of nn live num q os t) → IsIndex n os (Some i) → slice_get os i ≡ Some o → (due_of (current_of o) ≤ o.left) × (1 + o.left ≤ b.reserved)
-open_room slots methods b nn num n i live q os o t k at here =
-    let found = open_at n i os o at here in
-    ((fit_of n (map current_of os) (current_of o) k.fit found).1, (let a = needs_without n (map current_of os) (current_of o) found in let m = k.needed in omega arith))
+pub open_room : {J : Type 0} {d : Fields J} {n : ℕ} {o : Opened J} → IsKept d → Found d.opened n o → (due_of (current_of o) ≤ o.left) × (1 + o.left ≤ d.book.reserved)
+open_room {d = d} {n = n} {o = o} k found =
+    let is = found_is found in
+    ((fit_of n (map current_of d.opened) (current_of o) k.fit is).1, (let a = needs_without n (map current_of d.opened) (current_of o) is in let m = k.needed in omega arith))
 
-due_left : (name : ℕ) (c : Current) → is_due name c ≡ true → due_of c ≤ c.left → ((finished name c).left + 1 ≡ c.left) × (due_of (finished name c) ≤ (finished name c).left)
+due_left : (name : ℕ) (c : Current) → is_due name c ≡ true → due_of c ≤ c.left → Spends (finished name) c
 due_left name c h fit =
     let less = filter_less (λ (x : ℕ). x == name) c.due h in
-    (omega arith, omega arith)
+    record { number = refl; left = omega arith; fit = omega arith; distinct = distinct_part (λ (t : ℕ). not (t == name)) c.due }
 
 -- where one is due, an entry is left
 pub due_entry : (name : ℕ) (c : Current) → is_due name c ≡ true → due_of c ≤ c.left → 0 < c.left
-due_entry name c h fit = let d = due_left name c h fit in omega (arith, d.0)
+due_entry name c h fit = let d = due_left name c h fit in omega (arith, d.left)
 
-pub finish_keeps : {J : Type 0} (slots methods : ℕ) (b b' : Book) (nn num n name reply i : ℕ) (live : List Live) (q : List (Waiting (Carried J))) (os os' : List (Opened J)) (o o' : Opened J) (t : TableView)
-    → IsKept slots methods b (state_of nn live num q os t) → IsIndex n os (Some i) → slice_get os i ≡ Some o → os' ≡ slice_set os i o' → current_of o' ≡ finished name (current_of o)
-    → among name o.due.items ≡ true → is_live name live ≡ true → is_least n name (map current_of os) ≡ true
-    → b'.history ≡ b.history ++ Finish n name reply ∷ [] → b'.reserved + 1 ≡ b.reserved → IsKept slots methods b' (state_of nn live num q os' t)
-finish_keeps slots methods b b' nn num n name reply i live q os os' o o' t k at here is new due lives least there kept =
-    let found = open_at n i os o at here in
-    let d = due_left name (current_of o) due (fit_of n (map current_of os) (current_of o) k.fit found).1 in
-    changes slots methods b b' (Finish n name reply) (finished name) nn num n i live q os os' o o' t k at here is new
-    (both_true _ _ (both_true _ _ (ap (passes (is_due name)) found ∙ due) lives) least) refl refl d.0 d.1 (distinct_part (λ (t : ℕ). not (t == name)) o.due.items) there kept
+pub finish_keeps : {J : Type 0} {d : Fields J} {o : Opened J} (b : Book) (n name reply : ℕ) (opened : List (Opened J))
+    → IsKept d → Changed (finished name) n d.opened opened o
+    → among name o.due.items ≡ true → is_live name d.live ≡ true → is_least n name (map current_of d.opened) ≡ true
+    → b.history ≡ d.book.history ++ Finish n name reply ∷ [] → b.reserved + 1 ≡ d.book.reserved → IsKept (record d { book = b; opened = opened })
+finish_keeps {d = d} {o = o} b n name reply opened k c due lives least there kept =
+    let found = found_is c.found in
+    let spends = due_left name (current_of o) due (fit_of n (map current_of d.opened) (current_of o) k.fit found).1 in
+    let may = both_true _ _ (both_true _ _ (ap (passes (is_due name)) found ∙ due) lives) least in
+    changes b (Finish n name reply) (finished name) n opened k c spends may refl there kept
 
-operate_left : (c : Current) → may_operate c ≡ true → due_of c ≤ c.left → ((as_operated c).left + 1 ≡ c.left) × (due_of (as_operated c) ≤ (as_operated c).left)
+operate_left : (c : Current) → may_operate c ≡ true → due_of c ≤ c.left → Spends as_operated c
 operate_left c h fit =
     let one : cond {A = ℕ} (may_operate c) 1 0 ≡ 1 = ap (λ b. cond {A = ℕ} b 1 0) h in
-    let none : cond {A = ℕ} (may_operate (as_operated c)) 1 0 ≡ 0 = zero_of (Rattle.operations.specs.Requests.is_census c.request) in
-    (omega arith, omega arith)
+    let none : cond {A = ℕ} (may_operate (as_operated c)) 1 0 ≡ 0 = zero_of (is_census c.request) in
+    record { number = refl; left = omega arith; fit = omega arith; distinct = λ once. once }
   where
     zero_of : (b : Bool) → cond {A = ℕ} (b && false) 1 0 ≡ 0
     zero_of true = refl
     zero_of false = refl
 
-pub operate_keeps : {J : Type 0} (slots methods : ℕ) (b b' : Book) (nn num n i : ℕ) (live : List Live) (q : List (Waiting (Carried J))) (os os' : List (Opened J)) (o o' : Opened J) (t : TableView)
-    → IsKept slots methods b (state_of nn live num q os t) → IsIndex n os (Some i) → slice_get os i ≡ Some o → os' ≡ slice_set os i o' → current_of o' ≡ as_operated (current_of o)
-    → may_operate (current_of o) ≡ true
-    → b'.history ≡ b.history ++ Operate n ∷ [] → b'.reserved + 1 ≡ b.reserved → IsKept slots methods b' (state_of nn live num q os' t)
-operate_keeps slots methods b b' nn num n i live q os os' o o' t k at here is new may there kept =
-    let found = open_at n i os o at here in
-    let d = operate_left (current_of o) may (fit_of n (map current_of os) (current_of o) k.fit found).1 in
-    changes slots methods b b' (Operate n) as_operated nn num n i live q os os' o o' t k at here is new
-    (ap (passes may_operate) found ∙ may) refl refl d.0 d.1 (λ once. once) there kept
-
-pub close_keeps : {J : Type 0} (slots methods : ℕ) (b b' : Book) (nn num i : ℕ) (live : List Live) (q : List (Waiting (Carried J))) (os os' : List (Opened J)) (o : Opened J) (t : TableView)
-    → IsKept slots methods b (state_of nn live num q os t) → IsIndex o.number os (Some i) → slice_get os i ≡ Some o → os' ≡ remove os i → may_close live (current_of o) ≡ true
-    → b'.history ≡ b.history ++ Close o.number ∷ [] → b'.reserved + (1 + o.left) ≡ b.reserved → IsKept slots methods b' (state_of nn live num q os' t)
-close_keeps slots methods b b' nn num i live q os os' o t k at here is may there kept =
-    let found = open_at o.number i os o at here in
-    let gone : map current_of os' ≡ without_number o.number (map current_of os) = ap (map current_of) is ∙ removed_at o.number i os at in
-    let m = needs_without o.number (map current_of os) (current_of o) found in
-    let m' : needs_of_opened (map current_of os') ≡ needs_of_opened (without_number o.number (map current_of os)) = ap needs_of_opened gone in
-    keeps slots methods b b' (Close o.number) _ _ k.legal k.state there
-    (ap (passes (may_close live)) found ∙ may)
-    (ap (λ (cs : List Current). record { next_name = nn; live = live; next_number = num; waiting = map asked_of q; opened = cs; table = t }) (sym gone))
-    (let z = k.needed in omega arith)
-    (subst AreFit (sym gone) (fit_without o.number (map current_of os) k.fit))
-    (subst AreDistinct (sym gone) (distinct_without o.number (map current_of os) k.distinct))
+pub operate_keeps : {J : Type 0} {d : Fields J} {o : Opened J} (b : Book) (n : ℕ) (opened : List (Opened J))
+    → IsKept d → Changed as_operated n d.opened opened o → may_operate (current_of o) ≡ true
+    → b.history ≡ d.book.history ++ Operate n ∷ [] → b.reserved + 1 ≡ d.book.reserved → IsKept (record d { book = b; opened = opened })
+operate_keeps {d = d} {o = o} b n opened k c may there kept =
+    let found = found_is c.found in
+    let spends = operate_left (current_of o) may (fit_of n (map current_of d.opened) (current_of o) k.fit found).1 in
+    changes b (Operate n) as_operated n opened k c spends (ap (passes may_operate) found ∙ may) refl there kept
 
 -- the Close of one that may be closed is lawful
-pub close_is : {J : Type 0} (nn num i : ℕ) (live : List Live) (q : List (Waiting (Carried J))) (os : List (Opened J)) (o : Opened J) (t : TableView)
-    → IsIndex o.number os (Some i) → slice_get os i ≡ Some o → may_close live (current_of o) ≡ true → lawful (state_of nn live num q os t) (Close o.number) ≡ true
-close_is nn num i live q os o t at here may = ap (passes (may_close live)) (open_at o.number i os o at here) ∙ may
+pub close_is : {J : Type 0} {d : Fields J} {n : ℕ} {o : Opened J} → IsKept d → Found d.opened n o → may_close d.live (current_of o) ≡ true → lawful (state_of d) (Close n) ≡ true
+close_is {d = d} k found may = ap (passes (may_close d.live)) (found_is found) ∙ may
+
+pub close_keeps : {J : Type 0} {d : Fields J} {n : ℕ} {o : Opened J} (b : Book) (opened : List (Opened J))
+    → IsKept d → (found : Found d.opened n o) → opened ≡ remove d.opened found.place → may_close d.live (current_of o) ≡ true
+    → b.history ≡ d.book.history ++ Close n ∷ [] → b.reserved + (1 + o.left) ≡ d.book.reserved → IsKept (record d { book = b; opened = opened })
+close_keeps {d = d} {n = n} {o = o} b opened k found is may there kept =
+    let gone : map current_of opened ≡ without_number n (map current_of d.opened) = ap (map current_of) is ∙ removed_at n found.place d.opened found.index in
+    let m = needs_without n (map current_of d.opened) (current_of o) (found_is found) in
+    let m' : needs_of_opened (map current_of opened) ≡ needs_of_opened (without_number n (map current_of d.opened)) = ap needs_of_opened gone in
+    keeps (Close n) k record {
+      slots = refl;
+      methods = refl;
+      history = there;
+      may = close_is k found may;
+      next = ap (λ (cs : List Current). record (state_of d) { opened = cs }) (sym gone);
+      needed = (let z = k.needed in omega arith);
+      fit = subst AreFit (sym gone) (fit_without n (map current_of d.opened) k.fit);
+      distinct = subst AreDistinct (sym gone) (distinct_without n (map current_of d.opened) k.distinct);
+    }
 
 -- what stays is kept
-pub same_keeps : {J : Type 0} (slots methods : ℕ) (b : Book) (nn num : ℕ) (live : List Live) (q : List (Waiting (Carried J))) (os os' : List (Opened J)) (t : TableView)
-    → IsKept slots methods b (state_of nn live num q os t) → map current_of os' ≡ map current_of os → IsKept slots methods b (state_of nn live num q os' t)
-same_keeps slots methods b nn num live q os os' t k same =
-    subst (λ (cs : List Current). IsKept slots methods b (record { next_name = nn; live = live; next_number = num; waiting = map asked_of q; opened = cs; table = t })) (sym same) k
+pub same_keeps : {J : Type 0} {d : Fields J} (opened : List (Opened J)) → IsKept d → map current_of opened ≡ map current_of d.opened → IsKept (record d { opened = opened })
+same_keeps {d = d} opened k same = record {
+  legal = k.legal;
+  state = k.state ∙ ap (λ (cs : List Current). record (state_of d) { opened = cs }) (sym same);
+  needed = subst (λ (cs : List Current). needs (record (state_of d) { opened = cs }) ≤ d.book.reserved) (sym same) k.needed;
+  fit = subst AreFit (sym same) k.fit;
+  distinct = subst AreDistinct (sym same) k.distinct;
+}
 
 -- entries that codes can still make
 needs_of_codes-push : (cs : List Code) (c : Code) → needs_of_codes (cs ++ c ∷ []) ≡ needs_of_codes cs + states_left c.state
@@ -264,41 +348,60 @@ needs_changed first (suc i) s st (x ∷ cs) c n h e =
     let a : states_left (in_state s st x).state ≡ states_left x.state = ap (λ (z : Code). states_left z.state) (in_state_other s st x there) in
     let r = needs_changed (first + 1) i s st cs c (tail_numbered first x cs n) h e in omega arith
 
-may_install : {J : Type 0} (nn num method : ℕ) (live : List Live) (q : List (Waiting (Carried J))) (os : List (Opened J)) (t : TableView) (id : CodeId) → free_slot t.codes t.slots ≡ Some id.slot → id.serial ≡ next_serial t.codes
-    → in_use_for t.codes method ≡ None → install_fault t method ≡ None → lawful (state_of nn live num q os t) (Install id method) ≡ true
-may_install nn num method live q os t id free serial none may =
-    both_true _ _ (eq-eqb id.serial (next_serial t.codes) serial) (both_true _ _ (ap (is_free_slot id.slot) free ∙ eq-eqb id.slot id.slot refl) (both_true _ _ (ap is_none none) (ap is_none may)))
+-- where no code is in use for the method and it may have one, and the code takes the free slot and the next serial
+record Installs (t : TableView) (method : ℕ) (id : CodeId) : Type 0 where
+  free : free_slot t.codes t.slots ≡ Some id.slot
+  serial : id.serial ≡ next_serial t.codes
+  none : in_use_for t.codes method ≡ None
+  may : install_fault t method ≡ None
 
-install_keeps : {J : Type 0} (b b' : Book) (nn num method : ℕ) (live : List Live) (q : List (Waiting (Carried J))) (os : List (Opened J)) (t t' : TableView) (id : CodeId)
-    → IsKept t.slots t.methods b (state_of nn live num q os t) → free_slot t.codes t.slots ≡ Some id.slot → id.serial ≡ next_serial t.codes → in_use_for t.codes method ≡ None → install_fault t method ≡ None
-    → t' ≡ with_codes t (with_code t.codes method id.slot)
-    → b'.history ≡ b.history ++ Install id method ∷ [] → b'.reserved ≡ b.reserved + 3 → IsKept t'.slots t'.methods b' (state_of nn live num q os t')
-install_keeps b b' nn num method live q os t t' id k free serial none may is there kept =
-    subst (λ (v : TableView). IsKept v.slots v.methods b' (state_of nn live num q os v)) (sym is)
-    (keeps t.slots t.methods b b' (Install id method) _ _ k.legal k.state there
-    (may_install nn num method live q os t id free serial none may)
-    refl
-    (let z = k.needed in let m = needs_of_codes-push t.codes (record { serial = next_serial t.codes; slot = id.slot; method = method; state = state.InUse }) in omega arith)
-    k.fit k.distinct)
+may_install : {J : Type 0} {method : ℕ} {id : CodeId} (d : Fields J) → Installs d.table method id → lawful (state_of d) (Install id method) ≡ true
+may_install {method = method} {id = id} d i =
+    both_true _ _ (eq-eqb id.serial (next_serial d.table.codes) i.serial) (both_true _ _ (ap (is_free_slot id.slot) i.free ∙ eq-eqb id.slot id.slot refl) (both_true _ _ (ap is_none i.none) (ap is_none i.may)))
+
+install_keeps : {J : Type 0} {d : Fields J} {id : CodeId} (b : Book) (method : ℕ) (t : TableView)
+    → IsKept d → Installs d.table method id → t ≡ with_codes d.table (with_code d.table.codes method id.slot)
+    → b.history ≡ d.book.history ++ Install id method ∷ [] → b.reserved ≡ d.book.reserved + 3 → IsKept (record d { book = b; table = t })
+install_keeps {d = d} {id = id} b method t k i is there kept =
+    let m = needs_of_codes-push d.table.codes (record { serial = next_serial d.table.codes; slot = id.slot; method = method; state = state.InUse }) in
+    let n : needs_of_codes t.codes ≡ needs_of_codes (with_code d.table.codes method id.slot) = ap (λ (v : TableView). needs_of_codes v.codes) is in
+    keeps (Install id method) k record {
+      slots = ap (λ (v : TableView). v.slots) is;
+      methods = ap (λ (v : TableView). v.methods) is;
+      history = there;
+      may = may_install d i;
+      next = ap (λ (v : TableView). record (state_of d) { table = v }) (sym is);
+      needed = (let z = k.needed in omega arith);
+      fit = k.fit;
+      distinct = k.distinct;
+    }
 
 -- there is room for the entries of a code
-pub code_room : {J : Type 0} (b : Book) (nn num serial : ℕ) (live : List Live) (q : List (Waiting (Carried J))) (os : List (Opened J)) (t : TableView) (code : Code)
-    → IsKept t.slots t.methods b (state_of nn live num q os t) → IsTable t → unfreed t.codes serial ≡ Some code → states_left code.state ≤ b.reserved
-code_room b nn num serial live q os t code k table is =
-    let u = unfreed_parts t.codes serial code is in
-    let m = needs_changed 1 u.0 serial state.Freed t.codes code table.serials u.1 u.2 in
+pub code_room : {J : Type 0} {d : Fields J} (serial : ℕ) (code : Code) → IsKept d → IsTable d.table → unfreed d.table.codes serial ≡ Some code → states_left code.state ≤ d.book.reserved
+code_room {d = d} serial code k table is =
+    let u = unfreed_parts d.table.codes serial code is in
+    let m = needs_changed 1 u.0 serial state.Freed d.table.codes code table.serials u.1 u.2 in
     let z = k.needed in omega arith
 
-pub code_keeps : {J : Type 0} (b b' : Book) (e : Entry) (nn num serial : ℕ) (live : List Live) (q : List (Waiting (Carried J))) (os : List (Opened J)) (t t' : TableView) (code : Code) (st : CodeState)
-    → IsKept t.slots t.methods b (state_of nn live num q os t) → IsTable t → unfreed t.codes serial ≡ Some code → t' ≡ with_codes t (with_state t.codes serial st)
-    → lawful (state_of nn live num q os t) e ≡ true → step (state_of nn live num q os t) e ≡ state_of nn live num q os (with_codes t (with_state t.codes serial st))
+pub code_keeps : {J : Type 0} {d : Fields J} (b : Book) (e : Entry) (serial : ℕ) (t : TableView) (code : Code) (st : CodeState)
+    → IsKept d → IsTable d.table → unfreed d.table.codes serial ≡ Some code → t ≡ with_codes d.table (with_state d.table.codes serial st)
+    → lawful (state_of d) e ≡ true → step (state_of d) e ≡ record (state_of d) { table = with_codes d.table (with_state d.table.codes serial st) }
     → states_left st + 1 ≡ states_left code.state
-    → b'.history ≡ b.history ++ e ∷ [] → b'.reserved + 1 ≡ b.reserved → IsKept t'.slots t'.methods b' (state_of nn live num q os t')
-code_keeps b b' e nn num serial live q os t t' code st k table found is may next less there kept =
-    let u = unfreed_parts t.codes serial code found in
-    let m = needs_changed 1 u.0 serial st t.codes code table.serials u.1 u.2 in
-    subst (λ (v : TableView). IsKept v.slots v.methods b' (state_of nn live num q os v)) (sym is)
-    (keeps t.slots t.methods b b' e _ _ k.legal k.state there may next (let z = k.needed in omega arith) k.fit k.distinct)
+    → b.history ≡ d.book.history ++ e ∷ [] → b.reserved + 1 ≡ d.book.reserved → IsKept (record d { book = b; table = t })
+code_keeps {d = d} b e serial t code st k table found is may next less there kept =
+    let u = unfreed_parts d.table.codes serial code found in
+    let m = needs_changed 1 u.0 serial st d.table.codes code table.serials u.1 u.2 in
+    let n : needs_of_codes t.codes ≡ needs_of_codes (with_state d.table.codes serial st) = ap (λ (v : TableView). needs_of_codes v.codes) is in
+    keeps e k record {
+      slots = ap (λ (v : TableView). v.slots) is;
+      methods = ap (λ (v : TableView). v.methods) is;
+      history = there;
+      may = may;
+      next = next ∙ ap (λ (v : TableView). record (state_of d) { table = v }) (sym is);
+      needed = (let z = k.needed in omega arith);
+      fit = k.fit;
+      distinct = k.distinct;
+    }
 
 pub left_invalidate : (c : Code) → invalidate_fault (Some c) ≡ None → states_left c.state ≡ 3
 left_invalidate c h = by c.state h
@@ -309,51 +412,65 @@ left_invalidate c h = by c.state h
     by state.Zombie h = cc
     by state.Freed h = cc
 
--- The entries of an install, whatever code it replaces.
-pub installs_keep : {J : Type 0} (b b' : Book) (nn num method : ℕ) (live : List Live) (q : List (Waiting (Carried J))) (os : List (Opened J)) (t t' : TableView) (r : Option CodeId) (id : CodeId)
-    → IsKept t.slots t.methods b (state_of nn live num q os t) → IsTable t → free_slot t.codes t.slots ≡ Some id.slot → id.serial ≡ next_serial t.codes → install_fault t method ≡ None
-    → r ≡ option_map id_of (in_use_for t.codes method) → t' ≡ with_codes t (with_code (without_use t.codes (in_use_for t.codes method)) method id.slot)
-    → b'.history ≡ b.history ++ install_entries r id method → b'.reserved + kept_before r ≡ b.reserved + 3 → IsKept t'.slots t'.methods b' (state_of nn live num q os t')
-installs_keep b b' nn num method live q os t t' r id k table free serial may is next there kept = by (in_use_for t.codes method) refl r is next there kept
+-- a code is installed, whatever it replaces: the method may have one, and it takes the free slot and the next serial
+pub record Replaces (t : TableView) (method : ℕ) (old : Option CodeId) (id : CodeId) : Type 0 where
+  pub table : IsTable t
+  pub free : free_slot t.codes t.slots ≡ Some id.slot
+  pub serial : id.serial ≡ next_serial t.codes
+  pub may : install_fault t method ≡ None
+  pub replaced : old ≡ option_map id_of (in_use_for t.codes method)
+
+-- once the code in use is left, no other is in use
+left_installs : (t : TableView) (method : ℕ) (replaced : Option CodeId) (id : CodeId) (c : Code) → Replaces t method replaced id → in_use_for t.codes method ≡ Some c
+    → Installs (with_codes t (with_state t.codes c.serial state.NotEntrant)) method id
+left_installs t method replaced id c r e = record {
+  free = slot_left t r.table method c e ∙ r.free;
+  serial = r.serial ∙ ap (λ n. n + 1) (sym (long_left t r.table method c e));
+  none = none_left t r.table method c e;
+  may = fault_left t r.table method c e ∙ r.may;
+}
+
+pub installs_keep : {J : Type 0} {d : Fields J} {replaced : Option CodeId} {id : CodeId} (b : Book) (method : ℕ) (t : TableView)
+    → IsKept d → Replaces d.table method replaced id → t ≡ with_codes d.table (with_code (without_use d.table.codes (in_use_for d.table.codes method)) method id.slot)
+    → b.history ≡ d.book.history ++ install_entries replaced id method → b.reserved + kept_before replaced ≡ d.book.reserved + 3 → IsKept (record d { book = b; table = t })
+installs_keep {d = d} {replaced = replaced} {id = id} b method t k r next there kept = by (in_use_for d.table.codes method) refl replaced r next there kept
   where
-    by : (o : Option Code) → in_use_for t.codes method ≡ o → (r : Option CodeId) → r ≡ option_map id_of o → t' ≡ with_codes t (with_code (without_use t.codes o) method id.slot)
-        → b'.history ≡ b.history ++ install_entries r id method → b'.reserved + kept_before r ≡ b.reserved + 3 → IsKept t'.slots t'.methods b' (state_of nn live num q os t')
-    by None e None same next there kept = install_keeps b b' nn num method live q os t t' id k free serial e may next there (omega arith)
-    by None e (Some a) same next there kept = let no : ◌≡◌ {A = Option CodeId} (Some a) None = same in cc
-    by (Some c) e None same next there kept = let no : ◌≡◌ {A = Option CodeId} None (Some (id_of c)) = same in cc
-    by (Some c) e (Some a) same next there kept =
-        let u = unfreed_here t table method c e in
-        let used = state_is t table method c e in
+    by : (o : Option Code) → in_use_for d.table.codes method ≡ o → (replaced : Option CodeId) → Replaces d.table method replaced id → t ≡ with_codes d.table (with_code (without_use d.table.codes o) method id.slot)
+        → b.history ≡ d.book.history ++ install_entries replaced id method → b.reserved + kept_before replaced ≡ d.book.reserved + 3 → IsKept (record d { book = b; table = t })
+    by None e None r next there kept = install_keeps b method t k (record { free = r.free; serial = r.serial; none = e; may = r.may }) next there (omega arith)
+    by None e (Some a) r next there kept = let no : ◌≡◌ {A = Option CodeId} (Some a) None = r.replaced ∙ ap (option_map id_of) e in cc
+    by (Some c) e None r next there kept = let no : ◌≡◌ {A = Option CodeId} None (Some (id_of c)) = r.replaced ∙ ap (option_map id_of) e in cc
+    by (Some c) e (Some a) r next there kept =
+        let u = unfreed_here d.table r.table method c e in
+        let used = state_is d.table r.table method c e in
         let fault : invalidate_fault (Some c) ≡ None = rw used refl in
         let less = left_invalidate c fault in
-        let room = code_room b nn num c.serial live q os t c k table u in
-        let mid : Book = record { history = b.history ++ Invalidate c.serial ∷ []; reserved = b.reserved - 1; gone = b.gone } in
-        let after_left = code_keeps b mid (Invalidate c.serial) nn num c.serial live q os t (with_codes t (with_state t.codes c.serial state.NotEntrant)) c state.NotEntrant k table u refl (ap is_none (ap invalidate_fault u ∙ fault)) refl (sym less) refl (omega arith) in
-        let serials : a.serial ≡ c.serial = (let both : a ≡ id_of c = cc in ap (λ (d : CodeId). d.serial) both) in
-        install_keeps mid b' nn num method live q os (with_codes t (with_state t.codes c.serial state.NotEntrant)) t' id after_left (slot_left t table method c e ∙ free) (serial ∙ ap (λ n. n + 1) (sym (long_left t table method c e))) (none_left t table method c e)
-        (fault_left t table method c e ∙ may) next
-        (there ∙ (ap (λ n. b.history ++ Invalidate n ∷ Install id method ∷ []) serials ∙ sym (append_assoc b.history (Invalidate c.serial ∷ []) (Install id method ∷ [])))) (omega arith)
+        let room = code_room c.serial c k r.table u in
+        let mid : Fields _ = record d { book = record { history = d.book.history ++ Invalidate c.serial ∷ []; reserved = d.book.reserved - 1; gone = d.book.gone }; table = with_codes d.table (with_state d.table.codes c.serial state.NotEntrant) } in
+        let after_left : IsKept mid = code_keeps mid.book (Invalidate c.serial) c.serial mid.table c state.NotEntrant k r.table u refl (ap is_none (ap invalidate_fault u ∙ fault)) refl (sym less) refl (omega arith) in
+        let serials : a.serial ≡ c.serial = (let both : Some a ≡ Some (id_of c) = r.replaced ∙ ap (option_map id_of) e in let same : a ≡ id_of c = cc in ap (λ (x : CodeId). x.serial) same) in
+        install_keeps {d = mid} b method t after_left (left_installs d.table method (Some a) id c r e) next
+        (there ∙ (ap (λ n. d.book.history ++ Invalidate n ∷ Install id method ∷ []) serials ∙ sym (append_assoc d.book.history (Invalidate c.serial ∷ []) (Install id method ∷ [])))) (omega arith)
 
-installs_are_legal : {J : Type 0} (nn num method : ℕ) (live : List Live) (q : List (Waiting (Carried J))) (os : List (Opened J)) (t : TableView) (r : Option CodeId) (id : CodeId) → IsTable t → free_slot t.codes t.slots ≡ Some id.slot
-    → id.serial ≡ next_serial t.codes → install_fault t method ≡ None → r ≡ option_map id_of (in_use_for t.codes method) → legal_from (state_of nn live num q os t) (install_entries r id method) ≡ true
-installs_are_legal nn num method live q os t r id table free serial may is = by (in_use_for t.codes method) refl r is
+installs_are_legal : {J : Type 0} (d : Fields J) (method : ℕ) (replaced : Option CodeId) (id : CodeId) → Replaces d.table method replaced id → legal_from (state_of d) (install_entries replaced id method) ≡ true
+installs_are_legal d method replaced id r = by (in_use_for d.table.codes method) refl replaced r
   where
-    by : (o : Option Code) → in_use_for t.codes method ≡ o → (r : Option CodeId) → r ≡ option_map id_of o → legal_from (state_of nn live num q os t) (install_entries r id method) ≡ true
-    by None e None same = both_true _ _ (may_install nn num method live q os t id free serial e may) refl
-    by None e (Some a) same = let no : ◌≡◌ {A = Option CodeId} (Some a) None = same in cc
-    by (Some c) e None same = let no : ◌≡◌ {A = Option CodeId} None (Some (id_of c)) = same in cc
-    by (Some c) e (Some a) same =
-        let serials : c.serial ≡ a.serial = (let both : a ≡ id_of c = cc in ap (λ (d : CodeId). d.serial) (sym both)) in
-        let fault : invalidate_fault (Some c) ≡ None = (let used = state_is t table method c e in rw used refl) in
-        subst (λ n. legal_from (state_of nn live num q os t) (Invalidate n ∷ Install id method ∷ []) ≡ true) serials
-        (both_true _ _ (ap is_none (ap invalidate_fault (unfreed_here t table method c e) ∙ fault))
-        (both_true _ _ (may_install nn num method live q os (with_codes t (with_state t.codes c.serial state.NotEntrant)) id (slot_left t table method c e ∙ free) (serial ∙ ap (λ n. n + 1) (sym (long_left t table method c e))) (none_left t table method c e) (fault_left t table method c e ∙ may)) refl))
+    by : (o : Option Code) → in_use_for d.table.codes method ≡ o → (replaced : Option CodeId) → Replaces d.table method replaced id → legal_from (state_of d) (install_entries replaced id method) ≡ true
+    by None e None r = both_true _ _ (may_install d (record { free = r.free; serial = r.serial; none = e; may = r.may })) refl
+    by None e (Some a) r = let no : ◌≡◌ {A = Option CodeId} (Some a) None = r.replaced ∙ ap (option_map id_of) e in cc
+    by (Some c) e None r = let no : ◌≡◌ {A = Option CodeId} None (Some (id_of c)) = r.replaced ∙ ap (option_map id_of) e in cc
+    by (Some c) e (Some a) r =
+        let serials : c.serial ≡ a.serial = (let both : Some a ≡ Some (id_of c) = r.replaced ∙ ap (option_map id_of) e in let same : a ≡ id_of c = cc in ap (λ (x : CodeId). x.serial) (sym same)) in
+        let fault : invalidate_fault (Some c) ≡ None = (let used = state_is d.table r.table method c e in rw used refl) in
+        subst (λ n. legal_from (state_of d) (Invalidate n ∷ Install id method ∷ []) ≡ true) serials
+        (both_true _ _ (ap is_none (ap invalidate_fault (unfreed_here d.table r.table method c e) ∙ fault))
+        (both_true _ _ (may_install (record d { table = with_codes d.table (with_state d.table.codes c.serial state.NotEntrant) }) (left_installs d.table method (Some a) id c r e)) refl))
 
-pub enters_install : {J : Type 0} (d d' : DeskSeen) (nn num method : ℕ) (live : List Live) (q : List (Waiting (Carried J))) (os : List (Opened J)) (t : TableView) (replaced : Option CodeId) (id : CodeId) (r : Stands) → at d ≡ state_of nn live num q os t
-    → IsTable t → free_slot t.codes t.slots ≡ Some id.slot → id.serial ≡ next_serial t.codes → install_fault t method ≡ None → replaced ≡ option_map id_of (in_use_for t.codes method)
-    → d'.book.history ≡ d.book.history ++ install_entries replaced id method → r ≡ stands (length d.book.history + kept_before replaced) (Install id method) → d'.book.gone ≡ d.book.gone → d'.slots ≡ d.slots → d'.methods ≡ d.methods → EntersInstall d d' replaced id method r
-enters_install d d' nn num method live q os t replaced id r is table free serial may old history receipt gone slots methods = record {
-  legal_is = ap (λ (s : State). legal_from s (install_entries replaced id method)) is ∙ installs_are_legal nn num method live q os t replaced id table free serial may old;
+pub enters_install : {J : Type 0} {d : Fields J} {old new : DeskSeen} {receipt : Stands} (method : ℕ) (replaced : Option CodeId) (id : CodeId) → IsKept d → at old ≡ state_of d → Replaces d.table method replaced id
+    → new.book.history ≡ old.book.history ++ install_entries replaced id method → receipt ≡ stands (length old.book.history + kept_before replaced) (Install id method)
+    → new.book.gone ≡ old.book.gone → new.slots ≡ old.slots → new.methods ≡ old.methods → EntersInstall old new replaced id method receipt
+enters_install {d = d} method replaced id kept is r history receipt gone slots methods = record {
+  legal_is = ap (λ (s : State). legal_from s (install_entries replaced id method)) is ∙ installs_are_legal d method replaced id r;
   history_is = history;
   receipt_is = receipt;
   gone_stays = gone;
@@ -378,30 +495,30 @@ left_free c h = by c.state h
     by state.Zombie h = refl
     by state.Freed h = cc
 
-pub enters_by : (d d' : DeskSeen) (s : State) (e : Entry) (r : Stands) → at d ≡ s → lawful s e ≡ true → d'.book.history ≡ d.book.history ++ e ∷ [] → r ≡ stands (length d.book.history) e
-    → d'.book.gone ≡ d.book.gone → d'.slots ≡ d.slots → d'.methods ≡ d.methods → Enters d d' e r
-enters_by d d' s e r is may history receipt gone slots methods = record { lawful_is = ap (λ (t : State). lawful t e) is ∙ may; history_is = history; receipt_is = receipt; gone_stays = gone; sizes_stay = (slots, methods) }
+pub enters_by : {old new : DeskSeen} {receipt : Stands} (s : State) (e : Entry) → at old ≡ s → lawful s e ≡ true → new.book.history ≡ old.book.history ++ e ∷ [] → receipt ≡ stands (length old.book.history) e
+    → new.book.gone ≡ old.book.gone → new.slots ≡ old.slots → new.methods ≡ old.methods → Enters old new e receipt
+enters_by s e is may history receipt gone slots methods = record { lawful_is = ap (λ (t : State). lawful t e) is ∙ may; history_is = history; receipt_is = receipt; gone_stays = gone; sizes_stay = (slots, methods) }
 
 -- a Finish is lawful, or not
-pub finish_is : {J : Type 0} (n name reply nn num i : ℕ) (live : List Live) (q : List (Waiting (Carried J))) (os : List (Opened J)) (o : Opened J) (t : TableView) (b least : Bool)
-    → IsIndex n os (Some i) → slice_get os i ≡ Some o → b ≡ (is_due name (current_of o) && is_live name live) → least ≡ is_least n name (map current_of os)
-    → lawful (state_of nn live num q os t) (Finish n name reply) ≡ (b && least)
-finish_is n name reply nn num i live q os o t b least at here is least_is =
-    ap (λ x. (passes (is_due name) x && is_live name live) && is_least n name (map current_of os)) (open_at n i os o at here) ∙ (λ k. sym is k && sym least_is k)
+pub finish_is : {J : Type 0} {d : Fields J} {n : ℕ} {o : Opened J} (name reply : ℕ) (b least : Bool)
+    → IsKept d → Found d.opened n o → b ≡ (is_due name (current_of o) && is_live name d.live) → least ≡ is_least n name (map current_of d.opened)
+    → lawful (state_of d) (Finish n name reply) ≡ (b && least)
+finish_is {d = d} {n = n} name reply b least kept found is least_is =
+    ap (λ x. (passes (is_due name) x && is_live name d.live) && is_least n name (map current_of d.opened)) (found_is found) ∙ (λ k. sym is k && sym least_is k)
 
-pub finish_not : {J : Type 0} (n name reply nn num : ℕ) (live : List Live) (q : List (Waiting (Carried J))) (os : List (Opened J)) (t : TableView)
-    → IsIndex n os None → lawful (state_of nn live num q os t) (Finish n name reply) ≡ false
-finish_not n name reply nn num live q os t none = ap (λ x. (passes (is_due name) x && is_live name live) && is_least n name (map current_of os)) (none_at n os none)
+pub finish_not : {J : Type 0} {d : Fields J} (n name reply : ℕ) → IsKept d → IsIndex n d.opened None → lawful (state_of d) (Finish n name reply) ≡ false
+finish_not {d = d} n name reply kept none = ap (λ x. (passes (is_due name) x && is_live name d.live) && is_least n name (map current_of d.opened)) (none_at n d.opened none)
 
 -- the oldest that may be operated
 pub may_operate_is : {J : Type 0} (os : List (Opened J)) (o : Opened J) → front_is (λ c. is_census c.request) (map current_of os) true → front_is (λ c. c.operated) (map current_of os) false → slice_get os 0 ≡ Some o → may_operate (current_of o) ≡ true
 may_operate_is os o census fresh here = both_true _ _ (front_at (λ c. is_census c.request) true os o census here) (ap not (front_at (λ c. c.operated) false os o fresh here))
 
-pub new_keeps : {J : Type 0} (whom : J → ℕ) (b : Book) (nn num : ℕ) (live : List Live) (q : List (Waiting (Carried J))) (os : List (Opened J)) (t : TableView) → b.history ≡ [] → nn ≡ 1 → num ≡ 1 → live ≡ [] → q ≡ [] → os ≡ [] → t.codes ≡ []
-    → IsKept t.slots t.methods b (state_of nn live num q os t) × AreCarried whom q
-new_keeps whom b nn num live q os t none a c l w o codes = (
-  subst (IsKept t.slots t.methods b)
-      (λ i. record { next_name = sym a i; live = sym l i; next_number = sym c i; waiting = map asked_of (sym w i); opened = map current_of (sym o i); table = record { codes = sym codes i; slots = t.slots; methods = t.methods } })
-      (empty t.slots t.methods b none),
-  subst (AreCarried whom) (sym w) tt,
-)
+pub new_keeps : {J : Type 0} (d : Fields J) → d.book.history ≡ [] → d.next_name ≡ 1 → d.next_number ≡ 1 → d.live ≡ [] → d.queue ≡ [] → d.opened ≡ [] → d.table.codes ≡ [] → IsKept d
+new_keeps d none name number live queue opened codes = empty d none (λ i. record {
+  next_name = sym name i;
+  live = sym live i;
+  next_number = sym number i;
+  waiting = map asked_of (sym queue i);
+  opened = map current_of (sym opened i);
+  table = record { codes = sym codes i; slots = d.table.slots; methods = d.table.methods };
+})

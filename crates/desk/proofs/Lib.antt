@@ -17,3 +17,4 @@ pub mod Distinct
 pub mod Unfolding
 pub mod Walks
 pub mod Pending
+pub mod Staying

@@ -4,8 +4,8 @@ use Rattle.std.specs.Prelude.{◌&&◌, ◌||◌, ◌==◌, slice_get, slice_ind
 use Rattle.std.specs.List.{list_any}
 use Rattle.std.proofs.lemmas.Bool.{eq-eqb, ne_eqb, le-ltb, or_right}
 use Rattle.desk.specs.declared.entries.Live.{Live}
-use Rattle.desk.specs.Machine.{State, Book, Current, names_of, is_live, place_of}
-use Rattle.desk.specs.Fields.{IsKept}
+use Rattle.desk.specs.Machine.{State, Current, names_of, is_live, place_of}
+use Rattle.desk.specs.Fields.{Fields, IsKept}
 use Rattle.desk.specs.Rising.{AreRising}
 use Rattle.desk.specs.Targets.{is_due_target, due_after}
 use Rattle.desk.proofs.Rising.{live_names_rise}
@@ -57,5 +57,5 @@ none_before least name i cs ls l r here is =
     ap (λ k. due_after name cs (drop k ls)) next ∙ none_until least name i cs ls l r here is
 
 -- the live names of a desk rise
-pub kept_rise : (slots methods : ℕ) (b : Book) (s : State) → IsKept slots methods b s → AreRising 0 (names_of s.live)
-kept_rise slots methods b s k = subst (λ (t : State). AreRising 0 (names_of t.live)) k.state (live_names_rise slots methods b.history k.legal)
+pub kept_rise : {J : Type 0} {d : Fields J} → IsKept d → AreRising 0 (names_of d.live)
+kept_rise {d = d} k = subst (λ (t : State). AreRising 0 (names_of t.live)) k.state (live_names_rise d.table.slots d.table.methods d.book.history k.legal)

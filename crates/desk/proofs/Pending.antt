@@ -4,12 +4,10 @@ use Rattle.std.specs.Prelude.{◌==◌, ◌||◌, min, nat_le, slice_get, Some, 
 use Rattle.std.specs.List.{list_any}
 use Rattle.std.proofs.lemmas.Bool.{ne_eqb, leb-true, leb-false}
 use Rattle.std.proofs.lemmas.List.{map-append, length-drop}
-use Rattle.method_table.specs.TableView.{TableView}
 use Rattle.operations.specs.declared.queue.Waiting.{Waiting}
 use Rattle.desk.specs.declared.entries.Carried.{Carried}
 use Rattle.desk.specs.declared.entries.Live.{Live}
-use Rattle.desk.specs.declared.entries.Opened.{Opened}
-use Rattle.desk.specs.Fields.{IsKept, state_of, asked_of, current_of}
+use Rattle.desk.specs.Fields.{Fields, IsKept, state_of, asked_of, current_of}
 use Rattle.desk.proofs.ReplyLists.{forgotten_rooms}
 use Rattle.desk.specs.declared.entries.Entry.{Entry}
 use Rattle.desk.specs.declared.entries.Entry.TheVariants.{Start, Exit, Ask, Open, Finish, Operate, Close, Install, Invalidate, Retire, Free}
@@ -177,23 +175,22 @@ legal_more s [] es l = l
 legal_more s (e ∷ h) es l = legal_more (step s e) h es (and_true _ _ l).1
 
 -- so what was forgotten stays before it
-pub later_stays : {slots methods : ℕ} {b b' : Book} {s s' : State} (es : List Entry) → IsKept slots methods b s → IsKept slots methods b' s' → b'.history ≡ b.history ++ es → b'.gone ≡ b.gone
-    → b.gone.operations < least_pending s → b'.gone.operations < least_pending s'
+pub later_stays : {J : Type 0} {d d' : Fields J} (es : List Entry) → IsKept d → IsKept d' → d'.table.slots ≡ d.table.slots → d'.table.methods ≡ d.table.methods
+    → d'.book.history ≡ d.book.history ++ es → d'.book.gone ≡ d.book.gone → d.book.gone.operations < least_pending (state_of d) → d'.book.gone.operations < least_pending (state_of d')
 unfolding is_legal after
-later_stays {slots = slots} {methods = methods} {b = b} {b' = b'} {s = s} {s' = s'} es k k' history gone later =
-    let first = start slots methods in
-    let queued = queued_after first b.history k.legal (record { rising = tt; below = tt }) in
-    let legal = legal_more first b.history es (ap (legal_from first) (sym history) ∙ k'.legal) in
-    let up = rises_all (after_from first b.history) es legal queued in
-    let old : least_pending (after_from first b.history) ≡ least_pending s = ap least_pending k.state in
-    let new : least_pending (after_from (after_from first b.history) es) ≡ least_pending s' = ap least_pending (sym (after_more first b.history es) ∙ ap (after_from first) (sym history) ∙ k'.state) in
-    let same : b'.gone.operations ≡ b.gone.operations = ap (λ (x : Gone). x.operations) gone in omega arith
+later_stays {d = d} {d' = d'} es k k' slots methods history gone later =
+    let first = start d.table.slots d.table.methods in
+    let queued = queued_after first d.book.history k.legal (record { rising = tt; below = tt }) in
+    let whole : after_from (start d'.table.slots d'.table.methods) d'.book.history ≡ after_from first (d.book.history ++ es) = λ i. after_from (start (slots i) (methods i)) (history i) in
+    let legal = legal_more first d.book.history es ((λ i. legal_from (start (sym slots i) (sym methods i)) (sym history i)) ∙ k'.legal) in
+    let up = rises_all (after_from first d.book.history) es legal queued in
+    let old : least_pending (after_from first d.book.history) ≡ least_pending (state_of d) = ap least_pending k.state in
+    let new : least_pending (after_from (after_from first d.book.history) es) ≡ least_pending (state_of d') = ap least_pending (sym (after_more first d.book.history es) ∙ sym whole ∙ k'.state) in
+    let same : d'.book.gone.operations ≡ d.book.gone.operations = ap (λ (x : Gone). x.operations) gone in omega arith
 
--- the same through a change of a code
-pub later_codes : {b b' : Book} {s s' : State} (t t' : TableView) (es : List Entry) → t'.slots ≡ t.slots → t'.methods ≡ t.methods → IsKept t.slots t.methods b s → IsKept t'.slots t'.methods b' s' → b'.history ≡ b.history ++ es → b'.gone ≡ b.gone
-    → b.gone.operations < least_pending s → b'.gone.operations < least_pending s'
-later_codes {b' = b'} {s' = s'} t t' es slots methods k k' history gone later =
-    later_stays es k (subst (λ n. IsKept n t.methods b' s') slots (subst (λ n. IsKept t'.slots n b' s') methods k')) history gone later
+-- those that wait stand in rising order
+kept_queued : {J : Type 0} {d : Fields J} → IsKept d → Queued d.next_number (map asked_of d.queue)
+kept_queued {d = d} k = subst (λ (z : State). Queued z.next_number z.waiting) k.state (are_queued d.table.slots d.table.methods d.book.history k.legal)
 
 -- a number that is open or waits is no less
 open_above : (n m : ℕ) (cs : List Current) → is_open n cs ≡ true → least_open m cs ≤ n
@@ -216,70 +213,76 @@ first_waits : (n next : ℕ) (ws : List Asked) → AreRising 0 (numbers_of ws) �
 first_waits n next [] r h = absurd (let k : false ≡ true = h in cc)
 first_waits n next (a ∷ ws) r h = wait_above n a.number (a ∷ ws) (omega arith, r.1) h
 
-pub pending_above : {slots methods : ℕ} {b : Book} {s : State} (n : ℕ) → IsKept slots methods b s → b.gone.operations < least_pending s → is_pending n s ≡ true → b.gone.operations < n
-pending_above {slots = slots} {methods = methods} {b = b} {s = s} n k later h = by (is_open n s.opened) refl h
+pub pending_above : {J : Type 0} {d : Fields J} (n : ℕ) → IsKept d → d.book.gone.operations < least_pending (state_of d) → is_pending n (state_of d) ≡ true → d.book.gone.operations < n
+pending_above {d = d} n k later h = by (is_open n s.opened) refl h
   where
+    s : State
+    s = state_of d
+
+    b : Book
+    b = d.book
+
     queued : Queued s.next_number s.waiting
-    queued = subst (λ (z : State). Queued z.next_number z.waiting) k.state (are_queued slots methods b.history k.legal)
+    queued = kept_queued k
 
     by : (x : Bool) → is_open n s.opened ≡ x → (x || list_any (λ (a : Asked). a.number == n) s.waiting) ≡ true → b.gone.operations < n
     by true e h = let l = open_above n (first_waiting s.next_number s.waiting) s.opened e in omega arith
     by false e h = let l = first_waits n s.next_number s.waiting queued.rising h in let m = open_most (first_waiting s.next_number s.waiting) s.opened in omega arith
 
-pub at_first : {J : Type 0} (b : Book) (nn num : ℕ) (live : List Live) (q : List (Waiting (Carried J))) (os : List (Opened J)) (t : TableView) → q ≡ [] → os ≡ [] → b.gone.operations ≡ 0 → 0 < num → b.gone.operations < least_pending (state_of nn live num q os t)
-at_first b nn num live q os t none none_open gone low =
-    let e : least_pending (state_of nn live num q os t) ≡ num = λ i. least_open (first_waiting num (map asked_of (none i))) (map current_of (none_open i)) in omega arith
+pub at_first : {J : Type 0} (d : Fields J) → d.queue ≡ [] → d.opened ≡ [] → d.book.gone.operations ≡ 0 → 0 < d.next_number → d.book.gone.operations < least_pending (state_of d)
+at_first d none none_open gone low =
+    let e : least_pending (state_of d) ≡ d.next_number = λ i. least_open (first_waiting d.next_number (map asked_of (none i))) (map current_of (none_open i)) in omega arith
 
 -- what is kept of replies, where those of the first operations are forgotten
-pub forget_room : {J : Type 0} (slots methods nn num last : ℕ) (live : List Live) (q : List (Waiting (Carried J))) (os : List (Opened J)) (t : TableView) (b b' : Book) (lists lists' : List Said)
-    → IsKept slots methods b (state_of nn live num q os t) → HaveRoom b.gone num (map asked_of q) (map current_of os) lists
-    → last ≡ least_pending (state_of nn live num q os t) - 1 → b.gone.operations < least_pending (state_of nn live num q os t) → b'.gone.operations ≡ last → lists' ≡ drop (b'.gone.operations - b.gone.operations) lists
-    → HaveRoom b'.gone num (map asked_of q) (map current_of os) lists'
-forget_room slots methods nn num last live q os t b b' lists lists' k have is later gone lists_is =
-    let queued : Queued num (map asked_of q) = subst (λ (z : State). Queued z.next_number z.waiting) k.state (are_queued slots methods b.history k.legal) in
-    let most : least_pending (state_of nn live num q os t) ≤ num = pending_most (state_of nn live num q os t) queued in
+pub forget_room : {J : Type 0} {d : Fields J} (last : ℕ) (gone : Gone) (lists lists' : List Said)
+    → IsKept d → HaveRoom d.book.gone d.next_number (map asked_of d.queue) (map current_of d.opened) lists
+    → last ≡ least_pending (state_of d) - 1 → d.book.gone.operations < least_pending (state_of d) → gone.operations ≡ last → lists' ≡ drop (gone.operations - d.book.gone.operations) lists
+    → HaveRoom gone d.next_number (map asked_of d.queue) (map current_of d.opened) lists'
+forget_room {d = d} last gone lists lists' k have is later gone_is lists_is =
+    let queued : Queued d.next_number (map asked_of d.queue) = kept_queued k in
+    let most : least_pending (state_of d) ≤ d.next_number = pending_most (state_of d) queued in
     let z = have.count in
-    let cut : length lists' ≡ length lists - (b'.gone.operations - b.gone.operations) = ap (λ (l : List Said). length l) lists_is ∙ length-drop (b'.gone.operations - b.gone.operations) lists in
-    let more : b.gone.operations ≤ b'.gone.operations = omega arith in
+    let cut : length lists' ≡ length lists - (gone.operations - d.book.gone.operations) = ap (λ (l : List Said). length l) lists_is ∙ length-drop (gone.operations - d.book.gone.operations) lists in
+    let more : d.book.gone.operations ≤ gone.operations = omega arith in
     record {
       count = omega arith;
-      enough = λ n. by queued more n (nat_le n b'.gone.operations) refl;
+      enough = λ n. by queued more n (nat_le n gone.operations) refl;
     }
   where
-    by : Queued num (map asked_of q) → b.gone.operations ≤ b'.gone.operations → (n : ℕ) (x : Bool) → nat_le n b'.gone.operations ≡ x
-        → owed_waiting n (map asked_of q) + owed_opened n (map current_of os) ≤ (of_number (n - b'.gone.operations) lists').room
+    by : Queued d.next_number (map asked_of d.queue) → d.book.gone.operations ≤ gone.operations → (n : ℕ) (x : Bool) → nat_le n gone.operations ≡ x
+        → owed_waiting n (map asked_of d.queue) + owed_opened n (map current_of d.opened) ≤ (of_number (n - gone.operations) lists').room
     by queued more n true e =
-        let gone_is : n ≤ b'.gone.operations = leb-true n b'.gone.operations e in
-        let none = none_owed queued more n (nat_le n b.gone.operations) refl gone_is in omega arith
+        let low : n ≤ gone.operations = leb-true n gone.operations e in
+        let none = none_owed queued more n (nat_le n d.book.gone.operations) refl low in omega arith
       where
-        none_owed : Queued num (map asked_of q) → b.gone.operations ≤ b'.gone.operations → (n : ℕ) (x : Bool) → nat_le n b.gone.operations ≡ x → n ≤ b'.gone.operations → owed_waiting n (map asked_of q) + owed_opened n (map current_of os) ≡ 0
+        none_owed : Queued d.next_number (map asked_of d.queue) → d.book.gone.operations ≤ gone.operations → (n : ℕ) (x : Bool) → nat_le n d.book.gone.operations ≡ x → n ≤ gone.operations
+            → owed_waiting n (map asked_of d.queue) + owed_opened n (map current_of d.opened) ≡ 0
         none_owed queued more n true e there =
-            let low : n ≤ b.gone.operations = leb-true n b.gone.operations e in
-            let first : n - b.gone.operations ≡ 0 = omega arith in
+            let low : n ≤ d.book.gone.operations = leb-true n d.book.gone.operations e in
+            let first : n - d.book.gone.operations ≡ 0 = omega arith in
             let o = have.enough n in
-            let r : (of_number (n - b.gone.operations) lists).room ≡ 0 = ap (λ m. (of_number m lists).room) first in omega arith
+            let r : (of_number (n - d.book.gone.operations) lists).room ≡ 0 = ap (λ m. (of_number m lists).room) first in omega arith
         none_owed queued more n false e there =
-            let high : b.gone.operations < n = leb-false n b.gone.operations e in
-            owed_none n (state_of nn live num q os t) queued (omega arith)
+            let high : d.book.gone.operations < n = leb-false n d.book.gone.operations e in
+            owed_none n (state_of d) queued (omega arith)
     by queued more n false e =
-        let high : b'.gone.operations < n = leb-false n b'.gone.operations e in
-        let same = forgotten_rooms n b.gone.operations b'.gone.operations lists lists' more high lists_is in
+        let high : gone.operations < n = leb-false n gone.operations e in
+        let same = forgotten_rooms n d.book.gone.operations gone.operations lists lists' more high lists_is in
         let o = have.enough n in omega arith
 
 -- the numbers before it were given out
-pub given_out : {J : Type 0} (slots methods nn num last : ℕ) (live : List Live) (q : List (Waiting (Carried J))) (os : List (Opened J)) (t : TableView) (b : Book) (lists : List Said)
-    → IsKept slots methods b (state_of nn live num q os t) → HaveRoom b.gone num (map asked_of q) (map current_of os) lists
-    → last ≡ least_pending (state_of nn live num q os t) - 1 → last ≤ b.gone.operations + length lists
-given_out slots methods nn num last live q os t b lists k have is =
-    let queued : Queued num (map asked_of q) = subst (λ (z : State). Queued z.next_number z.waiting) k.state (are_queued slots methods b.history k.legal) in
-    let most : least_pending (state_of nn live num q os t) ≤ num = pending_most (state_of nn live num q os t) queued in
+pub given_out : {J : Type 0} {d : Fields J} (last : ℕ) (lists : List Said) → IsKept d → HaveRoom d.book.gone d.next_number (map asked_of d.queue) (map current_of d.opened) lists
+    → last ≡ least_pending (state_of d) - 1 → last ≤ d.book.gone.operations + length lists
+given_out {d = d} last lists k have is =
+    let queued : Queued d.next_number (map asked_of d.queue) = kept_queued k in
+    let most : least_pending (state_of d) ≤ d.next_number = pending_most (state_of d) queued in
     let z = have.count in omega arith
 
 -- what is forgotten changes no entry
-pub book_keeps : (slots methods : ℕ) (b b' : Book) (s : State) → IsKept slots methods b s → b'.history ≡ b.history → b'.reserved ≡ b.reserved → IsKept slots methods b' s
-book_keeps slots methods b b' s k history reserved = record {
-  legal = ap (is_legal slots methods) history ∙ k.legal;
-  state = ap (after slots methods) history ∙ k.state;
+pub book_keeps : {J : Type 0} {d : Fields J} (b : Book) → IsKept d → b.history ≡ d.book.history → b.reserved ≡ d.book.reserved → IsKept (record d { book = b })
+book_keeps {d = d} b k history reserved = record {
+  legal = ap (is_legal d.table.slots d.table.methods) history ∙ k.legal;
+  state = ap (after d.table.slots d.table.methods) history ∙ k.state;
   needed = (let n = k.needed in omega arith);
   fit = k.fit;
   distinct = k.distinct;

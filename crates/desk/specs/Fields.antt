@@ -15,6 +15,8 @@ use Rattle.desk.specs.declared.entries.Carried.{Carried}
 use Rattle.desk.specs.declared.entries.Opened.{Opened}
 use Rattle.desk.specs.JobsFit.{JobsLeft}
 use Rattle.desk.specs.Machine.{Asked, Current, State, Book, after, is_legal, legal_from, needs, targets_of, Stands, stands, lawful, may_operate}
+use Rattle.desk.specs.Pending.{least_pending}
+use Rattle.desk.specs.Replies.{Said, HaveRoom}
 
 abbrev pub asked_of : {J : Type 0} → Waiting (Carried J) → Asked
 asked_of w = record { number = w.number; request = w.request }
@@ -22,9 +24,26 @@ asked_of w = record { number = w.number; request = w.request }
 abbrev pub current_of : {J : Type 0} → Opened J → Current
 current_of o = record { number = o.number; request = o.request; before = o.before; left = o.left; due = o.due.items; operated = o.operated }
 
-abbrev pub state_of : {J : Type 0} → ℕ → List Live → ℕ → List (Waiting (Carried J)) → List (Opened J) → TableView → State
-state_of next_name live next_number waiting opened table =
-    record { next_name = next_name; live = live; next_number = next_number; waiting = map asked_of waiting; opened = map current_of opened; table = table }
+-- the book of a desk, and the fields that its history comes to
+pub record Fields (J : Type 0) : Type 0 where
+  pub book : Book
+  pub next_name : ℕ
+  pub live : List Live
+  pub next_number : ℕ
+  pub queue : List (Waiting (Carried J))
+  pub opened : List (Opened J)
+  pub table : TableView
+
+-- the state that the fields stand for
+abbrev pub state_of : {J : Type 0} → Fields J → State
+state_of d = record {
+  next_name = d.next_name;
+  live = d.live;
+  next_number = d.next_number;
+  waiting = map asked_of d.queue;
+  opened = map current_of d.opened;
+  table = d.table;
+}
 
 -- a waiting request has a number, and carries a list of its targets, of which none stands there twice, and a job for each of them
 pub record IsCarried {J : Type 0} (whom : J → ℕ) (w : Waiting (Carried J)) : Type 0 where
@@ -58,14 +77,33 @@ abbrev pub AreDistinct : List Current → Type 0
 AreDistinct [] = Unit {0}
 AreDistinct (c ∷ cs) = (is_distinct c.due ≡ true) × AreDistinct cs
 
--- a history is legal, the fields are the state after it, there is room for all that can still come, and no name is due of an open
+-- the history is legal, the fields are the state after it, there is room for all that can still come, and no name is due of an open
 -- request twice
-pub record IsKept (slots methods : ℕ) (book : Book) (fields : State) : Type 0 where
-  pub legal : is_legal slots methods book.history ≡ true
-  pub state : after slots methods book.history ≡ fields
-  pub needed : needs fields ≤ book.reserved
-  pub fit : AreFit fields.opened
-  pub distinct : AreDistinct fields.opened
+pub record IsKept {J : Type 0} (d : Fields J) : Type 0 where
+  pub legal : is_legal d.table.slots d.table.methods d.book.history ≡ true
+  pub state : after d.table.slots d.table.methods d.book.history ≡ state_of d
+  pub needed : needs (state_of d) ≤ d.book.reserved
+  pub fit : AreFit (map current_of d.opened)
+  pub distinct : AreDistinct (map current_of d.opened)
+
+-- the fields of a desk, the replies that it stores, how many places it gives out, and how many requests are open in memory for how many
+pub record Inside (J : Type 0) : Type 0 where
+  pub fields : Fields J
+  pub lists : List Said
+  pub places : ℕ
+  pub open_count : ℕ
+  pub open_capacity : ℕ
+
+-- what a desk keeps over a board of so many places
+pub record IsDesk {J : Type 0} (whom : J → ℕ) (board_places : ℕ) (d : Inside J) : Type 0 where
+  pub kept : IsKept d.fields
+  pub carried : AreCarried whom d.fields.queue
+  pub few : d.open_count ≤ 4
+  pub capacity : 4 ≤ d.open_capacity
+  pub places : d.places ≡ board_places
+  pub named : 0 < d.fields.next_name
+  pub replies : HaveRoom d.fields.book.gone d.fields.next_number (map asked_of d.fields.queue) (map current_of d.fields.opened) d.lists
+  pub pending : d.fields.book.gone.operations < least_pending (state_of d.fields)
 
 -- what contracts see of a desk: its history with the room that is kept in it, the sizes, the keeper's view, and for each open request
 -- the names whose jobs weren't taken

@@ -1,11 +1,10 @@
 //! The desk: what all threads ask of the coordinator, in one history.
-ghost use Rattle.std.specs.Prelude.{◌≡◌, ◌+◌, ◌-◌, ◌<◌, ◌≤◌, ◌^◌, [], true, nat_le, IfOk, IfErr, map, vec_len, vec_capacity};
+ghost use Rattle.std.specs.Prelude.{◌≡◌, ◌+◌, ◌^◌, [], true, nat_le, IfOk, IfErr};
 ghost use Rattle.board.specs.Boards.{first_keeper};
 ghost use Rattle.desk.specs.CodeBoard.{AreEntries};
 ghost use Rattle.desk.specs.Machine.{is_legal};
 ghost use Rattle.desk.specs.Refusals.{is_idle};
-ghost use Rattle.desk.specs.Fields.{DeskSeen, at};
-ghost use Rattle.desk.specs.Pending.{least_pending};
+ghost use Rattle.desk.specs.Fields.{at};
 
 use crate::codes::Codes;
 use crate::entries::{Carried, Live, Opened};
@@ -41,28 +40,28 @@ pub struct Desk<N: Name, J: Errand> {
 }
 
 impl<N: Name, J: Errand> Model for Desk<N, J> {
-    ghost use Rattle.std.specs.Prelude.{◌≡◌, ◌<◌, ◌≤◌, vec_len, vec_capacity};
-    ghost use Rattle.std.specs.Prelude.{map};
-    ghost use Rattle.desk.specs.Fields.{DeskSeen, state_of, IsKept, AreCarried, asked_of, current_of, jobs_left};
-    ghost use Rattle.desk.specs.Replies.{HaveRoom};
-    ghost use Rattle.desk.specs.Pending.{least_pending};
+    ghost use Rattle.std.specs.Prelude.{map, vec_len, vec_capacity};
+    ghost use Rattle.desk.specs.Fields.{DeskSeen, IsDesk, jobs_left};
 
     ghost Value = { DeskSeen };
 
     ghost view = { λ d. record { book = d.log.book; slots = d.codes.table.slots; methods = d.codes.table.methods; keeper = d.codes.keeper; jobs = map (jobs_left J.whom) d.opened.items } };
 
-    ghost invariant = { λ d. IsKept d.codes.table.slots d.codes.table.methods d.log.book
-        (state_of d.next_name d.live.items d.next_number d.queue d.opened.items d.codes.table)
-        × AreCarried J.whom d.queue
-        × (vec_len d.opened ≤ 4)
-        × (4 ≤ vec_capacity d.opened)
-        × (d.places ≡ N.board.places)
-        × (0 < d.next_name)
-        × HaveRoom d.log.book.gone d.next_number (map asked_of d.queue)
-        (map current_of d.opened.items) d.log.lists
-        × (d.log.book.gone.operations < least_pending
-        (state_of d.next_name d.live.items d.next_number d.queue d.opened.items
-        d.codes.table)) };
+    ghost invariant = { λ d. IsDesk J.whom N.board.places (record {
+      fields = record {
+        book = d.log.book;
+        next_name = d.next_name;
+        live = d.live.items;
+        next_number = d.next_number;
+        queue = d.queue;
+        opened = d.opened.items;
+        table = d.codes.table;
+      };
+      lists = d.log.lists;
+      places = d.places;
+      open_count = vec_len d.opened;
+      open_capacity = vec_capacity d.opened;
+    }) };
 }
 
 impl<N: Name, J: Errand> Desk<N, J> {
@@ -127,6 +126,7 @@ impl<N: Name, J: Errand> Desk<N, J> {
     pub fn history_is_legal(&self)
         ensures { is_legal self.now.slots self.now.methods self.now.book.history ≡ true }
     {
+        // So the proof sees what a desk keeps.
         let _ = &self.log;
     }
 }

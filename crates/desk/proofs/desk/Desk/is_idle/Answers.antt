@@ -13,4 +13,4 @@ returns g c =
     let b : length (map (asked_of {J = g.row.J.Denot}) i.queue) ≡ length i.queue = length-map i.queue asked_of in
     let said : c.is_idle.result ≡ ((length i.opened.items == 0) && (length i.queue == 0)) = search rules in
     subst (λ (d : DeskSeen). c.is_idle.result ≡ is_idle (at d)) c.self.view_is
-    (subst (λ (s : State). c.is_idle.result ≡ is_idle s) (sym c.self.invariant.0.state) (said ∙ (λ k. (sym a k == 0) && (sym b k == 0))))
+    (subst (λ (s : State). c.is_idle.result ≡ is_idle s) (sym c.self.invariant.kept.state) (said ∙ (λ k. (sym a k == 0) && (sym b k == 0))))

@@ -9,4 +9,4 @@ returns g c =
     let i = c.self.inside in
     let said : c.len.result ≡ length i.opened.items = search rules in
     subst (λ (d : DeskSeen). c.len.result ≡ length (at d).opened) c.self.view_is
-    (said ∙ sym (length-map i.opened.items (current_of {J = g.row.J.Denot})) ∙ sym (ap (λ (s : State). length s.opened) c.self.invariant.0.state))
+    (said ∙ sym (length-map i.opened.items (current_of {J = g.row.J.Denot})) ∙ sym (ap (λ (s : State). length s.opened) c.self.invariant.kept.state))

@@ -8,4 +8,4 @@ pub returns : goal.returns
 returns g c =
     let m = c.self.invariant in
     subst (λ (d : DeskSeen). (n : ℕ) → is_pending n (at d) ≡ true → d.book.gone.operations < n) c.self.view_is
-    (λ n h. pending_above n m.0 m.7 (ap (is_pending n) (sym m.0.state) ∙ h))
+    (λ n h. pending_above n m.kept m.pending (ap (is_pending n) (sym m.kept.state) ∙ h))

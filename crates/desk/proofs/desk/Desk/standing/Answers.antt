@@ -6,4 +6,4 @@ use Rattle.desk.proofs.LiveNames.{kept_rise}
 use Rattle.desk.proofs.desk.Desk.standing.Goals as goal
 
 pub standing_to-requires : goal.standing_to-requires
-standing_to-requires g c = record { rising = subst (λ (ls : List Live). AreRising 0 (names_of ls)) (sym c.as_slice-2.ensures.value) (kept_rise _ _ _ _ c.self.invariant.0) }
+standing_to-requires g c = record { rising = subst (λ (ls : List Live). AreRising 0 (names_of ls)) (sym c.as_slice-2.ensures.value) (kept_rise c.self.invariant.kept) }

@@ -24,23 +24,24 @@ invariant_of-self-2 g c =
     let request : c.seen_as_ask-seen.result.1 ≡ c.args.request = c.seen_as_ask-seen.ensures.1 in
     let seen : c.seen_as_ask-seen.result.0.value ≡ entry.Ask i.next_number c.args.request = c.seen_as_ask-seen.ensures.0 in
     let enough : length (targets_of c.args.request) ≤ noted.count = omega (arith, c.in-Ok.ensures.noted.1) in
-    let low : 0 < i.next_number = (let n = m.6.count in omega arith) in
+    let low : 0 < i.next_number = (let n = m.replies.count in omega arith) in
     let fit : jobs_fit g.J.Errand.whom g.J.Errand.asks c.args.request c.args.jobs.items ≡ true = search rules in
     let waits = c.in_default-wait_for_its_turn.ensures.ok in
     let w : Waiting (Carried g.row.J.Denot) = record { number = i.next_number; request = c.args.request; load = record { due = waits.0; jobs = c.args.jobs } } in
     let carried : IsCarried g.J.Errand.whom w = record { number = low; due = waits.1 ∙ ap targets_of request; distinct = targets_distinct c.args.request (search rules); jobs = fitting g.J.Errand.whom g.J.Errand.asks c.args.request c.args.jobs.items fit } in
     let pushed : c.wait_for_its_turn.new.queue ≡ i.queue ++ w ∷ [] = waits.2 ∙ ap (λ (r : Request). i.queue ++ record { number = i.next_number; request = r; load = w.load } ∷ []) request in
     let entered : c.enter_ask.new.self.book.history ≡ i.log.book.history ++ entry.Ask i.next_number c.args.request ∷ [] = search rules in
-    let k = ask_keeps _ _ i.log.book c.enter_ask.new.self.book i.next_name i.next_number i.live.items i.queue c.wait_for_its_turn.new.queue w i.opened.items i.codes.table m.0 refl pushed entered (search rules) in (
-      k,
-      subst (AreCarried g.J.Errand.whom) (sym pushed) (carried_push g.J.Errand.whom i.queue w m.1 carried),
-      m.2,
-      m.3,
-      m.4,
-      m.5,
-      same_room (ask_has_room i.next_number i.queue c.wait_for_its_turn.new.queue w i.opened.items i.log.lists c.enter_ask.new.self.lists (silent noted.count) m.6 pushed refl enough (search rules)) refl (search rules),
-      later_stays (entry.Ask i.next_number c.args.request ∷ []) m.0 k (search rules) (search rules) m.7,
-    )
+    let k = ask_keeps c.enter_ask.new.self.book c.wait_for_its_turn.new.queue w m.kept refl pushed entered (search rules) in
+    record {
+      kept = k;
+      carried = subst (AreCarried g.J.Errand.whom) (sym pushed) (carried_push g.J.Errand.whom i.queue w m.carried carried);
+      few = m.few;
+      capacity = m.capacity;
+      places = m.places;
+      named = m.named;
+      replies = same_room (ask_has_room c.wait_for_its_turn.new.queue w c.enter_ask.new.self.lists (silent noted.count) m pushed refl enough (search rules)) refl (search rules);
+      pending = later_stays (entry.Ask i.next_number c.args.request ∷ []) m.kept k refl refl (search rules) (search rules) m.pending;
+    }
 
 pub keep_request-requires : goal.keep_request-requires
 keep_request-requires g c = record { steps = few_steps c.args.request (search rules) }

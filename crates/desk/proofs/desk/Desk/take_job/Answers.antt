@@ -30,19 +30,20 @@ invariant_of-self g c =
     let o = there_at i.opened.items c.in-Some.place where_is.0 in
     let made = c.job_of.ensures.step o.0 o.1 in
     let same : map (current_of {J = g.row.J.Denot}) c.job_of.new.opened.items ≡ map current_of i.opened.items = ap (map current_of) made.2 ∙ set_same c.in-Some.place i.opened.items o.0 made.0 o.1 made.1 in
-    let few : vec_len i.opened ≤ 4 = m.2 in
+    let few : vec_len i.opened ≤ 4 = m.few in
     let room = c.job_of.ensures.room in
     let old : vec_len i.opened ≡ length i.opened.items = search rules in
-    let new : vec_len c.job_of.new.opened ≡ length c.job_of.new.opened.items = search rules in (
-      same_keeps _ _ i.log.book i.next_name i.next_number i.live.items i.queue i.opened.items c.job_of.new.opened.items i.codes.table m.0 same,
-      m.1,
-      omega (arith, room.0),
-      search rules,
-      m.4,
-      m.5,
-      subst (λ (cs : List Current). HaveRoom i.log.book.gone i.next_number (map asked_of i.queue) cs i.log.lists) (sym same) m.6,
-      subst (λ (cs : List Current). i.log.book.gone.operations < least_open (first_waiting i.next_number (map asked_of i.queue)) cs) (sym same) m.7,
-    )
+    let new : vec_len c.job_of.new.opened ≡ length c.job_of.new.opened.items = search rules in
+    record {
+      kept = same_keeps c.job_of.new.opened.items m.kept same;
+      carried = m.carried;
+      few = omega (arith, room.0);
+      capacity = search rules;
+      places = m.places;
+      named = m.named;
+      replies = subst (λ (cs : List Current). HaveRoom i.log.book.gone i.next_number (map asked_of i.queue) cs i.log.lists) (sym same) m.replies;
+      pending = subst (λ (cs : List Current). i.log.book.gone.operations < least_open (first_waiting i.next_number (map asked_of i.queue)) cs) (sym same) m.pending;
+    }
 
 pub returns-clause-some : goal.returns-clause-some
 returns-clause-some g c =
@@ -50,7 +51,7 @@ returns-clause-some g c =
     let where_is : IsIndex {J = g.row.J.Denot} c.args.number i.opened.items (Some c.in-Some.place) = search rules in
     let o = there_at i.opened.items c.in-Some.place where_is.0 in
     let number : o.0.number ≡ c.args.number = where_is.2 o.0 o.1 in
-    let low : 0 < o.0.number = (fit_of c.args.number (map current_of i.opened.items) (current_of o.0) m.0.fit (open_at c.args.number c.in-Some.place i.opened.items o.0 where_is o.1)).0 in
+    let low : 0 < o.0.number = (fit_of c.args.number (map current_of i.opened.items) (current_of o.0) m.kept.fit (open_at c.args.number c.in-Some.place i.opened.items o.0 where_is o.1)).0 in
     some_also _ _ c.job_of.result (λ j h. (h.0, h.1 o.0 o.1 ∙ number, subst (λ n. 0 < n) number low)) c.job_of.ensures.job
 
 pub returns-clause-open : goal.returns-clause-open
@@ -60,7 +61,7 @@ returns-clause-open g c =
     let o = there_at i.opened.items c.in-Some.place where_is.0 in
     some_has c.job_of.result
     (subst (λ (d : DeskSeen). is_open c.args.number (at d).opened ≡ true) c.self.view_is
-    (ap (λ (s : State). is_open c.args.number s.opened) m.0.state ∙ open_is c.args.number c.in-Some.place i.opened.items o.0 where_is o.1))
+    (ap (λ (s : State). is_open c.args.number s.opened) m.kept.state ∙ open_is c.args.number c.in-Some.place i.opened.items o.0 where_is o.1))
 
 pub returns-clause-there : goal.returns-clause-there
 returns-clause-there g c =
