@@ -22,7 +22,8 @@ use Rattle.desk.specs.declared.entries.Entry.TheVariants.{Start, Exit, Ask, Open
 use Rattle.desk.specs.declared.entries.Live.{Live}
 use Rattle.desk.specs.declared.entries.Carried.{Carried}
 use Rattle.desk.specs.declared.entries.Opened.{Opened}
-use Rattle.desk.specs.Machine.{State, step, open_of, lawful, start, after_from, legal_from, after, is_legal, needs, is_taken, is_live, without, Asked, Current, needs_of_asked, needs_of_opened, needs_of_codes, states_left, may_open_more, is_least, is_first, live_of, open_next, opened_of, rest_of, finished, as_operated, Book, has_census, passes, is_due, may_operate, may_close, at_number, without_number, steps_of, is_free_slot, targets_of, Stands, stands}
+use Rattle.desk.specs.Machine.{State, step, open_of, lawful, start, after_from, legal_from, after, is_legal, is_taken, is_live, without, Asked, Current, may_open_more, is_least, is_first, live_of, open_next, opened_of, rest_of, finished, as_operated, Book, has_census, passes, is_due, may_operate, may_close, at_number, without_number, steps_of, is_free_slot, targets_of, Stands, stands}
+use Rattle.desk.specs.Room.{needs, needs_of_asked, needs_of_opened, needs_of_codes, states_left}
 use Rattle.desk.specs.Fields.{Fields, IsKept, AreFit, AreDistinct, state_of, asked_of, current_of, due_of, IsIndex, IsCarried, AreCarried, DeskSeen, Enters, EntersInstall, install_entries, kept_before, at}
 use Rattle.desk.proofs.Fewer.{filter_le, filter_less}
 use Rattle.desk.proofs.Distinct.{distinct_part}

@@ -11,7 +11,8 @@ use Rattle.operations.specs.Names.{is_distinct}
 use Rattle.operations.specs.Requests.{is_census}
 use Rattle.desk.specs.declared.entries.Carried.{Carried}
 use Rattle.desk.specs.declared.entries.Opened.{Opened}
-use Rattle.desk.specs.Machine.{Current, awaits_census, may_open_more, is_open, open_of, passes, at_number, without_number, needs_of_opened}
+use Rattle.desk.specs.Machine.{Current, awaits_census, may_open_more, is_open, open_of, passes, at_number, without_number}
+use Rattle.desk.specs.Room.{needs_of_opened}
 use Rattle.desk.specs.JobsFit.{asks_it, is_asked_by}
 use Rattle.desk.specs.Refusals.{oldest_of, chosen, front_is}
 use Rattle.desk.proofs.Newest.{same_at}

@@ -14,7 +14,8 @@ use Rattle.desk.specs.declared.entries.Live.{Live}
 use Rattle.desk.specs.declared.entries.Carried.{Carried}
 use Rattle.desk.specs.declared.entries.Opened.{Opened}
 use Rattle.desk.specs.JobsFit.{JobsLeft}
-use Rattle.desk.specs.Machine.{Asked, Current, State, Book, after, is_legal, legal_from, needs, targets_of, Stands, stands, lawful, may_operate}
+use Rattle.desk.specs.Machine.{Asked, Current, State, Book, after, is_legal, legal_from, targets_of, Stands, stands, lawful, may_operate}
+use Rattle.desk.specs.Room.{needs}
 use Rattle.desk.specs.Pending.{least_pending}
 use Rattle.desk.specs.Replies.{Said, HaveRoom}
 

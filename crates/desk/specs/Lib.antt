@@ -1,5 +1,6 @@
 pub mod CodeBoard
 pub mod Machine
+pub mod Room
 pub mod Fields
 pub mod Refusals
 pub mod Targets

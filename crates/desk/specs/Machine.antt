@@ -1,8 +1,6 @@
--- The list machine of the desk: entries, the state after them, and when a history is legal.
-use Rattle.std.specs.Prelude.{ℕ, ◌+◌, ◌-◌, ◌≡◌, List, [], ◌∷◌, ◌++◌, Bool, true, false, ◌&&◌, not, ◌==◌, nat_le, nat_lt, Option, Some, None, is_none, length, map, filter, find, if◌then◌else◌}
+-- The list machine of the desk: entries, the state after them, and when a history is legal. For how many entries room is kept says Room.
+use Rattle.std.specs.Prelude.{ℕ, ◌+◌, ◌-◌, List, [], ◌∷◌, ◌++◌, Bool, true, false, ◌&&◌, not, ◌==◌, nat_lt, Option, Some, None, is_none, length, map, filter, find, if◌then◌else◌}
 use Rattle.std.specs.List.{list_any, list_all}
-use Rattle.method_table.specs.declared.Code.{Code}
-use Rattle.method_table.specs.declared.CodeState.{CodeState}
 use Rattle.method_table.specs.declared.CodeState.TheVariants as state
 use Rattle.method_table.specs.Codes.{in_use_for, unfreed, with_code, with_state, next_serial, free_slot}
 use Rattle.method_table.specs.TableView.{TableView, install_fault, invalidate_fault, retire_fault, free_fault}
@@ -14,16 +12,14 @@ use Rattle.desk.specs.CodeBoard.{with_codes}
 use Rattle.desk.specs.declared.entries.Live.{Live}
 use Rattle.desk.specs.declared.entries.Entry.{Entry}
 use Rattle.desk.specs.declared.entries.Entry.TheVariants.{Start, Exit, Ask, Open, Finish, Operate, Close, Install, Invalidate, Retire, Free}
-use Rattle.desk.specs.declared.log.RoomFault.{RoomFault}
-use Rattle.desk.specs.declared.log.RoomFault.TheVariants.{HistoryFull, NoMemory}
 
 -- a request that waits
 pub record Asked : Type 0 where
   pub number : ℕ
   pub request : Request
 
--- an open request: the next name at its Open, so that threads with lesser names alone were live then; how many entries of its own are
--- kept for it before its Close; those of its targets that were live when it was opened and have no Finish yet; and whether it was operated
+-- an open request: the next name at its Open, so that threads with lesser names alone were live then; how many entries it may still
+-- make before its Close; those of its targets that were live when it was opened and have no Finish yet; and whether it was operated
 pub record Current : Type 0 where
   pub number : ℕ
   pub request : Request
@@ -32,6 +28,8 @@ pub record Current : Type 0 where
   pub due : List ℕ
   pub operated : Bool
 
+-- the name and the number that are given out next, who is live, which requests wait and which are open, each in the order of the
+-- numbers, and the codes
 pub record State : Type 0 where
   pub next_name : ℕ
   pub live : List Live
@@ -40,16 +38,19 @@ pub record State : Type 0 where
   pub opened : List Current
   pub table : TableView
 
-abbrev pub is_live : ℕ → List Live → Bool
+abbrev pub is_live : (name : ℕ) → (live : List Live) → Bool
 is_live name ls = list_any (λ l. l.name == name) ls
 
-abbrev pub is_taken : ℕ → List Live → Bool
+-- a thread is live at the place
+abbrev pub is_taken : (place : ℕ) → (live : List Live) → Bool
 is_taken place ls = list_any (λ l. l.place == place) ls
 
-abbrev pub without : ℕ → List Live → List Live
+-- the live threads but for that of the name
+abbrev pub without : (name : ℕ) → (live : List Live) → List Live
 without name ls = filter (λ l. not (l.name == name)) ls
 
-abbrev pub others : ℕ → List ℕ → List ℕ
+-- the names but for this one
+abbrev pub others : (name : ℕ) → (names : List ℕ) → List ℕ
 others name ts = filter (λ t. not (t == name)) ts
 
 -- the names that are live
@@ -57,16 +58,19 @@ abbrev pub names_of : List Live → List ℕ
 names_of ls = map (λ l. l.name) ls
 
 -- the place at which a name is live
-abbrev pub place_of : ℕ → List Live → Option ℕ
+abbrev pub place_of : (name : ℕ) → (live : List Live) → Option ℕ
 place_of name [] = None
 place_of name (l ∷ ls) = if l.name == name then Some l.place else place_of name ls
 
-abbrev pub live_of : List Live → List ℕ → List ℕ
+-- those of the names that are live
+abbrev pub live_of : (live : List Live) → (names : List ℕ) → List ℕ
 live_of ls ts = filter (λ t. is_live t ls) ts
 
-abbrev pub none_live : List Live → List ℕ → Bool
+-- none of the names is live
+abbrev pub none_live : (live : List Live) → (names : List ℕ) → Bool
 none_live ls ts = list_all (λ t. not (is_live t ls)) ts
 
+-- the names that a request asks: none for a census, which has no Finish
 abbrev pub targets_of : Request → List ℕ
 targets_of Census = []
 targets_of (Handshake targets ask) = targets
@@ -76,78 +80,101 @@ abbrev pub steps_of : Request → ℕ
 steps_of Census = 1
 steps_of (Handshake targets ask) = length targets
 
-abbrev pub is_first : ℕ → List Asked → Bool
+-- the oldest request that waits has the number
+abbrev pub is_first : (number : ℕ) → (waiting : List Asked) → Bool
 is_first n [] = false
 is_first n (a ∷ rest) = a.number == n
 
-abbrev pub rest_of : List Asked → List Asked
+-- the requests that wait behind the oldest
+abbrev pub rest_of : (waiting : List Asked) → List Asked
 rest_of [] = []
 rest_of (a ∷ rest) = rest
 
-abbrev pub has_census : List Current → Bool
+-- one of the open requests is a census
+abbrev pub has_census : (opened : List Current) → Bool
 has_census cs = list_any (λ c. is_census c.request) cs
 
 -- the oldest request that waits is a census
-abbrev pub awaits_census : List Asked → Bool
+abbrev pub awaits_census : (waiting : List Asked) → Bool
 awaits_census [] = false
 awaits_census (a ∷ rest) = is_census a.request
 
--- up to four handshakes are open, or one census alone
-abbrev pub may_open_more : List Asked → List Current → Bool
+-- one more may be opened: up to four handshakes are open, or one census alone
+abbrev pub may_open_more : (waiting : List Asked) → (opened : List Current) → Bool
 may_open_more waiting cs = nat_lt (length cs) 4 && (not (has_census cs) && not (awaits_census waiting && not (is_empty cs)))
 
 -- the open request of the number
-abbrev pub open_of : ℕ → List Current → Option Current
+abbrev pub open_of : (number : ℕ) → (opened : List Current) → Option Current
 open_of n cs = find (λ c. c.number == n) cs
 
-abbrev pub is_open : ℕ → List Current → Bool
+abbrev pub is_open : (number : ℕ) → (opened : List Current) → Bool
 is_open n cs = list_any (λ c. c.number == n) cs
 
-abbrev pub passes : (Current → Bool) → Option Current → Bool
+-- there is such a request, and the test holds of it
+abbrev pub passes : (test : Current → Bool) → Option Current → Bool
 passes test None = false
 passes test (Some c) = test c
 
-abbrev pub is_due : ℕ → Current → Bool
+-- a Finish of the name is still to come
+abbrev pub is_due : (name : ℕ) → Current → Bool
 is_due name c = among name c.due
 
 -- no open request with a lesser number is due for the name: each is answered in the order of the numbers
-abbrev pub is_least : ℕ → ℕ → List Current → Bool
+abbrev pub is_least : (number name : ℕ) → (opened : List Current) → Bool
 is_least n name cs = list_all (λ c. not (nat_lt c.number n && is_due name c)) cs
 
+-- a census is operated once
 abbrev pub may_operate : Current → Bool
 may_operate c = is_census c.request && not c.operated
 
-abbrev pub may_close : List Live → Current → Bool
+-- a census is closed behind its Operate, a handshake once nobody who is due is live
+abbrev pub may_close : (live : List Live) → Current → Bool
 may_close ls c = if is_census c.request then c.operated else none_live ls c.due
 
 -- the first open request of the number changes
-abbrev pub at_number : (Current → Current) → ℕ → List Current → List Current
+abbrev pub at_number : (change : Current → Current) → (number : ℕ) → (opened : List Current) → List Current
 at_number f n [] = []
 at_number f n (c ∷ cs) = if c.number == n then f c ∷ cs else c ∷ at_number f n cs
 
 -- the first open request of the number goes
-abbrev pub without_number : ℕ → List Current → List Current
+abbrev pub without_number : (number : ℕ) → (opened : List Current) → List Current
 without_number n [] = []
 without_number n (c ∷ cs) = if c.number == n then cs else c ∷ without_number n cs
 
-abbrev pub opened_of : ℕ → List Live → Asked → Current
-opened_of before ls a = record { number = a.number; request = a.request; before = before; left = steps_of a.request; due = live_of ls (targets_of a.request); operated = false }
+-- a request as it is opened, where this name is given out next and these are live
+abbrev pub opened_of : (next_name : ℕ) → (live : List Live) → Asked → Current
+opened_of before ls a = record {
+  number = a.number;
+  request = a.request;
+  before = before;
+  left = steps_of a.request;
+  due = live_of ls (targets_of a.request);
+  operated = false;
+}
 
-abbrev pub open_next : ℕ → List Live → List Asked → List Current → List Current
+-- the open requests once the oldest that waits is opened
+abbrev pub open_next : (next_name : ℕ) → (live : List Live) → (waiting : List Asked) → (opened : List Current) → List Current
 open_next before ls [] cs = cs
 open_next before ls (a ∷ rest) cs = cs ++ opened_of before ls a ∷ []
 
-abbrev pub finished : ℕ → Current → Current
-finished name c = record { number = c.number; request = c.request; before = c.before; left = c.left - 1; due = others name c.due; operated = c.operated }
+-- an open request behind a Finish of the name
+abbrev pub finished : (name : ℕ) → Current → Current
+finished name c = record c { left = c.left - 1; due = others name c.due }
 
+-- an open census behind its Operate
 abbrev pub as_operated : Current → Current
-as_operated c = record { number = c.number; request = c.request; before = c.before; left = c.left - 1; due = c.due; operated = true }
+as_operated c = record c { left = c.left - 1; operated = true }
 
-abbrev pub is_free_slot : ℕ → Option ℕ → Bool
+-- there is a free slot, and it is this one
+abbrev pub is_free_slot : (slot : ℕ) → (free : Option ℕ) → Bool
 is_free_slot slot None = false
 is_free_slot slot (Some free) = free == slot
 
--- whether an entry is lawful in a state
+-- Whether an entry is lawful in a state: a Start takes the next name and a place that is free, while no census is open; an Exit is of
+-- a live name; an Ask takes the next number; an Open is of the oldest that waits, where one more may be opened; a Finish is of a live
+-- name that is due, in the order of the numbers; an Operate is of a census, and the Close of what is done. An Install takes the next
+-- serial and the free slot, for a method without code in use, and an Invalidate, Retire or Free is of an unfreed code in the state
+-- before.
 abbrev pub lawful : State → Entry → Bool
 lawful s (Start name place) = (name == s.next_name) && (not (is_taken place s.live) && not (has_census s.opened))
 lawful s (Exit name) = is_live name s.live
@@ -162,17 +189,17 @@ lawful s (Retire serial) = is_none (retire_fault (unfreed s.table.codes serial))
 lawful s (Free serial) = is_none (free_fault (unfreed s.table.codes serial))
 
 abbrev pub with_table : State → TableView → State
-with_table s t = record { next_name = s.next_name; live = s.live; next_number = s.next_number; waiting = s.waiting; opened = s.opened; table = t }
+with_table s t = record s { table = t }
 
-abbrev pub with_opened : State → List Current → State
-with_opened s cs = record { next_name = s.next_name; live = s.live; next_number = s.next_number; waiting = s.waiting; opened = cs; table = s.table }
+abbrev pub with_opened : State → (opened : List Current) → State
+with_opened s cs = record s { opened = cs }
 
 -- the state after an entry
 abbrev pub step : State → Entry → State
-step s (Start name place) = record { next_name = s.next_name + 1; live = s.live ++ record { name = name; place = place } ∷ []; next_number = s.next_number; waiting = s.waiting; opened = s.opened; table = s.table }
-step s (Exit name) = record { next_name = s.next_name; live = without name s.live; next_number = s.next_number; waiting = s.waiting; opened = s.opened; table = s.table }
-step s (Ask n request) = record { next_name = s.next_name; live = s.live; next_number = s.next_number + 1; waiting = s.waiting ++ record { number = n; request = request } ∷ []; opened = s.opened; table = s.table }
-step s (Open n) = record { next_name = s.next_name; live = s.live; next_number = s.next_number; waiting = rest_of s.waiting; opened = open_next s.next_name s.live s.waiting s.opened; table = s.table }
+step s (Start name place) = record s { next_name = s.next_name + 1; live = s.live ++ record { name = name; place = place } ∷ [] }
+step s (Exit name) = record s { live = without name s.live }
+step s (Ask n request) = record s { next_number = s.next_number + 1; waiting = s.waiting ++ record { number = n; request = request } ∷ [] }
+step s (Open n) = record s { waiting = rest_of s.waiting; opened = open_next s.next_name s.live s.waiting s.opened }
 step s (Finish n name reply) = with_opened s (at_number (finished name) n s.opened)
 step s (Operate n) = with_opened s (at_number as_operated n s.opened)
 step s (Close n) = with_opened s (without_number n s.opened)
@@ -181,56 +208,37 @@ step s (Invalidate serial) = with_table s (with_codes s.table (with_state s.tabl
 step s (Retire serial) = with_table s (with_codes s.table (with_state s.table.codes serial state.Zombie))
 step s (Free serial) = with_table s (with_codes s.table (with_state s.table.codes serial state.Freed))
 
-abbrev pub empty_table : ℕ → ℕ → TableView
+abbrev pub empty_table : (slots methods : ℕ) → TableView
 empty_table slots methods = record { codes = []; slots = slots; methods = methods }
 
-abbrev pub start : ℕ → ℕ → State
+-- the state of an empty history: names and numbers begin at 1
+abbrev pub start : (slots methods : ℕ) → State
 start slots methods = record { next_name = 1; live = []; next_number = 1; waiting = []; opened = []; table = empty_table slots methods }
 
+-- the state that the entries come to from this one
 abbrev pub after_from : State → List Entry → State
 after_from s [] = s
 after_from s (e ∷ es) = after_from (step s e) es
 
+-- each entry is lawful in the state that those before it come to from this one
 abbrev pub legal_from : State → List Entry → Bool
 legal_from s [] = true
 legal_from s (e ∷ es) = lawful s e && legal_from (step s e) es
 
 -- the state after a history. A proof sees into it by `unfolding`
-unfoldable pub after : ℕ → ℕ → List Entry → State
+unfoldable pub after : (slots methods : ℕ) → (history : List Entry) → State
 after slots methods h = after_from (start slots methods) h
 
 -- each entry is lawful in the state after those before it
-unfoldable pub is_legal : ℕ → ℕ → List Entry → Bool
+unfoldable pub is_legal : (slots methods : ℕ) → (history : List Entry) → Bool
 is_legal slots methods h = legal_from (start slots methods) h
 
--- entries that the live names, the requests and the codes can still make
-abbrev pub needs_of_asked : List Asked → ℕ
-needs_of_asked [] = 0
-needs_of_asked (a ∷ rest) = (2 + steps_of a.request) + needs_of_asked rest
-
-abbrev pub needs_of_opened : List Current → ℕ
-needs_of_opened [] = 0
-needs_of_opened (c ∷ cs) = (1 + c.left) + needs_of_opened cs
-
-abbrev pub states_left : CodeState → ℕ
-states_left state.InUse = 3
-states_left state.NotEntrant = 2
-states_left state.Zombie = 1
-states_left state.Freed = 0
-
-abbrev pub needs_of_codes : List Code → ℕ
-needs_of_codes [] = 0
-needs_of_codes (c ∷ cs) = states_left c.state + needs_of_codes cs
-
-abbrev pub needs : State → ℕ
-needs s = length s.live + (needs_of_asked s.waiting + (needs_of_opened s.opened + needs_of_codes s.table.codes))
-
--- what contracts see of a receipt
+-- what contracts see of a receipt: an entry, and at which place of the history it stands
 pub record Stands : Type 0 where
   pub place : ℕ
   pub entry : Entry
 
-abbrev pub stands : ℕ → Entry → Stands
+abbrev pub stands : (place : ℕ) → Entry → Stands
 stands k e = record { place = k; entry = e }
 
 -- what was forgotten: how many of the first entries are stored no more, and up to which operation the replies
@@ -243,15 +251,3 @@ pub record Book : Type 0 where
   pub history : List Entry
   pub reserved : ℕ
   pub gone : Gone
-
--- how many entries are stored
-abbrev pub entries_kept : Book → ℕ
-entries_kept b = length b.history - b.gone.entries
-
--- whether more entries fit in a history of these lengths
-abbrev pub has_room : ℕ → ℕ → ℕ → Bool
-has_room len reserved more = nat_le (len + reserved + more) 1000000
-
-abbrev pub room_fault : Bool → RoomFault → Type 0
-room_fault room HistoryFull = room ≡ false
-room_fault room NoMemory = room ≡ true

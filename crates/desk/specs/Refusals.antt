@@ -24,7 +24,8 @@ use Rattle.desk.specs.declared.faults.CodeFault.{CodeFault}
 use Rattle.desk.specs.declared.faults.CodeFault.TheVariants as code
 use Rattle.desk.specs.declared.log.RoomFault.{RoomFault}
 use Rattle.desk.specs.declared.log.RoomFault.TheVariants as room
-use Rattle.desk.specs.Machine.{State, Current, Book, is_taken, has_room, entries_kept, has_census, may_open_more, may_close, steps_of, open_of}
+use Rattle.desk.specs.Machine.{State, Current, Book, is_taken, has_census, may_open_more, may_close, steps_of, open_of}
+use Rattle.desk.specs.Room.{has_room, entries_kept}
 use Rattle.operations.specs.Requests.{is_census}
 
 abbrev pub AllTaken : State → ℕ → Type 0

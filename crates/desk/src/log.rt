@@ -9,7 +9,8 @@ ghost use Rattle.std.specs.Prelude.{◌≡◌, ℕ, List, ◌+◌, ◌-◌, ◌<
 ghost use Rattle.desk.specs.declared.entries.Entry.{Entry as EntryOf};
 ghost use Rattle.desk.specs.Fields.{install_entries, kept_before};
 ghost use Rattle.desk.specs.Once.{reply_in};
-ghost use Rattle.desk.specs.Machine.{has_room, entries_kept, stands, room_fault, steps_of, targets_of};
+ghost use Rattle.desk.specs.Machine.{stands, steps_of, targets_of};
+ghost use Rattle.desk.specs.Room.{has_room, entries_kept, room_fault};
 ghost use Rattle.desk.specs.Replies.{of_number, replies_kept, HasLess};
 ghost use Rattle.desk.specs.Spans.{silent};
 ghost use Rattle.desk.specs.Unfolded.{unfolded, asks, is_ask};

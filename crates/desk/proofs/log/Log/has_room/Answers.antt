@@ -1,5 +1,5 @@
 use Rattle.std.proofs.Common.{◌≡◌, ◌∙◌, length, sym, ap, subst, rules}
-use Rattle.desk.specs.Machine.{has_room, entries_kept}
+use Rattle.desk.specs.Room.{has_room, entries_kept}
 use Rattle.desk.specs.Replies.{Logged}
 use Rattle.desk.proofs.Unfolding.{kept_length}
 use Rattle.desk.proofs.log.Log.has_room.Goals as goal
