@@ -303,6 +303,7 @@ impl<N: Name> Codes<N> {
     pub fn are_entries(&self)
         ensures { AreEntries self.now.table self.now.keeper }
     {
+        // So the proof sees what the codes keep.
         let _ = &self.keeper;
     }
 

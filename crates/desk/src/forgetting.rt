@@ -54,6 +54,7 @@ impl<N: Name, J: Errand> Desk<N, J> {
     pub fn pending_are_kept(&self)
         ensures { (n : ℕ) → is_pending n (at self.now) ≡ true → self.now.book.gone.operations < n }
     {
+        // So the proof sees what a desk keeps.
         let _ = &self.log;
     }
 }

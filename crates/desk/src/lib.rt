@@ -6,8 +6,6 @@
 //! refused and changes nothing. The type keeps that the history is legal and that all that the desk keeps is the state after it.
 #![tactic(auto)]
 
-// A law without a body reads a field (`let _ = &self.log;`), so that its proof sees what the type keeps.
-
 mod asking;
 mod codes;
 mod desk;

@@ -2,9 +2,9 @@
 ghost use Rattle.std.specs.Prelude.{◌≡◌, ◌&&◌, ◌<◌, ◌++◌, ◌-◌, List, map, take, vec_capacity, vec_len, IfSome};
 ghost use Rattle.std.specs.List.{list_any};
 ghost use Rattle.operations.specs.Requests.{is_census};
-ghost use Rattle.desk.specs.Machine.{Current, names_of, place_of, has_census};
+ghost use Rattle.desk.specs.Machine.{Current, names_of, place_of};
 ghost use Rattle.desk.specs.Rising.{AreRising};
-ghost use Rattle.desk.specs.Targets.{is_asked, is_owed, is_target_of, standing_at, standing_to, is_untold, is_told, is_undone, untold_in, progress_in, is_due_target, due_after, due_of, of_which, oldest, name_at};
+ghost use Rattle.desk.specs.Targets.{is_asked, is_owed, is_target_of, standing_to, is_untold, is_told, is_undone, untold_in, progress_in, is_due_target, due_after, due_of, of_which, oldest, name_at};
 ghost use Rattle.desk.specs.Fields.{current_of};
 
 use crate::entries::{Live, Opened, Progress, Standing, Target};
