@@ -350,7 +350,8 @@ pub fn names_of(live: &[Live], alloc: Global) -> Result<Vec<u64>, AllocError>
     let mut names = Vec::new(alloc);
     let mut rest = live;
     while let Some((one, others)) = rest.split_first() {
-        names.push(one.name).map_err(|_| AllocError)?;
+        names.reserve(1)?;
+        names.push_reserved(one.name);
         rest = others;
     }
     Ok(names)
