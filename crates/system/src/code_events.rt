@@ -11,7 +11,7 @@ use crate::keeping::{Core, LAST};
 use crate::records::Record;
 use crate::thread::Thread;
 use frames::CodeId;
-use method_table::table::{FreeFault, InstallFault, InvalidateFault};
+use method_table::table::{FreeFault, InstallFault, InvalidateFault, RetireFault};
 use method_table::{Code, CodeState};
 use std::alloc::AllocError;
 
@@ -123,7 +123,8 @@ impl Core {
         }
         match self.table.retire(serial) {
             Ok(()) => Answer::Retired,
-            Err(_) => unreachable!(),
+            Err(RetireFault::Unknown) => Answer::Refused(Refusal::Unknown),
+            Err(RetireFault::NotNotEntrant) => Answer::Refused(Refusal::NotNotEntrant),
         }
     }
 

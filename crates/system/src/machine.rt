@@ -120,10 +120,7 @@ impl System {
         }
         for (at, event) in events.iter().enumerate() {
             match self.apply_copy(alloc, event) {
-                Ok(answer) => match said.push(answer) {
-                    Ok(()) => {}
-                    Err(_) => unreachable!(),
-                },
+                Ok(answer) => said.push_reserved(answer),
                 Err(_) => return Err(Stopped { answers: said, at }),
             }
         }

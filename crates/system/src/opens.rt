@@ -71,10 +71,7 @@ impl Opens {
         requires { length self.old < 4 }
         ensures { self.new ≡ self.old ++ «open» ∷ [] }
     {
-        match self.items.push(open) {
-            Ok(()) => {}
-            Err(_) => unreachable!(),
-        }
+        self.items.push_reserved(open);
     }
 
     /// The one at the position is open no more.

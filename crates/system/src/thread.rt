@@ -15,7 +15,7 @@ use crate::answers::{Answer, Refusal};
 use crate::events::Act;
 use crate::requests::Open;
 use frames::image::{DEPTH, Image};
-use frames::{Change, CodeId, EndFault, Frame};
+use frames::{Change, CodeId, EndFault, Frame, Publishing};
 use method_table::table::{Entry, MethodTable};
 use std::alloc::{AllocError, Global};
 use thread_state::{
@@ -403,7 +403,7 @@ impl Thread {
                 self.moments.begun = now;
                 Ok(Answer::Done)
             }
-            Err(_) => unreachable!(),
+            Err(Publishing) => Err(Refusal::Publishing),
         }
     }
 

@@ -17,8 +17,8 @@ returns-then-count-ne0 c =
     (at_index c.args.self.now.records.items c.in-Ok.code.slot c.index.result.now (omega (arith, c.in-Ok.ensures.slot)) c.index.ensures)
     (λ place lt. c.in_default.ensures.none place (omega arith)) c.count-count.ensures c.if-count-ne0.true
 
-pub returns : goal.returns
-returns c =
+pub returns-in-Ok-retire : goal.returns-in-Ok-retire
+returns-in-Ok-retire c =
     retired c.args.self.now _ c.args.serial c.count-count.result c.in-Ok.code c.index.result.now (sym c.not_entrant.ensures.value ∙ c.in-Ok.is)
     (at_index c.args.self.now.records.items c.in-Ok.code.slot c.index.result.now (omega (arith, c.in-Ok.ensures.slot)) c.index.ensures)
     (λ place lt. c.in_default.ensures.none place (omega arith)) c.count-count.ensures c.if-count-ne0.false

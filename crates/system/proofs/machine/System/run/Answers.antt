@@ -8,12 +8,12 @@ use Rattle.system.proofs.machine.System.run.Goals as goal
 
 pub loop-at-preserved : goal.loop-at-preserved
 loop-at-preserved c = record {
-  room = omega (arith, c.push.ensures.capacity);
+  room = omega (arith, c.push_reserved.ensures.capacity);
   sizes = sizes_through c.args.self.now c.loop-at.self c.apply_copy.new.self c.loop-at.invariant.sizes c.apply_copy.ensures.sizes;
-  made = omega (arith, c.in-Ok-push.ensures.len);
+  made = omega (arith, c.push_reserved.ensures.len);
   stands = λ before stood.
       let was = c.loop-at.invariant.stands before stood in
-      ran_on c.args.self.now c.loop-at.self c.apply_copy.new.self before c.args.events.now c.loop-at.at _ c.loop-at.said.items c.push.new.self.items c.in-Ok.answer c.loop-at.invariant.sizes (omega arith) (search rules) was.0 was.1 c.in-Ok.ensures.answered c.in-Ok-push.ensures.items;
+      ran_on c.args.self.now c.loop-at.self c.apply_copy.new.self before c.args.events.now c.loop-at.at _ c.loop-at.said.items c.push_reserved.new.self.items c.in-Ok.answer c.loop-at.invariant.sizes (omega arith) (search rules) was.0 was.1 c.in-Ok.ensures.answered c.push_reserved.ensures.items;
 }
 
 pub returns-then-is_err-clause-once : goal.returns-then-is_err-clause-once

@@ -2,8 +2,8 @@ use Rattle.std.proofs.Common.{refl, rules}
 use Rattle.system.proofs.Images.{begun}
 use Rattle.system.proofs.thread.Thread.begin.Goals as goal
 
-pub returns : goal.returns
-returns c = λ w t same. (
+pub returns-in-Ok : goal.returns-in-Ok
+returns-in-Ok c = λ w t same. (
   refl,
   record {
     name = same.name;
