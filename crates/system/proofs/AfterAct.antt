@@ -15,7 +15,7 @@ use Rattle.system.specs.declared.keeping.Core.{Core}
 use Rattle.system.specs.Log.{Entry}
 use Rattle.system.specs.Threads.{Thread, part}
 use Rattle.system.specs.World.{World, thread_at, found, threads, part_at}
-use Rattle.system.specs.Keeps.{SameThread}
+use Rattle.system.specs.Marking.{SameThread}
 use Rattle.system.specs.Marking.{SameMarks}
 use Rattle.system.specs.Stands.{Matches, SamePlace, SamePlaces, SameAt, SameMoments, kept_at, held_at, walk_of, SameCells}
 use Rattle.system.proofs.Outcomes.{seated}

@@ -25,7 +25,8 @@ use Rattle.operations.specs.Names.{is_empty}
 use Rattle.system.specs.World.{World}
 use Rattle.system.specs.declared.events.Act.TheVariants as TheActs
 use Rattle.thread_state.specs.declared.Move.TheVariants as move
-use Rattle.system.specs.Keeps.{SameImage, SameOpen, OpenBy, IsHere, was_told, is_done, told_by, undone_by, uncleared_by, awaited_by, is_asked, idle_refusal}
+use Rattle.system.specs.Marking.{SameImage}
+use Rattle.system.specs.Kept.Threads.{SameOpen, OpenBy, IsHere, was_told, is_done, told_by, undone_by, uncleared_by, awaited_by, is_asked, idle_refusal}
 use Rattle.system.proofs.Images.{next_is_left, counted_none}
 
 none_of : (o : Option CodeId) → is_none o ≡ true → o ≡ None

@@ -19,10 +19,11 @@ use Rattle.system.specs.Operations.{Requests}
 use Rattle.system.specs.Log.{Entry, moment, is_begin, is_end}
 use Rattle.system.specs.Threads.{Thread, part}
 use Rattle.system.specs.World.{World}
-use Rattle.system.specs.Places.{Effect, becomes, leaves, here}
+use Rattle.system.specs.Places.{Effect, becomes, here}
 use Rattle.system.specs.Step.{outcome, lands}
 use Rattle.system.specs.Runs.{after, answer_to}
-use Rattle.system.specs.Keeps.{SameThread, Reach, seats, finishes, clears, reach_of, Lands, Becomes, marked_by, timed_by, serves}
+use Rattle.system.specs.Marking.{SameThread}
+use Rattle.system.specs.Kept.Acts.{reach_of, CameAbout, Becomes, marked_by, timed_by, serves}
 use Rattle.system.specs.Stands.{Matches, SameAt, SameMoments, DoesIn}
 use Rattle.system.proofs.Outcomes.{seated}
 use Rattle.system.proofs.Logs.{IsQuiet, IsElsewhere}
@@ -135,7 +136,7 @@ refused_in s new w e r said rest places m is says = record {
 pub done_at : (w : World) (p : ℕ) (act : Act) (t : Thread) (v : Verdict Effect) → slice_get w.places p ≡ Some (Some t) → here w act t ≡ v → outcome w (event.At p act) ≡ lands w p v
 done_at w p act t v there is = rw there (ap (lands w p) is)
 
-marks_stay : (act : Act) (n : ℕ) (requests : Requests) (m : Rattle.system.specs.declared.thread.Marks.Marks) (u : Thread) (kept : Kept) (t : Thread) → Lands (reach_of act n requests) (becomes u) kept t → (marked_by act n m ≡ m) × SameThread kept u
+marks_stay : (act : Act) (n : ℕ) (requests : Requests) (m : Rattle.system.specs.declared.thread.Marks.Marks) (u : Thread) (kept : Kept) (t : Thread) → CameAbout (reach_of act n requests) (becomes u) kept t → (marked_by act n m ≡ m) × SameThread kept u
 marks_stay Begin n requests m u kept t h = (refl, h)
 marks_stay Change n requests m u kept t h = (refl, h)
 marks_stay End n requests m u kept t h = (refl, h)
@@ -156,17 +157,12 @@ marks_stay Hold n requests m u kept t h = (refl, h)
 marks_stay Release n requests m u kept t h = (refl, h)
 marks_stay Stack n requests m u kept t h = (refl, h)
 
-never_leaves : (reach : Reach) (kept : Kept) (t : Thread) → Lands reach leaves kept t → ⊥
-never_leaves seats kept t h = h
-never_leaves (finishes n q) kept t h = h
-never_leaves (clears n q) kept t h = h
-
 -- the counts that the thread published stay with those of its image
 parts_stay : (kept after : Kept) (t u : Thread) → SameThread kept t → SameThread after u → SameBag after.image.counted kept.image.counted → (code : CodeId) → part code u ≡ part code t
 parts_stay kept after t u same now bag code = sym (now.image.counted code) ∙ (bag code ∙ same.image.counted code)
 
 pub became : (s new : Core) (w : World) (p : ℕ) (act : Act) (kept after : Kept) (t u : Thread) (a : Answer) → Matches s w → SameRest s new → new.places.items ≡ slice_set s.places.items p (Some after) → slice_get w.places p ≡ Some (Some t) → SameAt w p kept t
-    → Lands (reach_of act (serves act s.requests.opens kept) w.requests) (becomes u) after t → Becomes (marked_by act (serves act s.requests.opens kept) kept.marks) (timed_by act s.moment kept.moments) kept after → Matches new (seated w p (Some u) (event.At p act) a)
+    → CameAbout (reach_of act (serves act s.requests.opens kept) w.requests) (becomes u) after t → Becomes (marked_by act (serves act s.requests.opens kept) kept.marks) (timed_by act s.moment kept.moments) kept after → Matches new (seated w p (Some u) (event.At p act) a)
 became s new w p act kept after t u a m rest places there same lands_ becomes_ =
     let both = marks_stay act (serves act s.requests.opens kept) w.requests kept.marks u after t lands_ in
     let name : u.name ≡ t.name = sym both.1.name ∙ (becomes_.name ∙ same.thread.name) in

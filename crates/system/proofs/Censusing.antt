@@ -38,8 +38,8 @@ use Rattle.system.specs.Facts.{IsSound, may_stand}
 use Rattle.system.specs.Memory.{Accepts}
 use Rattle.system.specs.Runs.{answer_to}
 use Rattle.system.specs.Safepoints.{is_accepted}
-use Rattle.system.specs.Keeps.{SameThread}
-use Rattle.system.specs.Censuses.{holds_at, is_held_kept, is_quiet_kept, is_settled_kept, operate_refusal, operated, named, IsCensus}
+use Rattle.system.specs.Marking.{SameThread}
+use Rattle.system.specs.Kept.Censuses.{holds_at, is_held_kept, is_quiet_kept, is_settled_kept, operate_refusal, operated, named, IsCensus}
 use Rattle.system.specs.Marking.{SameOpened, SameOpens}
 use Rattle.system.specs.Stands.{Matches, SamePlace, DoesIn, Does, kept_at, walk_of, waiting_of}
 use Rattle.system.proofs.Outcomes.{asked, with_operated}

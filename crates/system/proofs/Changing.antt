@@ -31,8 +31,9 @@ use Rattle.system.specs.World.{World, part_at, walk}
 use Rattle.system.specs.Places.{Effect, changes, here}
 use Rattle.system.specs.Step.{outcome, with_place}
 use Rattle.system.specs.Facts.{IsSound, IsLive, ThreadsAreSound}
-use Rattle.system.specs.Keeps.{SameThread, DidNext, Counted, said_change}
-use Rattle.system.specs.Steps.{DidChange, DidCountAt, CountedAt}
+use Rattle.system.specs.Marking.{SameThread}
+use Rattle.system.specs.Kept.Acts.{DidNext, Counted, said_change}
+use Rattle.system.specs.Kept.Places.{DidChange, DidCountAt, CountedAt}
 use Rattle.system.specs.Stands.{Matches, SameAt, DoesIn, Does, SameSizes, SameCells, walk_of}
 use Rattle.system.proofs.Outcomes.{Stands, seated, changed_by, difference}
 use Rattle.system.proofs.Threads.{threads_kept}

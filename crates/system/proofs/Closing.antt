@@ -23,11 +23,11 @@ use Rattle.system.specs.World.{World, threads, is_live, is_live_target}
 use Rattle.system.specs.Step.{outcome, all_threads, is_over, close, close_of}
 use Rattle.system.specs.Places.{in_open, in_found}
 use Rattle.system.specs.Facts.{IsSound}
-use Rattle.system.specs.Keeps.{is_live_for}
+use Rattle.system.specs.Kept.Threads.{is_live_for}
 use Rattle.system.specs.Marking.{SameMarks, SameOpened, SameOpens}
 use Rattle.system.specs.Stands.{Matches, SameAt, DoesIn, Does}
-use Rattle.system.specs.Tells.{is_held_for, is_clear_at, is_over_at}
-use Rattle.system.specs.Opening.{place_of}
+use Rattle.system.specs.Kept.Tells.{is_held_for, is_clear_at, is_over_at}
+use Rattle.system.specs.Kept.Opening.{place_of}
 use Rattle.system.proofs.Lists.{any_at, any_none_at, all_at, remove_one, find_place, position_found, position_none, filter_at, same_at}
 use Rattle.system.proofs.Outcomes.{asked, without_opened}
 use Rattle.system.proofs.CaseOfEvent.{empty_of}

@@ -29,8 +29,8 @@ use Rattle.system.specs.Places.{becomes, leaves, here}
 use Rattle.system.specs.Step.{outcome, lands, with_place}
 use Rattle.system.specs.Facts.{IsSound}
 use Rattle.system.specs.Memory.{Accepts}
-use Rattle.system.specs.Keeps.{SaysExit}
-use Rattle.system.specs.Steps.{DidExit, DidLeave, Left, frames_at, is_taken}
+use Rattle.system.specs.Kept.Acts.{SaysExit}
+use Rattle.system.specs.Kept.Places.{DidExit, DidLeave, LeftUnless, frames_at, is_taken}
 use Rattle.system.specs.Stands.{Matches, SameAt, DoesIn, Does, walk_of}
 use Rattle.system.proofs.Cells.{cells_over}
 use Rattle.system.proofs.Outcomes.{seated}
@@ -101,7 +101,7 @@ left_matches s new w p kept t a m rest places there none =
       index = rw rest.index (cells_over s.index w v refl refl (λ o. walk_without w p t (event.At p Exit) a o there none) m.index);
     }
 
-by_refusal : (s new : Core) (w : World) (p : ℕ) (kept : Kept) (t : Thread) (said : Answer) (refusal : Option Refusal) → Matches s w → SameRest s new → slice_get w.places p ≡ Some (Some t) → SameAt w p kept t → SaysExit (here w Exit t) t refusal → Left p kept s.places.items new.places.items refusal said → DoesIn (event.At p Exit) said new w
+by_refusal : (s new : Core) (w : World) (p : ℕ) (kept : Kept) (t : Thread) (said : Answer) (refusal : Option Refusal) → Matches s w → SameRest s new → slice_get w.places p ≡ Some (Some t) → SameAt w p kept t → SaysExit (here w Exit t) t refusal → LeftUnless p kept s.places.items new.places.items refusal said → DoesIn (event.At p Exit) said new w
 by_refusal s new w p kept t said (Some r) m rest there same says left = refused_in s new w (event.At p Exit) r said rest left.1 m (rw there (ap (lands w p) says)) left.0
 by_refusal s new w p kept t said None m rest there same says left =
     accepted_in new w (event.At p Exit) (with_place w p None) (answer.Exited t.name) said (rw there (ap (lands w p) says)) (left.0 ∙ ap answer.Exited same.thread.name)
@@ -116,7 +116,7 @@ exited s new p said w m sound rest did = elim (at_place s w p m) [
       by_refusal s new w p kept t said d.0 m rest x same (d.1 w t same.thread (poll_here w p kept t same)) d.2)
 ]
 
-left_length : (p : ℕ) (kept : Kept) (old new : List (Option Kept)) (refusal : Option Refusal) (said : Answer) → Left p kept old new refusal said → length new ≡ length old
+left_length : (p : ℕ) (kept : Kept) (old new : List (Option Kept)) (refusal : Option Refusal) (said : Answer) → LeftUnless p kept old new refusal said → length new ≡ length old
 left_length p kept old new None said h = ap length h.1 ∙ length_set old p None
 left_length p kept old new (Some r) said h = ap length h.1
 

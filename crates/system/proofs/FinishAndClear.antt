@@ -25,7 +25,9 @@ use Rattle.system.specs.Threads.{Thread}
 use Rattle.system.specs.World.{World}
 use Rattle.system.specs.Places.{Effect, marks, was_told, is_undone, is_uncleared, in_found, finish_in, finish, clear_in, clear}
 use Rattle.system.specs.Facts.{IsSound}
-use Rattle.system.specs.Keeps.{SameThread, IsHere, finishes, clears, Lands, Becomes, marked_by, timed_by, number_of, serves, undone_by, uncleared_by}
+use Rattle.system.specs.Marking.{SameThread}
+use Rattle.system.specs.Kept.Threads.{IsHere, undone_by, uncleared_by}
+use Rattle.system.specs.Kept.Acts.{finishes, clears, CameAbout, Becomes, marked_by, timed_by, number_of, serves}
 use Rattle.system.specs.Marking.{SameMarks, SameOpens}
 use Rattle.system.specs.Stands as stands
 use Rattle.system.specs.Stands.{Matches, SamePlace, SamePlaces, SameAt, kept_at, held_at}
@@ -137,7 +139,7 @@ number_found kept requests (Some b) (Some p) o same is = same.number ∙ ap (λ 
 
 -- an accepted Finish
 pub finished : (s new : Core) (w : World) (p : ℕ) (kept after : Kept) (t : Thread) (r : Requests) (a : Answer) → Matches s w → IsSound w → SameRest s new → new.places.items ≡ slice_set s.places.items p (Some after) → slice_get w.places p ≡ Some (Some t) → SameAt w p kept t
-    → finish w.requests t ≡ accepted (marks r) a → Lands (finishes (serves Finish s.requests.opens kept) w.requests) (marks r) after t → Becomes (marked_by Finish (serves Finish s.requests.opens kept) kept.marks) (timed_by Finish s.moment kept.moments) kept after
+    → finish w.requests t ≡ accepted (marks r) a → CameAbout (finishes (serves Finish s.requests.opens kept) w.requests) (marks r) after t → Becomes (marked_by Finish (serves Finish s.requests.opens kept) kept.marks) (timed_by Finish s.moment kept.moments) kept after
     → Matches new (asked w r (event.At p Finish) a)
 finished s new w p kept after t r a m sound rest places there same done lands_ becomes_ =
     let met = finish_met w t (marks r) a sound done in
@@ -165,7 +167,7 @@ finished s new w p kept after t r a m sound rest places there same done lands_ b
 
 -- an accepted Clear
 pub cleared : (s new : Core) (w : World) (p : ℕ) (kept after : Kept) (t : Thread) (r : Requests) (a : Answer) → Matches s w → IsSound w → SameRest s new → new.places.items ≡ slice_set s.places.items p (Some after) → slice_get w.places p ≡ Some (Some t) → SameAt w p kept t
-    → clear w.requests t ≡ accepted (marks r) a → Lands (clears (serves Clear s.requests.opens kept) w.requests) (marks r) after t → Becomes (marked_by Clear (serves Clear s.requests.opens kept) kept.marks) (timed_by Clear s.moment kept.moments) kept after
+    → clear w.requests t ≡ accepted (marks r) a → CameAbout (clears (serves Clear s.requests.opens kept) w.requests) (marks r) after t → Becomes (marked_by Clear (serves Clear s.requests.opens kept) kept.marks) (timed_by Clear s.moment kept.moments) kept after
     → Matches new (asked w r (event.At p Clear) a)
 cleared s new w p kept after t r a m sound rest places there same done lands_ becomes_ =
     let met = clear_met w t (marks r) a done in

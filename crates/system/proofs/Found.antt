@@ -4,14 +4,13 @@ use Rattle.std.specs.Prelude.{slice_get, slice_set}
 use Rattle.frames.specs.declared.Change.{Change}
 use Rattle.method_table.specs.TableView.{TableView}
 use Rattle.thread_state.specs.declared.State.TheVariants.{Vacant}
-use Rattle.system.specs.declared.requests.Open.{Open}
 use Rattle.system.specs.declared.thread.Thread.{Thread as Kept}
-use Rattle.system.specs.declared.events.Act.{Act}
 use Rattle.system.specs.declared.answers.Answer.{Answer}
 use Rattle.system.specs.declared.answers.Answer.TheVariants.{Refused}
 use Rattle.system.specs.declared.answers.Refusal.{Refusal}
 use Rattle.system.specs.declared.answers.Refusal.TheVariants.{Illegal}
-use Rattle.system.specs.Steps.{DidAt, DidAct, DidChange, DidCount, answer_here}
+use Rattle.system.specs.Kept.Acts.{Lent}
+use Rattle.system.specs.Kept.Places.{DidAt, DidAct, DidChange, DidCount, answer_here}
 
 -- an index in range finds what is read there
 pub got : (ks : List (Option Kept)) (i : ℕ) (d k : Option Kept) → i < length ks → get_or ks i d ≡ k → slice_get ks i ≡ Some k
@@ -25,11 +24,11 @@ put_back [] i k e = cc
 put_back (x ∷ ks) zero k e = (let is : x ≡ k = cc in ap (λ y. y ∷ ks) (sym is))
 put_back (x ∷ ks) (suc i) k e = ap (λ ys. x ∷ ys) (put_back ks i k e)
 
-pub vacant_at : (a : Act) (table : TableView) (opens : List Open) (now place : ℕ) (ks new : List (Option Kept)) → slice_get ks place ≡ Some None → new ≡ ks → DidAt a table opens now place ks new (Refused (Illegal Vacant))
-vacant_at a table opens now place ks new e same = rw e (refl, same)
+pub vacant_at : (lent : Lent) (table : TableView) (place : ℕ) (ks new : List (Option Kept)) → slice_get ks place ≡ Some None → new ≡ ks → DidAt lent table place ks new (Refused (Illegal Vacant))
+vacant_at lent table place ks new e same = rw e (refl, same)
 
-pub acted_at : (a : Act) (table : TableView) (opens : List Open) (now place : ℕ) (ks new : List (Option Kept)) (kept after : Kept) (result : Result Answer Refusal) → slice_get ks place ≡ Some (Some kept) → DidAct a table opens now kept after result → new ≡ slice_set ks place (Some after) → DidAt a table opens now place ks new (answer_here result)
-acted_at a table opens now place ks new kept after result e did set = rw e (record { after = after; result = result; did = did; said = refl; places = set })
+pub acted_at : (lent : Lent) (table : TableView) (place : ℕ) (ks new : List (Option Kept)) (kept after : Kept) (result : Result Answer Refusal) → slice_get ks place ≡ Some (Some kept) → DidAct lent table kept after result → new ≡ slice_set ks place (Some after) → DidAt lent table place ks new (answer_here result)
+acted_at lent table place ks new kept after result e did set = rw e (record { after = after; result = result; did = did; said = refl; places = set })
 
 pub vacant_count : (place : ℕ) (ks new : List (Option Kept)) → slice_get ks place ≡ Some None → new ≡ ks → DidChange place ks new (Err (Illegal Vacant))
 vacant_count place ks new e same = rw e (refl, same)

@@ -14,7 +14,7 @@ use Rattle.frames.proofs.Bags.{times-append, times-filter, times-codes_of, same_
 use Rattle.frames.proofs.Ordered.{IsLeast, least-is_least, least-unique}
 use Rattle.frames.proofs.Uncounted.{times-uncounted}
 use Rattle.system.specs.Threads.{Thread, has_changed, changed_codes, is_left, next_change, is_settled, part}
-use Rattle.system.specs.Keeps.{SameImage}
+use Rattle.system.specs.Marking.{SameImage}
 
 -- no publication is open
 pub closed_is_none : (o : Option (List CodeId)) → is_some o ≡ false → o ≡ None

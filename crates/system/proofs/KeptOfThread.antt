@@ -8,7 +8,7 @@ use Rattle.system.specs.Operations.{Requests, Opened}
 use Rattle.system.specs.Threads.{Thread}
 use Rattle.system.specs.World.{World, is_live}
 use Rattle.system.specs.Facts.{IsSound}
-use Rattle.system.specs.Keeps.{SameOpen, OpenBy, IsHere, PollIs}
+use Rattle.system.specs.Kept.Threads.{SameOpen, OpenBy, IsHere, PollIs}
 use Rattle.system.specs.Marking.{SameMarks}
 use Rattle.system.specs.Stands.{Matches, SameAt}
 use Rattle.system.proofs.SoundMarks.{live_has}

@@ -8,7 +8,8 @@ use Rattle.system.specs.declared.thread.Thread.{Thread as Kept}
 use Rattle.system.specs.declared.answers.Answer.TheVariants.{Changed}
 use Rattle.system.specs.Threads.{Thread, next_change}
 use Rattle.system.specs.Places.{changes}
-use Rattle.system.specs.Keeps.{SameThread, DidNext}
+use Rattle.system.specs.Marking.{SameThread}
+use Rattle.system.specs.Kept.Acts.{DidNext}
 use Rattle.system.proofs.Images.{next_is_left, counted_is_changed, counted_by_difference}
 
 none_next : (old : Kept) (image : ImageView) (t : Thread) (result : Option Change) → SameThread old t → option_map (λ change. change.code) result ≡ None → IfNone result (image ≡ old.image) → DidNext (changes t None) old (record old { image = image }) t (Ok result)

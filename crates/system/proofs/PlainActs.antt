@@ -2,6 +2,7 @@
 use Rattle.std.proofs.Common.{◌++◌, ◌≡◌, ◌∙◌, sym, ap, refl, subst, ℕ, zero, suc, not, ◌||◌, List, [], ◌∷◌, Option, Some, None, Result, length, arith}
 use Rattle.std.specs.Prelude.{slice_get, slice_set, is_some}
 use Rattle.thread_state.specs.declared.State.TheVariants.{Vacant}
+use Rattle.method_table.specs.TableView.{TableView}
 use Rattle.system.specs.declared.events.Act.{Act}
 use Rattle.system.specs.declared.events.Act.TheVariants.{Begin, Change, End, Wake, Cross, Enter, Leave, Edge, ToVm, FromVm, ToNative, Block, Exit, Take, Finish, Clear, Hold, Release, Stack}
 use Rattle.system.specs.declared.events.Event.{Event}
@@ -9,7 +10,6 @@ use Rattle.system.specs.declared.events.Event.TheVariants as event
 use Rattle.system.specs.declared.answers.Answer.{Answer}
 use Rattle.system.specs.declared.answers.Refusal.{Refusal}
 use Rattle.system.specs.declared.answers.Refusal.TheVariants.{NoSuchPlace, Illegal, Publishing}
-use Rattle.system.specs.declared.requests.Open.{Open}
 use Rattle.system.specs.declared.thread.Thread.{Thread as Kept}
 use Rattle.system.specs.declared.keeping.Core.{Core}
 use Rattle.system.specs.Verdict.{Verdict, refused, accepted}
@@ -20,8 +20,8 @@ use Rattle.system.specs.Places.{Effect, becomes, leaves, marks, here, does, is_l
 use Rattle.system.specs.Step.{outcome, lands}
 use Rattle.system.specs.Runs.{entries, answer_of, world_of}
 use Rattle.system.specs.Facts.{IsSound}
-use Rattle.system.specs.Keeps.{Did, Reach, seats, finishes, clears, reach_of, Lands, Becomes, marked_by, timed_by, serves}
-use Rattle.system.specs.Steps.{DidAt, DidFound, ActedAt, answer_here}
+use Rattle.system.specs.Kept.Acts.{Lent, Did, Reach, thread_alone, finishes, clears, reach_of, CameAbout, Becomes, marked_by, timed_by, serves}
+use Rattle.system.specs.Kept.Places.{DidAt, DidFound, ActedAt, answer_here}
 use Rattle.system.specs.Stands.{Matches, SamePlace, SameAt, DoesIn, Does, held_at}
 use Rattle.system.proofs.Outcomes.{asked}
 use Rattle.system.proofs.Found.{put_back}
@@ -72,7 +72,7 @@ accepted_in new w e v a said is says m = record {
 
 -- the marks that an act may add are those of Finish and Clear
 marked : (s new : Core) (w : World) (p : ℕ) (act : Act) (kept after_ : Kept) (t : Thread) (r : Requests) (a : Answer) → Matches s w → IsSound w → SameRest s new → new.places.items ≡ slice_set s.places.items p (Some after_) → slice_get w.places p ≡ Some (Some t) → SameAt w p kept t
-    → does w act t ≡ accepted (marks r) a → Lands (reach_of act (serves act s.requests.opens kept) w.requests) (marks r) after_ t → Becomes (marked_by act (serves act s.requests.opens kept) kept.marks) (timed_by act s.moment kept.moments) kept after_
+    → does w act t ≡ accepted (marks r) a → CameAbout (reach_of act (serves act s.requests.opens kept) w.requests) (marks r) after_ t → Becomes (marked_by act (serves act s.requests.opens kept) kept.marks) (timed_by act s.moment kept.moments) kept after_
     → Matches new (asked w r (event.At p act) a)
 marked s new w p Finish kept after_ t r a m sound rest places there same done lands_ becomes_ = finished s new w p kept after_ t r a m sound rest places there same done lands_ becomes_
 marked s new w p Clear kept after_ t r a m sound rest places there same done lands_ becomes_ = cleared s new w p kept after_ t r a m sound rest places there same done lands_ becomes_
@@ -94,14 +94,18 @@ marked s new w p Hold kept after_ t r a m sound rest places there same done land
 marked s new w p Release kept after_ t r a m sound rest places there same done lands_ becomes_ = absurd lands_
 marked s new w p Stack kept after_ t r a m sound rest places there same done lands_ becomes_ = absurd lands_
 
-nobody_leaves : (reach : Reach) (kept : Kept) (t : Thread) → Lands reach leaves kept t → ⊥
-nobody_leaves seats kept t h = h
+nobody_leaves : (reach : Reach) (kept : Kept) (t : Thread) → CameAbout reach leaves kept t → ⊥
+nobody_leaves thread_alone kept t h = h
 nobody_leaves (finishes n q) kept t h = h
 nobody_leaves (clears n q) kept t h = h
 
+-- What the system lends a thread for an act.
+abbrev lent_by : Core → Act → Lent
+lent_by s act = record { act = act; opens = s.requests.opens; now = s.moment }
+
 -- by what the verdict is
 by_verdict : (s new : Core) (w : World) (p : ℕ) (act : Act) (kept after_ : Kept) (t : Thread) (result : Result Answer Refusal) (said : Answer) (v : Verdict Effect) → Matches s w → IsSound w → SameRest s new → new.places.items ≡ slice_set s.places.items p (Some after_) → slice_get s.places.items p ≡ Some (Some kept) → slice_get w.places p ≡ Some (Some t) → SameAt w p kept t
-    → here w act t ≡ v → outcome w (event.At p act) ≡ lands w p v → Did act s.requests.opens w.requests s.moment v kept after_ t result → said ≡ answer_here result → DoesIn (event.At p act) said new w
+    → here w act t ≡ v → outcome w (event.At p act) ≡ lands w p v → Did (lent_by s act) w.requests v kept after_ t result → said ≡ answer_here result → DoesIn (event.At p act) said new w
 by_verdict s new w p act kept after_ t result said (refused r) m sound rest places at_s there same is goes did says =
     let back : new.places.items ≡ s.places.items = places ∙ (ap (λ k. slice_set s.places.items p (Some k)) did.1 ∙ put_back s.places.items p (Some kept) at_s) in
     refused_in s new w (event.At p act) r said rest back m goes (says ∙ ap answer_here did.0)
@@ -111,7 +115,7 @@ by_verdict s new w p act kept after_ t result said (accepted leaves a) m sound r
 by_verdict s new w p act kept after_ t result said (accepted (marks r) a) m sound rest places at_s there same is goes did says =
     accepted_in new w (event.At p act) _ a said goes (says ∙ ap answer_here did.0) (marked s new w p act kept after_ t r a m sound rest places there same (here_yes w act t (marks r) a is) did.1 did.2)
 
-pub acted : (s new : Core) (p : ℕ) (act : Act) (said : Answer) (w : World) → Matches s w → IsSound w → SameRest s new → DidAt act s.table s.requests.opens s.moment p s.places.items new.places.items said → DoesIn (event.At p act) said new w
+pub acted : (s new : Core) (p : ℕ) (act : Act) (said : Answer) (w : World) → Matches s w → IsSound w → SameRest s new → DidAt (lent_by s act) s.table p s.places.items new.places.items said → DoesIn (event.At p act) said new w
 acted s new p act said w m sound rest did = elim (at_place s w p m) [
   | nowhere e x ↦ (
       let d = rw e at did in
@@ -120,21 +124,21 @@ acted s new p act said w m sound rest did = elim (at_place s w p m) [
       let d = rw e at did in
       refused_in s new w (event.At p act) (Illegal Vacant) said rest d.1 m (rw x refl) d.0)
   | seat kept t e x same ↦ (
-      let d : ActedAt act s.table s.requests.opens s.moment p kept s.places.items new.places.items said = rw e at did in
+      let d : ActedAt (lent_by s act) s.table p kept s.places.items new.places.items said = rw e at did in
       let k : Kept = d.after in
       by_verdict s new w p act kept k t d.result said (here w act t) m sound rest d.places e x same refl (rw x refl) (d.did w t m.codes m.methods (is_here s w p kept t m sound x same)) d.said)
 ]
 
-found_length : (act : Act) (table : Rattle.method_table.specs.TableView.TableView) (opens : List Open) (now p : ℕ) (o : Option (Option Kept)) (old new : List (Option Kept)) (said : Answer) → DidFound act table opens now p o old new said → length new ≡ length old
-found_length act table opens now p None old new said d = ap length d.1
-found_length act table opens now p (Some None) old new said d = ap length d.1
-found_length act table opens now p (Some (Some kept)) old new said d = ap length d.places ∙ length_set old p (Some d.after)
+found_length : (lent : Lent) (table : TableView) (p : ℕ) (o : Option (Option Kept)) (old new : List (Option Kept)) (said : Answer) → DidFound lent table p o old new said → length new ≡ length old
+found_length lent table p None old new said d = ap length d.1
+found_length lent table p (Some None) old new said d = ap length d.1
+found_length lent table p (Some (Some kept)) old new said d = ap length d.places ∙ length_set old p (Some d.after)
 
-pub act_does : (s new : Core) (p : ℕ) (act : Act) (said : Answer) → SameRest s new → DidAt act s.table s.requests.opens s.moment p s.places.items new.places.items said → Does (event.At p act) s said new
+pub act_does : (s new : Core) (p : ℕ) (act : Act) (said : Answer) → SameRest s new → DidAt (lent_by s act) s.table p s.places.items new.places.items said → Does (event.At p act) s said new
 act_does s new p act said rest did = record {
   each = λ w sound m. acted s new p act said w m sound rest did;
   sizes = record {
-    places = found_length act s.table s.requests.opens s.moment p (slice_get s.places.items p) s.places.items new.places.items said did;
+    places = found_length (lent_by s act) s.table p (slice_get s.places.items p) s.places.items new.places.items said did;
     slots = ap (λ tb. tb.slots) rest.table;
     methods = ap (λ tb. tb.methods) rest.table;
   };

@@ -11,7 +11,7 @@ use Rattle.system.specs.declared.answers.Refusal.{Refusal}
 use Rattle.system.specs.Operations.{Requests, poll_of}
 use Rattle.system.specs.Threads.{Thread}
 use Rattle.system.specs.Places.{crosses, polls}
-use Rattle.system.specs.Keeps.{DidStay, Becomes}
+use Rattle.system.specs.Kept.Acts.{DidAlone, Becomes}
 
 pub java_is : (s : State) → is_in_java s ≡ true → s ≡ InJava
 java_is InJava h = refl
@@ -41,12 +41,12 @@ stays old mid new b s = record {
   moments_are = s.moments_are ∙ b.moments_are;
 }
 
-by_go : (old mid new : Kept) (t u : Thread) (poll : Option ℕ) (go : Bool) (result : Result Answer Refusal) → Before old mid → DidStay (crosses u poll (cross InJava go)) mid new u result → DidStay (crosses u poll (cross InJava go)) old new t result
+by_go : (old mid new : Kept) (t u : Thread) (poll : Option ℕ) (go : Bool) (result : Result Answer Refusal) → Before old mid → DidAlone (crosses u poll (cross InJava go)) mid new u result → DidAlone (crosses u poll (cross InJava go)) old new t result
 by_go old mid new t u poll true result b did = (did.0, did.1, stays old mid new b did.2)
 by_go old mid new t u poll false result b did = (did.0, did.1, stays old mid new b did.2)
 
-pub polled_before : (old mid new : Kept) (requests : Requests) (t u : Thread) (result : Result Answer Refusal) → u.state ≡ InJava → Before old mid → DidStay (polls requests u) mid new u result → DidStay (polls requests u) old new t result
+pub polled_before : (old mid new : Kept) (requests : Requests) (t u : Thread) (result : Result Answer Refusal) → u.state ≡ InJava → Before old mid → DidAlone (polls requests u) mid new u result → DidAlone (polls requests u) old new t result
 polled_before old mid new requests t u result java b did =
     let go : Bool = is_none (poll_of requests u.name) in
-    let P : State → Type 0 = λ s. DidStay (crosses u (poll_of requests u.name) (cross s go)) mid new u result → DidStay (crosses u (poll_of requests u.name) (cross s go)) old new t result in
+    let P : State → Type 0 = λ s. DidAlone (crosses u (poll_of requests u.name) (cross s go)) mid new u result → DidAlone (crosses u (poll_of requests u.name) (cross s go)) old new t result in
     subst P (sym java) (λ d. by_go old mid new t u (poll_of requests u.name) go result b d) did

@@ -31,7 +31,7 @@ use Rattle.system.specs.World.{World, thread_at, walk, covered}
 use Rattle.system.specs.Step.{outcome, of_code, invalidate, look, clear_or_late, unlooked, weigh, weigh_all}
 use Rattle.system.specs.Facts.{IsSound}
 use Rattle.system.specs.Stands.{Matches, SamePlace, SameRecord, SameRecords, SameCells, Does, held_at}
-use Rattle.system.specs.Records.{new_record, with_look, not_entrant, is_clear}
+use Rattle.system.specs.Kept.Records.{new_record, with_look, not_entrant, is_clear}
 use Rattle.system.proofs.Lists.{found_passes, find_place, find_push, find_push_none}
 use Rattle.system.proofs.Outcomes.{coded, IsCode}
 use Rattle.system.proofs.Seats.{get_set_same, get_set_other, there_of}

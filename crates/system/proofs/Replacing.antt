@@ -13,7 +13,7 @@ use Rattle.system.specs.declared.keeping.Core.{Core}
 use Rattle.system.specs.Log.{names_given}
 use Rattle.system.specs.World.{World}
 use Rattle.system.specs.Facts.{TableIsSound, ThreadsAreSound, IsSound}
-use Rattle.system.specs.Records.{new_record}
+use Rattle.system.specs.Kept.Records.{new_record}
 use Rattle.system.specs.Stands.{Matches, DoesIn, Does}
 use Rattle.system.proofs.Lists.{map_length}
 use Rattle.system.proofs.Table.{table_kept}

@@ -26,9 +26,9 @@ use Rattle.system.specs.Log.{Entry, is_start, is_round, is_invalidate, is_look, 
 use Rattle.system.specs.Threads.{Thread}
 use Rattle.system.specs.World.{World, thread_at, threads, live_names, is_live}
 use Rattle.system.specs.Step.{outcome, awaits_safepoint, may_open}
-use Rattle.system.specs.Asking.{refusal_of}
-use Rattle.system.specs.Censuses.{has_census}
-use Rattle.system.specs.Opening.{is_census_next, may_open_now}
+use Rattle.system.specs.Kept.Asking.{refusal_of}
+use Rattle.system.specs.Kept.Censuses.{has_census}
+use Rattle.system.specs.Kept.Opening.{is_census_next, may_open_now}
 use Rattle.system.specs.Facts.{IsSound}
 use Rattle.system.specs.Memory.{Accepts}
 use Rattle.system.specs.Marking.{SameMarks, SameOpens}

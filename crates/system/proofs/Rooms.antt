@@ -7,7 +7,7 @@ use Rattle.system.specs.declared.answers.Refusal.{Refusal}
 use Rattle.system.specs.declared.answers.Refusal.TheVariants.{Unpublished, DepthFull}
 use Rattle.system.specs.Verdict.{Verdict, unless◌refuse◌then◌}
 use Rattle.system.specs.Places.{Effect}
-use Rattle.system.specs.Keeps.{frame_refusal}
+use Rattle.system.specs.Kept.Threads.{frame_refusal}
 
 by_bools : (p full : Bool) → ◌≡◌ {A = Option Refusal} (cond (not p) (Some Unpublished) (cond full (Some DepthFull) None)) None → (p ≡ true) × (full ≡ false)
 by_bools true true h = cc

@@ -9,7 +9,8 @@ use Rattle.system.specs.Verdict.{Verdict, refused, unless◌refuse◌then◌}
 use Rattle.system.specs.Threads.{Thread}
 use Rattle.system.specs.World.{World}
 use Rattle.system.specs.Places.{Effect, here, does, is_lawful, lawful_in, may_while_publishing}
-use Rattle.system.specs.Keeps.{SameThread, common_refusal}
+use Rattle.system.specs.Marking.{SameThread}
+use Rattle.system.specs.Kept.Threads.{common_refusal}
 
 lawful_by : (act : Act) (t : Thread) → is_lawful act t ≡ lawful_in act t.held t.state
 lawful_by act t = refl

@@ -28,9 +28,9 @@ use Rattle.system.specs.World.{World, threads, part_at, thread_at, found, vacant
 use Rattle.system.specs.Step.{new_thread, with_place}
 use Rattle.system.specs.Facts.{IsSound}
 use Rattle.system.specs.Memory.{Accepts}
-use Rattle.system.specs.Keeps.{IsNew}
+use Rattle.system.specs.Kept.Threads.{IsNew}
 use Rattle.system.specs.Marking.{SameMarks, SameOpened, SameOpens}
-use Rattle.system.specs.Censuses.{has_census}
+use Rattle.system.specs.Kept.Censuses.{has_census}
 use Rattle.system.specs.Stands.{Matches, SamePlace, SameAt, Does, walk_of, kept_at, held_at}
 use Rattle.system.proofs.Cells.{cells_over}
 use Rattle.system.proofs.Outcomes.{seated}

@@ -23,10 +23,10 @@ use Rattle.system.specs.World.{World, threads, is_live, is_live_target}
 use Rattle.system.specs.Places.{in_found}
 use Rattle.system.specs.Step.{outcome, may_tell, tell_in, tell_oldest}
 use Rattle.system.specs.Facts.{IsSound}
-use Rattle.system.specs.Keeps.{SameOpen, is_live_for, was_told, live_by, untold_by, marks_told, answer_of_told, answer_told, kept_told}
+use Rattle.system.specs.Kept.Threads.{SameOpen, is_live_for, was_told, live_by, untold_by, marks_told, answer_of_told, answer_told, kept_told}
 use Rattle.system.specs.Marking.{SameMarks, SameOpened}
 use Rattle.system.specs.Stands.{Matches, DoesIn, Does}
-use Rattle.system.specs.Tells.{is_named_at, may_tell_of}
+use Rattle.system.specs.Kept.Tells.{is_named_at, may_tell_of}
 use Rattle.system.proofs.Outcomes.{Tells}
 use Rattle.system.proofs.Lists.{any_at, any_none_at, find_filter, find_place, found_passes}
 use Rattle.system.proofs.Found.{put_back}

@@ -14,7 +14,7 @@ use Rattle.system.specs.World.{World, live_names, is_live, is_live_target}
 use Rattle.system.specs.Log.{names_given, operations_given, moment}
 use Rattle.system.specs.Places.{is_undone, is_uncleared}
 use Rattle.system.specs.Facts.{NumbersAreSound, MarksAreSound, IsSound}
-use Rattle.system.specs.Keeps.{poll_by, SameOpen}
+use Rattle.system.specs.Kept.Threads.{poll_by, SameOpen}
 use Rattle.system.specs.Marking.{SameMarks, SameOpened, done_by}
 use Rattle.system.proofs.Outcomes.{Tells, Opens, newly_opened, with_opened, with_operated}
 use Rattle.system.specs.Step.{operated_if}

@@ -10,14 +10,8 @@ pub mod Stands
 pub mod Moments
 pub mod Laws
 pub mod Facts
-pub mod Keeps
 pub mod Marking
-pub mod Steps
 pub mod Ran
 pub mod Safepoints
-pub mod Records
-pub mod Tells
-pub mod Censuses
 pub mod Memory
-pub mod Asking
-pub mod Opening
+pub mod Kept

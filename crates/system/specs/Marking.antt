@@ -1,13 +1,32 @@
--- The last marks of a thread stand for all marks of the requests.
-use Rattle.std.specs.Prelude.{◌≡◌, ℕ, ◌<◌, ◌≤◌, Bool, true, nat_le, List, Some, slice_get, if◌then◌else◌}
+-- What the system keeps of a thread and of the open operations, against the definitions: its last marks stand for all marks of
+-- the requests.
+use Rattle.std.specs.Prelude.{◌≡◌, ℕ, ◌<◌, ◌≤◌, Bool, true, ◌&&◌, nat_le, List, [], ◌∷◌, Some, slice_get, is_some, if◌then◌else◌}
+use Rattle.frames.specs.declared.CodeId.{CodeId}
+use Rattle.frames.specs.Stack.{times}
+use Rattle.frames.specs.ImageView.{ImageView}
 use Rattle.operations.specs.Names.{among}
 use Rattle.operations.specs.Requests.{is_census, is_target}
 use Rattle.system.specs.declared.requests.Open.{Open}
 use Rattle.system.specs.declared.thread.Marks.{Marks}
+use Rattle.system.specs.declared.thread.Thread.{Thread as Kept}
+use Rattle.system.specs.Threads.{Thread, part}
 use Rattle.system.specs.Operations.{Requests, Opened, is_marked}
 use Rattle.system.specs.Log.{names_given}
 use Rattle.system.specs.World.{World, is_live}
-use Rattle.std.specs.Prelude.{◌&&◌, [], ◌∷◌}
+
+-- The image has the thread's stack, and counts what the thread published.
+pub record SameImage (image : ImageView) (t : Thread) : Type 0 where
+  pub frames : image.frames ≡ t.stack
+  pub publishing : image.publishing ≡ is_some t.changed
+  pub counted : (code : CodeId) → times code image.counted ≡ part code t
+
+-- All of a thread but its marks and moments.
+pub record SameThread (kept : Kept) (t : Thread) : Type 0 where
+  pub name : kept.name ≡ t.name
+  pub state : kept.state ≡ t.state
+  pub held : kept.held ≡ t.held
+  pub published : kept.published ≡ t.published
+  pub image : SameImage kept.image t
 
 -- Done for a thread that was told: a census where it was operated, a handshake up to the last one that is done.
 abbrev pub done_by : Opened → Marks → Bool

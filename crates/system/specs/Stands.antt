@@ -21,7 +21,7 @@ use Rattle.system.specs.World.{World, start_world, thread_at, walk}
 use Rattle.system.specs.Runs.{world_after, answer_to, after}
 use Rattle.system.specs.Moments.{left_at, begun, ended}
 use Rattle.system.specs.Facts.{IsSound}
-use Rattle.system.specs.Keeps.{SameThread}
+use Rattle.system.specs.Marking.{SameThread}
 use Rattle.system.specs.Marking.{SameMarks, SameOpens}
 
 -- The sizes that a system may have: places, slots, methods. (own limits)

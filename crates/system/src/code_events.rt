@@ -3,7 +3,7 @@ ghost use Rattle.std.specs.Prelude.{◌≡◌, ◌<◌, ◌≤◌, length, slice
 ghost use Rattle.method_table.specs.Codes.{unfreed};
 ghost use Rattle.system.specs.declared.events.Event.TheVariants as events;
 ghost use Rattle.system.specs.Memory.{Accepts};
-ghost use Rattle.system.specs.Records.{new_record, not_entrant, is_clear};
+ghost use Rattle.system.specs.Kept.Records.{new_record, not_entrant, is_clear};
 ghost use Rattle.system.specs.Stands.{Does, OfWorld};
 
 use crate::answers::{Answer, Refusal};

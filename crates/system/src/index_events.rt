@@ -2,7 +2,7 @@
 ghost use Rattle.std.specs.Prelude.{◌≡◌, ◌≤◌, length, map, IfOk, OnErr};
 ghost use Rattle.system.specs.declared.events.Act.TheVariants as acts;
 ghost use Rattle.system.specs.declared.events.Event.TheVariants as events;
-ghost use Rattle.system.specs.Censuses.{operate_refusal, IsCensus, named};
+ghost use Rattle.system.specs.Kept.Censuses.{operate_refusal, IsCensus, named};
 ghost use Rattle.system.specs.Memory.{Accepts};
 ghost use Rattle.system.specs.Stands.{Does, OfWorld};
 

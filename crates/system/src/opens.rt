@@ -1,8 +1,8 @@
 // The open operations, in a list that takes no memory.
 ghost use Rattle.std.specs.Prelude.{◌≡◌, ◌==◌, [], ◌∷◌, ◌++◌, ◌<◌, length, IfOk, remove, slice_get, option_copied};
 ghost use Rattle.std.specs.List.{position};
-ghost use Rattle.system.specs.Censuses.{operated};
-ghost use Rattle.system.specs.Opening.{place_of};
+ghost use Rattle.system.specs.Kept.Censuses.{operated};
+ghost use Rattle.system.specs.Kept.Opening.{place_of};
 
 use crate::requests::Open;
 use std::alloc::{AllocError, Global};

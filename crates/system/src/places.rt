@@ -1,8 +1,8 @@
 // The places, and the acts of the threads at them.
 ghost use Rattle.std.specs.Prelude.{◌≡◌, ◌<◌, ◌≤◌, ℕ, List, length, Some, None, IfOk, OnErr, slice_get, slice_set, true, replicate};
 ghost use Rattle.system.specs.declared.answers.Answer.TheVariants;
-ghost use Rattle.system.specs.Keeps.{is_plain};
-ghost use Rattle.system.specs.Steps.{DidAt, DidExit, DidChange, answer_here, frames_at, is_taken};
+ghost use Rattle.system.specs.Kept.Acts.{is_plain};
+ghost use Rattle.system.specs.Kept.Places.{DidAt, DidExit, DidChange, answer_here, frames_at, is_taken};
 ghost use Rattle.system.specs.World.{vacant_place};
 
 use crate::answers::{Answer, FrameList, Refusal};
@@ -35,7 +35,7 @@ pub fn act_at(
 ) -> Answer
     requires plain { is_plain act ≡ true }
     requires few { table.now.methods ≤ 256 }
-    ensures { DidAt act table.now operations.now now place places.old.items places.new.items result }
+    ensures { DidAt (record { act = act; opens = operations.now; now = now }) table.now place places.old.items places.new.items result }
 {
     if place >= places.len() {
         return Answer::Refused(Refusal::NoSuchPlace);

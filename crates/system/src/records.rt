@@ -1,6 +1,6 @@
 // What the system writes down of a code that isn't entrant, by its slot.
 ghost use Rattle.std.specs.Prelude.{◌≡◌, ◌<◌, ◌≤◌, ℕ, true, false, IfOk, IfSome, IfNone, slice_set, slice_index_or, replicate, length};
-ghost use Rattle.system.specs.Records.{new_record, with_look};
+ghost use Rattle.system.specs.Kept.Records.{new_record, with_look};
 
 use std::alloc::{AllocError, Global};
 

@@ -2,7 +2,7 @@
 ghost use Rattle.std.specs.Prelude.{◌≡◌, true, IfOk, OnErr, IfSome, IfNone};
 ghost use Rattle.system.specs.declared.events.Event.TheVariants as events;
 ghost use Rattle.system.specs.declared.answers.Answer.TheVariants as answers;
-ghost use Rattle.system.specs.Asking.{refusal_of};
+ghost use Rattle.system.specs.Kept.Asking.{refusal_of};
 ghost use Rattle.system.specs.Memory.{Accepts};
 ghost use Rattle.system.specs.Stands.{Does};
 

@@ -2,9 +2,9 @@
 ghost use Rattle.std.specs.Prelude.{◌≡◌};
 ghost use Rattle.std.specs.List.{list_all, list_any};
 ghost use Rattle.operations.specs.Requests.{is_census, is_target, lists, reply_to};
-ghost use Rattle.system.specs.Censuses.{has_census};
-ghost use Rattle.system.specs.Opening.{is_census_next, may_open_now};
-ghost use Rattle.system.specs.Tells.{is_clear_at, is_held_for, is_over_at, may_tell_of};
+ghost use Rattle.system.specs.Kept.Censuses.{has_census};
+ghost use Rattle.system.specs.Kept.Opening.{is_census_next, may_open_now};
+ghost use Rattle.system.specs.Kept.Tells.{is_clear_at, is_held_for, is_over_at, may_tell_of};
 
 use crate::opens::{OPEN, Opens};
 use crate::thread::Thread;

@@ -2,8 +2,8 @@
 ghost use Rattle.std.specs.Prelude.{◌≡◌, ◌<◌, IfSome, IfNone, false, Some, slice_get, slice_set, length};
 ghost use Rattle.std.specs.List.{list_any};
 ghost use Rattle.system.specs.declared.thread.Thread.{Thread as TheThread};
-ghost use Rattle.system.specs.Keeps.{answer_told, kept_told};
-ghost use Rattle.system.specs.Tells.{is_named_at, may_tell_of};
+ghost use Rattle.system.specs.Kept.Threads.{answer_told, kept_told};
+ghost use Rattle.system.specs.Kept.Tells.{is_named_at, may_tell_of};
 
 use crate::answers::Answer;
 use crate::requests::Open;

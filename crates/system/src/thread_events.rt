@@ -2,7 +2,7 @@
 ghost use Rattle.std.specs.Prelude.{◌≡◌, ◌≤◌, true, IfOk, OnErr};
 ghost use Rattle.system.specs.declared.events.Event.TheVariants as events;
 ghost use Rattle.system.specs.declared.events.Act.TheVariants as acts;
-ghost use Rattle.system.specs.Keeps.{is_plain};
+ghost use Rattle.system.specs.Kept.Acts.{is_plain};
 ghost use Rattle.system.specs.Memory.{Accepts};
 ghost use Rattle.system.specs.Stands.{Does};
 

@@ -1,6 +1,6 @@
 use Rattle.std.proofs.Common.{◌∙◌, refl, ap, length}
 use Rattle.std.proofs.lemmas.List.{length-replicate}
-use Rattle.system.specs.Records.{new_record}
+use Rattle.system.specs.Kept.Records.{new_record}
 use Rattle.system.proofs.Runs.{blank_stands}
 use Rattle.system.proofs.machine.new_core.Goals as goal
 

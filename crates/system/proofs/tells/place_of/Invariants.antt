@@ -1,6 +1,6 @@
 use Rattle.std.proofs.Common.{◌≡◌, drop}
 use Rattle.std.specs.List.{list_any}
-use Rattle.system.specs.Tells.{is_named_at}
+use Rattle.system.specs.Kept.Tells.{is_named_at}
 use Rattle.system.proofs.tells.place_of.Given as goal
 
 abbrev pub invariant-loop-place : goal.invariant-loop-place

@@ -2,8 +2,8 @@ use Rattle.std.proofs.Common.{◌≡◌, ◌∙◌, sym, ap, true, false, Some, 
 use Rattle.std.specs.Prelude.{slice_get, get_or, length, ◌==◌}
 use Rattle.std.specs.List.{list_any}
 use Rattle.operations.specs.Names.{is_empty}
-use Rattle.system.specs.Opening.{place_of}
-use Rattle.system.specs.Tells.{is_held_for, is_over_at}
+use Rattle.system.specs.Kept.Opening.{place_of}
+use Rattle.system.specs.Kept.Tells.{is_held_for, is_over_at}
 use Rattle.system.proofs.AskedOfThread.{empty_length}
 use Rattle.system.proofs.Closing.{close_nothing, close_not_of, found_there, close_held, close_early, closed_does}
 use Rattle.system.proofs.keeping.Core.close.Goals as goal

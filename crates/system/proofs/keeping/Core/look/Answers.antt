@@ -1,7 +1,7 @@
 use Rattle.std.proofs.Common.{◌∙◌, sym, ap, refl, arith}
 use Rattle.std.specs.Prelude.{slice_set}
 use Rattle.system.specs.declared.records.Record.{Record}
-use Rattle.system.specs.Records.{with_look}
+use Rattle.system.specs.Kept.Records.{with_look}
 use Rattle.system.proofs.Lists.{same_at}
 use Rattle.system.proofs.ReclaimEvents.{at_index, no_look, no_place, late, clear}
 use Rattle.system.proofs.keeping.Core.look.Goals as goal

@@ -2,7 +2,7 @@ use Rattle.std.proofs.Common.{◌≡◌, ◌∙◌, sym, subst, true, false, ref
 use Rattle.system.specs.declared.events.Event.TheVariants as event
 use Rattle.system.specs.declared.answers.Answer.TheVariants as answer
 use Rattle.system.specs.declared.answers.Refusal.TheVariants as refusal
-use Rattle.system.specs.Opening.{may_open_now}
+use Rattle.system.specs.Kept.Opening.{may_open_now}
 use Rattle.system.specs.Stands.{Does}
 use Rattle.system.proofs.Requesting.{already_open, queue_empty, opened_does}
 use Rattle.system.proofs.keeping.Core.open_next.Goals as goal

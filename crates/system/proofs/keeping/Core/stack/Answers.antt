@@ -1,6 +1,6 @@
 use Rattle.std.proofs.Common.{◌≡◌, subst, true}
 use Rattle.std.specs.Prelude.{slice_get, IfOk, OnErr}
-use Rattle.system.specs.Steps.{frames_at, is_taken}
+use Rattle.system.specs.Kept.Places.{frames_at, is_taken}
 use Rattle.system.proofs.Exits.{stack_does, stack_may}
 use Rattle.system.proofs.keeping.Core.stack.Goals as goal
 

@@ -2,7 +2,7 @@ use Rattle.std.proofs.Common.{◌≡◌, ◌∙◌, sym, ap, true, false, Some, 
 use Rattle.std.specs.Prelude.{slice_get, length, ◌==◌}
 use Rattle.std.specs.List.{list_any}
 use Rattle.operations.specs.Names.{is_empty}
-use Rattle.system.specs.Tells.{is_named_at, may_tell_of}
+use Rattle.system.specs.Kept.Tells.{is_named_at, may_tell_of}
 use Rattle.system.proofs.AskedOfThread.{empty_length}
 use Rattle.system.proofs.Telling.{tell_nothing, tell_not_of, gone_nobody, tell_does}
 use Rattle.system.proofs.keeping.Core.tell.Goals as goal

@@ -1,6 +1,6 @@
 use Rattle.std.proofs.Common.{◌≡◌, refl, rules, Some, None}
 use Rattle.system.specs.declared.events.Act.TheVariants.{Begin, End, Wake, Finish, Clear, Release}
-use Rattle.system.specs.Keeps.{common_refusal}
+use Rattle.system.specs.Kept.Threads.{common_refusal}
 use Rattle.system.proofs.SharedTests.{here_passed, here_failed}
 use Rattle.system.proofs.thread.Thread.act.Goals as goal
 

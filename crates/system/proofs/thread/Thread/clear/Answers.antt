@@ -1,6 +1,6 @@
 use Rattle.std.proofs.Common.{rules, ◌≡◌, ◌∙◌, sym, ap, refl, true, false, Some, None, Err}
 use Rattle.std.specs.Prelude.{find, option_copied}
-use Rattle.system.specs.Keeps.{uncleared_by, is_done}
+use Rattle.system.specs.Kept.Threads.{uncleared_by, is_done}
 use Rattle.system.proofs.AskedOfThread.{empty_length, clear_is, clear_idle, clear_found, any_found, uncleared_waits}
 use Rattle.system.proofs.thread.Thread.clear.Goals as goal
 

@@ -3,7 +3,7 @@ use Rattle.std.specs.Prelude.{is_none, is_some}
 use Rattle.frames.specs.declared.Frame.{Frame}
 use Rattle.operations.specs.Names.{is_empty}
 use Rattle.system.specs.declared.events.Act.TheVariants.{Exit}
-use Rattle.system.specs.Keeps.{common_refusal, poll_by}
+use Rattle.system.specs.Kept.Threads.{common_refusal, poll_by}
 use Rattle.system.proofs.SharedTests.{here_passed}
 use Rattle.system.proofs.AskedOfThread.{settled_by}
 use Rattle.system.proofs.thread.Thread.exit_refusal.Goals as goal

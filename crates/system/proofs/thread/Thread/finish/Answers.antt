@@ -1,6 +1,6 @@
 use Rattle.std.proofs.Common.{rules, ◌≡◌, ◌∙◌, sym, ap, refl, true, false, Some, None, Err}
 use Rattle.std.specs.Prelude.{find, option_copied}
-use Rattle.system.specs.Keeps.{undone_by}
+use Rattle.system.specs.Kept.Threads.{undone_by}
 use Rattle.system.proofs.AskedOfThread.{settled_by, empty_length, finish_is, finish_idle, finish_found, undone_waits, asked_is}
 use Rattle.system.proofs.thread.Thread.finish.Goals as goal
 

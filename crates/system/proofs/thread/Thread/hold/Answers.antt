@@ -1,6 +1,6 @@
 use Rattle.std.proofs.Common.{◌≡◌, ◌∙◌, sym, ap, refl, true, Err}
 use Rattle.std.specs.List.{list_any}
-use Rattle.system.specs.Keeps.{uncleared_by}
+use Rattle.system.specs.Kept.Threads.{uncleared_by}
 use Rattle.system.proofs.AskedOfThread.{empty_length, hold_is, hold_idle, hold_passed, uncleared_waits}
 use Rattle.system.proofs.thread.Thread.hold.Goals as goal
 

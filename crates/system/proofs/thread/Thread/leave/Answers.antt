@@ -4,7 +4,7 @@ use Rattle.operations.specs.Names.{is_empty}
 use Rattle.thread_state.specs.States.{is_in_java}
 use Rattle.system.specs.declared.thread.Thread.{Thread as Kept}
 use Rattle.system.specs.Places.{popped}
-use Rattle.system.specs.Keeps.{SameThread}
+use Rattle.system.specs.Marking.{SameThread}
 use Rattle.system.proofs.Images.{with_frames, stack_is, take_front}
 use Rattle.system.proofs.Polled.{java_is, polled_before}
 use Rattle.system.proofs.thread.Thread.leave.Goals as goal

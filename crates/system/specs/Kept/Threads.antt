@@ -1,39 +1,24 @@
--- What the system keeps of a thread, against the thread of the definitions.
-use Rattle.std.specs.Prelude.{◌≡◌, ℕ, Bool, true, false, not, ◌&&◌, ◌||◌, ◌==◌, List, [], ◌∷◌, Option, Some, None, Result, Ok, Err, is_some, find, length, nat_lt, nat_le, if◌then◌else◌}
+-- What the tests and acts of a thread ask, said over the numbers that the system keeps of it. The rules that these restate stand in
+-- `Places.antt` and `Step.antt`: the proofs show that both say the same, and the headline speaks of those alone.
+use Rattle.std.specs.Prelude.{◌≡◌, ℕ, Bool, true, false, not, ◌&&◌, ◌||◌, ◌==◌, List, [], ◌∷◌, Option, Some, None, find, length, nat_lt, nat_le, if◌then◌else◌}
 use Rattle.std.specs.List.{list_any}
 use Rattle.thread_state.specs.declared.State.TheVariants.{New}
 use Rattle.frames.specs.declared.CodeId.{CodeId}
 use Rattle.frames.specs.Stack.{times}
-use Rattle.frames.specs.declared.Change.{Change as CodeChange}
-use Rattle.frames.specs.ImageView.{ImageView, SameBag, Counts}
 use Rattle.operations.specs.Requests.{is_census, is_target, lists}
 use Rattle.system.specs.declared.thread.Marks.{Marks}
-use Rattle.system.specs.declared.thread.Moments.{Moments}
 use Rattle.system.specs.declared.thread.Thread.{Thread as Kept}
 use Rattle.system.specs.declared.requests.Open.{Open}
 use Rattle.system.specs.declared.events.Act.{Act}
-use Rattle.system.specs.declared.events.Act.TheVariants.{Begin, Change, End, Exit, Finish, Clear, Stack}
 use Rattle.system.specs.declared.answers.Answer.{Answer}
-use Rattle.system.specs.declared.answers.Answer.TheVariants.{Changed, NoChange, Exited, Told, Gone, Refused}
+use Rattle.system.specs.declared.answers.Answer.TheVariants.{Told, Gone, Refused}
 use Rattle.system.specs.declared.answers.Refusal.{Refusal}
 use Rattle.system.specs.declared.answers.Refusal.TheVariants.{Illegal, Publishing, Unpublished, DepthFull, NothingOpen, NotOf, NotTold, AlreadyDone, AlreadyTold}
-use Rattle.system.specs.Verdict.{Verdict, refused, accepted, unless◌refuse◌then◌}
-use Rattle.system.specs.Operations.{Requests, Opened, is_marked, with_mark, poll_of}
-use Rattle.system.specs.Threads.{Thread, part}
-use Rattle.system.specs.Places.{Effect, becomes, leaves, marks, may_while_publishing, lawful_in, pushed}
-
--- The image has the thread's stack, and counts what the thread published.
-pub record SameImage (image : ImageView) (t : Thread) : Type 0 where
-  pub frames : image.frames ≡ t.stack
-  pub publishing : image.publishing ≡ is_some t.changed
-  pub counted : (code : CodeId) → times code image.counted ≡ part code t
-
-pub record SameThread (kept : Kept) (t : Thread) : Type 0 where
-  pub name : kept.name ≡ t.name
-  pub state : kept.state ≡ t.state
-  pub held : kept.held ≡ t.held
-  pub published : kept.published ≡ t.published
-  pub image : SameImage kept.image t
+use Rattle.system.specs.Verdict.{Verdict, unless◌refuse◌then◌}
+use Rattle.system.specs.Operations.{Requests, Opened, is_marked, poll_of}
+use Rattle.system.specs.Threads.{Thread}
+use Rattle.system.specs.Marking.{SameThread}
+use Rattle.system.specs.Places.{Effect, may_while_publishing, lawful_in, pushed}
 
 -- The poll, by the last operation that was told and the last that is cleared.
 abbrev pub poll_by : Marks → Option ℕ
@@ -127,73 +112,6 @@ common_refusal kept act =
     else if not (lawful_in act kept.held kept.state) then Some (Illegal kept.state)
     else None
 
--- The acts that change the thread alone, and are answered without memory: all but Change, which changes the index too, Exit,
--- which leaves the place vacant, and Stack.
-abbrev pub is_plain : Act → Bool
-is_plain Change = false
-is_plain Exit = false
-is_plain Stack = false
-is_plain other = true
-
--- The number of an operation that was found, 0 for none.
-abbrev pub number_of : Option Open → ℕ
-number_of None = 0
-number_of (Some open_) = open_.number
-
--- The operation that an act is of: the least told one that isn't done, or isn't cleared.
-abbrev pub serves : Act → List Open → Kept → ℕ
-serves Finish opens kept = number_of (find (undone_by kept) opens)
-serves Clear opens kept = number_of (find (uncleared_by kept) opens)
-serves other opens kept = 0
-
--- The marks and moments after an accepted act.
-abbrev pub marked_by : Act → ℕ → Marks → Marks
-marked_by Finish number m = record m { done = number }
-marked_by Clear number m = record m { cleared = number }
-marked_by other number m = m
-
-abbrev pub timed_by : Act → ℕ → Moments → Moments
-timed_by Begin now m = record m { begun = now }
-timed_by End now m = record m { stored = m.begun }
-timed_by other now m = m
-
--- What an act may change: its thread; or the marks of done or cleared operations, with the operation's number.
-pub data Reach : Type 0 where
-  seats : Reach
-  finishes : ℕ → Requests → Reach
-  clears : ℕ → Requests → Reach
-
-abbrev pub reach_of : Act → ℕ → Requests → Reach
-reach_of Finish number requests = finishes number requests
-reach_of Clear number requests = clears number requests
-reach_of other number requests = seats
-
--- What a thread is after an effect, and which marks are new.
-abbrev pub Lands : Reach → Effect → Kept → Thread → Type 0
-Lands seats (becomes new) kept t = SameThread kept new
-Lands (finishes number before) (marks requests) kept t = (requests ≡ record before { done = with_mark before.done number t.name }) × SameThread kept t
-Lands (clears number before) (marks requests) kept t = (requests ≡ record before { cleared = with_mark before.cleared number t.name }) × SameThread kept t
-Lands reach effect kept t = ⊥
-
--- The name and the counts stay, and marks and moments become these.
-pub record Becomes (m : Marks) (times_ : Moments) (old new : Kept) : Type 0 where
-  pub name : new.name ≡ old.name
-  pub counted : SameBag new.image.counted old.image.counted
-  pub marks_are : new.marks ≡ m
-  pub moments_are : new.moments ≡ times_
-
--- What the verdict says was done: a refusal leaves the thread; after an effect its marks and moments are these.
-abbrev pub DidWith : Reach → Marks → Moments → Verdict Effect → Kept → Kept → Thread → Result Answer Refusal → Type 0
-DidWith reach m times_ (refused refusal) old new t result = (result ≡ Err refusal) × (new ≡ old)
-DidWith reach m times_ (accepted effect answer) old new t result = (result ≡ Ok answer) × Lands reach effect new t × Becomes m times_ old new
-
--- The same of an act that changes its thread alone, with marks and moments as they were; and of each act.
-abbrev pub DidStay : Verdict Effect → Kept → Kept → Thread → Result Answer Refusal → Type 0
-DidStay verdict old new t result = DidWith seats old.marks old.moments verdict old new t result
-
-abbrev pub Did : Act → List Open → Requests → ℕ → Verdict Effect → Kept → Kept → Thread → Result Answer Refusal → Type 0
-Did act opens requests now verdict old new t result = DidWith (reach_of act (serves act opens old) requests) (marked_by act (serves act opens old) old.marks) (timed_by act now old.moments) verdict old new t result
-
 -- A frame goes on top of the stack, where the thread has published and there is room.
 abbrev pub enters_frame : Thread → ℕ → Option CodeId → Verdict Effect
 enters_frame t method code =
@@ -207,24 +125,6 @@ frame_refusal kept =
     if not kept.published then Some Unpublished
     else if nat_le 256 (length kept.image.frames) then Some DepthFull
     else None
-
--- What a thread's exit was answered.
-abbrev pub SaysExit : Verdict Effect → Thread → Option Refusal → Type 0
-SaysExit verdict t None = verdict ≡ accepted leaves (Exited t.name)
-SaysExit verdict t (Some refusal) = verdict ≡ refused refusal
-
--- What a change of the open publication is: its code's count moves to that of the stack, and no other count does.
-abbrev pub said_change : Option CodeChange → Answer
-said_change None = NoChange
-said_change (Some change) = Changed change.code.serial change.by
-
-abbrev pub Counted : Option CodeChange → Kept → Kept → Type 0
-Counted None old new = new ≡ old
-Counted (Some change) old new = Counts old.image new.image change × (new ≡ record old { image = new.image })
-
-abbrev pub DidNext : Verdict Effect → Kept → Kept → Thread → Result (Option CodeChange) Refusal → Type 0
-DidNext (refused refusal) old new t result = (result ≡ Err refusal) × (new ≡ old)
-DidNext (accepted effect answer) old new t result = (change : Option CodeChange) × (result ≡ Ok change) × (answer ≡ said_change change) × Lands seats effect new t × Counted change old new
 
 -- A new thread: its stack is empty, and it has published nothing.
 pub record IsNew (kept : Kept) (name : ℕ) : Type 0 where

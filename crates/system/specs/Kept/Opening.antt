@@ -5,7 +5,7 @@ use Rattle.operations.specs.declared.queue.Waiting.{Waiting}
 use Rattle.operations.specs.Names.{is_empty}
 use Rattle.operations.specs.Requests.{is_census}
 use Rattle.system.specs.declared.requests.Open.{Open}
-use Rattle.system.specs.Censuses.{has_census}
+use Rattle.system.specs.Kept.Censuses.{has_census}
 
 -- The oldest request that waits is a census.
 abbrev pub is_census_next : List (Waiting (Unit {0})) → Bool

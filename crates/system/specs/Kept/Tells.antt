@@ -6,7 +6,7 @@ use Rattle.operations.specs.declared.Request.TheVariants.{Handshake, Census}
 use Rattle.operations.specs.Requests.{is_census, is_target}
 use Rattle.system.specs.declared.requests.Open.{Open}
 use Rattle.system.specs.declared.thread.Thread.{Thread as Kept}
-use Rattle.system.specs.Keeps.{is_live_for}
+use Rattle.system.specs.Kept.Threads.{is_live_for}
 
 -- A target of the operation is held at the place; a thread of this name is there.
 abbrev pub is_held_for : Open → Option Kept → Bool
