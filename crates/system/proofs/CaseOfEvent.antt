@@ -430,8 +430,8 @@ by_cases w P c (event.Tell name) simple = chain2 (Comes w P (event.Tell name)) (
         (let g = filter_at (λ o. is_live_target w o name) w.requests.opened at.0 o (subst (λ os. slice_get os at.0 ≡ Some o) (sym e) at.1) in
         c.tells name o (record {
           least = subst (λ os. find (λ (o : Opened). not (is_marked w.requests.told o.number name)) os ≡ Some o) (sym e) f;
-          open_is = record { position = g.0; here = g.1 };
-          live = g.2;
+          open_is = record { position = g.from; here = g.at };
+          live = g.passes;
           not_told = not-true (is_marked w.requests.told o.number name) (found_passes (λ (o : Opened). not (is_marked w.requests.told o.number name)) (x ∷ xs) o f);
         })))
 by_cases w P c event.Operate simple = opened_case w (Comes w P event.Operate) (c.refuses event.Operate refusal.NothingOpen) (operate w) (λ o os e.

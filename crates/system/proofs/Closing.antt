@@ -327,7 +327,7 @@ closed_does s t number at open_ some place there free over rest numbers waiting 
         numbers = numbers ∙ (let n = operations_next entry w.log in let same = m.numbers in omega (arith, n, same));
         waiting = ap (map Rattle.system.specs.Stands.waiting_of) waiting ∙ m.waiting;
         opened = rw opens_are kept;
-        marks = λ x name h. fewer_own w.requests w.requests.waiting requests.opened name x (λ i o here. (let f = filter_at (λ (y : Opened). not (y.number == k.o.number)) w.requests.opened i o here in (f.0, f.1))) h;
+        marks = λ x name h. fewer_own w.requests w.requests.waiting requests.opened name x (λ i o here. (let f = filter_at (λ (y : Opened). not (y.number == k.o.number)) w.requests.opened i o here in (f.from, f.at))) h;
       }))));
   sizes = sizes_stay s t rest;
 }

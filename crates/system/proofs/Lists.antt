@@ -6,11 +6,17 @@ use Rattle.std.proofs.lemmas.Iterator.Adapters.{position_from-zero}
 use Rattle.std.proofs.lemmas.Bool.{false≢true, or_parts, and_parts, cases_lt}
 use Rattle.method_table.specs.Numbers.{below}
 
+-- What an element of a mapped list is the image of.
+pub record IsImage {A B : Type 0} (f : A → B) (xs : List A) (i : ℕ) (y : B) : Type 0 where
+  pub before : A
+  pub at : slice_get xs i ≡ Some before
+  pub is : f before ≡ y
+
 -- What stands in a mapped list.
-pub map_at : {A B : Type 0} (f : A → B) (xs : List A) (i : ℕ) (y : B) → slice_get (map f xs) i ≡ Some y → (x : A) × (slice_get xs i ≡ Some x) × (f x ≡ y)
+pub map_at : {A B : Type 0} (f : A → B) (xs : List A) (i : ℕ) (y : B) → slice_get (map f xs) i ≡ Some y → IsImage f xs i y
 map_at f [] i y h = cc
-map_at f (x ∷ xs) zero y h = let e : f x ≡ y = cc in (x, refl, e)
-map_at f (x ∷ xs) (suc i) y h = map_at f xs i y h
+map_at f (x ∷ xs) zero y h = let e : f x ≡ y = cc in record { before = x; at = refl; is = e }
+map_at f (x ∷ xs) (suc i) y h = let r = map_at f xs i y h in record { before = r.before; at = r.at; is = r.is }
 
 -- What stands in a list with one element more.
 pub push_at : {A : Type 0} (xs : List A) (y : A) (i : ℕ) (x : A) → slice_get (xs ++ y ∷ []) i ≡ Some x → (slice_get xs i ≡ Some x) ⊎ ((i ≡ length xs) × (y ≡ x))
@@ -164,16 +170,22 @@ below_has (suc n) x h = ⊎_elim (λ low. push_low (below n) n x x (below_has n 
     subst (λ m. slice_get (below n ++ n ∷ []) m ≡ Some x) same (push_here (below n) n ∙ ap Some is))
     (cases_lt x n)
 
+-- Where an element that passes stands.
+pub record Passes {A : Type 0} (test : A → Bool) (xs : List A) (x : A) : Type 0 where
+  pub from : ℕ
+  pub at : slice_get xs from ≡ Some x
+  pub passes : test x ≡ true
+
 -- What stands in a filtered list.
-pub filter_at : {A : Type 0} (test : A → Bool) (xs : List A) (i : ℕ) (x : A) → slice_get (filter test xs) i ≡ Some x → (j : ℕ) × (slice_get xs j ≡ Some x) × (test x ≡ true)
+pub filter_at : {A : Type 0} (test : A → Bool) (xs : List A) (i : ℕ) (x : A) → slice_get (filter test xs) i ≡ Some x → Passes test xs x
 filter_at {A = A} test [] i x h = cc
 filter_at {A = A} test (y ∷ ys) i x h = by (test y) refl i h (filter_at test ys)
   where
     by : (b : Bool) → test y ≡ b → (i : ℕ) → slice_get (cond b (y ∷ filter test ys) (filter test ys)) i ≡ Some x
-        → ((i : ℕ) (x : A) → slice_get (filter test ys) i ≡ Some x → (j : ℕ) × (slice_get ys j ≡ Some x) × (test x ≡ true)) → (j : ℕ) × (slice_get (y ∷ ys) j ≡ Some x) × (test x ≡ true)
-    by true e zero k rest = let same : y ≡ x = cc in (0, k, ap test (sym same) ∙ e)
-    by true e (suc i) k rest = let r = rest i x k in (suc r.0, r.1, r.2)
-    by false e i k rest = let r = rest i x k in (suc r.0, r.1, r.2)
+        → ((i : ℕ) (x : A) → slice_get (filter test ys) i ≡ Some x → Passes test ys x) → Passes test (y ∷ ys) x
+    by true e zero k rest = let same : y ≡ x = cc in record { from = 0; at = k; passes = ap test (sym same) ∙ e }
+    by true e (suc i) k rest = let r = rest i x k in record { from = suc r.from; at = r.at; passes = r.passes }
+    by false e i k rest = let r = rest i x k in record { from = suc r.from; at = r.at; passes = r.passes }
 
 pub filter_less : {A : Type 0} (test : A → Bool) (xs : List A) → length (filter test xs) ≤ length xs
 filter_less test [] = omega arith
@@ -183,19 +195,30 @@ filter_less test (y ∷ ys) = by (test y) (filter_less test ys)
     by true h = omega arith
     by false h = omega arith
 
+-- Where two elements stand, one before the other.
+pub record InOrder {A : Type 0} (xs : List A) (a b : A) : Type 0 where
+  pub first : ℕ
+  pub second : ℕ
+  pub in_order : first < second
+  pub at_first : slice_get xs first ≡ Some a
+  pub at_second : slice_get xs second ≡ Some b
+
 -- What a filter leaves is in order, and nothing that passes is left out.
 pub filter_pair : {A : Type 0} (test : A → Bool) (xs : List A) (i j : ℕ) (a b : A) → i < j → slice_get (filter test xs) i ≡ Some a → slice_get (filter test xs) j ≡ Some b
-    → (k : ℕ) × (l : ℕ) × (k < l) × (slice_get xs k ≡ Some a) × (slice_get xs l ≡ Some b)
+    → InOrder xs a b
 filter_pair test [] i j a b low x y = cc
 filter_pair {A} test (z ∷ zs) i j a b low x y = by (test z) (λ m n c d less p q. filter_pair test zs m n c d less p q) i j low x y
   where
-    by : (t : Bool) → ((m n : ℕ) (c d : A) → m < n → slice_get (filter test zs) m ≡ Some c → slice_get (filter test zs) n ≡ Some d → (k : ℕ) × (l : ℕ) × (k < l) × (slice_get zs k ≡ Some c) × (slice_get zs l ≡ Some d))
+    later : {c d : A} → InOrder zs c d → InOrder (z ∷ zs) c d
+    later r = let h = r.in_order in record { first = suc r.first; second = suc r.second; in_order = omega arith; at_first = r.at_first; at_second = r.at_second }
+
+    by : (t : Bool) → ((m n : ℕ) (c d : A) → m < n → slice_get (filter test zs) m ≡ Some c → slice_get (filter test zs) n ≡ Some d → InOrder zs c d)
         → (m n : ℕ) → m < n → slice_get (cond t (z ∷ filter test zs) (filter test zs)) m ≡ Some a → slice_get (cond t (z ∷ filter test zs) (filter test zs)) n ≡ Some b
-        → (k : ℕ) × (l : ℕ) × (k < l) × (slice_get (z ∷ zs) k ≡ Some a) × (slice_get (z ∷ zs) l ≡ Some b)
-    by false rest m n less p q = let r = rest m n a b less p q in let h = r.2 in (suc r.0, suc r.1, omega arith, r.3, r.4)
+        → InOrder (z ∷ zs) a b
+    by false rest m n less p q = later (rest m n a b less p q)
     by true rest m zero less p q = absurd (omega arith)
-    by true rest zero (suc n) less p q = let r = filter_at test zs n b q in (0, suc r.0, omega arith, p, r.1)
-    by true rest (suc m) (suc n) less p q = let r = rest m n a b (omega arith) p q in let h = r.2 in (suc r.0, suc r.1, omega arith, r.3, r.4)
+    by true rest zero (suc n) less p q = let r = filter_at test zs n b q in record { first = 0; second = suc r.from; in_order = omega arith; at_first = p; at_second = r.at }
+    by true rest (suc m) (suc n) less p q = later (rest m n a b (omega arith) p q)
 
 pub filter_has : {A : Type 0} (test : A → Bool) (xs : List A) (i : ℕ) (a : A) → slice_get xs i ≡ Some a → test a ≡ true → (j : ℕ) × (slice_get (filter test xs) j ≡ Some a)
 filter_has test [] i a x h = cc
@@ -206,8 +229,14 @@ filter_has {A} test (z ∷ zs) (suc i) a x h = by (test z) (filter_has test zs i
     by true r = (suc r.0, r.1)
     by false r = r
 
--- What stands before the first that passes doesn't pass.
-pub find_before : {A : Type 0} (test : A → Bool) (xs : List A) (x : A) → find test xs ≡ Some x → (i : ℕ) × (slice_get xs i ≡ Some x) × ((j : ℕ) (y : A) → j < i → slice_get xs j ≡ Some y → test y ≡ false)
+-- Where the first that passes stands: nothing before it does.
+pub record IsFirst {A : Type 0} (test : A → Bool) (xs : List A) (x : A) : Type 0 where
+  pub place : ℕ
+  pub at : slice_get xs place ≡ Some x
+  pub none_before : (j : ℕ) (y : A) → j < place → slice_get xs j ≡ Some y → test y ≡ false
+
+-- What a search finds is the first that passes.
+pub find_before : {A : Type 0} (test : A → Bool) (xs : List A) (x : A) → find test xs ≡ Some x → IsFirst test xs x
 find_before test [] x h = cc
 find_before {A} test (z ∷ zs) x h = by (test z) refl h (λ k. find_before test zs x k)
   where
@@ -215,10 +244,10 @@ find_before {A} test (z ∷ zs) x h = by (test z) refl h (λ k. find_before test
     before i e rest zero y low at = let same : z ≡ y = cc in ap test (sym same) ∙ e
     before i e rest (suc j) y low at = rest j y (omega arith) at
 
-    by : (t : Bool) → test z ≡ t → cond t (Some z) (find test zs) ≡ Some x → (find test zs ≡ Some x → (i : ℕ) × (slice_get zs i ≡ Some x) × ((j : ℕ) (y : A) → j < i → slice_get zs j ≡ Some y → test y ≡ false))
-        → (i : ℕ) × (slice_get (z ∷ zs) i ≡ Some x) × ((j : ℕ) (y : A) → j < i → slice_get (z ∷ zs) j ≡ Some y → test y ≡ false)
-    by true e k rest = (0, k, λ j y low at. absurd (omega arith))
-    by false e k rest = let r = rest k in (suc r.0, r.1, before r.0 e r.2)
+    by : (t : Bool) → test z ≡ t → cond t (Some z) (find test zs) ≡ Some x → (find test zs ≡ Some x → IsFirst test zs x)
+        → IsFirst test (z ∷ zs) x
+    by true e k rest = record { place = 0; at = k; none_before = λ j y low at. absurd (omega arith) }
+    by false e k rest = let r = rest k in record { place = suc r.place; at = r.at; none_before = before r.place e r.none_before }
 
 -- A search in what a filter leaves.
 pub find_filter : {A : Type 0} (f g : A → Bool) (xs : List A) → find f (filter g xs) ≡ find (λ x. f x && g x) xs

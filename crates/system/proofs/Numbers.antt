@@ -173,12 +173,12 @@ numbers_kept w h = record {
       waiting_is = h.waiting_is;
       few_open = (let a = map_length (operated_if n) w.requests.opened in let b = h.few_open in omega arith);
       census_alone = λ i o x census. (let m = map_at (operated_if n) w.requests.opened i o x in let a = map_length (operated_if n) w.requests.opened in
-          let b = h.census_alone i m.0 m.1 (ap is_census (sym (operated_request n m.0) ∙ ap (λ (y : Opened). y.request) m.2) ∙ census) in omega arith);
+          let b = h.census_alone i m.before m.at (ap is_census (sym (operated_request n m.before) ∙ ap (λ (y : Opened). y.request) m.is) ∙ census) in omega arith);
       opened_rise = λ i j a b less x y. (let m = map_at (operated_if n) w.requests.opened i a x in let k = map_at (operated_if n) w.requests.opened j b y in
-          let r = h.opened_rise i j m.0 k.0 less m.1 k.1 in let p : m.0.number ≡ a.number = sym (operated_number n m.0) ∙ ap (λ (y : Opened). y.number) m.2 in
-          let q : k.0.number ≡ b.number = sym (operated_number n k.0) ∙ ap (λ (y : Opened). y.number) k.2 in omega arith);
+          let r = h.opened_rise i j m.before k.before less m.at k.at in let p : m.before.number ≡ a.number = sym (operated_number n m.before) ∙ ap (λ (y : Opened). y.number) m.is in
+          let q : k.before.number ≡ b.number = sym (operated_number n k.before) ∙ ap (λ (y : Opened). y.number) k.is in omega arith);
       opened_is = λ i o x. (let m = map_at (operated_if n) w.requests.opened i o x in
-          subst (WasOpened w.requests.waiting (operations_given w.log)) (sym (operated_number n m.0) ∙ ap (λ (y : Opened). y.number) m.2) (h.opened_is i m.0 m.1));
+          subst (WasOpened w.requests.waiting (operations_given w.log)) (sym (operated_number n m.before) ∙ ap (λ (y : Opened). y.number) m.is) (h.opened_is i m.before m.at));
     }
 
     closed_sound : (n : ℕ) → NumbersAreSound w.requests.waiting (filter (λ o. not (o.number == n)) w.requests.opened) (names_given w.log) (operations_given w.log) (moment w.log)
@@ -191,9 +191,9 @@ numbers_kept w h = record {
       waiting_is = h.waiting_is;
       few_open = (let a = filter_less (λ (o : Opened). not (o.number == n)) w.requests.opened in let b = h.few_open in omega arith);
       census_alone = λ i o x census. (let m = filter_at (λ (o : Opened). not (o.number == n)) w.requests.opened i o x in
-          let a = filter_less (λ (o : Opened). not (o.number == n)) w.requests.opened in let b = h.census_alone m.0 o m.1 census in omega arith);
-      opened_rise = λ i j a b less x y. (let m = filter_pair (λ (o : Opened). not (o.number == n)) w.requests.opened i j a b less x y in h.opened_rise m.0 m.1 a b m.2 m.3 m.4);
-      opened_is = λ i o x. (let m = filter_at (λ (o : Opened). not (o.number == n)) w.requests.opened i o x in h.opened_is m.0 o m.1);
+          let a = filter_less (λ (o : Opened). not (o.number == n)) w.requests.opened in let b = h.census_alone m.from o m.at census in omega arith);
+      opened_rise = λ i j a b less x y. (let m = filter_pair (λ (o : Opened). not (o.number == n)) w.requests.opened i j a b less x y in h.opened_rise m.first m.second a b m.in_order m.at_first m.at_second);
+      opened_is = λ i o x. (let m = filter_at (λ (o : Opened). not (o.number == n)) w.requests.opened i o x in h.opened_is m.from o m.at);
     }
 
 pub numbers_start : NumbersAreSound [] [] 0 0 1

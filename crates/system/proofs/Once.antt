@@ -145,8 +145,8 @@ past_kept n w k h = record {
   opens = λ oldest others i. past_opened n w oldest others (names_given w.log) (moment w.log) i k.numbers h;
   tells = λ name opened i. record { operated = h.operated; was = h.was };
   finds_gone = λ name i. h;
-  operates = λ opened others i. record { operated = λ j o x e. (let m = map_at (operated_if opened.number) w.requests.opened j o x in subst (λ (y : Opened). y.operated ≡ true) m.2 (operated_still opened.number m.0 (h.operated j m.0 m.1 (sym (operated_number opened.number m.0) ∙ (ap (λ (y : Opened). y.number) m.2 ∙ e))))); was = h.was };
-  closes = λ number opened i. record { operated = λ j o x e. (let m = filter_at (λ (o : Opened). not (o.number == opened.number)) w.requests.opened j o x in h.operated m.0 o m.1 e); was = h.was };
+  operates = λ opened others i. record { operated = λ j o x e. (let m = map_at (operated_if opened.number) w.requests.opened j o x in subst (λ (y : Opened). y.operated ≡ true) m.is (operated_still opened.number m.before (h.operated j m.before m.at (sym (operated_number opened.number m.before) ∙ (ap (λ (y : Opened). y.number) m.is ∙ e))))); was = h.was };
+  closes = λ number opened i. record { operated = λ j o x e. (let m = filter_at (λ (o : Opened). not (o.number == opened.number)) w.requests.opened j o x in h.operated m.from o m.at e); was = h.was };
   counts = λ serial code i. h;
   says_state = λ serial code i. h;
   resolves = λ method i. h;
@@ -175,8 +175,8 @@ operated_past : (w : World) (opened : Opened) (others : List Opened) → IsKept 
 operated_past w opened others k i = record {
   operated = λ j o x e. (let a = map_at (operated_if opened.number) w.requests.opened j o x in
       let few = k.numbers.census_alone 0 opened (first_open w.requests.opened opened others i.opened_is) i.census in
-      let same : a.0 ≡ opened = only_open w.requests.opened opened others few i.opened_is j a.0 a.1 in
-      ap (λ (y : Opened). y.operated) (sym a.2) ∙ (ap (λ (y : Opened). (operated_if opened.number y).operated) same ∙ now_operated));
+      let same : a.before ≡ opened = only_open w.requests.opened opened others few i.opened_is j a.before a.at in
+      ap (λ (y : Opened). y.operated) (sym a.is) ∙ (ap (λ (y : Opened). (operated_if opened.number y).operated) same ∙ now_operated));
   was = k.numbers.opened_is 0 opened (first_open w.requests.opened opened others i.opened_is);
 }
   where

@@ -59,23 +59,23 @@ operated_told : (w : World) (g n : ℕ) (opened : Opened) (others : List Opened)
 operated_told w g n opened others i few marks = record {
   census = λ j o e operated. (
       let m = map_at (operated_if opened.number) w.requests.opened j o e in
-      let same : m.0 ≡ opened = only_open w.requests.opened opened others few i.opened_is j m.0 m.1 in
-      subst (λ r. is_census r ≡ true) (ap (λ (y : Opened). y.request) (sym same) ∙ (sym (operated_request opened.number m.0) ∙ ap (λ (y : Opened). y.request) m.2)) i.census);
+      let same : m.before ≡ opened = only_open w.requests.opened opened others few i.opened_is j m.before m.at in
+      subst (λ r. is_census r ≡ true) (ap (λ (y : Opened). y.request) (sym same) ∙ (sym (operated_request opened.number m.before) ∙ ap (λ (y : Opened). y.request) m.is)) i.census);
   told = λ j o q v e operated x. (
       let m = map_at (operated_if opened.number) w.requests.opened j o e in
-      let same : m.0 ≡ opened = only_open w.requests.opened opened others few i.opened_is j m.0 m.1 in
+      let same : m.before ≡ opened = only_open w.requests.opened opened others few i.opened_is j m.before m.at in
       let r = threads_has w.places q v x in
       let held : v.held ≡ true = all_at (λ (t : Thread). t.held) (threads w.places) r.0 v i.held r.1 in
       let c = marks.held_told q v x held in
       let one : c.0 ≡ opened = only_open w.requests.opened opened others few i.opened_is c.1.opened.0 c.0 c.1.opened.1 in
-      let number : c.0.number ≡ o.number = ap (λ (y : Opened). y.number) (one ∙ sym same) ∙ (sym (operated_number opened.number m.0) ∙ ap (λ (y : Opened). y.number) m.2) in
+      let number : c.0.number ≡ o.number = ap (λ (y : Opened). y.number) (one ∙ sym same) ∙ (sym (operated_number opened.number m.before) ∙ ap (λ (y : Opened). y.number) m.is) in
       subst (λ k. is_marked w.requests.told k v.name ≡ true) number c.1.told);
 }
 
 closed_told : (w : World) (opened : Opened) → OperatedIsTold w.places w.requests → OperatedIsTold w.places (Rattle.system.proofs.Outcomes.without_opened w opened)
 closed_told w opened h = record {
-  census = λ j o e operated. (let m = filter_at (λ (o : Opened). not (o.number == opened.number)) w.requests.opened j o e in h.census m.0 o m.1 operated);
-  told = λ j o q v e operated x. (let m = filter_at (λ (o : Opened). not (o.number == opened.number)) w.requests.opened j o e in h.told m.0 o q v m.1 operated x);
+  census = λ j o e operated. (let m = filter_at (λ (o : Opened). not (o.number == opened.number)) w.requests.opened j o e in h.census m.from o m.at operated);
+  told = λ j o q v e operated x. (let m = filter_at (λ (o : Opened). not (o.number == opened.number)) w.requests.opened j o e in h.told m.from o q v m.at operated x);
 }
 
 over : (w : World) (requests : Requests) → requests.opened ≡ w.requests.opened → requests.told ≡ w.requests.told → OperatedIsTold w.places w.requests → OperatedIsTold w.places requests

@@ -175,27 +175,34 @@ installed places codes log e method slot i q n = recoded places codes (with_code
         two true = refl
         two false = refl
 
--- The code of the serial s comes into another state.
-pub restated : (places : List (Option Thread)) (codes : List Code) (log : List Entry) (s : ℕ) (state : CodeState) (k : Code) (e : Entry) → IsReclaimed places codes log → code_of codes s ≡ Some k → IsQuiet e
-    → ((p : ℕ) (t : Thread) → slice_get places p ≡ Some (Some t) → (c : CodeId) → id_of k ≡ c → (0 < act c t.stack) ⊎ (0 < part c t) → may_stand k.state ≡ true → may_stand state ≡ true)
-    → invalidated s (e ∷ log) ≡ not (is_in_use state) → ((r : ℕ) → s ≢ r → is_invalidate r e.event ≡ false) → IsReclaimed places (with_state codes s state) (e ∷ log)
-restated places codes log s state k e i is q low inv others = recoded places codes (with_state codes s state) log e i q
+-- The code k of the serial s comes into another state, and no place notices.
+pub record Restates (places : List (Option Thread)) (codes : List Code) (log : List Entry) (s : ℕ) (state : CodeState) (k : Code) (e : Entry) : Type 0 where
+  pub there : code_of codes s ≡ Some k
+  pub quiet : IsQuiet e
+  -- A code that stands somewhere, or is counted, may stand in the other state too.
+  pub stays : (p : ℕ) (t : Thread) → slice_get places p ≡ Some (Some t) → (c : CodeId) → id_of k ≡ c → (0 < act c t.stack) ⊎ (0 < part c t) → may_stand k.state ≡ true → may_stand state ≡ true
+  pub left : invalidated s (e ∷ log) ≡ not (is_in_use state)
+  pub others : (r : ℕ) → s ≢ r → is_invalidate r e.event ≡ false
+
+pub restated : (places : List (Option Thread)) (codes : List Code) (log : List Entry) (s : ℕ) (state : CodeState) (k : Code) (e : Entry) → IsReclaimed places codes log → Restates places codes log s state k e
+    → IsReclaimed places (with_state codes s state) (e ∷ log)
+restated places codes log s state k e i n = recoded places codes (with_state codes s state) log e i n.quiet
     (λ p t x c l a. (
       in_state s state l.0,
       code_with_state codes s state c.serial ∙ ap (option_map (in_state s state)) l.1,
       in_state_id s state l.0 ∙ l.2,
       dite (ℕ_discrete l.0.serial s)
           (λ same. (let at_s : c.serial ≡ s = sym (code_serial codes c.serial l.0 l.1) ∙ same in
-          let u : Some l.0 ≡ Some k = sym l.1 ∙ (ap (code_of codes) at_s ∙ is) in let j : l.0 ≡ k = cc in
+          let u : Some l.0 ≡ Some k = sym l.1 ∙ (ap (code_of codes) at_s ∙ n.there) in let j : l.0 ≡ k = cc in
           let stands : may_stand k.state ≡ true = subst (λ (y : Code). may_stand y.state ≡ true) j l.3 in
-          let ok : may_stand state ≡ true = low p t x c (ap id_of (sym j) ∙ l.2) a stands in
+          let ok : may_stand state ≡ true = n.stays p t x c (ap id_of (sym j) ∙ l.2) a stands in
           ap (λ (y : Code). may_stand y.state) (in_state_here s state l.0 same) ∙ ok))
           (λ ne. ap (λ (y : Code). may_stand y.state) (in_state_other s state l.0 ne) ∙ l.3),
     ))
     (λ r. dite (ℕ_discrete s r)
     (λ same. subst (λ r. invalidated r (e ∷ log) ≡ is_unused (code_of (with_state codes s state) r)) same
-    (inv ∙ (ap (λ (y : Code). not (is_in_use y.state)) (sym (in_state_here s state k (code_serial codes s k is))) ∙ ap is_unused (sym (code_with_state codes s state s ∙ ap (option_map (in_state s state)) is)))))
-    (λ ne. (let a = others r ne in rw a refl) ∙ (i.table.invalidated_is r ∙ by r ne (code_of codes r) refl)))
+    (n.left ∙ (ap (λ (y : Code). not (is_in_use y.state)) (sym (in_state_here s state k (code_serial codes s k n.there))) ∙ ap is_unused (sym (code_with_state codes s state s ∙ ap (option_map (in_state s state)) n.there)))))
+    (λ ne. (let a = n.others r ne in rw a refl) ∙ (i.table.invalidated_is r ∙ by r ne (code_of codes r) refl)))
   where
     by : (r : ℕ) → s ≢ r → (o : Option Code) → code_of codes r ≡ o → is_unused o ≡ is_unused (code_of (with_state codes s state) r)
     by r ne None h = ap is_unused (sym (code_with_state codes s state r ∙ ap (option_map (in_state s state)) h))

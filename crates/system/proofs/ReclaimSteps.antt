@@ -34,25 +34,45 @@ use Rattle.system.proofs.Moments.{unstarted_begun, unstarted_ended, not_since}
 use Rattle.system.proofs.Seats.{each_start}
 use Rattle.system.proofs.Table.{unfreed_code}
 use Rattle.system.proofs.Threads.{started_more}
-use Rattle.system.proofs.ReclaimInvariant.{IsThread, is_unused, IsReclaimed, Silent, IsQuiet, silent_thread, lands, logged, installed, restated, or_later}
+use Rattle.system.proofs.ReclaimInvariant.{IsThread, is_unused, IsReclaimed, Silent, IsQuiet, silent_thread, lands, logged, installed, Restates, restated, or_later}
 
 same_number : (n : ℕ) → (n == n) ≡ true
 same_number n = eq-eqb n n refl
 
--- An act that no place notices, after which the thread has no more frames and counts no more.
-quiet_act : (w : World) (p : ℕ) (t u : Thread) (e : Entry) → IsReclaimed w.places w.codes w.log → Stands w p t → IsQuiet e → ((s : ℕ) → is_invalidate s e.event ≡ false)
-    → ((c : CodeId) → stack.act c u.stack ≤ stack.act c t.stack) → ((c : CodeId) → 0 < part c u → IsLive w.codes c) → u.shown ≡ t.shown → u.published ≡ t.published → is_publishing u ≡ is_publishing t → u.name ≡ t.name
+-- An entry that no place notices and that invalidates nothing.
+record Unnoticed (e : Entry) : Type 0 where
+  pub quiet : IsQuiet e
+  pub invalidates_not : (s : ℕ) → is_invalidate s e.event ≡ false
+
+-- A thread after an act has no more frames than before, counts what may stand, and has shown and published the same.
+record NoMore (codes : List Code) (t u : Thread) : Type 0 where
+  pub fewer : (c : CodeId) → stack.act c u.stack ≤ stack.act c t.stack
+  pub counted : (c : CodeId) → 0 < part c u → IsLive codes c
+  pub shown : u.shown ≡ t.shown
+  pub published : u.published ≡ t.published
+  pub publishing : is_publishing u ≡ is_publishing t
+  pub name : u.name ≡ t.name
+
+-- An act that no place notices, after which the thread has no more.
+quiet_act : (w : World) (p : ℕ) (t u : Thread) (e : Entry) → IsReclaimed w.places w.codes w.log → Stands w p t → Unnoticed e → NoMore w.codes t u
     → IsReclaimed (slice_set w.places p (Some u)) w.codes (e ∷ w.log)
-quiet_act w p t u e h s quiet not_inv less counted shown pub_same open_same name = lands w.places w.codes w.log p (Some u) e h s.low (λ q ne. quiet q) not_inv (λ r q. (let z = quiet q in z.clears_not r))
+quiet_act w p t u e h s n less = lands w.places w.codes w.log p (Some u) e h s.low (λ q ne. n.quiet q) n.invalidates_not (λ r q. (let z = n.quiet q in z.clears_not r))
     (λ z s. cc) (λ v x. (let same : u ≡ v = cc in subst (IsThread w.codes (e ∷ w.log) p) same
-    (let i = h.seats p t s.there in silent_thread w.codes w.codes w.log p t u e (quiet p) i
-    (λ c a. i.live c (let l = less c in omega arith)) counted
-    (λ c. ⊎_elim (λ a. inl (let l = less c in let z : stack.act c u.shown ≡ stack.act c t.shown = ap (stack.act c) shown in omega arith)) (λ b. inr b) (i.held c)) pub_same open_same name)))
+    (let i = h.seats p t s.there in silent_thread w.codes w.codes w.log p t u e (n.quiet p) i
+    (λ c a. i.live c (let l = less.fewer c in omega arith)) less.counted
+    (λ c. ⊎_elim (λ a. inl (let l = less.fewer c in let z : stack.act c u.shown ≡ stack.act c t.shown = ap (stack.act c) less.shown in omega arith)) (λ b. inr b) (i.held c)) less.published less.publishing less.name)))
 
 -- The thread itself, or with other state or hold.
-same_act : (w : World) (p : ℕ) (t : Thread) (state : State) (hold : Bool) (e : Entry) → IsReclaimed w.places w.codes w.log → Stands w p t → IsQuiet e → ((s : ℕ) → is_invalidate s e.event ≡ false)
+same_act : (w : World) (p : ℕ) (t : Thread) (state : State) (hold : Bool) (e : Entry) → IsReclaimed w.places w.codes w.log → Stands w p t → Unnoticed e
     → IsReclaimed (slice_set w.places p (Some (record t { state = state; held = hold }))) w.codes (e ∷ w.log)
-same_act w p t state hold e h s quiet not_inv = quiet_act w p t (record t { state = state; held = hold }) e h s quiet not_inv (λ c. omega arith) (λ c a. (let i = h.seats p t s.there in i.counted c a)) refl refl refl refl
+same_act w p t state hold e h s n = quiet_act w p t (record t { state = state; held = hold }) e h s n (record {
+  fewer = λ c. omega arith;
+  counted = λ c a. (let i = h.seats p t s.there in i.counted c a);
+  shown = refl;
+  published = refl;
+  publishing = refl;
+  name = refl;
+})
 
 -- A move is no act that a place notices.
 move_quiet : (p q : ℕ) (a : Act) (given : Answer) → is_move a ≡ true → Silent q (record { event = event.At p a; answer = given })
@@ -123,10 +143,16 @@ end_kept w p t h s publishing = lands w.places w.codes w.log p (Some (ended t)) 
     }
 
 -- Enter without a code, and Leave.
-interpreted : (w : World) (p : ℕ) (t : Thread) (method : ℕ) (e : Entry) → IsReclaimed w.places w.codes w.log → Stands w p t → is_publishing t ≡ false → IsQuiet e → ((s : ℕ) → is_invalidate s e.event ≡ false)
+interpreted : (w : World) (p : ℕ) (t : Thread) (method : ℕ) (e : Entry) → IsReclaimed w.places w.codes w.log → Stands w p t → is_publishing t ≡ false → Unnoticed e
     → IsReclaimed (slice_set w.places p (Some (entered t method None))) w.codes (e ∷ w.log)
-interpreted w p t method e h s quiet silent not_inv = quiet_act w p t (entered t method None) e h s silent not_inv (λ c. (let a = act_push c t.stack (record { method = method; code = None }) in omega arith))
-    (λ c a. (let m = h.seats p t s.there in m.counted c (subst (λ n. 0 < n) (part_quiet c (entered t method None) quiet ∙ sym (part_quiet c t quiet)) a))) refl refl refl refl
+interpreted w p t method e h s quiet n = quiet_act w p t (entered t method None) e h s n (record {
+  fewer = λ c. (let a = act_push c t.stack (record { method = method; code = None }) in omega arith);
+  counted = λ c a. (let m = h.seats p t s.there in m.counted c (subst (λ n. 0 < n) (part_quiet c (entered t method None) quiet ∙ sym (part_quiet c t quiet)) a));
+  shown = refl;
+  published = refl;
+  publishing = refl;
+  name = refl;
+})
 
 popped_counted : (w : World) (p : ℕ) (t : Thread) (state : State) → IsReclaimed w.places w.codes w.log → Stands w p t → is_publishing t ≡ false → (c : CodeId) → 0 < part c (moved (popped t) state) → IsLive w.codes c
 popped_counted w p t state h s quiet c a = let m = h.seats p t s.there in m.counted c (subst (λ n. 0 < n) (part_quiet c (moved (popped t) state) quiet ∙ sym (part_quiet c t quiet)) a)
@@ -280,44 +306,111 @@ nobody w s k h i p t x c is_k d =
     (part_held w.codes w.log p t c m))
     (λ b. absurd (omega arith)) d
 
+-- An event that only the log remembers.
+logs : (w : World) (e : Entry) → IsReclaimed w.places w.codes w.log → Unnoticed e → IsReclaimed w.places w.codes (e ∷ w.log)
+logs w e h n = logged w.places w.codes w.log e h n.quiet n.invalidates_not
+
 -- Each event keeps it, in a world with a sound table.
 pub reclaim_kept : (w : World) → TableIsSound w.slots w.methods w.codes → NamesKnown w.log → IsReclaimed w.places w.codes w.log → Cases w (λ e a v. IsReclaimed v.places v.codes v.log)
 reclaim_kept w table known h = record {
   refuses = λ e r. h;
   begins = λ p t i. begin_kept w p t h i.stands i.quiet;
-  changes = λ p t code i. quiet_act w p t (changed_by t code) (record { event = event.At p act.Change; answer = difference t code }) h i.publishes.stands (λ q. record { starts_not = refl; exits_not = refl; begins_not = refl; ends_not = refl; enters_not = λ s. refl; clears_not = λ s. refl }) (λ s. refl) (λ c. omega arith) (change_counted w p t code (h.seats p t i.publishes.stands.there)) refl refl (sym i.publishes.publishing) refl;
-  rests = λ p t i. same_act w p t t.state t.held (record { event = event.At p act.Change; answer = answer.NoChange }) h i.publishes.stands (λ q. record { starts_not = refl; exits_not = refl; begins_not = refl; ends_not = refl; enters_not = λ s. refl; clears_not = λ s. refl }) (λ s. refl);
+  changes = λ p t code i. quiet_act w p t (changed_by t code) (record { event = event.At p act.Change; answer = difference t code }) h i.publishes.stands
+      (record { quiet = λ q. record { starts_not = refl; exits_not = refl; begins_not = refl; ends_not = refl; enters_not = λ s. refl; clears_not = λ s. refl }; invalidates_not = λ s. refl })
+      (record {
+        fewer = λ c. omega arith;
+        counted = change_counted w p t code (h.seats p t i.publishes.stands.there);
+        shown = refl;
+        published = refl;
+        publishing = sym i.publishes.publishing;
+        name = refl;
+      });
+  rests = λ p t i. same_act w p t t.state t.held (record { event = event.At p act.Change; answer = answer.NoChange }) h i.publishes.stands
+      (record { quiet = λ q. record { starts_not = refl; exits_not = refl; begins_not = refl; ends_not = refl; enters_not = λ s. refl; clears_not = λ s. refl }; invalidates_not = λ s. refl });
   ends = λ p t i. end_kept w p t h i.publishes.stands i.publishes.publishing;
-  moves = λ p t a state given i. same_act w p t state t.held (record { event = event.At p a; answer = given }) h i.acts.stands (λ q. move_quiet p q a given i.is) (λ s. refl);
-  interprets = λ p t method i. interpreted w p t method (record { event = event.At p (act.Enter method None); answer = answer.Entered }) h i.acts.stands i.acts.quiet (λ q. record { starts_not = refl; exits_not = refl; begins_not = refl; ends_not = refl; enters_not = λ s. refl; clears_not = λ s. refl }) (λ s. refl);
+  moves = λ p t a state given i. same_act w p t state t.held (record { event = event.At p a; answer = given }) h i.acts.stands
+      (record { quiet = λ q. move_quiet p q a given i.is; invalidates_not = λ s. refl });
+  interprets = λ p t method i. interpreted w p t method (record { event = event.At p (act.Enter method None); answer = answer.Entered }) h i.acts.stands i.acts.quiet
+      (record { quiet = λ q. record { starts_not = refl; exits_not = refl; begins_not = refl; ends_not = refl; enters_not = λ s. refl; clears_not = λ s. refl }; invalidates_not = λ s. refl });
   enters = λ p t method serial code i. enter_kept w p t method serial code h i;
-  misses = λ p t method serial code i. same_act w p t t.state t.held (record { event = event.At p (act.Enter method (Some serial)); answer = answer.WrongMethod }) h i.calls.acts.stands (λ q. record { starts_not = refl; exits_not = refl; begins_not = refl; ends_not = refl; enters_not = λ s. refl; clears_not = λ s. refl }) (λ s. refl);
-  leaves = λ p t state i. quiet_act w p t (moved (popped t) state) (record { event = event.At p act.Leave; answer = go_or_stop (poll_of w.requests t.name) }) h i.acts.stands (λ q. record { starts_not = refl; exits_not = refl; begins_not = refl; ends_not = refl; enters_not = λ s. refl; clears_not = λ s. refl }) (λ s. refl) (λ c. act_take c (length t.stack - 1) t.stack) (λ c a. popped_counted w p t state h i.acts.stands i.acts.quiet c a) refl refl refl refl;
-  exits = λ p t i. lands w.places w.codes w.log p None (record { event = event.At p act.Exit; answer = answer.Exited t.name }) h i.acts.stands.low (λ q ne. record { starts_not = refl; exits_not = ne_eqb p q (λ z. ne (sym z)); begins_not = refl; ends_not = refl; enters_not = λ s. refl; clears_not = λ s. refl }) (λ s. refl) (λ s q. refl) (λ z s. (let a = same_number p in rw a refl)) (λ v x. cc);
-  finishes = λ p t opened i. logged w.places w.codes w.log (record { event = event.At p act.Finish; answer = answer.Reply (reply_to opened.request t.stack) }) h (λ q. record { starts_not = refl; exits_not = refl; begins_not = refl; ends_not = refl; enters_not = λ s. refl; clears_not = λ s. refl }) (λ s. refl);
-  clears = λ p t opened i. logged w.places w.codes w.log (record { event = event.At p act.Clear; answer = answer.Done }) h (λ q. record { starts_not = refl; exits_not = refl; begins_not = refl; ends_not = refl; enters_not = λ s. refl; clears_not = λ s. refl }) (λ s. refl);
-  holds = λ p t opened i. same_act w p t t.state true (record { event = event.At p act.Hold; answer = answer.Done }) h i.acts.stands (λ q. record { starts_not = refl; exits_not = refl; begins_not = refl; ends_not = refl; enters_not = λ s. refl; clears_not = λ s. refl }) (λ s. refl);
-  releases = λ p t i. same_act w p t t.state false (record { event = event.At p act.Release; answer = answer.Done }) h i.acts.stands (λ q. record { starts_not = refl; exits_not = refl; begins_not = refl; ends_not = refl; enters_not = λ s. refl; clears_not = λ s. refl }) (λ s. refl);
-  shows = λ p t i. same_act w p t t.state t.held (record { event = event.At p act.Stack; answer = answer.Frames t.stack }) h i (λ q. record { starts_not = refl; exits_not = refl; begins_not = refl; ends_not = refl; enters_not = λ s. refl; clears_not = λ s. refl }) (λ s. refl);
+  misses = λ p t method serial code i. same_act w p t t.state t.held (record { event = event.At p (act.Enter method (Some serial)); answer = answer.WrongMethod }) h i.calls.acts.stands
+      (record { quiet = λ q. record { starts_not = refl; exits_not = refl; begins_not = refl; ends_not = refl; enters_not = λ s. refl; clears_not = λ s. refl }; invalidates_not = λ s. refl });
+  leaves = λ p t state i. quiet_act w p t (moved (popped t) state) (record { event = event.At p act.Leave; answer = go_or_stop (poll_of w.requests t.name) }) h i.acts.stands
+      (record { quiet = λ q. record { starts_not = refl; exits_not = refl; begins_not = refl; ends_not = refl; enters_not = λ s. refl; clears_not = λ s. refl }; invalidates_not = λ s. refl })
+      (record {
+        fewer = λ c. act_take c (length t.stack - 1) t.stack;
+        counted = popped_counted w p t state h i.acts.stands i.acts.quiet;
+        shown = refl;
+        published = refl;
+        publishing = refl;
+        name = refl;
+      });
+  exits = λ p t i. lands w.places w.codes w.log p None (record { event = event.At p act.Exit; answer = answer.Exited t.name }) h i.acts.stands.low
+      (λ q ne. record { starts_not = refl; exits_not = ne_eqb p q (λ z. ne (sym z)); begins_not = refl; ends_not = refl; enters_not = λ s. refl; clears_not = λ s. refl })
+      (λ s. refl) (λ s q. refl) (λ z s. (let a = same_number p in rw a refl)) (λ v x. cc);
+  finishes = λ p t opened i. logs w (record { event = event.At p act.Finish; answer = answer.Reply (reply_to opened.request t.stack) }) h
+      (record { quiet = λ q. record { starts_not = refl; exits_not = refl; begins_not = refl; ends_not = refl; enters_not = λ s. refl; clears_not = λ s. refl }; invalidates_not = λ s. refl });
+  clears = λ p t opened i. logs w (record { event = event.At p act.Clear; answer = answer.Done }) h
+      (record { quiet = λ q. record { starts_not = refl; exits_not = refl; begins_not = refl; ends_not = refl; enters_not = λ s. refl; clears_not = λ s. refl }; invalidates_not = λ s. refl });
+  holds = λ p t opened i. same_act w p t t.state true (record { event = event.At p act.Hold; answer = answer.Done }) h i.acts.stands
+      (record { quiet = λ q. record { starts_not = refl; exits_not = refl; begins_not = refl; ends_not = refl; enters_not = λ s. refl; clears_not = λ s. refl }; invalidates_not = λ s. refl });
+  releases = λ p t i. same_act w p t t.state false (record { event = event.At p act.Release; answer = answer.Done }) h i.acts.stands
+      (record { quiet = λ q. record { starts_not = refl; exits_not = refl; begins_not = refl; ends_not = refl; enters_not = λ s. refl; clears_not = λ s. refl }; invalidates_not = λ s. refl });
+  shows = λ p t i. same_act w p t t.state t.held (record { event = event.At p act.Stack; answer = answer.Frames t.stack }) h i
+      (record { quiet = λ q. record { starts_not = refl; exits_not = refl; begins_not = refl; ends_not = refl; enters_not = λ s. refl; clears_not = λ s. refl }; invalidates_not = λ s. refl });
   starts = λ p i. start_kept w p known h i.low;
-  installs = λ method slot i. installed w.places w.codes w.log (record { event = event.Install method; answer = answer.Code (next_serial w.codes) }) method slot h (λ q. record { starts_not = refl; exits_not = refl; begins_not = refl; ends_not = refl; enters_not = λ s. refl; clears_not = λ s. refl }) (λ s. refl);
-  invalidates = λ serial code i. restated w.places w.codes w.log serial NotEntrant code (record { event = event.Invalidate serial; answer = answer.Done }) h (unfreed_code w.slots w.methods w.codes table serial code i.found) (λ q. record { starts_not = refl; exits_not = refl; begins_not = refl; ends_not = refl; enters_not = λ s. refl; clears_not = λ s. refl }) (λ p t x c is d z. refl) (let a = same_number serial in rw a refl) (λ r ne. ne_eqb serial r ne);
-  goes_round = λ i. logged w.places w.codes w.log (record { event = event.Round; answer = answer.Done }) h (λ q. record { starts_not = refl; exits_not = refl; begins_not = refl; ends_not = refl; enters_not = λ s. refl; clears_not = λ s. refl }) (λ s. refl);
+  installs = λ method slot i. installed w.places w.codes w.log (record { event = event.Install method; answer = answer.Code (next_serial w.codes) }) method slot h
+      (λ q. record { starts_not = refl; exits_not = refl; begins_not = refl; ends_not = refl; enters_not = λ s. refl; clears_not = λ s. refl }) (λ s. refl);
+  invalidates = λ serial code i. restated w.places w.codes w.log serial NotEntrant code (record { event = event.Invalidate serial; answer = answer.Done }) h (record {
+    there = unfreed_code w.slots w.methods w.codes table serial code i.found;
+    quiet = λ q. record { starts_not = refl; exits_not = refl; begins_not = refl; ends_not = refl; enters_not = λ s. refl; clears_not = λ s. refl };
+    stays = λ p t x c is d z. refl;
+    left = (let a = same_number serial in rw a refl);
+    others = λ r ne. ne_eqb serial r ne;
+  });
+  goes_round = λ i. logs w (record { event = event.Round; answer = answer.Done }) h
+      (record { quiet = λ q. record { starts_not = refl; exits_not = refl; begins_not = refl; ends_not = refl; enters_not = λ s. refl; clears_not = λ s. refl }; invalidates_not = λ s. refl });
   looks_clear = λ serial p code i. look_kept w serial p code table h i;
-  looks_late = λ serial p code i. logged w.places w.codes w.log (record { event = event.Look serial p; answer = answer.Late }) h (λ q. record { starts_not = refl; exits_not = refl; begins_not = refl; ends_not = refl; enters_not = λ s. refl; clears_not = λ s. and_right ((serial == s) && (p == q)) false refl }) (λ s. refl);
-  finds_unlooked = λ serial code p i. logged w.places w.codes w.log (record { event = event.Weigh serial; answer = answer.NotLooked p }) h (λ q. record { starts_not = refl; exits_not = refl; begins_not = refl; ends_not = refl; enters_not = λ s. refl; clears_not = λ s. refl }) (λ s. refl);
-  finds_used = λ serial code i. logged w.places w.codes w.log (record { event = event.Weigh serial; answer = answer.Used (walk w (id_of code)) }) h (λ q. record { starts_not = refl; exits_not = refl; begins_not = refl; ends_not = refl; enters_not = λ s. refl; clears_not = λ s. refl }) (λ s. refl);
-  retires = λ serial code i. restated w.places w.codes w.log serial Zombie code (record { event = event.Weigh serial; answer = answer.Retired }) h (unfreed_code w.slots w.methods w.codes table serial code i.code_is.found) (λ q. record { starts_not = refl; exits_not = refl; begins_not = refl; ends_not = refl; enters_not = λ s. refl; clears_not = λ s. refl }) (λ p t x c is d z. absurd (nobody w serial code h i p t x c is d)) (left_in w.places w.codes w.log serial code h (unfreed_code w.slots w.methods w.codes table serial code i.code_is.found) (ap is_in_use i.code_is.state_is)) (λ r ne. refl);
-  frees = λ serial code i. restated w.places w.codes w.log serial Freed code (record { event = event.Free serial; answer = answer.Done }) h (unfreed_code w.slots w.methods w.codes table serial code i.found) (λ q. record { starts_not = refl; exits_not = refl; begins_not = refl; ends_not = refl; enters_not = λ s. refl; clears_not = λ s. refl }) (λ p t x c is d z. absurd (false≢true (ap may_stand (sym i.state_is) ∙ z))) (left_in w.places w.codes w.log serial code h (unfreed_code w.slots w.methods w.codes table serial code i.found) (ap is_in_use i.state_is)) (λ r ne. refl);
-  asks = λ request i. logged w.places w.codes w.log (record { event = event.Ask request; answer = answer.Asked (operations_given w.log + 1) }) h (λ q. record { starts_not = refl; exits_not = refl; begins_not = refl; ends_not = refl; enters_not = λ s. refl; clears_not = λ s. refl }) (λ s. refl);
-  opens = λ oldest others i. logged w.places w.codes w.log (record { event = event.Open; answer = answer.Opened oldest.number (kind_of oldest.request) }) h (λ q. record { starts_not = refl; exits_not = refl; begins_not = refl; ends_not = refl; enters_not = λ s. refl; clears_not = λ s. refl }) (λ s. refl);
-  tells = λ name opened i. logged w.places w.codes w.log (record { event = event.Tell name; answer = answer.Told }) h (λ q. record { starts_not = refl; exits_not = refl; begins_not = refl; ends_not = refl; enters_not = λ s. refl; clears_not = λ s. refl }) (λ s. refl);
-  finds_gone = λ name i. logged w.places w.codes w.log (record { event = event.Tell name; answer = answer.Gone }) h (λ q. record { starts_not = refl; exits_not = refl; begins_not = refl; ends_not = refl; enters_not = λ s. refl; clears_not = λ s. refl }) (λ s. refl);
-  operates = λ opened others i. logged w.places w.codes w.log (record { event = event.Operate; answer = answer.Census (census w) }) h (λ q. record { starts_not = refl; exits_not = refl; begins_not = refl; ends_not = refl; enters_not = λ s. refl; clears_not = λ s. refl }) (λ s. refl);
-  closes = λ number opened i. logged w.places w.codes w.log (record { event = event.Close number; answer = answer.Closed opened.number }) h (λ q. record { starts_not = refl; exits_not = refl; begins_not = refl; ends_not = refl; enters_not = λ s. refl; clears_not = λ s. refl }) (λ s. refl);
-  counts = λ serial code i. logged w.places w.codes w.log (record { event = event.Count serial; answer = answer.Count (walk w (id_of code)) }) h (λ q. record { starts_not = refl; exits_not = refl; begins_not = refl; ends_not = refl; enters_not = λ s. refl; clears_not = λ s. refl }) (λ s. refl);
-  says_state = λ serial code i. logged w.places w.codes w.log (record { event = event.CodeState serial; answer = answer.State code.state }) h (λ q. record { starts_not = refl; exits_not = refl; begins_not = refl; ends_not = refl; enters_not = λ s. refl; clears_not = λ s. refl }) (λ s. refl);
-  resolves = λ method i. logged w.places w.codes w.log (record { event = event.Resolve method; answer = code_or_none (in_use_for w.codes method) }) h (λ q. record { starts_not = refl; exits_not = refl; begins_not = refl; ends_not = refl; enters_not = λ s. refl; clears_not = λ s. refl }) (λ s. refl);
+  looks_late = λ serial p code i. logs w (record { event = event.Look serial p; answer = answer.Late }) h
+      (record { quiet = λ q. record { starts_not = refl; exits_not = refl; begins_not = refl; ends_not = refl; enters_not = λ s. refl; clears_not = λ s. and_right ((serial == s) && (p == q)) false refl }; invalidates_not = λ s. refl });
+  finds_unlooked = λ serial code p i. logs w (record { event = event.Weigh serial; answer = answer.NotLooked p }) h
+      (record { quiet = λ q. record { starts_not = refl; exits_not = refl; begins_not = refl; ends_not = refl; enters_not = λ s. refl; clears_not = λ s. refl }; invalidates_not = λ s. refl });
+  finds_used = λ serial code i. logs w (record { event = event.Weigh serial; answer = answer.Used (walk w (id_of code)) }) h
+      (record { quiet = λ q. record { starts_not = refl; exits_not = refl; begins_not = refl; ends_not = refl; enters_not = λ s. refl; clears_not = λ s. refl }; invalidates_not = λ s. refl });
+  retires = λ serial code i. (let there = unfreed_code w.slots w.methods w.codes table serial code i.code_is.found in
+      restated w.places w.codes w.log serial Zombie code (record { event = event.Weigh serial; answer = answer.Retired }) h (record {
+        there = there;
+        quiet = λ q. record { starts_not = refl; exits_not = refl; begins_not = refl; ends_not = refl; enters_not = λ s. refl; clears_not = λ s. refl };
+        stays = λ p t x c is d z. absurd (nobody w serial code h i p t x c is d);
+        left = left_in w.places w.codes w.log serial code h there (ap is_in_use i.code_is.state_is);
+        others = λ r ne. refl;
+      }));
+  frees = λ serial code i. (let there = unfreed_code w.slots w.methods w.codes table serial code i.found in
+      restated w.places w.codes w.log serial Freed code (record { event = event.Free serial; answer = answer.Done }) h (record {
+        there = there;
+        quiet = λ q. record { starts_not = refl; exits_not = refl; begins_not = refl; ends_not = refl; enters_not = λ s. refl; clears_not = λ s. refl };
+        stays = λ p t x c is d z. absurd (false≢true (ap may_stand (sym i.state_is) ∙ z));
+        left = left_in w.places w.codes w.log serial code h there (ap is_in_use i.state_is);
+        others = λ r ne. refl;
+      }));
+  asks = λ request i. logs w (record { event = event.Ask request; answer = answer.Asked (operations_given w.log + 1) }) h
+      (record { quiet = λ q. record { starts_not = refl; exits_not = refl; begins_not = refl; ends_not = refl; enters_not = λ s. refl; clears_not = λ s. refl }; invalidates_not = λ s. refl });
+  opens = λ oldest others i. logs w (record { event = event.Open; answer = answer.Opened oldest.number (kind_of oldest.request) }) h
+      (record { quiet = λ q. record { starts_not = refl; exits_not = refl; begins_not = refl; ends_not = refl; enters_not = λ s. refl; clears_not = λ s. refl }; invalidates_not = λ s. refl });
+  tells = λ name opened i. logs w (record { event = event.Tell name; answer = answer.Told }) h
+      (record { quiet = λ q. record { starts_not = refl; exits_not = refl; begins_not = refl; ends_not = refl; enters_not = λ s. refl; clears_not = λ s. refl }; invalidates_not = λ s. refl });
+  finds_gone = λ name i. logs w (record { event = event.Tell name; answer = answer.Gone }) h
+      (record { quiet = λ q. record { starts_not = refl; exits_not = refl; begins_not = refl; ends_not = refl; enters_not = λ s. refl; clears_not = λ s. refl }; invalidates_not = λ s. refl });
+  operates = λ opened others i. logs w (record { event = event.Operate; answer = answer.Census (census w) }) h
+      (record { quiet = λ q. record { starts_not = refl; exits_not = refl; begins_not = refl; ends_not = refl; enters_not = λ s. refl; clears_not = λ s. refl }; invalidates_not = λ s. refl });
+  closes = λ number opened i. logs w (record { event = event.Close number; answer = answer.Closed opened.number }) h
+      (record { quiet = λ q. record { starts_not = refl; exits_not = refl; begins_not = refl; ends_not = refl; enters_not = λ s. refl; clears_not = λ s. refl }; invalidates_not = λ s. refl });
+  counts = λ serial code i. logs w (record { event = event.Count serial; answer = answer.Count (walk w (id_of code)) }) h
+      (record { quiet = λ q. record { starts_not = refl; exits_not = refl; begins_not = refl; ends_not = refl; enters_not = λ s. refl; clears_not = λ s. refl }; invalidates_not = λ s. refl });
+  says_state = λ serial code i. logs w (record { event = event.CodeState serial; answer = answer.State code.state }) h
+      (record { quiet = λ q. record { starts_not = refl; exits_not = refl; begins_not = refl; ends_not = refl; enters_not = λ s. refl; clears_not = λ s. refl }; invalidates_not = λ s. refl });
+  resolves = λ method i. logs w (record { event = event.Resolve method; answer = code_or_none (in_use_for w.codes method) }) h
+      (record { quiet = λ q. record { starts_not = refl; exits_not = refl; begins_not = refl; ends_not = refl; enters_not = λ s. refl; clears_not = λ s. refl }; invalidates_not = λ s. refl });
 }
 
 pub reclaim_start : (places : ℕ) → IsReclaimed (replicate places None) [] []

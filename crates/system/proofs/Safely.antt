@@ -28,7 +28,7 @@ use Rattle.system.specs.Safepoints.{is_accepted, IsSettled, IsNext, FinishesSafe
 use Rattle.system.proofs.Outcomes.{asked, seated, moved, with_done, Finishes, Operates, is_move}
 use Rattle.system.proofs.EventCases.{Cases}
 use Rattle.system.proofs.CaseOfEvent.{by_cases}
-use Rattle.system.proofs.Lists.{all_at, any_at, find_before, same_at, at_low}
+use Rattle.system.proofs.Lists.{all_at, any_at, IsFirst, find_before, same_at, at_low}
 use Rattle.system.proofs.Frames.{settled_quiet, settled_is, part_settled}
 use Rattle.system.proofs.SoundMarks.{threads_has, first_open}
 use Rattle.system.proofs.Seats.{there_of}
@@ -63,14 +63,14 @@ alone os o (x ∷ xs) few is = let n : length os ≡ suc (suc (length xs)) = ap 
 -- The least that is told and not done.
 next_is : (w : World) (p : ℕ) (t : Thread) (opened : Opened) → IsKept w → Finishes w p t opened → IsNext w.requests t.name opened
 next_is w p t opened k i = record {
-  position = found.0;
-  is_open = found.1;
+  position = found.place;
+  is_open = found.at;
   told = i.told;
   not_done = i.not_done;
-  least = λ j o x told less. by j o x told less (nat_lt j found.0) refl;
+  least = λ j o x told less. by j o x told less (nat_lt j found.place) refl;
 }
   where
-    found : (i : ℕ) × (slice_get w.requests.opened i ≡ Some opened) × ((j : ℕ) (y : Opened) → j < i → slice_get w.requests.opened j ≡ Some y → is_undone w.requests t.name y ≡ false)
+    found : IsFirst (is_undone w.requests t.name) w.requests.opened opened
     found = find_before (is_undone w.requests t.name) w.requests.opened opened i.least
 
     done_of : (a b : Bool) → (a && not b) ≡ false → a ≡ true → b ≡ true
@@ -78,13 +78,13 @@ next_is w p t opened k i = record {
     done_of true false e h = absurd (false≢true (sym e))
     done_of false false e h = absurd (false≢true h)
 
-    by : (j : ℕ) (o : Opened) → slice_get w.requests.opened j ≡ Some o → is_marked w.requests.told o.number t.name ≡ true → o.number < opened.number → (b : Bool) → nat_lt j found.0 ≡ b
+    by : (j : ℕ) (o : Opened) → slice_get w.requests.opened j ≡ Some o → is_marked w.requests.told o.number t.name ≡ true → o.number < opened.number → (b : Bool) → nat_lt j found.place ≡ b
         → is_marked w.requests.done o.number t.name ≡ true
-    by j o x told less true e = done_of (is_marked w.requests.told o.number t.name) (is_marked w.requests.done o.number t.name) (found.2 j o (ltb-true j found.0 e) x) told
-    by j o x told less false e = dite (ℕ_discrete j found.0)
-        (λ same. (let is : o ≡ opened = same_at w.requests.opened found.0 o opened (subst (λ n. slice_get w.requests.opened n ≡ Some o) same x) found.1 in
+    by j o x told less true e = done_of (is_marked w.requests.told o.number t.name) (is_marked w.requests.done o.number t.name) (found.none_before j o (ltb-true j found.place e) x) told
+    by j o x told less false e = dite (ℕ_discrete j found.place)
+        (λ same. (let is : o ≡ opened = same_at w.requests.opened found.place o opened (subst (λ n. slice_get w.requests.opened n ≡ Some o) same x) found.at in
         let number = ap (λ (y : Opened). y.number) is in absurd (omega arith)))
-        (λ ne. (let above = after_of j found.0 (ltb-false j found.0 e) ne in let r = k.numbers.opened_rise found.0 j opened o above found.1 x in absurd (omega arith)))
+        (λ ne. (let above = after_of j found.place (ltb-false j found.place e) ne in let r = k.numbers.opened_rise found.place j opened o above found.at x in absurd (omega arith)))
       where
         after_of : (a b : ℕ) → b ≤ a → (a ≡ b → ⊥) → b < a
         after_of a b le ne = omega (arith, ne)

@@ -41,7 +41,7 @@ threads_has (Some u ∷ places) (suc p) t h = let r = threads_has places p t h i
 
 -- A live name is that of a thread at a place.
 pub name_at : (places : List (Option Thread)) (i : ℕ) (name : ℕ) → slice_get (map (λ (t : Thread). t.name) (threads places)) i ≡ Some name → (p : ℕ) × (t : Thread) × (slice_get places p ≡ Some (Some t)) × (t.name ≡ name)
-name_at places i name h = let m = map_at (λ (t : Thread). t.name) (threads places) i name h in let r = threads_at places i m.0 m.1 in (r.0, m.0, r.1, m.2)
+name_at places i name h = let m = map_at (λ (t : Thread). t.name) (threads places) i name h in let r = threads_at places i m.before m.at in (r.0, m.before, r.1, m.is)
 
 pub among_live : (w : World) (name : ℕ) → among name (live_names w) ≡ true → (p : ℕ) × (t : Thread) × (slice_get w.places p ≡ Some (Some t)) × (t.name ≡ name)
 among_live w name h = let a = any_at (λ other. other == name) (live_names w) h in name_at w.places a.0 name (a.2 ∙ ap (λ n. Some n) (eqb-true a.1 name a.3))
@@ -237,14 +237,14 @@ marks_opened w g n m oldest others i threads numbers h = record {
     given name a =
         let b = any_at (λ other. other == name) (filter (is_target oldest.request) (live_names w)) a in
         let c = filter_at (is_target oldest.request) (live_names w) b.0 b.1 b.2 in
-        let d = name_at w.places c.0 b.1 c.1 in
+        let d = name_at w.places c.from b.1 c.at in
         let s = threads.each d.0 d.1 d.2 in let low = s.name_to in let same = d.3 in let is : b.1 ≡ name = eqb-true b.1 name b.3 in omega arith
 
     target : (name : ℕ) → among name (filter (is_target oldest.request) (live_names w)) ≡ true → is_target oldest.request name ≡ true
     target name a =
         let b = any_at (λ other. other == name) (filter (is_target oldest.request) (live_names w)) a in
         let c = filter_at (is_target oldest.request) (live_names w) b.0 b.1 b.2 in
-        subst (λ m. is_target oldest.request m ≡ true) (eqb-true b.1 name b.3) c.2
+        subst (λ m. is_target oldest.request m ≡ true) (eqb-true b.1 name b.3) c.passes
 
     fresh : (name : ℕ) → is_marked w.requests.told oldest.number name ≡ true → ⊥
     fresh name t =
@@ -255,12 +255,12 @@ marks_opened w g n m oldest others i threads numbers h = record {
 marks_operated : (w : World) (g n : ℕ) (opened : Opened) (others : List Opened) → Operates w opened others → length w.requests.opened ≤ 1 → MarksAreSound w.places w.requests g n → MarksAreSound w.places (with_operated w opened) g n
 marks_operated w g n opened others i few h = record {
   live_given = λ j o name x a. (let m = map_at (operated_if opened.number) w.requests.opened j o x in
-      h.live_given j m.0 name m.1 (subst (λ ns. among name ns ≡ true) (ap (λ (y : Opened). y.live) (sym m.2) ∙ operated_live opened.number m.0) a));
+      h.live_given j m.before name m.at (subst (λ ns. among name ns ≡ true) (ap (λ (y : Opened). y.live) (sym m.is) ∙ operated_live opened.number m.before) a));
   told_given = h.told_given;
   live_target = λ j o name x a. (let m = map_at (operated_if opened.number) w.requests.opened j o x in
-      let live : m.0.live ≡ o.live = sym (operated_live opened.number m.0) ∙ ap (λ (y : Opened). y.live) m.2 in
-      let asked : m.0.request ≡ o.request = sym (operated_request opened.number m.0) ∙ ap (λ (y : Opened). y.request) m.2 in
-      subst (λ r. is_target r name ≡ true) asked (h.live_target j m.0 name m.1 (subst (λ ns. among name ns ≡ true) (sym live) a)));
+      let live : m.before.live ≡ o.live = sym (operated_live opened.number m.before) ∙ ap (λ (y : Opened). y.live) m.is in
+      let asked : m.before.request ≡ o.request = sym (operated_request opened.number m.before) ∙ ap (λ (y : Opened). y.request) m.is in
+      subst (λ r. is_target r name ≡ true) asked (h.live_target j m.before name m.at (subst (λ ns. among name ns ≡ true) (sym live) a)));
   told_opened = h.told_opened;
   done_told = λ k name d. ⊎_elim (λ new. told_all k name (marks_only opened.number (live_names w) k name new)) (λ old. h.done_told k name old)
       (or_cases (is_marked (marks_of opened.number (live_names w)) k name) (is_marked w.requests.done k name)
@@ -268,9 +268,9 @@ marks_operated w g n opened others i few h = record {
   cleared_done = λ k name c. list_any-append (λ (mark : Mark). (mark.operation == k) && (mark.name == name)) (marks_of opened.number (live_names w)) w.requests.done
       ∙ or_later (is_marked (marks_of opened.number (live_names w)) k name) (is_marked w.requests.done k name) (h.cleared_done k name c);
   told_live = λ j o name x t. (let m = map_at (operated_if opened.number) w.requests.opened j o x in
-      let number : o.number ≡ m.0.number = ap (λ (y : Opened). y.number) (sym m.2) ∙ operated_number opened.number m.0 in
-      let live : m.0.live ≡ o.live = sym (operated_live opened.number m.0) ∙ ap (λ (y : Opened). y.live) m.2 in
-      subst (λ ns. among name ns ≡ true) live (h.told_live j m.0 name m.1 (subst (λ k. is_marked w.requests.told k name ≡ true) number t)));
+      let number : o.number ≡ m.before.number = ap (λ (y : Opened). y.number) (sym m.is) ∙ operated_number opened.number m.before in
+      let live : m.before.live ≡ o.live = sym (operated_live opened.number m.before) ∙ ap (λ (y : Opened). y.live) m.is in
+      subst (λ ns. among name ns ≡ true) live (h.told_live j m.before name m.at (subst (λ k. is_marked w.requests.told k name ≡ true) number t)));
   uncleared_open = λ p t k x told clear. (let r = h.uncleared_open p t k x told clear in (r.0, operated_if opened.number r.1, map_has r.0 r.1 r.2, operated_number opened.number r.1 ∙ r.3));
   held_told = λ p t x e. (let r = h.held_told p t x e in (
     operated_if opened.number r.0,
@@ -292,13 +292,13 @@ marks_operated w g n opened others i few h = record {
 
 marks_closed : (w : World) (g n m : ℕ) (opened : Opened) → Closes w opened → NumbersAreSound w.requests.waiting w.requests.opened g n m → MarksAreSound w.places w.requests g n → MarksAreSound w.places (without_opened w opened) g n
 marks_closed w g n m opened i numbers h = record {
-  live_given = λ j o name x a. (let m = filter_at (λ (o : Opened). not (o.number == opened.number)) w.requests.opened j o x in h.live_given m.0 o name m.1 a);
+  live_given = λ j o name x a. (let m = filter_at (λ (o : Opened). not (o.number == opened.number)) w.requests.opened j o x in h.live_given m.from o name m.at a);
   told_given = h.told_given;
-  live_target = λ j o name x a. (let m = filter_at (λ (o : Opened). not (o.number == opened.number)) w.requests.opened j o x in h.live_target m.0 o name m.1 a);
+  live_target = λ j o name x a. (let m = filter_at (λ (o : Opened). not (o.number == opened.number)) w.requests.opened j o x in h.live_target m.from o name m.at a);
   told_opened = h.told_opened;
   done_told = h.done_told;
   cleared_done = h.cleared_done;
-  told_live = λ j o name x t. (let m = filter_at (λ (o : Opened). not (o.number == opened.number)) w.requests.opened j o x in h.told_live m.0 o name m.1 t);
+  told_live = λ j o name x t. (let m = filter_at (λ (o : Opened). not (o.number == opened.number)) w.requests.opened j o x in h.told_live m.from o name m.at t);
   uncleared_open = λ p t k x told clear. (let r = h.uncleared_open p t k x told clear in
       let s = stays r.0 r.1 r.2 (r.1.number == opened.number) refl (λ same. (let number : opened.number ≡ k = sym same ∙ r.3 in
       false≢true (sym clear ∙ cleared_all p t k x number told))) in (s.0, r.1, s.1, r.3));

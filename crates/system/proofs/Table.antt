@@ -91,15 +91,15 @@ given_code codes method slot c g = (g.0, find_push (λ (x : Code). x.serial == c
 restated : (slots methods : ℕ) (codes : List Code) (s : ℕ) (state : CodeState) → TableIsSound slots methods codes → is_in_use state ≡ false
     → ((i : ℕ) (k : Code) → slice_get codes i ≡ Some k → k.serial ≡ s → takes_slot state ≡ true → takes_slot k.state ≡ true) → TableIsSound slots methods (with_state codes s state)
 restated slots methods codes s state h unused takes = record {
-  serial_is = λ i k x. (let m = map_at (in_state s state) codes i k x in ap (λ (y : Code). y.serial) (sym m.2) ∙ (in_state_serial s state m.0 ∙ h.serial_is i m.0 m.1));
-  slot_low = λ i k x. (let m = map_at (in_state s state) codes i k x in let low = h.slot_low i m.0 m.1 in let e : k.slot ≡ m.0.slot = ap (λ (y : Code). y.slot) (sym m.2) ∙ in_state_slot s state m.0 in omega arith);
-  method_low = λ i k x. (let m = map_at (in_state s state) codes i k x in let low = h.method_low i m.0 m.1 in let e : k.method ≡ m.0.method = ap (λ (y : Code). y.method) (sym m.2) ∙ in_state_method s state m.0 in omega arith);
+  serial_is = λ i k x. (let m = map_at (in_state s state) codes i k x in ap (λ (y : Code). y.serial) (sym m.is) ∙ (in_state_serial s state m.before ∙ h.serial_is i m.before m.at));
+  slot_low = λ i k x. (let m = map_at (in_state s state) codes i k x in let low = h.slot_low i m.before m.at in let e : k.slot ≡ m.before.slot = ap (λ (y : Code). y.slot) (sym m.is) ∙ in_state_slot s state m.before in omega arith);
+  method_low = λ i k x. (let m = map_at (in_state s state) codes i k x in let low = h.method_low i m.before m.at in let e : k.method ≡ m.before.method = ap (λ (y : Code). y.method) (sym m.is) ∙ in_state_method s state m.before in omega arith);
   one_in_slot = λ i j a b x y u v e. (let m = map_at (in_state s state) codes i a x in let n = map_at (in_state s state) codes j b y in
-      h.one_in_slot i j m.0 n.0 m.1 n.1 (took i m.0 m.1 (ap (λ (z : Code). takes_slot z.state) m.2 ∙ u)) (took j n.0 n.1 (ap (λ (z : Code). takes_slot z.state) n.2 ∙ v))
-      (sym (in_state_slot s state m.0) ∙ (ap (λ (z : Code). z.slot) m.2 ∙ (e ∙ (ap (λ (z : Code). z.slot) (sym n.2) ∙ in_state_slot s state n.0)))));
+      h.one_in_slot i j m.before n.before m.at n.at (took i m.before m.at (ap (λ (z : Code). takes_slot z.state) m.is ∙ u)) (took j n.before n.at (ap (λ (z : Code). takes_slot z.state) n.is ∙ v))
+      (sym (in_state_slot s state m.before) ∙ (ap (λ (z : Code). z.slot) m.is ∙ (e ∙ (ap (λ (z : Code). z.slot) (sym n.is) ∙ in_state_slot s state n.before)))));
   one_in_use = λ i j a b x y u v e. (let m = map_at (in_state s state) codes i a x in let n = map_at (in_state s state) codes j b y in
-      h.one_in_use i j m.0 n.0 m.1 n.1 (used m.0 (ap (λ (z : Code). is_in_use z.state) m.2 ∙ u)) (used n.0 (ap (λ (z : Code). is_in_use z.state) n.2 ∙ v))
-      (sym (in_state_method s state m.0) ∙ (ap (λ (z : Code). z.method) m.2 ∙ (e ∙ (ap (λ (z : Code). z.method) (sym n.2) ∙ in_state_method s state n.0)))));
+      h.one_in_use i j m.before n.before m.at n.at (used m.before (ap (λ (z : Code). is_in_use z.state) m.is ∙ u)) (used n.before (ap (λ (z : Code). is_in_use z.state) n.is ∙ v))
+      (sym (in_state_method s state m.before) ∙ (ap (λ (z : Code). z.method) m.is ∙ (e ∙ (ap (λ (z : Code). z.method) (sym n.is) ∙ in_state_method s state n.before)))));
   few = (let e = map_length (in_state s state) codes in let f = h.few in omega arith);
 }
   where

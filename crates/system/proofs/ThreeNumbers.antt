@@ -19,7 +19,7 @@ use Rattle.system.specs.Marking.{SameMarks, SameOpened, done_by}
 use Rattle.system.proofs.Outcomes.{Tells, Opens, newly_opened, with_opened, with_operated}
 use Rattle.system.specs.Step.{operated_if}
 use Rattle.std.proofs.lemmas.List.Folds.{list_any-append}
-use Rattle.system.proofs.Lists.{find_before, found_passes, at_low, same_at, filter_has, filter_pair, push_at}
+use Rattle.system.proofs.Lists.{IsFirst, find_before, found_passes, at_low, same_at, filter_has, filter_pair, push_at}
 use Rattle.system.proofs.Numbers.{only_number}
 use Rattle.system.proofs.SoundMarks.{marked_more, marked_old, marked_new}
 
@@ -161,7 +161,7 @@ done_own w name opened m numbers next handshake h = record {
     is_next : (is_marked w.requests.told opened.number name ≡ true) × (is_marked w.requests.done opened.number name ≡ false)
     is_next = both_parts (is_marked w.requests.told opened.number name) (is_marked w.requests.done opened.number name) (found_passes (is_undone w.requests name) w.requests.opened opened next)
 
-    found : (i : ℕ) × (slice_get w.requests.opened i ≡ Some opened) × ((j : ℕ) (y : Opened) → j < i → slice_get w.requests.opened j ≡ Some y → is_undone w.requests name y ≡ false)
+    found : IsFirst (is_undone w.requests name) w.requests.opened opened
     found = find_before (is_undone w.requests name) w.requests.opened opened next
 
     done_of : (a b : Bool) → (a && not b) ≡ false → a ≡ true → b ≡ true
@@ -171,30 +171,30 @@ done_own w name opened m numbers next handshake h = record {
 
     no_census : (j : ℕ) (o : Opened) → slice_get w.requests.opened j ≡ Some o → is_census o.request ≡ false
     no_census j o at = false_where (is_census o.request) (λ c. (let few = numbers.census_alone j o at c in
-        let a = at_low w.requests.opened j o at in let b = at_low w.requests.opened found.0 opened found.1 in
-        let same : j ≡ found.0 = omega (arith, few, a, b) in let is : o ≡ opened = same_at w.requests.opened found.0 o opened (subst (λ n. slice_get w.requests.opened n ≡ Some o) same at) found.1 in
+        let a = at_low w.requests.opened j o at in let b = at_low w.requests.opened found.place opened found.at in
+        let same : j ≡ found.place = omega (arith, few, a, b) in let is : o ≡ opened = same_at w.requests.opened found.place o opened (subst (λ n. slice_get w.requests.opened n ≡ Some o) same at) found.at in
         false≢true (sym handshake ∙ subst (λ (x : Opened). is_census x.request ≡ true) is c)))
 
-    before : (j : ℕ) (o : Opened) → slice_get w.requests.opened j ≡ Some o → o.number < opened.number → (b : Bool) → nat_lt j found.0 ≡ b → (c : Bool) → nat_lt found.0 j ≡ c → is_undone w.requests name o ≡ false
-    before j o at less true e c f = found.2 j o (ltb-true j found.0 e) at
-    before j o at less false e true f = let r = numbers.opened_rise found.0 j opened o (ltb-true found.0 j f) found.1 at in absurd (omega (arith, r, less))
+    before : (j : ℕ) (o : Opened) → slice_get w.requests.opened j ≡ Some o → o.number < opened.number → (b : Bool) → nat_lt j found.place ≡ b → (c : Bool) → nat_lt found.place j ≡ c → is_undone w.requests name o ≡ false
+    before j o at less true e c f = found.none_before j o (ltb-true j found.place e) at
+    before j o at less false e true f = let r = numbers.opened_rise found.place j opened o (ltb-true found.place j f) found.at at in absurd (omega (arith, r, less))
     before j o at less false e false f =
-        let a = ltb-false j found.0 e in let b = ltb-false found.0 j f in let same : j ≡ found.0 = omega (arith, a, b) in
-        let is : o ≡ opened = same_at w.requests.opened found.0 o opened (subst (λ n. slice_get w.requests.opened n ≡ Some o) same at) found.1 in
+        let a = ltb-false j found.place e in let b = ltb-false found.place j f in let same : j ≡ found.place = omega (arith, a, b) in
+        let is : o ≡ opened = same_at w.requests.opened found.place o opened (subst (λ n. slice_get w.requests.opened n ≡ Some o) same at) found.at in
         let number = ap (λ (x : Opened). x.number) is in absurd (omega (arith, number, less))
 
     by : (j : ℕ) (o : Opened) → slice_get w.requests.opened j ≡ Some o → is_marked w.requests.told o.number name ≡ true → (b : Bool) → nat_lt o.number opened.number ≡ b → (c : Bool) → nat_lt opened.number o.number ≡ c
         → is_marked (with_mark w.requests.done opened.number name) o.number name ≡ done_by o (record m { done = opened.number })
     by j o at told true e c f =
         let less = ltb-true o.number opened.number e in
-        let was = done_of (is_marked w.requests.told o.number name) (is_marked w.requests.done o.number name) (before j o at less (nat_lt j found.0) refl (nat_lt found.0 j) refl) told in
+        let was = done_of (is_marked w.requests.told o.number name) (is_marked w.requests.done o.number name) (before j o at less (nat_lt j found.place) refl (nat_lt found.place j) refl) told in
         marked_old w.requests.done opened.number name o.number name was ∙ sym (rw (no_census j o at) (le_true o.number opened.number (omega (arith, less))))
     by j o at told false e true f =
         let above = ltb-true opened.number o.number f in
         let not_yet : is_marked w.requests.done o.number name ≡ false = false_where (is_marked w.requests.done o.number name) (λ d. (
         let low : nat_le o.number m.done ≡ true = (let a = h.done_is j o at told in (rw (no_census j o at) at (sym a ∙ d))) in
         let le = leb-true o.number m.done low in
-        let mine : is_marked w.requests.done opened.number name ≡ true = h.done_is found.0 opened found.1 is_next.0 ∙ rw handshake (le_true opened.number m.done (omega (arith, le, above))) in
+        let mine : is_marked w.requests.done opened.number name ≡ true = h.done_is found.place opened found.at is_next.0 ∙ rw handshake (le_true opened.number m.done (omega (arith, le, above))) in
         false≢true (sym is_next.1 ∙ mine))) in
         false_where (is_marked (with_mark w.requests.done opened.number name) o.number name) (λ d. ⊎_elim (λ new. (let n = new.0 in absurd (omega (arith, n, above)))) (λ old. false≢true (sym not_yet ∙ old)) (marked_more w.requests.done opened.number name o.number name d))
         ∙ sym (rw (no_census j o at) (le_false o.number opened.number above))
@@ -218,7 +218,7 @@ cleared_own w p t opened m numbers marks there next h = record {
     is_next : (is_marked w.requests.told opened.number t.name ≡ true) × (is_marked w.requests.cleared opened.number t.name ≡ false)
     is_next = both_parts (is_marked w.requests.told opened.number t.name) (is_marked w.requests.cleared opened.number t.name) (found_passes (is_uncleared w.requests t.name) w.requests.opened opened next)
 
-    found : (i : ℕ) × (slice_get w.requests.opened i ≡ Some opened) × ((j : ℕ) (y : Opened) → j < i → slice_get w.requests.opened j ≡ Some y → is_uncleared w.requests t.name y ≡ false)
+    found : IsFirst (is_uncleared w.requests t.name) w.requests.opened opened
     found = find_before (is_uncleared w.requests t.name) w.requests.opened opened next
 
     cleared_of : (a b : Bool) → (a && not b) ≡ false → a ≡ true → b ≡ true
@@ -226,12 +226,12 @@ cleared_own w p t opened m numbers marks there next h = record {
     cleared_of true false e h = absurd (false≢true (sym e))
     cleared_of false false e h = absurd (false≢true h)
 
-    before : (j : ℕ) (o : Opened) → slice_get w.requests.opened j ≡ Some o → o.number < opened.number → (b : Bool) → nat_lt j found.0 ≡ b → (c : Bool) → nat_lt found.0 j ≡ c → is_uncleared w.requests t.name o ≡ false
-    before j o at less true e c f = found.2 j o (ltb-true j found.0 e) at
-    before j o at less false e true f = let r = numbers.opened_rise found.0 j opened o (ltb-true found.0 j f) found.1 at in absurd (omega (arith, r, less))
+    before : (j : ℕ) (o : Opened) → slice_get w.requests.opened j ≡ Some o → o.number < opened.number → (b : Bool) → nat_lt j found.place ≡ b → (c : Bool) → nat_lt found.place j ≡ c → is_uncleared w.requests t.name o ≡ false
+    before j o at less true e c f = found.none_before j o (ltb-true j found.place e) at
+    before j o at less false e true f = let r = numbers.opened_rise found.place j opened o (ltb-true found.place j f) found.at at in absurd (omega (arith, r, less))
     before j o at less false e false f =
-        let a = ltb-false j found.0 e in let b = ltb-false found.0 j f in let same : j ≡ found.0 = omega (arith, a, b) in
-        let is : o ≡ opened = same_at w.requests.opened found.0 o opened (subst (λ n. slice_get w.requests.opened n ≡ Some o) same at) found.1 in
+        let a = ltb-false j found.place e in let b = ltb-false found.place j f in let same : j ≡ found.place = omega (arith, a, b) in
+        let is : o ≡ opened = same_at w.requests.opened found.place o opened (subst (λ n. slice_get w.requests.opened n ≡ Some o) same at) found.at in
         let number = ap (λ (x : Opened). x.number) is in absurd (omega (arith, number, less))
 
     old_cleared : (k : ℕ) → is_marked w.requests.told k t.name ≡ true → k < opened.number → (b : Bool) → is_marked w.requests.cleared k t.name ≡ b → is_marked w.requests.cleared k t.name ≡ true
@@ -239,7 +239,7 @@ cleared_own w p t opened m numbers marks there next h = record {
     old_cleared k told less false e =
         let r = marks.uncleared_open p t k there told e in
         let low : r.1.number < opened.number = (let n = r.3 in omega (arith, n, less)) in
-        cleared_of (is_marked w.requests.told k t.name) (is_marked w.requests.cleared k t.name) (subst (λ n. (is_marked w.requests.told n t.name && not (is_marked w.requests.cleared n t.name)) ≡ false) r.3 (before r.0 r.1 r.2 low (nat_lt r.0 found.0) refl (nat_lt found.0 r.0) refl)) told
+        cleared_of (is_marked w.requests.told k t.name) (is_marked w.requests.cleared k t.name) (subst (λ n. (is_marked w.requests.told n t.name && not (is_marked w.requests.cleared n t.name)) ≡ false) r.3 (before r.0 r.1 r.2 low (nat_lt r.0 found.place) refl (nat_lt found.place r.0) refl)) told
 
     by : (k : ℕ) → is_marked w.requests.told k t.name ≡ true → (b : Bool) → nat_lt k opened.number ≡ b → (c : Bool) → nat_lt opened.number k ≡ c → is_marked (with_mark w.requests.cleared opened.number t.name) k t.name ≡ nat_le k opened.number
     by k told true e c f =
@@ -300,24 +300,24 @@ told_own w name p t opened m s there named i h = record {
     told_if true e = refl
     told_if false e = absurd (false≢true (sym e))
 
-    found : (i : ℕ) × (slice_get (filter (λ o. is_live_target w o name) w.requests.opened) i ≡ Some opened) × ((j : ℕ) (y : Opened) → j < i → slice_get (filter (λ o. is_live_target w o name) w.requests.opened) j ≡ Some y → not (is_marked w.requests.told y.number name) ≡ false)
+    found : IsFirst (λ o. not (is_marked w.requests.told o.number name)) (filter (λ o. is_live_target w o name) w.requests.opened) opened
     found = find_before (λ o. not (is_marked w.requests.told o.number name)) (filter (λ o. is_live_target w o name) w.requests.opened) opened i.least
 
-    told_less : (o : Opened) → o.number < opened.number → (a : ℕ) → slice_get (filter (λ o. is_live_target w o name) w.requests.opened) a ≡ Some o → (b : Bool) → nat_lt a found.0 ≡ b → (c : Bool) → nat_lt found.0 a ≡ c → is_marked w.requests.told o.number name ≡ true
-    told_less o less a at true e c f = told_if (is_marked w.requests.told o.number name) (found.2 a o (ltb-true a found.0 e) at)
+    told_less : (o : Opened) → o.number < opened.number → (a : ℕ) → slice_get (filter (λ o. is_live_target w o name) w.requests.opened) a ≡ Some o → (b : Bool) → nat_lt a found.place ≡ b → (c : Bool) → nat_lt found.place a ≡ c → is_marked w.requests.told o.number name ≡ true
+    told_less o less a at true e c f = told_if (is_marked w.requests.told o.number name) (found.none_before a o (ltb-true a found.place e) at)
     told_less o less a at false e true f =
-        let r = filter_pair (λ o. is_live_target w o name) w.requests.opened found.0 a opened o (ltb-true found.0 a f) found.1 at in
-        let n = s.numbers.opened_rise r.0 r.1 opened o r.2 r.3 r.4 in absurd (omega (arith, n, less))
+        let r = filter_pair (λ o. is_live_target w o name) w.requests.opened found.place a opened o (ltb-true found.place a f) found.at at in
+        let n = s.numbers.opened_rise r.first r.second opened o r.in_order r.at_first r.at_second in absurd (omega (arith, n, less))
     told_less o less a at false e false f =
-        let x = ltb-false a found.0 e in let y = ltb-false found.0 a f in let same : a ≡ found.0 = omega (arith, x, y) in
-        let is : o ≡ opened = same_at (filter (λ o. is_live_target w o name) w.requests.opened) found.0 o opened (subst (λ n. slice_get (filter (λ o. is_live_target w o name) w.requests.opened) n ≡ Some o) same at) found.1 in
+        let x = ltb-false a found.place e in let y = ltb-false found.place a f in let same : a ≡ found.place = omega (arith, x, y) in
+        let is : o ≡ opened = same_at (filter (λ o. is_live_target w o name) w.requests.opened) found.place o opened (subst (λ n. slice_get (filter (λ o. is_live_target w o name) w.requests.opened) n ≡ Some o) same at) found.at in
         let number = ap (λ (x : Opened). x.number) is in absurd (omega (arith, number, less))
 
     all : (j : ℕ) (o : Opened) → slice_get w.requests.opened j ≡ Some o → among name o.live ≡ true → (b : Bool) → nat_lt o.number opened.number ≡ b → (c : Bool) → nat_lt opened.number o.number ≡ c → is_marked (with_mark w.requests.told opened.number name) o.number name ≡ nat_le o.number opened.number
     all j o at live true e c f =
         let less = ltb-true o.number opened.number e in
         let in_list = filter_has (λ o. is_live_target w o name) w.requests.opened j o at (and_from (among name o.live) (is_live w name) live lives.1) in
-        marked_old w.requests.told opened.number name o.number name (told_less o less in_list.0 in_list.1 (nat_lt in_list.0 found.0) refl (nat_lt found.0 in_list.0) refl) ∙ sym (le_true o.number opened.number (omega (arith, less)))
+        marked_old w.requests.told opened.number name o.number name (told_less o less in_list.0 in_list.1 (nat_lt in_list.0 found.place) refl (nat_lt found.place in_list.0) refl) ∙ sym (le_true o.number opened.number (omega (arith, less)))
     all j o at live false e true f =
         let above = ltb-true opened.number o.number f in
         false_where (is_marked (with_mark w.requests.told opened.number name) o.number name) (λ d. ⊎_elim (λ new. (let n = new.0 in absurd (omega (arith, n, above))))

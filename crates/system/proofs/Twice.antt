@@ -46,7 +46,7 @@ none_then w method old table is = by (in_use_for (with_state w.codes old.serial 
         let p = and_parts (a.method == method) (is_in_use a.state) (found_passes (λ (c : Code). (c.method == method) && is_in_use c.state) (with_state w.codes old.serial NotEntrant) a e) in
         let q = find_place (λ (c : Code). (c.method == method) && is_in_use c.state) w.codes old is in
         let r = and_parts (old.method == method) (is_in_use old.state) (found_passes (λ (c : Code). (c.method == method) && is_in_use c.state) w.codes old is) in
-        absurd (never f.0 m.0 a m.1 m.2 p.1 (eqb-true a.method method p.0) q.0 q.1 r.1 (eqb-true old.method method r.0) (m.0.serial == old.serial) refl)
+        absurd (never f.0 m.before a m.at m.is p.1 (eqb-true a.method method p.0) q.0 q.1 r.1 (eqb-true old.method method r.0) (m.before.serial == old.serial) refl)
       where
         never : (j : ℕ) (b a : Code) → slice_get w.codes j ≡ Some b → in_state old.serial NotEntrant b ≡ a → is_in_use a.state ≡ true → a.method ≡ method → (i : ℕ) → slice_get w.codes i ≡ Some old → is_in_use old.state ≡ true → old.method ≡ method → (t : Bool) → (b.serial == old.serial) ≡ t → ⊥
         never j b a x same used its i y old_used olds true e = false≢true (ap (λ (c : Code). is_in_use c.state) (sym (in_state_here old.serial NotEntrant b (eqb-true b.serial old.serial e)) ∙ same) ∙ used)
