@@ -40,7 +40,10 @@ abbrev pub older : List Mark → List Mark
 older [] = []
 older (mark ∷ marks) = marks
 
--- Each Tell that is told, and each Clear, makes one mark, so the newest mark is that of the newest such entry. The marks before an entry.
+-- What follows walks the log and the marks in step, the newest first. Each Tell that is told makes one mark of what is told, and each
+-- Clear one of what is cleared: so the newest mark is that of the newest such entry, and it alone is missing before that entry.
+
+-- The marks of what is told, or cleared, as they stood before the entry, out of those behind it.
 abbrev pub told_before : Event → Answer → List Mark → List Mark
 told_before (event.Tell name) answer.Told told = older told
 told_before event answer told = told
@@ -49,13 +52,15 @@ abbrev pub cleared_before : Event → List Mark → List Mark
 cleared_before (event.At place act.Clear) cleared = older cleared
 cleared_before event cleared = cleared
 
--- The operation that was told last at the place, 0 where none was. It stays when the thread leaves and another one starts there.
+-- The operation that was told last at the place, 0 where none was: that of the newest entry that tells at the place. It stays when the
+-- thread leaves and another one starts there. `told` are the marks of what is told, at the end of this log.
 abbrev pub armed_at : ℕ → List Mark → List Entry → ℕ
 armed_at place told [] = 0
 armed_at place told (entry ∷ before) =
     if tells place entry.event entry.answer before then newest told else armed_at place (told_before entry.event entry.answer told) before
 
--- The operations that were told at the place and aren't cleared there, the newest first.
+-- The operations that were told at the place and aren't cleared there, the newest first: an entry that tells at the place adds one, and
+-- one that clears at the place takes one away. `told` and `cleared` are the marks at the end of this log.
 abbrev pub uncleared_at : ℕ → List Mark → List Mark → List Entry → List ℕ
 uncleared_at place told cleared [] = []
 uncleared_at place told cleared (entry ∷ before) =
@@ -63,7 +68,8 @@ uncleared_at place told cleared (entry ∷ before) =
     else (if clears place entry.event then filter (λ n. not (n == newest cleared)) (uncleared_at place told (older cleared) before)
     else uncleared_at place (told_before entry.event entry.answer told) (cleared_before entry.event cleared) before)
 
--- The operation that was told last at the place at the time when nothing told there was last left uncleared.
+-- The operation that had been told last at the place when nothing told there was left uncleared, at the last such time: the walk goes
+-- back until `uncleared_at` is empty, and answers `armed_at` of then.
 abbrev pub cleared_at : ℕ → List Mark → List Mark → List Entry → ℕ
 cleared_at place told cleared [] = 0
 cleared_at place told cleared (entry ∷ before) =
