@@ -1,7 +1,10 @@
 //! Serving the targets of open handshakes, one at a time, until the oldest is closed.
 ghost use Rattle.std.specs.Prelude.{◌≡◌, ◌⊎◌, ◌<◌, [], false, IfOk, IfErr};
 ghost use Rattle.desk.specs.declared.entries.Entry.{Entry};
+ghost use Rattle.desk.specs.Machine.{State as DeskState};
+ghost use Rattle.desk.specs.Fields.{at};
 ghost use Rattle.coordinator.specs.Driving.{number_of, IsWorked, IsListed};
+ghost use Rattle.coordinator.specs.Awaited.{awaited, is_awaited, WasThere};
 ghost use Rattle.held_threads.specs.Brought.{IsAttended};
 ghost use Rattle.berths.specs.Berths.{acted};
 
@@ -44,8 +47,17 @@ impl<N: Name, J: Errand> Passes<N, J> {
     }
 }
 
+/// What came of a target whose body was in its berth: it was served, or had no job, since its thread has served itself.
+#[derive(Drop)]
+pub enum Attended<N: Name> {
+    Served(Brought<N>),
+    Idle(BerthReceipt<N>),
+}
+
 // The number of the oldest open request where the thread of the name is due for that.
-fn awaited_of<N: Name, J: Errand>(desk: &Desk<N, J>, name: u64) -> Option<u64> {
+fn awaited_of<N: Name, J: Errand>(desk: &Desk<N, J>, name: u64) -> Option<u64>
+    ensures { result ≡ awaited (at desk.now) name }
+{
     if !is_awaited(desk, name) {
         return None;
     }
@@ -56,7 +68,9 @@ fn awaited_of<N: Name, J: Errand>(desk: &Desk<N, J>, name: u64) -> Option<u64> {
 }
 
 // Whether the thread of the name is due for the oldest open request.
-fn is_awaited<N: Name, J: Errand>(desk: &Desk<N, J>, name: u64) -> bool {
+fn is_awaited<N: Name, J: Errand>(desk: &Desk<N, J>, name: u64) -> bool
+    ensures { result ≡ is_awaited (at desk.now) name }
+{
     match desk.next_awaited(name.saturating_sub(1)) {
         Some(first) => first.name == name,
         None => false,
@@ -111,7 +125,7 @@ impl<'a, N: Name, J: Errand> Coordinator<'a, N, J> {
             return;
         }
         let is_out = (self.out >> (who.place % 64)) & 1 == 1;
-        if is_out || !self.attend(rt, &passes.told, who) {
+        if is_out || self.attend(rt, &passes.told, who).is_err() {
             self.serve_later(rt, passes, who);
         }
     }
@@ -124,7 +138,7 @@ impl<'a, N: Name, J: Errand> Coordinator<'a, N, J> {
     fn serve_later<R: Wait>(&self, rt: &R, passes: &mut Passes<N, J>, who: Live)
         requires { who.place < N.board.places }
     {
-        if self.comes(who.place, &mut passes.looks) || self.attend(rt, &passes.told, who) {
+        if self.comes(who.place, &mut passes.looks) || self.attend(rt, &passes.told, who).is_ok() {
             return;
         }
         let Some(number) = self.awaited(rt, who.name) else {
@@ -152,20 +166,32 @@ impl<'a, N: Name, J: Errand> Coordinator<'a, N, J> {
     }
 
     // The number of the oldest open request where the thread of the name is due for that.
-    fn awaited<R: Wait>(&self, rt: &R, name: u64) -> Option<u64> {
+    fn awaited<R: Wait>(&self, rt: &R, name: u64) -> Option<u64>
+        ensures { (s : DeskState) × (result ≡ awaited s name) }
+    {
         let desk = self.shared.desk().lock(rt);
         awaited_of(&desk, name)
     }
 
-    // Serves a target where its body is in its berth. Answers whether it was there: without a job it stays, since its thread has served
-    // itself.
+    // Serves a target where its body is in its berth; the error is the receipt that it isn't there.
     #[inline(always)]
-    fn attend<R: Wait>(&self, rt: &R, told: &AllTold<N, J>, due: Live) -> bool
+    fn attend<R: Wait>(
+        &self,
+        rt: &R,
+        told: &AllTold<N, J>,
+        due: Live,
+    ) -> Result<Attended<N>, BerthReceipt<N>>
         requires { due.place < N.board.places }
+        ensures attended { IfOk result
+            (WasThere J.number J.whom J.asks J.may_answer due.place due.name) }
+        ensures absent { IfErr result (λ r. r ≡ acted due.place due.name BerthAct.Absent) }
     {
         match self.serve_at(rt, told, due) {
-            Ok(_attended) => true,
-            Err(left) => left.act() == BerthAct::NoJob,
+            Ok(brought) => Ok(Attended::Served(brought)),
+            Err(left) => match left.act() {
+                BerthAct::NoJob => Ok(Attended::Idle(left)),
+                _ => Err(left),
+            },
         }
     }
 
