@@ -5,84 +5,83 @@ ghost use Rattle.safepoint.specs.Told.{Replies};
 use crate::codes::code_of;
 use crate::handle::Place;
 use parties::acts::Act;
-use std::alloc::Global;
 
 /// Opens the oldest request: its number.
 #[unsafe(no_mangle)]
-pub extern "C" fn sp_open(alloc: Global, coordinator: &mut Place) -> i64
+pub extern "C" fn sp_open(coordinator: &mut Place) -> i64
     ensures { Replies coordinator.old.handle.board.places result Act.Open coordinator.old.handle.value coordinator.new.handle.value }
 {
-    code_of(coordinator.obey(alloc, Act::Open))
+    code_of(coordinator.obey(Act::Open))
 }
 
 /// Tells a name: the number that its place is armed with, 0 where the name is gone.
 #[unsafe(no_mangle)]
-pub extern "C" fn sp_tell(alloc: Global, coordinator: &mut Place, name: u64) -> i64
+pub extern "C" fn sp_tell(coordinator: &mut Place, name: u64) -> i64
     ensures { Replies coordinator.old.handle.board.places result (Act.Tell name) coordinator.old.handle.value coordinator.new.handle.value }
 {
-    code_of(coordinator.obey(alloc, Act::Tell(name)))
+    code_of(coordinator.obey(Act::Tell(name)))
 }
 
 /// Holds the thread of a place: the oldest operation that it owes.
 #[unsafe(no_mangle)]
-pub extern "C" fn sp_hold(alloc: Global, coordinator: &mut Place, place: usize) -> i64
+pub extern "C" fn sp_hold(coordinator: &mut Place, place: usize) -> i64
     ensures { Replies coordinator.old.handle.board.places result (Act.Hold place) coordinator.old.handle.value coordinator.new.handle.value }
 {
-    code_of(coordinator.obey(alloc, Act::Hold(place)))
+    code_of(coordinator.obey(Act::Hold(place)))
 }
 
 /// The operation of a held thread is served: its number.
 #[unsafe(no_mangle)]
-pub extern "C" fn sp_serve(alloc: Global, coordinator: &mut Place, place: usize) -> i64
+pub extern "C" fn sp_serve(coordinator: &mut Place, place: usize) -> i64
     ensures { Replies coordinator.old.handle.board.places result (Act.Serve place) coordinator.old.handle.value coordinator.new.handle.value }
 {
-    code_of(coordinator.obey(alloc, Act::Serve(place)))
+    code_of(coordinator.obey(Act::Serve(place)))
 }
 
 /// A held thread is let go.
 #[unsafe(no_mangle)]
-pub extern "C" fn sp_release(alloc: Global, coordinator: &mut Place, place: usize) -> i64
+pub extern "C" fn sp_release(coordinator: &mut Place, place: usize) -> i64
     ensures { Replies coordinator.old.handle.board.places result (Act.Release place) coordinator.old.handle.value coordinator.new.handle.value }
 {
-    code_of(coordinator.obey(alloc, Act::Release(place)))
+    code_of(coordinator.obey(Act::Release(place)))
 }
 
 /// The open census is operated over the held threads: its number.
 #[unsafe(no_mangle)]
-pub extern "C" fn sp_operate(alloc: Global, coordinator: &mut Place) -> i64
+pub extern "C" fn sp_operate(coordinator: &mut Place) -> i64
     ensures { Replies coordinator.old.handle.board.places result Act.Operate coordinator.old.handle.value coordinator.new.handle.value }
 {
-    code_of(coordinator.obey(alloc, Act::Operate))
+    code_of(coordinator.obey(Act::Operate))
 }
 
 /// The frames of a code in the census that was operated last.
 #[unsafe(no_mangle)]
-pub extern "C" fn sp_counted(alloc: Global, coordinator: &mut Place, serial: u64) -> i64
+pub extern "C" fn sp_counted(coordinator: &mut Place, serial: u64) -> i64
     ensures { Replies coordinator.old.handle.board.places result (Act.Counted serial) coordinator.old.handle.value coordinator.new.handle.value }
 {
-    code_of(coordinator.obey(alloc, Act::Counted(serial)))
+    code_of(coordinator.obey(Act::Counted(serial)))
 }
 
 /// Closes the oldest open request: its number.
 #[unsafe(no_mangle)]
-pub extern "C" fn sp_close(alloc: Global, coordinator: &mut Place) -> i64
+pub extern "C" fn sp_close(coordinator: &mut Place) -> i64
     ensures { Replies coordinator.old.handle.board.places result (Act.Close None) coordinator.old.handle.value coordinator.new.handle.value }
 {
-    code_of(coordinator.obey(alloc, Act::Close(None)))
+    code_of(coordinator.obey(Act::Close(None)))
 }
 
 /// Closes the open request of the number.
 #[unsafe(no_mangle)]
-pub extern "C" fn sp_close_of(alloc: Global, coordinator: &mut Place, number: u64) -> i64
+pub extern "C" fn sp_close_of(coordinator: &mut Place, number: u64) -> i64
     ensures { Replies coordinator.old.handle.board.places result (Act.Close (Some number)) coordinator.old.handle.value coordinator.new.handle.value }
 {
-    code_of(coordinator.obey(alloc, Act::Close(Some(number))))
+    code_of(coordinator.obey(Act::Close(Some(number))))
 }
 
 /// The last step of reclaiming a code: 0 where it is freed, or how many activations stand.
 #[unsafe(no_mangle)]
-pub extern "C" fn sp_reclaim_end(alloc: Global, coordinator: &mut Place, serial: u64) -> i64
+pub extern "C" fn sp_reclaim_end(coordinator: &mut Place, serial: u64) -> i64
     ensures { Replies coordinator.old.handle.board.places result (Act.Weigh serial) coordinator.old.handle.value coordinator.new.handle.value }
 {
-    code_of(coordinator.obey(alloc, Act::Weigh(serial)))
+    code_of(coordinator.obey(Act::Weigh(serial)))
 }

@@ -34,20 +34,6 @@ impl Model for Handle {
     ghost also_owns = { λ h. held_owns h.alloc h.at h.board h.row h.value };
 }
 
-// Does an act.
-#[inline(always)]
-fn obey<N: Name>(
-    parts: Loose<Party<N>, Global>,
-    act: Act,
-) -> (Loose<Party<N>, Global>, Result<u64, Fault>)
-    requires { is_some parts.value ≡ true }
-    ensures { Obeys N.board.places parts.value act result.1 result.0.value }
-{
-    let mut party = parts.into_box();
-    let said = party.act(act);
-    (Loose::of(party), said)
-}
-
 // Another party to the same system, and whether there was memory for it.
 fn fork<N: Name>(
     parts: Loose<Party<N>, Global>,
@@ -122,25 +108,17 @@ fn free<N: Name>(parts: Loose<Party<N>, Global>) -> bool
 }
 
 impl Handle {
+    // Does an act of the party, where it lies.
     #[inline(always)]
-    fn obey(self, act: Act) -> (Handle, Result<u64, Fault>)
-        requires { is_some self.value ≡ true }
-        ensures { Obeys self.board.places self.value act result.1 result.0.value × (result.0.board ≡ self.board) × (result.0.row ≡ self.row) }
+    fn obey(&mut self, act: Act) -> Result<u64, Fault>
+        requires { is_some self.old.value ≡ true }
+        ensures { Obeys self.old.board.places self.old.value act result self.new.value
+            × (self.new.board ≡ self.old.board)
+            × (self.new.row ≡ self.old.row) }
     {
-        let Handle { at, alloc } = self;
-        let (parts, said) = obey::<Brand>(
-            Loose {
-                at: at as *mut Party<Brand>,
-                alloc,
-            },
-            act,
-        );
-        let Loose { at, alloc } = parts;
-        let back = Handle {
-            at: at as *mut u8,
-            alloc,
-        };
-        (back, said)
+        let at = self.at as *mut Party<Brand>;
+        let party = unsafe { &mut *at };
+        party.act(act)
     }
 
     fn fork(self) -> (Handle, (Handle, bool))
@@ -243,16 +221,14 @@ impl Place {
 
     /// Does an act of the party that is here.
     #[inline(always)]
-    pub(crate) fn obey(&mut self, alloc: Global, act: Act) -> Result<u64, Fault>
+    pub(crate) fn obey(&mut self, act: Act) -> Result<u64, Fault>
         ensures said { Answers self.old.handle.board.places self.old.handle.value act result self.new.handle.value }
         ensures same { (self.new.handle.board ≡ self.old.handle.board) × (self.new.handle.row ≡ self.old.handle.row) }
     {
         if !self.made {
             return Err(Fault::NotThis);
         }
-        let (handle, said) = self.take(alloc).obey(act);
-        self.put(handle, true);
-        said
+        self.handle.obey(act)
     }
 
     /// Puts another party to the same system into the other place.
