@@ -155,6 +155,7 @@ static void requests_are_refused(void) {
     IS(sp_submit(&d, 3, 0), SP_BAD_ASK);
     IS(sp_target(&d, 1), 0);
     IS(sp_target(&d, 1), 0);
+    IS(sp_submit(&d, 3, 0), SP_BAD_ASK);
     IS(sp_submit(&d, SP_DEPTH, 0), SP_BAD_TARGETS);
     IS(sp_submit(&d, SP_DEPTH, 0), SP_NO_TARGETS);
 }
@@ -241,6 +242,7 @@ static void a_census_is_operated(void) {
     IS(sp_counted(&c, 1), 1);
     IS(sp_counted(&c, 2), 1);
     IS(sp_counted(&c, 3), 0);
+    IS(sp_counted(&d, 1), 0);
     IS(sp_close(&c), SP_HELD);
     IS(sp_release(&c, 0), 0);
     IS(sp_release(&c, 1), 0);

@@ -114,8 +114,8 @@ int64_t sp_stop_next(struct sp_party *thread);
 int64_t sp_stop_serve(struct sp_party *thread);
 
 /* ANY PARTY. sp_target (*) puts a name behind those of the next request, which takes them all,
-   whatever it answers but SP_AGAIN or SP_NO_MEMORY; SP_NO_MEMORY. sp_submit: a handshake of
-   these names waits: its number. SP_SPENT, SP_QUEUE_FULL (64 wait), SP_NO_TARGETS,
+   whatever it answers but SP_AGAIN, SP_NO_MEMORY or SP_BAD_ASK. SP_NO_MEMORY. sp_submit: a
+   handshake of these names waits: its number. SP_SPENT, SP_QUEUE_FULL (64 wait), SP_NO_TARGETS,
    SP_BAD_TARGETS (a name twice, or more than 64), SP_HISTORY_FULL, SP_NO_MEMORY, SP_BAD_ASK.
    sp_census: a census of all waits: its number. */
 int64_t sp_target(struct sp_party *party, uint64_t name);
@@ -152,7 +152,8 @@ int64_t sp_serve(struct sp_party *coordinator, size_t place);
 int64_t sp_release(struct sp_party *coordinator, size_t place);
 /* The open census is operated over the held threads, which are all that live: its number.
    SP_NOTHING_OPEN, SP_NOT_OF (a handshake), SP_ALREADY_DONE, SP_NOT_ALL_HELD, SP_NO_MEMORY.
-   sp_counted (*): the frames of a code in the census that was operated last. */
+   sp_counted (*): the frames of a code in the census that was operated last, of any other party
+   0. */
 int64_t sp_operate(struct sp_party *coordinator);
 int64_t sp_counted(struct sp_party *coordinator, uint64_t serial);
 /* Closes the oldest open request, or that of the number: its number. SP_NOTHING_OPEN, SP_NOT_OF,
