@@ -13,8 +13,8 @@ use Rattle.desk.specs.Machine.{State, Current}
 use Rattle.operations.specs.Requests.{is_census}
 use Rattle.desk.specs.Refusals.{AreSettled, has_body, are_all, front_is, MayOperate, operate_refused}
 use Rattle.thread_list.specs.Moves.{IsCleared}
-use Rattle.coordinator_steps.specs.Held.{AreEach}
-use Rattle.coordinator_steps.proofs.Each.{some_is, each_count}
+use Rattle.held_threads.specs.Held.{AreEach}
+use Rattle.held_threads.proofs.Each.{some_is, each_count}
 
 -- Where no frames change, a census counts the same.
 each_total : (R : BodyView → BodyView → Type 0) (serial : ℕ) (xs ys : List BodyView) → ((a b : BodyView) → R a b → b.image.frames ≡ a.image.frames) → AreEach R xs ys → total_count serial ys ≡ total_count serial xs

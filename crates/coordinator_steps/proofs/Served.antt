@@ -8,10 +8,10 @@ use Rattle.desk.specs.Fields.{DeskSeen, Enters}
 use Rattle.desk.specs.Finishing.{FinishSeen}
 use Rattle.desk.specs.Machine.{Stands}
 use Rattle.thread_list.specs.Moves.{IsOperated}
-use Rattle.coordinator_steps.specs.Held.{StandsAt}
+use Rattle.held_threads.specs.Held.{StandsAt}
 use Rattle.coordinator_steps.specs.Holding.{Holding}
 use Rattle.coordinator_steps.specs.Refused.{IsServeFault, Serves}
-use Rattle.coordinator_steps.proofs.Each.{some_is}
+use Rattle.held_threads.proofs.Each.{some_is}
 
 pub serves : (old new : Holding) (place index number : ℕ) (finish : FinishSeen) (before behind : DeskSeen) (stood body after : BodyView)
     → StandsAt old.held index place stood → IsServeFault old index place None → slice_get old.held index ≡ Some body → new ≡ record old { held = slice_set old.held index after }

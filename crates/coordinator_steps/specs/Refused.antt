@@ -28,7 +28,7 @@ use Rattle.coordinator_steps.specs.declared.faults.ReleaseFault.{ReleaseFault}
 use Rattle.coordinator_steps.specs.declared.faults.ReleaseFault.TheVariants as release
 use Rattle.coordinator_steps.specs.declared.faults.OperateFault.{OperateFault}
 use Rattle.coordinator_steps.specs.declared.faults.OperateFault.TheVariants as operate
-use Rattle.coordinator_steps.specs.Held.{is_held, StandsAt}
+use Rattle.held_threads.specs.Held.{is_held, StandsAt}
 use Rattle.coordinator_steps.specs.Holding.{Holding}
 use Rattle.berths.specs.Berths.{Moved, Went, acted, moved}
 use Rattle.berths.specs.declared.room.BodyAct.TheVariants as body_act

@@ -6,15 +6,15 @@ ghost use Rattle.desk.specs.declared.entries.Entry.{Entry};
 ghost use Rattle.desk.specs.Fields.{Enters, at};
 ghost use Rattle.desk.specs.Refusals.{are_all, MayOperate};
 ghost use Rattle.thread_list.specs.Moves.{IsOperated};
-ghost use Rattle.coordinator_steps.specs.Held.{AreEach};
+ghost use Rattle.held_threads.specs.Held.{AreEach};
 ghost use Rattle.coordinator_steps.specs.Refused.{census_refused};
 
 use crate::faults::OperateFault;
-use crate::held::Held;
 use crate::steps::Steps;
 use board::Board;
 use bodies::{Name, census_of};
 use desk::{Desk, Receipt};
+use held_threads::Held;
 use operations::job::Errand;
 use poll::PollRow;
 use std::alloc::Global;

@@ -1,19 +1,17 @@
 //! Holding a thread, serving it, and letting it go.
 ghost use Rattle.std.specs.Prelude.{◌≡◌, ◌<◌, ◌++◌, ◌∷◌, [], false, None, Some, length, IfSome, IfNone, IfOk, IfErr};
-ghost use Rattle.berths.specs.Berths.{Went};
-ghost use Rattle.bodies.specs.Bodies.{BodyView};
 ghost use Rattle.desk.specs.Targets.{standing, progress, name_at};
 ghost use Rattle.desk.specs.Fields.{at};
-ghost use Rattle.coordinator_steps.specs.Held.{is_held, StandsAt};
+ghost use Rattle.held_threads.specs.Held.{is_held};
 ghost use Rattle.coordinator_steps.specs.Refused.{Holds, MayHold, hold_fault, hold_refused, HasNoHeld, Releases, Serves, IsServeFault, serve_fault, serve_refused, unserved};
 
 use crate::faults::{HoldFault, ReleaseFault, ServeFault};
-use crate::serving::Unserved;
 use crate::steps::Steps;
-use berths::{BerthReceipt, BodyAct, BodyReceipt, Room};
+use berths::{BodyReceipt, Room};
 use board::Board;
 use bodies::Name;
 use desk::{Desk, Finished, Progress, Standing};
+use held_threads::Unserved;
 use operations::job::Errand;
 use poll::PollRow;
 
@@ -112,11 +110,8 @@ impl<N: Name> Steps<N> {
             Ok(found) => found,
             Err(fault) => return Err(fault),
         };
-        match room.take(name, place) {
-            Ok((outgoing, taken)) => {
-                self.bodies.take_in(outgoing);
-                Ok((number, taken))
-            }
+        match self.bodies.hold_from(room, name, place) {
+            Ok(taken) => Ok((number, taken)),
             Err(_) => Err(HoldFault::NotSafe),
         }
     }
@@ -171,7 +166,7 @@ impl<N: Name> Steps<N> {
         let Some(index) = self.bodies.index_of(place) else {
             return Err(self.unheld(desk, place));
         };
-        Ok(self.bodies.release(index, room, self.operated))
+        Ok(self.bodies.release_into(index, room, self.operated))
     }
 
     /// Serves the held thread of a place, which was told an open handshake and isn't done with it: publishes its stack, runs its oldest job
@@ -197,7 +192,7 @@ impl<N: Name> Steps<N> {
         if let Some(fault) = self.serve_refusal(desk, index, place) {
             return Err(fault);
         }
-        Ok(self.bodies.serve(index, room, desk, board, row))
+        Ok(self.bodies.serve_lent(index, room, desk, board, row))
     }
 
     // Why the held thread at the index, of this place, isn't served.

@@ -5,16 +5,13 @@
 
 mod censuses;
 mod faults;
-mod held;
 mod holding;
-mod serving;
 mod steps;
-mod teller;
 mod telling;
 mod weighing;
 
 pub use faults::{HoldFault, OperateFault, Reclaimed, ReleaseFault, ServeFault, TellFault, Told};
-pub use serving::Unserved;
+pub use held_threads::Unserved;
 pub use steps::Steps;
 pub use telling::Untold;
 pub use weighing::weigh;

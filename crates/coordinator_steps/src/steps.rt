@@ -6,10 +6,9 @@ ghost use Rattle.desk.specs.Fields.{Enters};
 ghost use Rattle.coordinator_steps.specs.Holding.{held_nothing};
 ghost use Rattle.coordinator_steps.specs.Refused.{MayClose, not_closed};
 
-use crate::held::Held;
-use crate::teller::Teller;
 use bodies::Name;
 use desk::{CloseFault, Desk, Receipt};
+use held_threads::{Held, Teller};
 use operations::job::Errand;
 use poll::{Armer, PollRow};
 use std::alloc::{AllocError, Global};
@@ -43,9 +42,11 @@ impl<N: Name> Steps<N> {
         ensures made { IfOk result (λ c. c ≡ held_nothing N.poll_row N.board.places) }
     {
         let places = armer.places(row);
-        let bodies = Held::new(alloc, places)?;
+        let Ok((bodies, teller)) = Held::with_teller(alloc, places, armer) else {
+            return Err(AllocError);
+        };
         Ok(Steps {
-            armer: Teller::new(armer),
+            armer: teller,
             places,
             bodies,
             operated: false,

@@ -7,10 +7,10 @@ ghost use Rattle.coordinator_steps.specs.Refused.{IsUntold, tell_stays, told_act
 
 use crate::faults::{TellFault, Told};
 use crate::steps::Steps;
-use crate::teller::Teller;
 use berths::{BerthReceipt, Room};
 use bodies::Name;
 use desk::{Desk, Standing, Target};
+use held_threads::Teller;
 use operations::job::Errand;
 use poll::PollRow;
 

@@ -10,7 +10,7 @@ use Rattle.berths.specs.declared.room.BerthAct.{BerthAct}
 use Rattle.berths.specs.declared.room.BerthAct.TheVariants.{Absent}
 use Rattle.thread_list.specs.Moves.{IsOperated}
 use Rattle.held_threads.specs.Serves.{IsServe, Serve, AreServes, IsServed}
-use Rattle.held_threads.specs.Brought.{OutAndBack, IsBrought}
+use Rattle.held_threads.specs.Brought.{IsBrought}
 use Rattle.held_threads.proofs.Each.{operated_keeps, operated_frames}
 
 operated_of : {J : Type 0} (number whom : J → ℕ) (asks : J → Ask) (may_answer : J → ImageView → ℕ → Type 0) (job : J) (a b : BodyView) (r : Stands) → IsServe number whom asks may_answer job a b r → IsOperated (number job) a b

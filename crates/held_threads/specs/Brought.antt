@@ -1,7 +1,6 @@
 -- What the receipts say of a body that came out of its berth, was served, and went back.
 use Rattle.std.specs.Prelude.{◌≡◌, ℕ, false}
 use Rattle.frames.specs.ImageView.{ImageView}
-use Rattle.bodies.specs.Bodies.{BodyView}
 use Rattle.operations.specs.declared.Ask.{Ask}
 use Rattle.desk.specs.Machine.{Stands}
 use Rattle.berths.specs.Berths.{Moved, Went}

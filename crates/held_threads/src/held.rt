@@ -2,17 +2,20 @@
 ghost use Rattle.std.specs.Prelude.{◌≡◌, ◌≢◌, ◌⊎◌, ◌<◌, ◌≤◌, ◌++◌, ◌∷◌, [], false, Some, IfOk, IfErr, OnErr, IfSome, IfNone, length, vec_capacity, slice_get, slice_set};
 ghost use Rattle.std.specs.List.{remove};
 ghost use Rattle.bodies.specs.Bodies.{BodyView, IsPublished};
+ghost use Rattle.operations.specs.Asks.{reply};
+ghost use Rattle.desk.specs.declared.entries.Entry.{Entry};
+ghost use Rattle.desk.specs.Fields.{Enters};
 ghost use Rattle.berths.specs.Berths.{moved, acted, Went};
-ghost use Rattle.thread_list.specs.Moves.{IsCleared};
+ghost use Rattle.thread_list.specs.Moves.{IsCleared, IsOperated};
 ghost use Rattle.held_threads.specs.Held.{AreEach, StandsAt, is_held};
 ghost use Rattle.held_threads.specs.Serves.{IsServe};
 
-use crate::serving::{serve_body, told_job};
+use crate::serving::{Unserved, serve_body, serve_lent, told_job};
 use crate::teller::Teller;
-use berths::{BerthAct, BerthReceipt, BodyAct, BodyReceipt, Hand};
+use berths::{BerthAct, BerthReceipt, BodyAct, BodyReceipt, Hand, Room};
 use board::Board;
 use bodies::{Body, Name};
-use desk::Receipt;
+use desk::{Desk, Finished, Receipt};
 use operations::job::Errand;
 use poll::{Armer, PollRow};
 use std::alloc::{AllocError, Global};
@@ -309,5 +312,73 @@ impl<N: Name> Held<N> {
     {
         let job = told_job(rt, shared, &self.bodies[index]);
         serve_body(rt, shared, &mut self.bodies[index], job)
+    }
+
+    /// The body of the name comes here out of its room that is lent, where it is there and something is told to its thread; the error is
+    /// the receipt that it isn't there, or that nothing is told.
+    pub fn hold_from<J: Errand>(
+        &mut self,
+        room: &mut Room<N, J>,
+        name: u64,
+        place: usize,
+    ) -> Result<BodyReceipt<N>, BerthReceipt<N>>
+        requires apart { is_held place self.old ≡ false }
+        ensures held { IfOk result (λ r. Went place name BodyAct.Held r
+            × (self.new ≡ self.old ++ r.body ∷ [])) }
+        ensures left { IfErr result (λ r. (r ≡ acted place name BerthAct.Absent)
+            ⊎ (r ≡ acted place name BerthAct.NothingTold)) }
+        ensures same { OnErr result ((self.new ≡ self.old) × (room.new ≡ room.old)) }
+    {
+        let (outgoing, taken) = room.take(name, place)?;
+        self.push(outgoing.in_hand(&HolderHand));
+        Ok(taken)
+    }
+
+    /// The body at the index goes back into its room that is lent, where it came out of that. Where a census was operated over it, nothing
+    /// keeps its thread any more. None where it didn't, and nothing is done.
+    pub fn release_into<J: Errand>(
+        &mut self,
+        index: usize,
+        room: &mut Room<N, J>,
+        operated: bool,
+    ) -> Option<BodyReceipt<N>>
+        requires index { index < length self.old }
+        ensures released { IfSome result (λ r. (body : BodyView)
+            × (slice_get self.old index ≡ Some body)
+            × (r ≡ moved body (BodyAct.Released operated)) × (self.new ≡ remove self.old index)) }
+        ensures again { IfNone result ((self.new ≡ self.old) × (room.new ≡ room.old)) }
+    {
+        let body = &self.bodies[index];
+        if !room.is_out(body.name()) || room.place() != body.place() {
+            return None;
+        }
+        let Loose { body } = self.take(index);
+        match room.release(body, operated) {
+            Ok(receipt) => Some(receipt),
+            Err(_) => unreachable!(),
+        }
+    }
+
+    /// The body at the index runs its oldest job of the room that is lent, once it is published; what the job answered is entered at the
+    /// desk, and the operation cleared. Answers the number of the operation with what is known of the entry.
+    pub fn serve_lent<J: Errand>(
+        &mut self,
+        index: usize,
+        room: &mut Room<N, J>,
+        desk: &mut Desk<N, J>,
+        board: &Board,
+        row: &PollRow,
+    ) -> Result<(u64, Finished<N>), Unserved>
+        requires index { index < length self.old }
+        requires board { board.now ≡ N.board }
+        requires row { row.now ≡ N.poll_row }
+        ensures served { IfOk result (λ r. (body : BodyView) × (after : BodyView)
+            × (slice_get self.old index ≡ Some body) × (self.new ≡ slice_set self.old index after)
+            × IsOperated r.0 body after
+            × Enters desk.old desk.new
+            (Entry.Finish r.0 body.name (reply r.1.ask body.image.frames)) r.1.stands) }
+        ensures refused { OnErr result (desk.new ≡ desk.old) }
+    {
+        serve_lent(&mut self.bodies[index], room, desk, board, row)
     }
 }

@@ -31,7 +31,7 @@ use Rattle.thread_list.specs.contracts.hints.Hints as Hints
 use Rattle.thread_steps.specs.contracts.standing.Standing as Standing
 use Rattle.thread_steps.specs.contracts.runner.Stepper as Stepper
 use Rattle.thread_steps.specs.contracts.ends.Entered as Entered
-use Rattle.coordinator_steps.specs.contracts.held.Held as Held
+use Rattle.held_threads.specs.contracts.held.Held as Held
 use Rattle.coordinator_steps.specs.contracts.steps.Steps as Steps
 use Rattle.parties.specs.contracts.system.System as System
 use Rattle.parties.specs.contracts.party.Role as Role

@@ -14,7 +14,7 @@ use Rattle.thread_list.specs.Moves.{IsOperated}
 use Rattle.coordinator_steps.specs.declared.faults.Reclaimed.TheVariants as became
 use Rattle.coordinator_steps.specs.declared.faults.ServeFault.{ServeFault}
 use Rattle.coordinator_steps.specs.declared.faults.ServeFault.TheVariants as serve
-use Rattle.coordinator_steps.specs.Held.{AreEach}
+use Rattle.held_threads.specs.Held.{AreEach}
 use Rattle.coordinator_steps.specs.Holding.{Holding}
 use Rattle.coordinator_steps.specs.Reclaiming.{IsReclaimed}
 use Rattle.coordinator_steps.specs.Refused as steps

@@ -1,9 +1,9 @@
 use Rattle.std.proofs.Common.{◌≡◌, subst}
 use Rattle.bodies.specs.Bodies.{IsPublished}
 use Rattle.thread_list.specs.Moves.{IsCleared}
-use Rattle.coordinator_steps.specs.Held.{AreEach}
+use Rattle.held_threads.specs.Held.{AreEach}
 use Rattle.coordinator_steps.specs.Holding.{Holding}
-use Rattle.coordinator_steps.proofs.Each.{each_both}
+use Rattle.held_threads.proofs.Each.{each_both}
 use Rattle.coordinator_steps.proofs.Published.{cleared_census}
 use Rattle.coordinator_steps.proofs.steps.Steps.operate.Goals as goal
 

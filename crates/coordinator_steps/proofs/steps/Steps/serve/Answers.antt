@@ -11,4 +11,4 @@ returns-clause-served g c =
     each_ok (λ r did. serves c.args.self.now _ c.args.place c.in-Some.index r.0 r.1 _ _ stands.0 did.0 did.1
     (subst (λ bs. slice_get bs c.in-Some.index ≡ Some stands.0) held stands.1.0, stands.1.1)
     (said.0, said.1, said.2, said.3 ∙ c.in_default-serve_refusal.is) (subst (λ bs. slice_get bs c.in-Some.index ≡ Some did.0) held did.2)
-    (search rules) did.4 did.5) c.serve.result c.serve.ensures.served
+    (search rules) did.4 did.5) c.serve_lent.result c.serve_lent.ensures.served
