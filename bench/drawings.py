@@ -82,7 +82,8 @@ def architecture():
     parts.append(line((402, row(2) + 19), (422, row(2) + 19), (422, row(3) + 19), (d, row(3) + 19)))
     parts.append(line((448, foot(0)), (448, row(3))))
     parts += [line((697, foot(0)), (697, row(1))), line((622, foot(1)), (622, row(2))), line((747, foot(1)), (747, row(2))), line((562, foot(1)), (562, row(2)))]
-    parts += [line((x, foot(2)), (x, foot(2) + 8), (790, foot(2) + 8), (790, row(5) + 19), (780, row(5) + 19)) for x in (530, 653)]
+    parts.append(line((653, foot(2)), (653, foot(2) + 5), (792, foot(2) + 5), (792, row(5) + 19), (780, row(5) + 19)))
+    parts.append(line((530, foot(2)), (530, foot(2) + 11), (786, foot(2) + 11), (786, row(4) + 19), (780, row(4) + 19)))
     parts += [line((205, foot(4)), (205, row(5))), line((150, row(5) + 19), (110, row(5) + 19), (110, row(6)))]
     parts += [line((608, foot(3)), (608, row(4))), line((608, foot(4)), (608, row(5)))]
     for x in (519, 697):
