@@ -6,7 +6,7 @@ use Rattle.bodies.specs.Census.{IsCensus}
 use Rattle.desk.specs.Machine.{State}
 use Rattle.coordinator.specs.declared.faults.DriveFault.{DriveFault}
 use Rattle.coordinator.specs.declared.faults.DriveFault.TheVariants.{QueueEmpty, NoMemory}
-use Rattle.coordinator.specs.Holding.{Holding, ArmsOn}
+use Rattle.held_threads.specs.Holding.{Holding, ArmsOn}
 use Rattle.coordinator.specs.Driving.{HoldsOn, LacksList, IsCounted, drive_refused}
 use Rattle.coordinator.proofs.Arms.{arms_then}
 

@@ -1,9 +1,7 @@
 mod Arms
 mod HoldsMore
-mod Published
 mod Holdings
 mod OpenNumber
-mod Staying
 mod Asked
 mod Opens
 mod Tellings

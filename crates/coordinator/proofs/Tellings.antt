@@ -8,7 +8,7 @@ use Rattle.operations.specs.Requests.{is_census}
 use Rattle.desk.specs.Fields.{DeskSeen, at}
 use Rattle.desk.specs.Machine.{State, Current, Book, after}
 use Rattle.desk.specs.Targets.{is_target_of, is_untold, untold, untold_in, number_of, due_of, front_kind, open_kind}
-use Rattle.coordinator.specs.Holding.{ArmsOn}
+use Rattle.held_threads.specs.Holding.{ArmsOn}
 use Rattle.coordinator.specs.Telling.{telling_by, telling_of, tellings, is_there, more_behind, any_more, AreArmed, due_in, opens_census_in}
 use Rattle.coordinator.specs.declared.listing.Telling.{Telling}
 

@@ -1,8 +1,6 @@
-pub mod Holding
 pub mod Refused
 pub mod Driving
 pub mod Awaited
-pub mod Reclaiming
 pub mod Rounds
 pub mod Receipts
 pub mod Telling

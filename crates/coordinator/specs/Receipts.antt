@@ -5,7 +5,7 @@ use Rattle.bodies.specs.Bodies.{BodyView}
 use Rattle.berths.specs.Berths.{Moved, moved}
 use Rattle.berths.specs.declared.room.BodyAct.TheVariants.{Released}
 use Rattle.held_threads.specs.Held.{StandsAt}
-use Rattle.coordinator.specs.Holding.{Holding}
+use Rattle.held_threads.specs.Holding.{Holding}
 
 -- The body of the place is held no more, and by the receipt it went into its berth as it was.
 abbrev pub Releases : Holding → Holding → ℕ → Moved → Type 0

@@ -1,118 +1,20 @@
--- What the calls of a coordinator answer: each refusal where its own test holds, and those before it don't.
-use Rattle.std.specs.Prelude.{◌≡◌, ◌≢◌, ◌⊎◌, ◌<◌, ◌≤◌, ◌++◌, ℕ, Bool, true, false, List, [], ◌∷◌, Option, Some, None, Result, Ok, Err, if◌then◌else◌, slice_get, slice_set, slice_index, length}
-use Rattle.thread_state.specs.declared.poll_rule.Arming.{Arming}
-use Rattle.thread_state.specs.PollRule.{armed_with}
+-- What the calls of a coordinator behind locks answer, beside what `held_threads` says of both.
+use Rattle.std.specs.Prelude.{◌≡◌, ◌≢◌, ◌<◌, ℕ, List, Some, slice_get, slice_set}
 use Rattle.frames.specs.ImageView.{ImageView}
 use Rattle.bodies.specs.Bodies.{BodyView}
-use Rattle.desk.specs.declared.entries.Target.{Target}
-use Rattle.desk.specs.declared.entries.Standing.{Standing}
-use Rattle.desk.specs.declared.entries.Standing.TheVariants as stand
-use Rattle.desk.specs.declared.entries.Progress.{Progress}
-use Rattle.desk.specs.declared.entries.Progress.TheVariants as is
-use Rattle.desk.specs.declared.faults.CloseFault.{CloseFault}
-use Rattle.desk.specs.Machine.{State, Current, Stands}
-use Rattle.desk.specs.Targets.{standing, untold, progress, name_at}
 use Rattle.operations.specs.declared.Ask.{Ask}
-use Rattle.desk.specs.Refusals.{chosen, holds_target, close_refused, operate_refused, MayOperate}
-use Rattle.coordinator.specs.declared.faults.Told.{Told}
-use Rattle.coordinator.specs.declared.faults.Told.TheVariants as told
-use Rattle.coordinator.specs.declared.faults.TellFault.{TellFault}
-use Rattle.coordinator.specs.declared.faults.TellFault.TheVariants as tell
-use Rattle.coordinator.specs.declared.telling.Found.{Found}
-use Rattle.coordinator.specs.declared.telling.Found.TheVariants as found
-use Rattle.coordinator.specs.declared.faults.HoldFault.{HoldFault}
-use Rattle.coordinator.specs.declared.faults.HoldFault.TheVariants as hold
-use Rattle.coordinator.specs.declared.faults.ServeFault.{ServeFault}
-use Rattle.coordinator.specs.declared.faults.ServeFault.TheVariants as serve
-use Rattle.coordinator.specs.declared.faults.ReleaseFault.{ReleaseFault}
-use Rattle.coordinator.specs.declared.faults.ReleaseFault.TheVariants as release
+use Rattle.desk.specs.Machine.{State, Book, Stands}
+use Rattle.desk.specs.JobsFit.{jobs_fit, request_of}
+use Rattle.desk.specs.Refusals.{reclaim_refused}
+use Rattle.desk.specs.declared.faults.ReclaimFault.{ReclaimFault}
+use Rattle.berths.specs.Berths.{acted}
+use Rattle.berths.specs.declared.room.BerthAct.TheVariants as berth
+use Rattle.held_threads.specs.declared.faults.HoldFault.TheVariants as hold
+use Rattle.held_threads.specs.Holding.{Holding}
+use Rattle.held_threads.specs.Refused.{MayHold, hold_refused}
+use Rattle.held_threads.specs.Serves.{IsServe}
 use Rattle.coordinator.specs.declared.holding.Unheld.{Unheld}
 use Rattle.coordinator.specs.declared.holding.Unheld.TheVariants as unheld
-use Rattle.coordinator.specs.declared.faults.OperateFault.{OperateFault}
-use Rattle.coordinator.specs.declared.faults.OperateFault.TheVariants as operate
-use Rattle.held_threads.specs.Held.{is_held, StandsAt}
-use Rattle.coordinator.specs.Holding.{Holding}
-use Rattle.held_threads.specs.Serves.{IsServe}
-use Rattle.berths.specs.Berths.{Moved, Went, acted}
-use Rattle.berths.specs.declared.room.BodyAct.TheVariants as body_act
-use Rattle.berths.specs.declared.room.BerthAct.{BerthAct}
-use Rattle.berths.specs.declared.room.BerthAct.TheVariants as berth
-
--- The name stands to the open requests as this target.
-abbrev pub IsAsked : State → ℕ → Target → Type 0
-IsAsked s name t = standing s name ≡ stand.Asked t
-
--- The oldest open request that is of the target and wasn't told to it: its number is greater than what the target's place was armed
--- with last.
-abbrev pub IsUntold : State → ℕ → Arming → Target → ℕ → Type 0
-IsUntold s name armer t number = IsAsked s name t × (untold s name (slice_index armer.armed t.place) ≡ Some number)
-
--- All of them were told.
-abbrev pub WasTold : State → ℕ → Arming → Target → Type 0
-WasTold s name armer t = IsAsked s name t × (untold s name (slice_index armer.armed t.place) ≡ None)
-
--- What goes into the berth of a target: the mark of a census, or its job.
-abbrev pub told_act : Bool → ℕ → BerthAct
-told_act true number = berth.Marked number
-told_act false number = berth.Told number
-
--- Telling puts the oldest request that a target wasn't told into its berth, arms its place with that number, and no other place.
-abbrev pub tells : {N : Type 0} → State → ℕ → Arming → Arming → Told N → Type 0
-tells s name old new (told.Told r)
-    = (t : Target) × (number : ℕ) × IsUntold s name old t number × (new ≡ armed_with old t.place number) × (r ≡ acted t.place name (told_act t.is_census number))
-tells s name old new told.Gone = (standing s name ≡ stand.Gone) × (new ≡ old)
-
-abbrev pub tell_refused : State → ℕ → Arming → TellFault → Type 0
-tell_refused s name armer tell.NothingOpen = standing s name ≡ stand.NothingOpen
-tell_refused s name armer tell.NotOf = standing s name ≡ stand.NotOf
-tell_refused s name armer tell.AlreadyTold = (t : Target) × WasTold s name armer t
-
-abbrev pub tell_said : {N : Type 0} → ℕ → Arming → Arming → Result (Told N) TellFault → Type 0
-tell_said name old new (Ok told) = (s : State) × tells s name old new told
-tell_said name old new (Err fault) = (s : State) × tell_refused s name old fault × (new ≡ old)
-
--- What telling comes to where nothing is armed.
-abbrev pub tell_stays : {N : Type 0} → State → ℕ → Arming → Result (Told N) TellFault → Type 0
-tell_stays s name armer (Ok (told.Told r)) = true ≡ false
-tell_stays s name armer (Ok told.Gone) = standing s name ≡ stand.Gone
-tell_stays s name armer (Err fault) = tell_refused s name armer fault
-
--- What a look at the desk finds for a name: a request that wasn't told to its thread, whose place there is; a place that there isn't;
--- or what telling the name comes to.
-abbrev pub IsFound : {N : Type 0} → State → ℕ → Arming → Found N → Type 0
-IsFound s name armer (found.Untold t number)
-    = IsUntold s name armer t number × (t.place < length armer.armed) × (slice_index armer.armed t.place < number)
-IsFound s name armer found.NoPlace = (t : Target) × IsAsked s name t × (length armer.armed ≤ t.place)
-IsFound s name armer (found.Said said) = tell_stays s name armer said
-
--- Why a thread that stands to the open requests like this, and is so far with what it was told, isn't held.
-abbrev pub hold_fault : Standing → Progress → Option HoldFault
-hold_fault stand.NothingOpen p = Some hold.NothingOpen
-hold_fault stand.NotOf p = Some hold.NotOf
-hold_fault stand.Gone p = Some hold.NotTold
-hold_fault (stand.Asked t) is.NotTold = Some hold.NotTold
-hold_fault (stand.Asked t) is.Done = Some hold.AlreadyDone
-hold_fault (stand.Asked t) (is.Undone number) = None
-
--- The thread that is live at the place may be held, or not for this reason, as far as the open requests go.
-abbrev pub IsFaultOf : Holding → ℕ → Option HoldFault → Type 0
-IsFaultOf c place fault = (s : State) × (name : ℕ) × (name_at place s.live ≡ Some name) × (hold_fault (standing s name) (progress s name (slice_index c.armer.armed place)) ≡ fault)
-
--- The thread of the name is live at the place, was told an open request that it isn't done with, and isn't held.
-abbrev pub MayHold : Holding → ℕ → ℕ → Type 0
-MayHold c place name
-    = (is_held place c.held ≡ false)
-    × ((s : State) × (name_at place s.live ≡ Some name) × (hold_fault (standing s name) (progress s name (slice_index c.armer.armed place)) ≡ None))
-
-abbrev pub hold_refused : Holding → ℕ → ℕ → HoldFault → Type 0
-hold_refused c places place hold.NoSuchPlace = places ≤ place
-hold_refused c places place hold.Vacant = (place < places) × ((s : State) × (name_at place s.live ≡ None))
-hold_refused c places place hold.NothingOpen = (place < places) × IsFaultOf c place (Some hold.NothingOpen)
-hold_refused c places place hold.NotOf = (place < places) × IsFaultOf c place (Some hold.NotOf)
-hold_refused c places place hold.NotTold = (place < places) × IsFaultOf c place (Some hold.NotTold)
-hold_refused c places place hold.AlreadyDone = (place < places) × IsFaultOf c place (Some hold.AlreadyDone)
-hold_refused c places place hold.Held = (place < places) × IsFaultOf c place None × (is_held place c.held ≡ true)
-hold_refused c places place hold.NotSafe = (place < places) × ((name : ℕ) × MayHold c place name)
 
 -- Why a thread isn't held: a fault that isn't NotSafe, or the receipt that the body of the thread that may be held wasn't in its berth.
 abbrev pub IsUnheld : {N : Type 0} → Holding → ℕ → ℕ → Unheld N → Type 0
@@ -120,61 +22,14 @@ IsUnheld c places place (unheld.Fault fault) = hold_refused c places place fault
 IsUnheld c places place (unheld.NotSafe receipt)
     = (place < places) × ((name : ℕ) × MayHold c place name × (receipt ≡ acted place name berth.Absent))
 
--- Why a place has no held thread: there is no such place, no live thread has it, or its thread isn't held.
-abbrev pub HasNoHeld : ℕ → ℕ → ReleaseFault → Type 0
-HasNoHeld places place release.NoSuchPlace = places ≤ place
-HasNoHeld places place release.Vacant = (place < places) × ((s : State) × (name_at place s.live ≡ None))
-HasNoHeld places place release.NotHeld = (place < places) × ((s : State) × (name : ℕ) × (name_at place s.live ≡ Some name))
-
--- Holding takes the body of the place as it was in its berth, by the receipt, behind those that are held.
-abbrev pub Holds : Holding → Holding → ℕ → Moved → Type 0
-Holds old new place receipt
-    = (name : ℕ) × MayHold old place name × Went place name body_act.Held receipt × (new ≡ record old { held = old.held ++ receipt.body ∷ [] })
-
--- How far a held thread is with what it was told says why it isn't served.
-abbrev pub serve_fault_at : Progress → Option ServeFault
-serve_fault_at is.NotTold = Some serve.NotTold
-serve_fault_at is.Done = Some serve.AlreadyDone
-serve_fault_at (is.Undone number) = None
-
--- Why a held thread that stands to the open requests like this, and is so far with what it was told, isn't served.
-abbrev pub serve_fault : Standing → Progress → Option ServeFault
-serve_fault stand.NothingOpen p = Some serve.NothingOpen
-serve_fault stand.NotOf p = Some serve.NotOf
-serve_fault stand.Gone p = Some serve.NotTold
-serve_fault (stand.Asked t) p = if t.is_census then Some serve.NotOf else serve_fault_at p
-
--- What the desk says of the held thread at the index.
-abbrev pub IsServeFault : Holding → ℕ → ℕ → Option ServeFault → Type 0
-IsServeFault c index place fault
-    = (s : State) × (body : BodyView) × (slice_get c.held index ≡ Some body) × (serve_fault (standing s body.name) (progress s body.name (slice_index c.armer.armed place)) ≡ fault)
-
--- Why the thread of a place that has no held one isn't served.
-abbrev pub unserved : ReleaseFault → ServeFault
-unserved release.NoSuchPlace = serve.NoSuchPlace
-unserved release.Vacant = serve.Vacant
-unserved release.NotHeld = serve.NotHeld
-
--- Why the thread of a place isn't served: the place has no held one, or else the desk says so.
-abbrev pub serve_refused : Holding → ℕ → ℕ → ServeFault → Type 0
-serve_refused c places place fault
-    = ((is_held place c.held ≡ false) × ((why : ReleaseFault) × HasNoHeld places place why × (fault ≡ unserved why))) ⊎ ((index : ℕ) × (body : BodyView) × StandsAt c.held index place body × IsServeFault c index place (Some fault))
-
 -- Serving the body at the index publishes it, calls a job of its thread on it and enters what that answered by its ask; the others stay.
 abbrev pub Serves : {J : Type 0} → (J → ℕ) → (J → ℕ) → (J → Ask) → (J → ImageView → ℕ → Type 0) → Holding → Holding → ℕ → Stands → Type 0
 Serves number whom asks may_answer old new index done
     = (body : BodyView) × (after : BodyView) × (job : _) × (slice_get old.held index ≡ Some body)
     × (new ≡ record old { held = slice_set old.held index after }) × IsServe number whom asks may_answer job body after done
 
--- Why a census isn't operated: the desk refuses it, or else there was no memory.
-abbrev pub census_refused : State → List BodyView → OperateFault → Type 0
-census_refused s bs (operate.Refused fault) = operate_refused s bs fault
-census_refused s bs operate.NoMemory = MayOperate s bs
-
--- The open request of the number, or without one the oldest, had this number, and no held thread is its target.
-abbrev pub MayClose : Holding → Option ℕ → ℕ → Type 0
-MayClose c number closed = (s : State) × (o : Current) × (chosen number s.opened ≡ Some o) × (closed ≡ o.number) × (holds_target o.request c.held ≡ false)
-
--- Why it isn't closed.
-abbrev pub not_closed : Holding → Option ℕ → CloseFault → Type 0
-not_closed c number fault = (s : State) × close_refused s number c.held fault
+-- Why a code isn't reclaimed with these jobs: the first refusal of the desk's first step with the handshake of their targets, whether
+-- there is memory for that handshake or not.
+abbrev pub not_reclaimed : {J : Type 0} → (J → ℕ) → (J → Ask) → ℕ → List J → ReclaimFault → Type 0
+not_reclaimed whom asks serial jobs fault
+    = (s : State) × (book : Book) × (moment : ℕ) × reclaim_refused s serial (request_of whom asks jobs) (λ r. jobs_fit whom asks r jobs) book moment fault

@@ -4,9 +4,9 @@ ghost use Rattle.poll.specs.Rows.{full_armer};
 ghost use Rattle.desk.specs.declared.entries.Entry.{Entry};
 ghost use Rattle.desk.specs.Machine.{State as DeskState};
 ghost use Rattle.desk.specs.Refusals.{open_refused};
-ghost use Rattle.coordinator.specs.Holding.{held_nothing};
+ghost use Rattle.held_threads.specs.Holding.{held_nothing};
 ghost use Rattle.coordinator.specs.Driving.{WasOldest};
-ghost use Rattle.coordinator.specs.Refused.{MayClose, not_closed};
+ghost use Rattle.held_threads.specs.Refused.{MayClose, not_closed};
 
 use crate::closed::Closed;
 use crate::listing::Untold;
@@ -42,7 +42,7 @@ pub struct Coordinator<'a, N: Name, J: Errand> {
 
 impl<'a, N: Name, J: Errand> Model for Coordinator<'a, N, J> {
     ghost use Rattle.std.specs.Prelude.{◌≡◌, ◌≤◌, length};
-    ghost use Rattle.coordinator.specs.Holding.{Holding};
+    ghost use Rattle.held_threads.specs.Holding.{Holding};
 
     ghost Value = { Holding };
 

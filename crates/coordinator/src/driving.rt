@@ -3,7 +3,7 @@ ghost use Rattle.std.specs.Prelude.{◌≡◌, ◌⊎◌, [], ℕ, Some, IfOk, O
 ghost use Rattle.desk.specs.declared.entries.Entry.{Entry};
 ghost use Rattle.desk.specs.Machine.{State as DeskState, Stands};
 ghost use Rattle.desk.specs.Fields.{Enters, at};
-ghost use Rattle.coordinator.specs.Holding.{ArmsOn};
+ghost use Rattle.held_threads.specs.Holding.{ArmsOn};
 ghost use Rattle.coordinator.specs.Driving.{number_of, open_kind, IsWorked, IsListed, drive_refused};
 ghost use Rattle.coordinator.specs.Telling.{IsListing};
 

@@ -1,6 +1,6 @@
 //! Working up to four handshakes at once, from their Opens to their Closes.
 ghost use Rattle.std.specs.Prelude.{◌≡◌, [], false, IfErr, OnOk};
-ghost use Rattle.coordinator.specs.Holding.{ArmsOn};
+ghost use Rattle.held_threads.specs.Holding.{ArmsOn};
 ghost use Rattle.coordinator.specs.Driving.{drive_refused};
 
 use crate::all_told::AllTold;

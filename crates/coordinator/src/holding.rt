@@ -1,17 +1,15 @@
 //! Holding a thread: the coordinator takes its body out of its berth, and brings it back.
 ghost use Rattle.std.specs.Prelude.{◌≡◌, ◌≢◌, ◌<◌, ◌++◌, ◌∷◌, [], false, IfSome, IfNone, IfOk, IfErr};
 ghost use Rattle.berths.specs.Berths.{Went, acted};
-ghost use Rattle.desk.specs.Targets.{standing, progress, name_at};
-ghost use Rattle.desk.specs.Fields.{at};
 ghost use Rattle.held_threads.specs.Held.{is_held};
+ghost use Rattle.held_threads.specs.Refused.{Holds, hold_refused, MayHold, HasNoHeld};
 ghost use Rattle.coordinator.specs.Receipts.{Releases};
-ghost use Rattle.coordinator.specs.Refused.{Holds, hold_fault, hold_refused, IsUnheld, MayHold, HasNoHeld};
+ghost use Rattle.coordinator.specs.Refused.{IsUnheld};
 
 use crate::coordinator::Coordinator;
-use crate::faults::{HoldFault, ReleaseFault};
 use berths::{BerthAct, BerthReceipt, BodyAct, BodyReceipt};
 use bodies::Name;
-use desk::{Desk, Progress, Standing};
+use held_threads::{HoldFault, ReleaseFault, hold_fault_at};
 use operations::job::Errand;
 use std::sync::Wait;
 
@@ -20,39 +18,6 @@ use std::sync::Wait;
 pub enum Unheld<N: Name> {
     Fault(HoldFault),
     NotSafe(BerthReceipt<N>),
-}
-
-// Why a thread that stands to the open requests like this, and is so far with what it was told, isn't held.
-fn hold_fault(said: Standing, progress: Progress) -> Option<HoldFault>
-    ensures { result ≡ hold_fault said progress }
-{
-    match said {
-        Standing::NothingOpen => Some(HoldFault::NothingOpen),
-        Standing::NotOf => Some(HoldFault::NotOf),
-        Standing::Gone => Some(HoldFault::NotTold),
-        Standing::Asked(_) => match progress {
-            Progress::NotTold => Some(HoldFault::NotTold),
-            Progress::Done => Some(HoldFault::AlreadyDone),
-            Progress::Undone(_) => None,
-        },
-    }
-}
-
-// Who is live at the place, and why the thread isn't held as far as the desk goes, where the place was armed last with the number.
-fn fault_at<N: Name, J: Errand>(
-    desk: &Desk<N, J>,
-    place: usize,
-    last: u64,
-) -> Option<(u64, Option<HoldFault>)>
-    ensures some { IfSome result (λ r. (name_at place (at desk.now).live ≡ Some r.0)
-        × (hold_fault (standing (at desk.now) r.0) (progress (at desk.now) r.0 last) ≡ r.1)) }
-    ensures none { IfNone result (name_at place (at desk.now).live ≡ None) }
-{
-    let name = desk.name_at(place)?;
-    Some((
-        name,
-        hold_fault(desk.standing(name), desk.progress(name, last)),
-    ))
 }
 
 impl<'a, N: Name, J: Errand> Coordinator<'a, N, J> {
@@ -137,7 +102,7 @@ impl<'a, N: Name, J: Errand> Coordinator<'a, N, J> {
         }
         let last = self.armer.last(place);
         let desk = self.shared.desk().lock(rt);
-        let found = fault_at(&desk, place, last);
+        let found = hold_fault_at(&desk, place, last);
         drop(desk);
         let Some((name, fault)) = found else {
             return Err(HoldFault::Vacant);

@@ -28,7 +28,7 @@ mod telling;
 
 pub use coordinator::Coordinator;
 pub use desk::{NotReclaimed, ReclaimFault};
-pub use faults::{
-    DriveFault, Driven, HoldFault, OperateFault, Reclaimed, ReleaseFault, ServeFault, TellFault,
-    Told,
+pub use faults::{DriveFault, Driven};
+pub use held_threads::{
+    HoldFault, OperateFault, Reclaimed, ReleaseFault, ServeFault, TellFault, Told,
 };

@@ -1,18 +1,18 @@
 //! Reclaiming a code that isn't entrant.
 ghost use Rattle.std.specs.Prelude.{◌≡◌, ◌≢◌, ◌<◌, [], false, None, length, IfOk, OnOk, IfErr, OnErr, IfSome};
-ghost use Rattle.coordinator.specs.Holding.{ArmsOn};
-ghost use Rattle.coordinator.specs.Reclaiming.{IsReclaimed, Frees, not_reclaimed};
+ghost use Rattle.held_threads.specs.Holding.{ArmsOn};
+ghost use Rattle.held_threads.specs.Reclaiming.{IsReclaimed};
+ghost use Rattle.coordinator.specs.Refused.{not_reclaimed};
 ghost use Rattle.coordinator.specs.Rounds.{Shaking, Begins, Shakes, IsClosed};
 ghost use Rattle.desk.specs.Fields.{at};
 ghost use Rattle.desk.specs.JobsFit.{jobs_fit, request_of};
 ghost use Rattle.desk.specs.Refusals.{reclaim_refused};
 
 use crate::coordinator::Coordinator;
-use crate::faults::Reclaimed;
 use crate::rounds::{Begun, Shaken};
-use board::{Board, Weighed};
 use bodies::Name;
 use desk::{Desk, NotReclaimed, ReclaimFault};
+use held_threads::Reclaimed;
 use operations::job::Errand;
 use operations::{Request, Targets};
 use std::alloc::{AllocError, Global};
@@ -60,28 +60,6 @@ fn fault_without_memory<N: Name, J: Errand>(
         return ReclaimFault::Spent;
     }
     ReclaimFault::Ask(desk.ask_fault(jobs))
-}
-
-/// Weighs a code, and where no activation stands frees it. None where it isn't a code that can be weighed.
-pub(crate) fn weigh_and_free<N: Name, J: Errand>(
-    desk: &mut Desk<N, J>,
-    board: &Board,
-    serial: u64,
-) -> Option<Reclaimed<N>>
-    requires board { board.now ≡ N.board }
-    ensures { IfSome result (Frees N.board.places serial desk.old desk.new) }
-{
-    let Ok((said, _weighing, _receipt)) = desk.weigh(board, serial) else {
-        return None;
-    };
-    match said {
-        Weighed::NotLooked(place) => Some(Reclaimed::Late(place)),
-        Weighed::Used(count) => Some(Reclaimed::Used(count)),
-        Weighed::Clear => match desk.free(board, serial) {
-            Ok(receipt) => Some(Reclaimed::Freed(receipt)),
-            Err(_) => None,
-        },
-    }
 }
 
 impl<'a, N: Name, J: Errand> Coordinator<'a, N, J> {

@@ -5,14 +5,13 @@ ghost use Rattle.desk.specs.declared.entries.Entry.{Entry};
 ghost use Rattle.desk.specs.Fields.{at};
 ghost use Rattle.desk.specs.JobsFit.{jobs_fit};
 ghost use Rattle.desk.specs.Refusals.{reclaim_refused};
-ghost use Rattle.coordinator.specs.Reclaiming.{IsReclaimed};
+ghost use Rattle.held_threads.specs.Reclaiming.{IsReclaimed};
 ghost use Rattle.coordinator.specs.Rounds.{Begins, IsClosed};
 
-use crate::faults::Reclaimed;
-use crate::reclaiming::weigh_and_free;
 use board::Board;
 use bodies::Name;
 use desk::{Desk, NotReclaimed, Receipt};
+use held_threads::{Reclaimed, weigh};
 use operations::Request;
 use operations::job::Errand;
 use std::marker::Model;
@@ -147,10 +146,7 @@ impl<N: Name, J: Errand> Shaken<N, J> {
         requires places { places ≡ N.board.places }
         ensures { IfSome result (IsReclaimed N.board.places serial) }
     {
-        let Ok(()) = desk.look_at_all(board, serial, places) else {
-            return None;
-        };
-        weigh_and_free(desk, board, serial)
+        weigh(desk, board, serial, places)
     }
 
     /// What the weighing found, at the end.

@@ -1,58 +1,21 @@
 //! Telling a name: its job, or the mark of a census, goes into the berth of its thread, and the thread's place is armed.
 ghost use Rattle.std.specs.Prelude.{◌≡◌, ◌<◌, ◌≤◌, true, length, map, slice_index, IfSome, IfNone, OnSome};
 ghost use Rattle.thread_state.specs.PollRule.{armed_with};
-ghost use Rattle.desk.specs.Fields.{at};
-ghost use Rattle.coordinator.specs.Holding.{ArmsOn};
-ghost use Rattle.coordinator.specs.Refused.{IsFound, tell_said, told_act};
+ghost use Rattle.held_threads.specs.Holding.{ArmsOn};
+ghost use Rattle.held_threads.specs.Refused.{tell_said, told_act};
 ghost use Rattle.coordinator.specs.Telling.{IsListing, AreArmed};
 ghost use Rattle.berths.specs.Berths.{acted};
 
 use crate::all_told::AllTold;
 use crate::coordinator::Coordinator;
-use crate::faults::{TellFault, Told};
 use crate::listing::{Listed, Untold, job_of};
 use berths::{BerthReceipt, locked};
 use bodies::Name;
-use desk::{Desk, Standing, Target};
-use held_threads::Teller;
+use desk::{Desk, Target};
+use held_threads::{Found, TellFault, Told, look_up};
 use operations::job::Errand;
 use std::sync::Wait;
 use std::{mem, thread};
-
-/// What a look at the desk finds for a name that is to be told.
-pub enum Found<N: Name> {
-    /// The oldest open request that is of the name and wasn't told to its thread: how the name stands to it, and its number.
-    Untold(Target, u64),
-    /// The desk names a place that there isn't.
-    NoPlace,
-    /// Nothing is to be told, and this is what telling the name comes to.
-    Said(Result<Told<N>, TellFault>),
-}
-
-// What there is to tell the name.
-fn look_up<N: Name, J: Errand>(
-    desk: &Desk<N, J>,
-    armer: &Teller,
-    places: usize,
-    name: u64,
-) -> Found<N>
-    requires places { places ≡ length armer.now.seen.armed }
-    ensures { IsFound (at desk.now) name armer.now.seen result }
-{
-    let target = match desk.standing(name) {
-        Standing::NothingOpen => return Found::Said(Err(TellFault::NothingOpen)),
-        Standing::NotOf => return Found::Said(Err(TellFault::NotOf)),
-        Standing::Gone => return Found::Said(Ok(Told::Gone)),
-        Standing::Asked(target) => target,
-    };
-    if target.place >= places {
-        return Found::NoPlace;
-    }
-    match desk.untold(name, armer.last(target.place)) {
-        Some(number) => Found::Untold(target, number),
-        None => Found::Said(Err(TellFault::AlreadyTold)),
-    }
-}
 
 impl<'a, N: Name, J: Errand> Coordinator<'a, N, J> {
     /// Tells a name of the oldest open request that is of it and wasn't told to its thread, which finds it at its next poll. A name

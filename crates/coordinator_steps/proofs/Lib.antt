@@ -1,3 +1,1 @@
-pub mod Published
 pub mod Served
-pub mod Staying

@@ -9,8 +9,9 @@ use Rattle.desk.specs.Finishing.{FinishSeen}
 use Rattle.desk.specs.Machine.{Stands}
 use Rattle.thread_list.specs.Moves.{IsOperated}
 use Rattle.held_threads.specs.Held.{StandsAt}
-use Rattle.coordinator_steps.specs.Holding.{Holding}
-use Rattle.coordinator_steps.specs.Refused.{IsServeFault, Serves}
+use Rattle.held_threads.specs.Holding.{Holding}
+use Rattle.held_threads.specs.Refused.{IsServeFault}
+use Rattle.coordinator_steps.specs.Done.{Serves}
 use Rattle.held_threads.proofs.Each.{some_is}
 
 pub serves : (old new : Holding) (place index number : ℕ) (finish : FinishSeen) (before behind : DeskSeen) (stood body after : BodyView)

@@ -1,3 +1,1 @@
-pub mod Holding
-pub mod Reclaiming
-pub mod Refused
+pub mod Done

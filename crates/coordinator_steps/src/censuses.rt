@@ -1,52 +1,21 @@
 //! Operating a census: a list of the codes with their frames, over the published stacks of all live threads, which are held.
 ghost use Rattle.std.specs.Prelude.{◌≡◌, true, IfOk, IfErr, OnOk};
-ghost use Rattle.bodies.specs.Bodies.{IsPublished};
 ghost use Rattle.bodies.specs.Census.{IsCensus};
 ghost use Rattle.desk.specs.declared.entries.Entry.{Entry};
 ghost use Rattle.desk.specs.Fields.{Enters, at};
-ghost use Rattle.desk.specs.Refusals.{are_all, MayOperate};
+ghost use Rattle.desk.specs.Refusals.{MayOperate};
 ghost use Rattle.thread_list.specs.Moves.{IsOperated};
 ghost use Rattle.held_threads.specs.Held.{AreEach};
-ghost use Rattle.coordinator_steps.specs.Refused.{census_refused};
+ghost use Rattle.held_threads.specs.Refused.{census_refused};
 
-use crate::faults::OperateFault;
 use crate::steps::Steps;
 use board::Board;
-use bodies::{Name, census_of};
+use bodies::Name;
 use desk::{Desk, Receipt};
-use held_threads::Held;
+use held_threads::{OperateFault, operate_over};
 use operations::job::Errand;
 use poll::PollRow;
 use std::alloc::Global;
-
-// Where the open census may be operated over the bodies and there is memory for its list: counts their frames, publishes each, and
-// enters that the census is operated over them.
-fn operate_over<N: Name, J: Errand>(
-    desk: &mut Desk<N, J>,
-    bodies: &mut Held<N>,
-    board: &Board,
-    alloc: Global,
-) -> Result<(u64, Vec<(u64, u32)>, Receipt<N>), OperateFault>
-    requires board { board.now ≡ N.board }
-    ensures entered { IfOk result (λ r. Enters desk.old desk.new (Entry.Operate r.0) r.2) }
-    ensures may { OnOk result (MayOperate (at desk.old) bodies.old) }
-    ensures all { OnOk result (are_all (at desk.old).live bodies.new ≡ true) }
-    ensures published { OnOk result (AreEach IsPublished bodies.old bodies.new) }
-    ensures counted { IfOk result (λ r. IsCensus bodies.new r.1.items) }
-    ensures refused { IfErr result (λ e. (desk.new ≡ desk.old) × (bodies.new ≡ bodies.old) × census_refused (at desk.old) bodies.old e) }
-{
-    if let Some(fault) = desk.operate_fault(bodies.as_slice()) {
-        return Err(OperateFault::Refused(fault));
-    }
-    let Ok(list) = census_of(alloc, bodies.as_slice()) else {
-        return Err(OperateFault::NoMemory);
-    };
-    bodies.publish_all(board);
-    match desk.operate(bodies.as_slice()) {
-        Ok((number, receipt)) => Ok((number, list, receipt)),
-        Err(_) => unreachable!(),
-    }
-}
 
 impl<N: Name> Steps<N> {
     /// Operates the open census over the held threads, which must be all that live: publishes the stack of each, counts the frames of each

@@ -1,95 +1,25 @@
 //! Holding a thread, serving it, and letting it go.
 ghost use Rattle.std.specs.Prelude.{◌≡◌, ◌<◌, ◌++◌, ◌∷◌, [], false, None, Some, length, IfSome, IfNone, IfOk, IfErr};
-ghost use Rattle.desk.specs.Targets.{standing, progress, name_at};
-ghost use Rattle.desk.specs.Fields.{at};
 ghost use Rattle.held_threads.specs.Held.{is_held};
-ghost use Rattle.coordinator_steps.specs.Refused.{Holds, MayHold, hold_fault, hold_refused, HasNoHeld, Releases, Serves, IsServeFault, serve_fault, serve_refused, unserved};
+ghost use Rattle.held_threads.specs.Refused.{Holds, MayHold, hold_refused, HasNoHeld, IsServeFault, serve_refused};
+ghost use Rattle.coordinator_steps.specs.Done.{Releases, Serves};
 
-use crate::faults::{HoldFault, ReleaseFault, ServeFault};
 use crate::steps::Steps;
 use berths::{BodyReceipt, Room};
 use board::Board;
 use bodies::Name;
-use desk::{Desk, Finished, Progress, Standing};
-use held_threads::Unserved;
+use desk::{Desk, Finished, Progress};
+use held_threads::{
+    HoldFault, ReleaseFault, ServeFault, Unserved, hold_fault_at, serve_fault_of, unserved,
+};
 use operations::job::Errand;
 use poll::PollRow;
-
-// Why a thread that stands to the open requests like this, and is so far with what it was told, isn't held.
-fn hold_fault(said: Standing, progress: Progress) -> Option<HoldFault>
-    ensures { result ≡ hold_fault said progress }
-{
-    match said {
-        Standing::NothingOpen => Some(HoldFault::NothingOpen),
-        Standing::NotOf => Some(HoldFault::NotOf),
-        Standing::Gone => Some(HoldFault::NotTold),
-        Standing::Asked(_) => match progress {
-            Progress::NotTold => Some(HoldFault::NotTold),
-            Progress::Done => Some(HoldFault::AlreadyDone),
-            Progress::Undone(_) => None,
-        },
-    }
-}
-
-// Who is live at the place, and why the thread isn't held as far as the desk goes, where the place was armed last with the number.
-fn fault_at<N: Name, J: Errand>(
-    desk: &Desk<N, J>,
-    place: usize,
-    last: u64,
-) -> Option<(u64, Option<HoldFault>)>
-    ensures some { IfSome result (λ r. (name_at place (at desk.now).live ≡ Some r.0) × (hold_fault (standing (at desk.now) r.0) (progress (at desk.now) r.0 last) ≡ r.1)) }
-    ensures none { IfNone result (name_at place (at desk.now).live ≡ None) }
-{
-    let name = desk.name_at(place)?;
-    Some((
-        name,
-        hold_fault(desk.standing(name), desk.progress(name, last)),
-    ))
-}
 
 // The number of the oldest request that a thread owes, 0 for none.
 fn number_in(progress: Progress) -> u64 {
     match progress {
         Progress::Undone(number) => number,
         Progress::Done | Progress::NotTold => 0,
-    }
-}
-
-// Why a held thread that stands to the open requests like this, and is so far with what it was told, isn't served.
-fn serve_fault(said: Standing, progress: Progress) -> Option<ServeFault>
-    ensures { result ≡ serve_fault said progress }
-{
-    let target = match said {
-        Standing::NothingOpen => return Some(ServeFault::NothingOpen),
-        Standing::NotOf => return Some(ServeFault::NotOf),
-        Standing::Gone => return Some(ServeFault::NotTold),
-        Standing::Asked(target) => target,
-    };
-    if target.is_census {
-        return Some(ServeFault::NotOf);
-    }
-    match progress {
-        Progress::NotTold => Some(ServeFault::NotTold),
-        Progress::Done => Some(ServeFault::AlreadyDone),
-        Progress::Undone(_) => None,
-    }
-}
-
-// The same of the name, whose place was armed last with the number.
-fn fault_of<N: Name, J: Errand>(desk: &Desk<N, J>, name: u64, last: u64) -> Option<ServeFault>
-    ensures { result ≡ serve_fault (standing (at desk.now) name) (progress (at desk.now) name last) }
-{
-    serve_fault(desk.standing(name), desk.progress(name, last))
-}
-
-// Why the thread of a place that has no held one isn't served.
-fn unserved(fault: ReleaseFault) -> ServeFault
-    ensures { result ≡ unserved fault }
-{
-    match fault {
-        ReleaseFault::NoSuchPlace => ServeFault::NoSuchPlace,
-        ReleaseFault::Vacant => ServeFault::Vacant,
-        ReleaseFault::NotHeld => ServeFault::NotHeld,
     }
 }
 
@@ -126,7 +56,7 @@ impl<N: Name> Steps<N> {
             return Err(HoldFault::NoSuchPlace);
         }
         let last = self.armer.last(place);
-        let Some((name, fault)) = fault_at(desk, place, last) else {
+        let Some((name, fault)) = hold_fault_at(desk, place, last) else {
             return Err(HoldFault::Vacant);
         };
         if let Some(fault) = fault {
@@ -208,6 +138,6 @@ impl<N: Name> Steps<N> {
     {
         let name = self.bodies.as_slice()[index].name();
         let last = self.armer.last(place);
-        fault_of(desk, name, last)
+        serve_fault_of(desk, name, last)
     }
 }

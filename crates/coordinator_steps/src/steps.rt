@@ -3,8 +3,8 @@ ghost use Rattle.std.specs.Prelude.{◌≡◌, false, IfOk, IfErr, OnOk};
 ghost use Rattle.poll.specs.Rows.{full_armer};
 ghost use Rattle.desk.specs.declared.entries.Entry.{Entry};
 ghost use Rattle.desk.specs.Fields.{Enters};
-ghost use Rattle.coordinator_steps.specs.Holding.{held_nothing};
-ghost use Rattle.coordinator_steps.specs.Refused.{MayClose, not_closed};
+ghost use Rattle.held_threads.specs.Holding.{held_nothing};
+ghost use Rattle.held_threads.specs.Refused.{MayClose, not_closed};
 
 use bodies::Name;
 use desk::{CloseFault, Desk, Receipt};
@@ -25,7 +25,7 @@ pub struct Steps<N: Name> {
 
 impl<N: Name> Model for Steps<N> {
     ghost use Rattle.std.specs.Prelude.{◌≡◌, ◌≤◌, length};
-    ghost use Rattle.coordinator_steps.specs.Holding.{Holding};
+    ghost use Rattle.held_threads.specs.Holding.{Holding};
 
     ghost Value = { Holding };
 

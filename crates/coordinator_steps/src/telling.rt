@@ -1,16 +1,15 @@
 //! Telling a name: its job, or the mark of a census, goes into the room of its thread, and the thread's place is armed.
-ghost use Rattle.std.specs.Prelude.{◌≡◌, ◌<◌, length, slice_index, IfSome, IfNone, IfOk, IfErr, OnSome};
+ghost use Rattle.std.specs.Prelude.{◌≡◌, ◌<◌, slice_index, IfSome, IfNone, IfOk, IfErr, OnSome};
 ghost use Rattle.thread_state.specs.PollRule.{armed_with};
 ghost use Rattle.berths.specs.Berths.{acted};
 ghost use Rattle.desk.specs.Fields.{at};
-ghost use Rattle.coordinator_steps.specs.Refused.{IsUntold, tell_stays, told_act};
+ghost use Rattle.held_threads.specs.Refused.{IsUntold, tell_stays, told_act};
 
-use crate::faults::{TellFault, Told};
 use crate::steps::Steps;
 use berths::{BerthReceipt, Room};
 use bodies::Name;
-use desk::{Desk, Standing, Target};
-use held_threads::Teller;
+use desk::{Desk, Target};
+use held_threads::{Found, TellFault, Told, look_up};
 use operations::job::Errand;
 use poll::PollRow;
 
@@ -20,34 +19,6 @@ pub struct Untold {
     pub name: u64,
     pub target: Target,
     pub number: u64,
-}
-
-// The oldest open request that is of the name and wasn't told to its thread, with how the name stands to it; or what telling the
-// name comes to without. None where the desk names a place that there isn't.
-fn look_up<N: Name, J: Errand>(
-    desk: &Desk<N, J>,
-    armer: &Teller,
-    places: usize,
-    name: u64,
-) -> Result<Option<(Target, u64)>, Result<Told<N>, TellFault>>
-    requires places { places ≡ length armer.now.seen.armed }
-    ensures said { IfErr result (tell_stays (at desk.now) name armer.now.seen) }
-    ensures untold { IfOk result (λ o. IfSome o (λ t. IsUntold (at desk.now) name armer.now.seen t.0 t.1)) }
-    ensures bounds { IfOk result (λ o. IfSome o (λ t. (t.0.place < length armer.now.seen.armed) × (slice_index armer.now.seen.armed t.0.place < t.1))) }
-{
-    let target = match desk.standing(name) {
-        Standing::NothingOpen => return Err(Err(TellFault::NothingOpen)),
-        Standing::NotOf => return Err(Err(TellFault::NotOf)),
-        Standing::Gone => return Err(Ok(Told::Gone)),
-        Standing::Asked(target) => target,
-    };
-    if target.place >= places {
-        return Ok(None);
-    }
-    match desk.untold(name, armer.last(target.place)) {
-        Some(number) => Ok(Some((target, number))),
-        None => Err(Err(TellFault::AlreadyTold)),
-    }
 }
 
 // The job of the name in the operation: the one in hand where it is that, or with none in hand the desk's. Another one stays in hand.
@@ -83,13 +54,13 @@ impl<N: Name> Steps<N> {
         ensures bounds { IfOk result (λ o. IfSome o (λ t. (t.target.place < N.board.places) × (slice_index self.now.armer.armed t.target.place < t.number))) }
     {
         match look_up(desk, &self.armer, self.places, name) {
-            Ok(Some((target, number))) => Ok(Some(Untold {
+            Found::Untold(target, number) => Ok(Some(Untold {
                 name,
                 target,
                 number,
             })),
-            Ok(None) => Ok(None),
-            Err(said) => Err(said),
+            Found::NoPlace => Ok(None),
+            Found::Said(said) => Err(said),
         }
     }
 

@@ -1,3 +1,5 @@
 mod Apart
 pub mod Each
 pub mod ServeLemmas
+pub mod Published
+pub mod Staying

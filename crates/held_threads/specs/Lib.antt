@@ -1,3 +1,6 @@
 pub mod Held
+pub mod Holding
+pub mod Refused
+pub mod Reclaiming
 pub mod Serves
 pub mod Brought

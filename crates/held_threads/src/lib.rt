@@ -1,4 +1,5 @@
-//! The bodies of threads that a coordinator holds, the serving of them, and the arming of places.
+//! What both coordinators stand on: the bodies of threads that they hold, the serving of them, the arming of places, and what they find at
+//! the desk.
 //! `coordinator` uses it behind locks, and `coordinator_steps` over a room and a desk that are lent to it.
 //! Read `src/held.rt` first, then `src/teller.rt` and `specs/Serves.antt`.
 //!
@@ -8,12 +9,21 @@
 #![tactic(auto)]
 
 mod arms;
+mod fault_texts;
+mod faults;
+mod finding;
 mod held;
+mod operating;
 mod served;
 mod serving;
 mod teller;
+mod weighing;
 
+pub use faults::{HoldFault, OperateFault, Reclaimed, ReleaseFault, ServeFault, TellFault, Told};
+pub use finding::{Found, hold_fault_at, look_up, serve_fault_of, unserved};
 pub use held::{Held, Loose};
+pub use operating::operate_over;
 pub use served::{Brought, Served};
 pub use serving::Unserved;
 pub use teller::Teller;
+pub use weighing::weigh;

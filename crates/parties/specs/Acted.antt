@@ -20,7 +20,7 @@ use Rattle.thread_list.specs.Moves.{Running, SameThread, Polls, Leaves, Gives, C
 use Rattle.thread_steps.specs.Moves.{Starting, StopsNext, EndsServing}
 use Rattle.thread_list.specs.Refused.{call_accepted, call_refused, return_refused}
 use Rattle.desk.specs.Finishing.{FinishSeen}
-use Rattle.coordinator_steps.specs.Holding.{Holding}
+use Rattle.held_threads.specs.Holding.{Holding}
 use Rattle.desk.specs.declared.entries.Entry.{Entry}
 use Rattle.desk.specs.Machine.{State as Desk, Book}
 use Rattle.desk.specs.Refusals.{start_refused}

@@ -11,13 +11,14 @@ use Rattle.desk.specs.Machine.{State, Stands}
 use Rattle.desk.specs.Refusals.{open_refused}
 use Rattle.desk.specs.Targets.{standing}
 use Rattle.thread_list.specs.Moves.{IsOperated}
-use Rattle.coordinator_steps.specs.declared.faults.Reclaimed.TheVariants as became
-use Rattle.coordinator_steps.specs.declared.faults.ServeFault.{ServeFault}
-use Rattle.coordinator_steps.specs.declared.faults.ServeFault.TheVariants as serve
+use Rattle.held_threads.specs.declared.faults.Reclaimed.TheVariants as became
+use Rattle.held_threads.specs.declared.faults.ServeFault.{ServeFault}
+use Rattle.held_threads.specs.declared.faults.ServeFault.TheVariants as serve
 use Rattle.held_threads.specs.Held.{AreEach}
-use Rattle.coordinator_steps.specs.Holding.{Holding}
-use Rattle.coordinator_steps.specs.Reclaiming.{IsReclaimed}
-use Rattle.coordinator_steps.specs.Refused as steps
+use Rattle.held_threads.specs.Holding.{Holding}
+use Rattle.held_threads.specs.Reclaiming.{IsReclaimed}
+use Rattle.coordinator_steps.specs.Done as done
+use Rattle.held_threads.specs.Refused as steps
 use Rattle.parties.specs.declared.acts.Fault.TheVariants as fault
 use Rattle.parties.specs.Asked.{Told, WasEntered}
 
@@ -53,13 +54,13 @@ abbrev pub Unserved : ℕ → ℕ → Holding → ServeFault → Type 0
 Unserved places place old f = ((places ≤ place) × (f ≡ serve.NoSuchPlace)) ⊎ steps.serve_refused old places place f
 
 abbrev pub Serves : ℕ → ℕ → Holding → Told → Holding → Type 0
-Serves places place old (Ok n) new = (finish : FinishSeen) × steps.Serves old new place finish
+Serves places place old (Ok n) new = (finish : FinishSeen) × done.Serves old new place finish
 Serves places place old (Err (fault.Serve f)) new = Unserved places place old f × (new ≡ old)
 Serves places place old (Err fault.Again) new = (new.armer ≡ old.armer) × (new.operated ≡ old.operated)
 Serves places place old (Err e) new = ⊥
 
 abbrev pub Releases : ℕ → ℕ → Holding → Told → Holding → Type 0
-Releases places place old (Ok n) new = (receipt : Moved) × steps.Releases old new place receipt
+Releases places place old (Ok n) new = (receipt : Moved) × done.Releases old new place receipt
 Releases places place old (Err (fault.Release f)) new = steps.HasNoHeld places place f × (new ≡ old)
 Releases places place old (Err fault.Again) new = new ≡ old
 Releases places place old (Err e) new = ⊥

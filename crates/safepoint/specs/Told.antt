@@ -9,7 +9,7 @@ use Rattle.parties.specs.declared.party.Role.TheVariants as role
 use Rattle.parties.specs.declared.acts.Fault.TheVariants as fault
 use Rattle.board.specs.Boards.{BoardId}
 use Rattle.poll.specs.Rows.{RowId}
-use Rattle.coordinator_steps.specs.Holding.{held_nothing}
+use Rattle.held_threads.specs.Holding.{held_nothing}
 use Rattle.parties.specs.Acted.{Acts}
 use Rattle.parties.specs.Asked.{Told}
 use Rattle.safepoint.specs.Codes.{code_of}

@@ -2,7 +2,7 @@
 ghost use Rattle.std.specs.Prelude.{◌≡◌, ℕ, OnOk, OnErr, IfOk, Option, Some, None, is_some, true, false};
 ghost use Rattle.board.specs.Boards.{BoardId};
 ghost use Rattle.poll.specs.Rows.{RowId};
-ghost use Rattle.coordinator_steps.specs.Holding.{held_nothing};
+ghost use Rattle.held_threads.specs.Holding.{held_nothing};
 ghost use Rattle.safepoint.specs.Held.{Seen, held_owns, board_coded, row_coded, held_coded};
 ghost use Rattle.safepoint.specs.Told.{Obeys, Answers, Forks, Arises, Begins, IsBegun, IsFresh};
 

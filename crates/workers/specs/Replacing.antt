@@ -2,8 +2,8 @@
 use Rattle.std.specs.Prelude.{◌≡◌, ◌⊎◌, ◌+◌, ◌++◌, ℕ, zero, suc, List, [], ◌∷◌, Option, Some, None, length, slice_index, slice_set, ⊤}
 use Rattle.desk.specs.Machine.{Stands}
 use Rattle.desk.specs.declared.entries.Entry.TheVariants.{Install, Free}
-use Rattle.coordinator.specs.declared.faults.Reclaimed.{Reclaimed}
-use Rattle.coordinator.specs.declared.faults.Reclaimed.TheVariants.{Freed, Used, Late}
+use Rattle.held_threads.specs.declared.faults.Reclaimed.{Reclaimed}
+use Rattle.held_threads.specs.declared.faults.Reclaimed.TheVariants.{Freed, Used, Late}
 
 -- The code of each method that is in use, the codes that are out of use and not freed, and the receipts of those that were installed and freed.
 pub record Codes : Type 0 where

@@ -3,8 +3,8 @@ ghost use Rattle.std.specs.Prelude.{◌≡◌, ◌==◌, ◌≤◌, ◌<◌, ◌
 ghost use Rattle.std.specs.List.{filter, list_any};
 ghost use Rattle.poll.specs.Rows.{full_armer};
 ghost use Rattle.desk.specs.declared.entries.Entry.{Entry};
-ghost use Rattle.coordinator.specs.Reclaiming.{IsReclaimed};
-ghost use Rattle.coordinator.specs.declared.faults.Reclaimed.{Reclaimed};
+ghost use Rattle.held_threads.specs.Reclaiming.{IsReclaimed};
+ghost use Rattle.held_threads.specs.declared.faults.Reclaimed.{Reclaimed};
 ghost use Rattle.workers.specs.Replacing.{IsInstall, InstallsEach, IsKeptBy, IsLeft, Replaced, ReplacedEach, FreesSome, Reclaims};
 
 use crate::fault::RunFault;

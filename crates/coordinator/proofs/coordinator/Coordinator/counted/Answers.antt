@@ -1,9 +1,9 @@
 use Rattle.std.proofs.Common.{sym, subst, inl, inr}
-use Rattle.coordinator.specs.Holding.{Holding}
+use Rattle.held_threads.specs.Holding.{Holding}
 use Rattle.coordinator.specs.Driving.{HoldsOn}
-use Rattle.coordinator.specs.Refused.{census_refused}
-use Rattle.coordinator.specs.declared.faults.OperateFault.{OperateFault}
-use Rattle.coordinator.specs.declared.faults.OperateFault.TheVariants.{Refused}
+use Rattle.held_threads.specs.Refused.{census_refused}
+use Rattle.held_threads.specs.declared.faults.OperateFault.{OperateFault}
+use Rattle.held_threads.specs.declared.faults.OperateFault.TheVariants.{Refused}
 use Rattle.desk.specs.declared.faults.OperateFault.{OperateFault as DeskFault}
 use Rattle.coordinator.proofs.HoldsMore.{holds_then}
 use Rattle.coordinator.proofs.Holdings.{counted_so}

@@ -2,7 +2,7 @@ use Rattle.std.proofs.Common.{◌≡◌, ◌∙◌, false, ap, subst}
 use Rattle.desk.specs.Machine.{Stands}
 use Rattle.desk.specs.Fields.{at}
 use Rattle.desk.specs.Refusals.{close_refused, holds_target}
-use Rattle.coordinator.specs.Holding.{Holding}
+use Rattle.held_threads.specs.Holding.{Holding}
 use Rattle.coordinator.proofs.coordinator.Coordinator.try_close.Goals as goal
 
 pub returns-in-Err-clause-refused : goal.returns-in-Err-clause-refused

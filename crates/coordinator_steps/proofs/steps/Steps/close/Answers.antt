@@ -1,7 +1,7 @@
 use Rattle.std.proofs.Common.{◌≡◌, ◌∙◌, refl, ap, subst}
 use Rattle.desk.specs.Fields.{at}
 use Rattle.desk.specs.Refusals.{close_refused}
-use Rattle.coordinator_steps.specs.Holding.{Holding}
+use Rattle.held_threads.specs.Holding.{Holding}
 use Rattle.coordinator_steps.proofs.steps.Steps.close.Goals as goal
 
 pub returns-in-Err-clause-refused : goal.returns-in-Err-clause-refused

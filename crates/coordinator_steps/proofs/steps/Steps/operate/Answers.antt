@@ -2,9 +2,9 @@ use Rattle.std.proofs.Common.{◌≡◌, subst}
 use Rattle.bodies.specs.Bodies.{IsPublished}
 use Rattle.thread_list.specs.Moves.{IsCleared}
 use Rattle.held_threads.specs.Held.{AreEach}
-use Rattle.coordinator_steps.specs.Holding.{Holding}
+use Rattle.held_threads.specs.Holding.{Holding}
 use Rattle.held_threads.proofs.Each.{each_both}
-use Rattle.coordinator_steps.proofs.Published.{cleared_census}
+use Rattle.held_threads.proofs.Published.{cleared_census}
 use Rattle.coordinator_steps.proofs.steps.Steps.operate.Goals as goal
 
 pub returns-in-Ok-clause-counted : goal.returns-in-Ok-clause-counted

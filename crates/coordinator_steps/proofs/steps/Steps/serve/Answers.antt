@@ -1,6 +1,6 @@
 use Rattle.std.proofs.Common.{◌≡◌, ◌∙◌, Some, ap, subst, rules}
 use Rattle.std.specs.Prelude.{slice_get}
-use Rattle.coordinator_steps.specs.Holding.{Holding}
+use Rattle.held_threads.specs.Holding.{Holding}
 use Rattle.coordinator_steps.proofs.Served.{serves, each_ok}
 use Rattle.coordinator_steps.proofs.steps.Steps.serve.Goals as goal
 

@@ -2,8 +2,8 @@ use Rattle.std.proofs.Common.{sym, subst, rules}
 use Rattle.desk.specs.Fields.{at}
 use Rattle.desk.specs.Refusals.{AreSettled, MayOperate, operate_refused}
 use Rattle.bodies.specs.Census.{IsCensus}
-use Rattle.coordinator.proofs.Published.{published_settled, published_census, not_refused}
-use Rattle.coordinator.proofs.censuses.operate_over.Goals as goal
+use Rattle.held_threads.proofs.Published.{published_settled, published_census, not_refused}
+use Rattle.held_threads.proofs.operating.operate_over.Goals as goal
 
 pub operate-requires : goal.operate-requires
 operate-requires g c = record { settled = subst AreSettled (sym c.as_slice-3.ensures.value) (published_settled _ _ c.publish_all.ensures) }

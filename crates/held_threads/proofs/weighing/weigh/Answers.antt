@@ -1,9 +1,9 @@
 use Rattle.std.proofs.Common.{ℕ, Option, None, Some, subst}
 use Rattle.std.specs.Prelude.{IfSome}
 use Rattle.desk.specs.Fields.{DeskSeen, LooksAtAll}
-use Rattle.coordinator.specs.declared.faults.Reclaimed.{Reclaimed}
-use Rattle.coordinator.specs.Reclaiming.{IsReclaimed, Frees}
-use Rattle.coordinator.proofs.rounds.Shaken.weigh.Goals as goal
+use Rattle.held_threads.specs.declared.faults.Reclaimed.{Reclaimed}
+use Rattle.held_threads.specs.Reclaiming.{IsReclaimed, Frees}
+use Rattle.held_threads.proofs.weighing.weigh.Goals as goal
 
 -- what became of the code where all places had just been looked at
 reclaimed : {N : Type 0} (places serial : ℕ) (before looked after : DeskSeen) → LooksAtAll serial places before looked → (r : Option (Reclaimed N)) → IfSome r (Frees places serial looked after) → IfSome r (IsReclaimed places serial)

@@ -1,5 +1,5 @@
--- What the calls of a coordinator answer: each refusal where its own test holds, and those before it don't.
-use Rattle.std.specs.Prelude.{◌≡◌, ◌≢◌, ◌⊎◌, ◌<◌, ◌≤◌, ◌++◌, ℕ, Bool, true, false, List, [], ◌∷◌, Option, Some, None, Result, Ok, Err, if◌then◌else◌, slice_get, slice_set, slice_index}
+-- What the calls of both coordinators answer: each refusal where its own test holds, and those before it don't.
+use Rattle.std.specs.Prelude.{◌≡◌, ◌⊎◌, ◌<◌, ◌≤◌, ◌++◌, ℕ, Bool, true, false, List, [], ◌∷◌, Option, Some, None, Result, Ok, Err, if◌then◌else◌, slice_get, slice_index, length}
 use Rattle.thread_state.specs.declared.poll_rule.Arming.{Arming}
 use Rattle.thread_state.specs.PollRule.{armed_with}
 use Rattle.bodies.specs.Bodies.{BodyView}
@@ -10,31 +10,28 @@ use Rattle.desk.specs.declared.entries.Progress.{Progress}
 use Rattle.desk.specs.declared.entries.Progress.TheVariants as is
 use Rattle.desk.specs.declared.faults.CloseFault.{CloseFault}
 use Rattle.desk.specs.Machine.{State, Current}
-use Rattle.desk.specs.Finishing.{FinishSeen}
-use Rattle.desk.specs.declared.entries.Entry.TheVariants.{Finish}
-use Rattle.operations.specs.Asks.{reply}
-use Rattle.thread_list.specs.Moves.{IsOperated}
 use Rattle.desk.specs.Targets.{standing, untold, progress, name_at}
 use Rattle.desk.specs.Refusals.{chosen, holds_target, close_refused, operate_refused, MayOperate}
-use Rattle.coordinator_steps.specs.declared.faults.Told.{Told}
-use Rattle.coordinator_steps.specs.declared.faults.Told.TheVariants as told
-use Rattle.coordinator_steps.specs.declared.faults.TellFault.{TellFault}
-use Rattle.coordinator_steps.specs.declared.faults.TellFault.TheVariants as tell
-use Rattle.coordinator_steps.specs.declared.faults.HoldFault.{HoldFault}
-use Rattle.coordinator_steps.specs.declared.faults.HoldFault.TheVariants as hold
-use Rattle.coordinator_steps.specs.declared.faults.ServeFault.{ServeFault}
-use Rattle.coordinator_steps.specs.declared.faults.ServeFault.TheVariants as serve
-use Rattle.coordinator_steps.specs.declared.faults.ReleaseFault.{ReleaseFault}
-use Rattle.coordinator_steps.specs.declared.faults.ReleaseFault.TheVariants as release
-use Rattle.coordinator_steps.specs.declared.faults.OperateFault.{OperateFault}
-use Rattle.coordinator_steps.specs.declared.faults.OperateFault.TheVariants as operate
+use Rattle.held_threads.specs.declared.faults.Told.{Told}
+use Rattle.held_threads.specs.declared.faults.Told.TheVariants as told
+use Rattle.held_threads.specs.declared.faults.TellFault.{TellFault}
+use Rattle.held_threads.specs.declared.faults.TellFault.TheVariants as tell
+use Rattle.held_threads.specs.declared.finding.Found.{Found}
+use Rattle.held_threads.specs.declared.finding.Found.TheVariants as found
+use Rattle.held_threads.specs.declared.faults.HoldFault.{HoldFault}
+use Rattle.held_threads.specs.declared.faults.HoldFault.TheVariants as hold
+use Rattle.held_threads.specs.declared.faults.ServeFault.{ServeFault}
+use Rattle.held_threads.specs.declared.faults.ServeFault.TheVariants as serve
+use Rattle.held_threads.specs.declared.faults.ReleaseFault.{ReleaseFault}
+use Rattle.held_threads.specs.declared.faults.ReleaseFault.TheVariants as release
+use Rattle.held_threads.specs.declared.faults.OperateFault.{OperateFault}
+use Rattle.held_threads.specs.declared.faults.OperateFault.TheVariants as operate
 use Rattle.held_threads.specs.Held.{is_held, StandsAt}
-use Rattle.coordinator_steps.specs.Holding.{Holding}
-use Rattle.berths.specs.Berths.{Moved, Went, acted, moved}
+use Rattle.held_threads.specs.Holding.{Holding}
+use Rattle.berths.specs.Berths.{Moved, Went, acted}
 use Rattle.berths.specs.declared.room.BodyAct.TheVariants as body_act
 use Rattle.berths.specs.declared.room.BerthAct.{BerthAct}
 use Rattle.berths.specs.declared.room.BerthAct.TheVariants as berth
-use Rattle.std.specs.List.{remove}
 
 -- The name stands to the open requests as this target.
 abbrev pub IsAsked : State → ℕ → Target → Type 0
@@ -74,6 +71,14 @@ abbrev pub tell_stays : {N : Type 0} → State → ℕ → Arming → Result (To
 tell_stays s name armer (Ok (told.Told r)) = true ≡ false
 tell_stays s name armer (Ok told.Gone) = standing s name ≡ stand.Gone
 tell_stays s name armer (Err fault) = tell_refused s name armer fault
+
+-- What a look at the desk finds for a name: a request that wasn't told to its thread, whose place there is; a place that there isn't;
+-- or what telling the name comes to.
+abbrev pub IsFound : {N : Type 0} → State → ℕ → Arming → Found N → Type 0
+IsFound s name armer (found.Untold t number)
+    = IsUntold s name armer t number × (t.place < length armer.armed) × (slice_index armer.armed t.place < number)
+IsFound s name armer found.NoPlace = (t : Target) × IsAsked s name t × (length armer.armed ≤ t.place)
+IsFound s name armer (found.Said said) = tell_stays s name armer said
 
 -- Why a thread that stands to the open requests like this, and is so far with what it was told, isn't held.
 abbrev pub hold_fault : Standing → Progress → Option HoldFault
@@ -144,13 +149,6 @@ abbrev pub serve_refused : Holding → ℕ → ℕ → ServeFault → Type 0
 serve_refused c places place fault
     = ((is_held place c.held ≡ false) × ((why : ReleaseFault) × HasNoHeld places place why × (fault ≡ unserved why))) ⊎ ((index : ℕ) × (body : BodyView) × StandsAt c.held index place body × IsServeFault c index place (Some fault))
 
--- Serving the body at the index publishes it, and enters what its job answered, by the ask on its frames; the others stay.
-abbrev pub Serves : Holding → Holding → ℕ → FinishSeen → Type 0
-Serves old new place finish
-    = (index : ℕ) × (body : BodyView) × (after : BodyView) × (number : ℕ) × StandsAt old.held index place body × IsServeFault old index place None
-    × (new ≡ record old { held = slice_set old.held index after }) × IsOperated number body after
-    × (finish.stands.entry ≡ Finish number body.name (reply finish.ask body.image.frames))
-
 -- Why a census isn't operated: the desk refuses it, or else there was no memory.
 abbrev pub census_refused : State → List BodyView → OperateFault → Type 0
 census_refused s bs (operate.Refused fault) = operate_refused s bs fault
@@ -163,9 +161,3 @@ MayClose c number closed = (s : State) × (o : Current) × (chosen number s.open
 -- Why it isn't closed.
 abbrev pub not_closed : Holding → Option ℕ → CloseFault → Type 0
 not_closed c number fault = (s : State) × close_refused s number c.held fault
-
--- The body of the place is held no more, and by the receipt it went into its berth as it was.
-abbrev pub Releases : Holding → Holding → ℕ → Moved → Type 0
-Releases old new place receipt
-    = (index : ℕ) × (body : BodyView) × StandsAt old.held index place body × (new ≡ record old { held = remove old.held index })
-    × (receipt ≡ moved body (body_act.Released old.operated))

@@ -1,6 +1,6 @@
 //! Weighing a code that isn't entrant, and freeing it where no activation stands.
 ghost use Rattle.std.specs.Prelude.{◌≡◌, IfSome};
-ghost use Rattle.coordinator_steps.specs.Reclaiming.{IsReclaimed, Frees};
+ghost use Rattle.held_threads.specs.Reclaiming.{IsReclaimed, Frees};
 
 use crate::faults::Reclaimed;
 use board::{Board, Weighed};

@@ -8,8 +8,8 @@ use Rattle.desk.specs.declared.entries.Entry.TheVariants as entry
 use Rattle.desk.specs.CodeBoard.{KeeperWeighs}
 use Rattle.desk.specs.Fields.{DeskSeen, Enters, LooksAtAll, at}
 use Rattle.desk.specs.Machine.{Stands}
-use Rattle.coordinator_steps.specs.declared.faults.Reclaimed.{Reclaimed}
-use Rattle.coordinator_steps.specs.declared.faults.Reclaimed.TheVariants.{Freed, Used, Late}
+use Rattle.held_threads.specs.declared.faults.Reclaimed.{Reclaimed}
+use Rattle.held_threads.specs.declared.faults.Reclaimed.TheVariants.{Freed, Used, Late}
 
 -- The unfreed code of the serial was weighed from what the keeper knew, with this answer.
 abbrev pub WasWeighed : ℕ → ℕ → DeskSeen → DeskSeen → Weighed → Type 0

@@ -1,4 +1,4 @@
-//! What the coordinator's calls answer, and why they are refused. The faults of a call are tested in the order in which they stand
+//! What the calls of both coordinators answer, and why they are refused. The faults of a call are tested in the order in which they stand
 //! here.
 use berths::BerthReceipt;
 use bodies::Name;
@@ -81,7 +81,7 @@ pub enum OperateFault {
     NoMemory,
 }
 
-/// What weighing a code came to.
+/// What weighing a code came to, where all places had just been looked at.
 #[derive(Drop)]
 pub enum Reclaimed<N: Name> {
     /// The code is freed. The receipt is of its Free.
