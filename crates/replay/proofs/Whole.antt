@@ -15,7 +15,7 @@ use Rattle.replay.specs.Grammar.{command_of}
 use Rattle.replay.specs.Known.{AppendsPart, Grows}
 use Rattle.replay.specs.Room.{CommandTakes, LineTakes}
 use Rattle.replay.specs.Text.{SystemView, IsAt, line_text, told, text, reply_to}
-use Rattle.replay.specs.Streams.{Front, after_lines, last_of, FedTo, Fed, ForEachStart, StoppedIn, BrokenIn, Turned, Ended, Finished, FedBy, GaveUp}
+use Rattle.replay.specs.Streams.{Point, Front, after_lines, last_of, FedTo, Fed, ForEachStart, StoppedIn, BrokenIn, Turned, Ended, Finished, FedBy, GaveUp}
 use Rattle.replay.specs.Outcome.{SoFar, WroteAll, WroteLines, WrotePart, WroteBefore, Wrote}
 use Rattle.replay.proofs.Lists.{append_none}
 use Rattle.replay.proofs.Streams.{same_line}
@@ -24,9 +24,8 @@ use Rattle.replay.proofs.Splitting.{told_both, after_both, front_on, text_of_fro
 use Rattle.replay.proofs.Feeds.{fed_none, fed_relieved}
 
 -- One block more.
-pub fed_through : (world : Option World) (tail bytes more w0 : List ℕ) (g0 : Option (List ℕ)) (s s2 : Option SystemView) (held held2 w1 w2 : List ℕ) (g1 g2 : Option (List ℕ))
-    → FedTo world tail bytes w0 g0 s held w1 g1 → Fed s held more w1 g1 s2 held2 w2 g2 → FedTo world tail (bytes ++ more) w0 g0 s2 held2 w2 g2
-fed_through world tail bytes more w0 g0 s s2 held held2 w1 w2 g1 g2 f k =
+pub fed_through : (world : Option World) (tail bytes more waits : List ℕ) (got : Option (List ℕ)) (mid new : Point) → FedTo world tail bytes waits got mid → Fed mid more new → FedTo world tail (bytes ++ more) waits got new
+fed_through world tail bytes more waits got mid new f k =
     let known : Option World = after_lines world f.lines in
     let h = k known f.at f.rest f.splits.partial f.holds in
     record {
@@ -37,12 +36,12 @@ fed_through world tail bytes more w0 g0 s s2 held held2 w1 w2 g1 g2 f k =
         partial = h.splits.partial;
       };
       holds = h.holds;
-      grows = subst (λ (z : List ℕ). Grows g0 w0 g2 w2 z) (sym (told_both world f.lines h.lines)) (grows_on g0 g1 g2 w0 w1 w2 (told world f.lines) (told known h.lines) f.grows h.grows);
-      at = subst (λ (z : Option World). IsAt s2 z) (sym (after_both world f.lines h.lines)) h.at;
+      grows = subst (λ (z : List ℕ). Grows got waits new.got new.waits z) (sym (told_both world f.lines h.lines)) (grows_on got mid.got new.got waits mid.waits new.waits (told world f.lines) (told known h.lines) f.grows h.grows);
+      at = subst (λ (z : Option World). IsAt new.system z) (sym (after_both world f.lines h.lines)) h.at;
     }
 
 pub so_far_start : (left got : Option (List ℕ)) → SoFar left left got got None []
-so_far_start left got = record { read = []; consumed = same left; fed = fed_none None [] [] [] got None [] tt refl refl }
+so_far_start left got = record { read = []; consumed = same left; fed = fed_none None [] [] (record { system = None; held = []; waits = []; got = got }) tt refl refl }
   where
     same : (left : Option (List ℕ)) → Consumes left left []
     same None = tt
@@ -60,23 +59,31 @@ consumed_kept (Some a) None c x h k = absurd h
 consumed_kept (Some a) (Some b) None x h k = absurd k
 consumed_kept (Some a) (Some b) (Some c) x h k = h ∙ ap (λ z. x ++ z) (sym k)
 
--- Another block was read and fed.
-record BlockFed (left0 left2 g0 g2 : Option (List ℕ)) (s2 : Option SystemView) (held2 w2 : List ℕ) : Type 0 where
+-- Another block was read, at a point at which nothing waits: the source had left0 at the start, left before the block and left2
+-- behind it, and the sink had g0 at the start.
+pub record BlockRead (left0 left left2 g0 : Option (List ℕ)) (old : Point) (bytes : List ℕ) : Type 0 where
+  pub so : SoFar left0 left g0 old.got old.system old.held
+  pub consumed : Consumes left left2 bytes
+  pub none : old.waits ≡ []
+
+-- It was fed.
+record BlockFed (left0 left2 g0 : Option (List ℕ)) (new : Point) : Type 0 where
   read : List ℕ
   consumed : Consumes left0 left2 read
-  fed : FedTo None [] read [] g0 s2 held2 w2 g2
+  fed : FedTo None [] read [] g0 new
 
-block_fed : (left0 left left2 g0 g1 g2 : Option (List ℕ)) (s s2 : Option SystemView) (held held2 bytes w1 w2 : List ℕ) → SoFar left0 left g0 g1 s held → Consumes left left2 bytes → w1 ≡ [] → Fed s held bytes w1 g1 s2 held2 w2 g2 → BlockFed left0 left2 g0 g2 s2 held2 w2
-block_fed left0 left left2 g0 g1 g2 s s2 held held2 bytes w1 w2 so consumed none fed = record {
-  read = so.read ++ bytes;
-  consumed = consumed_on left0 left left2 so.read bytes so.consumed consumed;
-  fed = fed_through None [] so.read bytes [] g0 s s2 held held2 [] w2 g1 g2 so.fed (subst (λ (z : List ℕ). Fed s held bytes z g1 s2 held2 w2 g2) none fed);
+block_fed : (left0 left left2 g0 : Option (List ℕ)) (old new : Point) (bytes : List ℕ) → BlockRead left0 left left2 g0 old bytes → Fed old bytes new → BlockFed left0 left2 g0 new
+block_fed left0 left left2 g0 old new bytes b fed = record {
+  read = b.so.read ++ bytes;
+  consumed = consumed_on left0 left left2 b.so.read bytes b.so.consumed b.consumed;
+  fed = fed_through None [] b.so.read bytes [] g0 (record { system = old.system; held = old.held; waits = []; got = old.got }) new b.so.fed
+      (subst (λ (z : List ℕ). Fed (record { system = old.system; held = old.held; waits = z; got = old.got }) bytes new) b.none fed);
 }
 
-pub so_far_more : (left0 left left2 g0 g1 g2 g3 : Option (List ℕ)) (s s2 : Option SystemView) (held held2 bytes w1 w2 : List ℕ) → SoFar left0 left g0 g1 s held → Consumes left left2 bytes → w1 ≡ [] → Fed s held bytes w1 g1 s2 held2 w2 g2 → Appends g2 g3 w2 → SoFar left0 left2 g0 g3 s2 held2
-so_far_more left0 left left2 g0 g1 g2 g3 s s2 held held2 bytes w1 w2 so consumed none fed written =
-    let b = block_fed left0 left left2 g0 g1 g2 s s2 held held2 bytes w1 w2 so consumed none fed in
-    record { read = b.read; consumed = b.consumed; fed = fed_relieved None [] b.read [] g0 s2 held2 w2 [] g2 g3 b.fed (flushed g2 g3 w2 written) }
+pub so_far_more : (left0 left left2 g0 g3 : Option (List ℕ)) (old new : Point) (bytes : List ℕ) → BlockRead left0 left left2 g0 old bytes → Fed old bytes new → Appends new.got g3 new.waits → SoFar left0 left2 g0 g3 new.system new.held
+so_far_more left0 left left2 g0 g3 old new bytes read fed written =
+    let b = block_fed left0 left left2 g0 old new bytes read fed in
+    record { read = b.read; consumed = b.consumed; fed = fed_relieved None [] b.read [] g0 new [] g3 b.fed (flushed new.got g3 new.waits written) }
 
 -- A beginning of the text of a front is one of the whole text.
 part_of_text : (g0 g : Option (List ℕ)) (read : List ℕ) (ls : List (List ℕ)) (rest : List ℕ) → Front read ls rest → AppendsPart g0 g (told None ls) → AppendsPart g0 g (text read)
@@ -84,28 +91,28 @@ part_of_text g0 g read ls rest f part =
     subst (λ (z : List ℕ). AppendsPart g0 g z) (sym (text_of_front read ls rest f)) (part_more g0 g (told None ls) (told (after_lines None ls) (lines rest)) part)
 
 -- The write of what waits after a block failed.
-pub unwritten : (left0 left left2 g0 g1 g2 g3 : Option (List ℕ)) (s s2 : Option SystemView) (held held2 bytes w1 w2 : List ℕ) → SoFar left0 left g0 g1 s held → Consumes left left2 bytes → w1 ≡ [] → Fed s held bytes w1 g1 s2 held2 w2 g2 → AppendsPart g2 g3 w2 → WrotePart left0 left2 g0 g3
-unwritten left0 left left2 g0 g1 g2 g3 s s2 held held2 bytes w1 w2 so consumed none fed part =
-    let b = block_fed left0 left left2 g0 g1 g2 s s2 held held2 bytes w1 w2 so consumed none fed in
+pub unwritten : (left0 left left2 g0 g3 : Option (List ℕ)) (old new : Point) (bytes : List ℕ) → BlockRead left0 left left2 g0 old bytes → Fed old bytes new → AppendsPart new.got g3 new.waits → WrotePart left0 left2 g0 g3
+unwritten left0 left left2 g0 g3 old new bytes read fed part =
+    let b = block_fed left0 left left2 g0 old new bytes read fed in
     record {
       read = b.read;
       consumed = b.consumed;
-      written = part_of_text g0 g3 b.read b.fed.lines b.fed.rest b.fed.splits.front (broken g0 g2 g3 [] w2 (told None b.fed.lines) b.fed.grows part);
+      written = part_of_text g0 g3 b.read b.fed.lines b.fed.rest b.fed.splits.front (broken g0 new.got g3 [] new.waits (told None b.fed.lines) b.fed.grows part);
     }
 
 -- A write in the midst of a block failed.
-pub broken_off : (left0 left left2 g0 g1 g2 : Option (List ℕ)) (s : Option SystemView) (held bytes w1 : List ℕ) → SoFar left0 left g0 g1 s held → Consumes left left2 bytes → w1 ≡ []
-    → ForEachStart s held (λ world tail. BrokenIn world (tail ++ bytes) w1 g1 g2) → WrotePart left0 left2 g0 g2
-broken_off left0 left left2 g0 g1 g2 s held bytes w1 so consumed none fed =
-    let f = so.fed in
+pub broken_off : (left0 left left2 g0 g2 : Option (List ℕ)) (old : Point) (bytes : List ℕ) → BlockRead left0 left left2 g0 old bytes
+    → ForEachStart old (λ world tail. BrokenIn world (tail ++ bytes) old.waits old.got g2) → WrotePart left0 left2 g0 g2
+broken_off left0 left left2 g0 g2 old bytes b fed =
+    let f = b.so.fed in
     let known : Option World = after_lines None f.lines in
     let h = fed known f.at f.rest f.splits.partial f.holds in
-    let part : AppendsPart g1 g2 (told known h.lines) = subst (λ (z : List ℕ). AppendsPart g1 g2 (z ++ told known h.lines)) none h.part in
+    let part : AppendsPart old.got g2 (told known h.lines) = subst (λ (z : List ℕ). AppendsPart old.got g2 (z ++ told known h.lines)) b.none h.part in
     record {
-      read = so.read ++ bytes;
-      consumed = consumed_on left0 left left2 so.read bytes so.consumed consumed;
-      written = part_of_text g0 g2 (so.read ++ bytes) (f.lines ++ h.lines) h.rest (front_on so.read bytes f.lines h.lines f.rest h.rest f.splits.front h.front)
-          (subst (λ (z : List ℕ). AppendsPart g0 g2 z) (sym (told_both None f.lines h.lines)) (then_part g0 g1 g2 (told None f.lines) (told known h.lines) (appended g0 g1 (told None f.lines) f.grows) part));
+      read = b.so.read ++ bytes;
+      consumed = consumed_on left0 left left2 b.so.read bytes b.so.consumed b.consumed;
+      written = part_of_text g0 g2 (b.so.read ++ bytes) (f.lines ++ h.lines) h.rest (front_on b.so.read bytes f.lines h.lines f.rest h.rest f.splits.front h.front)
+          (subst (λ (z : List ℕ). AppendsPart g0 g2 z) (sym (told_both None f.lines h.lines)) (then_part g0 old.got g2 (told None f.lines) (told known h.lines) (appended g0 old.got (told None f.lines) f.grows) part));
     }
 
 -- Memory was refused in the midst of a block; this is how far it is answered.
@@ -119,28 +126,28 @@ record BlockStopped (left0 left2 g0 g2 : Option (List ℕ)) (w2 : List ℕ) : Ty
   takes : LineTakes (after_lines None lines) line
   grows : Grows g0 [] g2 w2 (told None lines)
 
-block_stopped : (left0 left left2 g0 g1 g2 : Option (List ℕ)) (s : Option SystemView) (held bytes w1 w2 : List ℕ) → SoFar left0 left g0 g1 s held → Consumes left left2 bytes → w1 ≡ []
-    → ForEachStart s held (λ world tail. StoppedIn world (tail ++ bytes) w1 g1 w2 g2) → BlockStopped left0 left2 g0 g2 w2
-block_stopped left0 left left2 g0 g1 g2 s held bytes w1 w2 so consumed none fed =
-    let f = so.fed in
+block_stopped : (left0 left left2 g0 g2 : Option (List ℕ)) (old : Point) (bytes w2 : List ℕ) → BlockRead left0 left left2 g0 old bytes
+    → ForEachStart old (λ world tail. StoppedIn world (tail ++ bytes) old.waits old.got w2 g2) → BlockStopped left0 left2 g0 g2 w2
+block_stopped left0 left left2 g0 g2 old bytes w2 b fed =
+    let f = b.so.fed in
     let known : Option World = after_lines None f.lines in
     let h = fed known f.at f.rest f.splits.partial f.holds in
-    let grows : Grows g1 [] g2 w2 (told known h.lines) = subst (λ (z : List ℕ). Grows g1 z g2 w2 (told known h.lines)) none h.grows in
+    let grows : Grows old.got [] g2 w2 (told known h.lines) = subst (λ (z : List ℕ). Grows old.got z g2 w2 (told known h.lines)) b.none h.grows in
     record {
-      read = so.read ++ bytes;
+      read = b.so.read ++ bytes;
       lines = f.lines ++ h.lines;
       line = h.line;
       rest = h.rest;
-      consumed = consumed_on left0 left left2 so.read bytes so.consumed consumed;
-      front = subst (λ (ls : List (List ℕ)). Front (so.read ++ bytes) ls h.rest) (sym (append_assoc f.lines h.lines (h.line ∷ []))) (front_on so.read bytes f.lines (h.lines ++ h.line ∷ []) f.rest h.rest f.splits.front h.front);
+      consumed = consumed_on left0 left left2 b.so.read bytes b.so.consumed b.consumed;
+      front = subst (λ (ls : List (List ℕ)). Front (b.so.read ++ bytes) ls h.rest) (sym (append_assoc f.lines h.lines (h.line ∷ []))) (front_on b.so.read bytes f.lines (h.lines ++ h.line ∷ []) f.rest h.rest f.splits.front h.front);
       takes = subst (λ (w : Option World). LineTakes w h.line) (sym (after_both None f.lines h.lines)) h.takes;
-      grows = subst (λ (z : List ℕ). Grows g0 [] g2 w2 z) (sym (told_both None f.lines h.lines)) (grows_on g0 g1 g2 [] [] w2 (told None f.lines) (told known h.lines) f.grows grows);
+      grows = subst (λ (z : List ℕ). Grows g0 [] g2 w2 z) (sym (told_both None f.lines h.lines)) (grows_on g0 old.got g2 [] [] w2 (told None f.lines) (told known h.lines) f.grows grows);
     }
 
-pub stopped_written : (left0 left left2 g0 g1 g2 g3 : Option (List ℕ)) (s : Option SystemView) (held bytes w1 w2 : List ℕ) → SoFar left0 left g0 g1 s held → Consumes left left2 bytes → w1 ≡ []
-    → ForEachStart s held (λ world tail. StoppedIn world (tail ++ bytes) w1 g1 w2 g2) → Appends g2 g3 w2 → WroteBefore left0 left2 g0 g3
-stopped_written left0 left left2 g0 g1 g2 g3 s held bytes w1 w2 so consumed none fed written =
-    let b = block_stopped left0 left left2 g0 g1 g2 s held bytes w1 w2 so consumed none fed in
+pub stopped_written : (left0 left left2 g0 g2 g3 : Option (List ℕ)) (old : Point) (bytes w2 : List ℕ) → BlockRead left0 left left2 g0 old bytes
+    → ForEachStart old (λ world tail. StoppedIn world (tail ++ bytes) old.waits old.got w2 g2) → Appends g2 g3 w2 → WroteBefore left0 left2 g0 g3
+stopped_written left0 left left2 g0 g2 g3 old bytes w2 read fed written =
+    let b = block_stopped left0 left left2 g0 g2 old bytes w2 read fed in
     record {
       read = b.read;
       lines = b.lines;
@@ -151,10 +158,10 @@ stopped_written left0 left left2 g0 g1 g2 g3 s held bytes w1 w2 so consumed none
       written = appended g0 g3 (told None b.lines) (subst (λ (z : List ℕ). Grows g0 [] g3 [] z) (append_none (told None b.lines)) (grows_on g0 g2 g3 [] w2 [] (told None b.lines) [] b.grows (flushed g2 g3 w2 written)));
     }
 
-pub stopped_unwritten : (left0 left left2 g0 g1 g2 g3 : Option (List ℕ)) (s : Option SystemView) (held bytes w1 w2 : List ℕ) → SoFar left0 left g0 g1 s held → Consumes left left2 bytes → w1 ≡ []
-    → ForEachStart s held (λ world tail. StoppedIn world (tail ++ bytes) w1 g1 w2 g2) → AppendsPart g2 g3 w2 → WrotePart left0 left2 g0 g3
-stopped_unwritten left0 left left2 g0 g1 g2 g3 s held bytes w1 w2 so consumed none fed part =
-    let b = block_stopped left0 left left2 g0 g1 g2 s held bytes w1 w2 so consumed none fed in
+pub stopped_unwritten : (left0 left left2 g0 g2 g3 : Option (List ℕ)) (old : Point) (bytes w2 : List ℕ) → BlockRead left0 left left2 g0 old bytes
+    → ForEachStart old (λ world tail. StoppedIn world (tail ++ bytes) old.waits old.got w2 g2) → AppendsPart g2 g3 w2 → WrotePart left0 left2 g0 g3
+stopped_unwritten left0 left left2 g0 g2 g3 old bytes w2 read fed part =
+    let b = block_stopped left0 left left2 g0 g2 old bytes w2 read fed in
     record {
       read = b.read;
       consumed = b.consumed;
@@ -262,28 +269,28 @@ finished_wrote (Err WriteFailed) left0 left left2 g0 g1 g2 s held so consumed en
 finished_wrote (Err NoMemory) left0 left left2 g0 g1 g2 s held so consumed end f = inr (finished_front left0 left left2 g0 g1 g2 s held so consumed end f.0 f.1)
 
 -- How a halt ends it.
-pub gave_up_wrote : {A : Type 0} (B : Type 0) (r : Result A Halt) (h : Halt) (fault : ReplayFault) (failures : ℕ) (left0 left left2 g0 g1 g2 g3 : Option (List ℕ)) (s s2 : Option SystemView) (held held2 bytes w1 w2 : List ℕ)
-    → r ≡ Err h → SoFar left0 left g0 g1 s held → Consumes left left2 bytes → w1 ≡ [] → FedBy r s held bytes w1 g1 s2 held2 w2 g2 → GaveUp h fault w2 g2 g3 failures → Wrote {A = B} (Err fault) left0 left2 g0 g3
-gave_up_wrote B (Ok x) h fault failures left0 left left2 g0 g1 g2 g3 s s2 held held2 bytes w1 w2 is so consumed none fed gave = absurd (cc is)
-gave_up_wrote B (Err halt.NoMemory) h fault failures left0 left left2 g0 g1 g2 g3 s s2 held held2 bytes w1 w2 is so consumed none fed gave = stopped h fault (cc is) gave
+pub gave_up_wrote : {A : Type 0} (B : Type 0) (r : Result A Halt) (h : Halt) (fault : ReplayFault) (failures : ℕ) (left0 left left2 g0 g3 : Option (List ℕ)) (old new : Point) (bytes : List ℕ)
+    → r ≡ Err h → BlockRead left0 left left2 g0 old bytes → FedBy r old bytes new → GaveUp h fault new.waits new.got g3 failures → Wrote {A = B} (Err fault) left0 left2 g0 g3
+gave_up_wrote B (Ok x) h fault failures left0 left left2 g0 g3 old new bytes is read fed gave = absurd (cc is)
+gave_up_wrote B (Err halt.NoMemory) h fault failures left0 left left2 g0 g3 old new bytes is read fed gave = stopped h fault (cc is) gave
   where
-    stopped : (h : Halt) (fault : ReplayFault) → halt.NoMemory ≡ h → GaveUp h fault w2 g2 g3 failures → Wrote {A = B} (Err fault) left0 left2 g0 g3
+    stopped : (h : Halt) (fault : ReplayFault) → halt.NoMemory ≡ h → GaveUp h fault new.waits new.got g3 failures → Wrote {A = B} (Err fault) left0 left2 g0 g3
     stopped halt.WriteFailed fault e k = absurd (cc e)
     stopped halt.NoMemory ReadFailed e k = absurd k
-    stopped halt.NoMemory WriteFailed e k = stopped_unwritten left0 left left2 g0 g1 g2 g3 s held bytes w1 w2 so consumed none fed k.0
-    stopped halt.NoMemory NoMemory e k = inr (stopped_written left0 left left2 g0 g1 g2 g3 s held bytes w1 w2 so consumed none fed k.0)
-gave_up_wrote B (Err halt.WriteFailed) h fault failures left0 left left2 g0 g1 g2 g3 s s2 held held2 bytes w1 w2 is so consumed none fed gave = broken_by h fault (cc is) gave
+    stopped halt.NoMemory WriteFailed e k = stopped_unwritten left0 left left2 g0 new.got g3 old bytes new.waits read fed k.0
+    stopped halt.NoMemory NoMemory e k = inr (stopped_written left0 left left2 g0 new.got g3 old bytes new.waits read fed k.0)
+gave_up_wrote B (Err halt.WriteFailed) h fault failures left0 left left2 g0 g3 old new bytes is read fed gave = broken_by h fault (cc is) gave
   where
-    broken_by : (h : Halt) (fault : ReplayFault) → halt.WriteFailed ≡ h → GaveUp h fault w2 g2 g3 failures → Wrote {A = B} (Err fault) left0 left2 g0 g3
+    broken_by : (h : Halt) (fault : ReplayFault) → halt.WriteFailed ≡ h → GaveUp h fault new.waits new.got g3 failures → Wrote {A = B} (Err fault) left0 left2 g0 g3
     broken_by halt.NoMemory fault e k = absurd (cc e)
     broken_by halt.WriteFailed ReadFailed e k = absurd k
     broken_by halt.WriteFailed NoMemory e k = absurd k
-    broken_by halt.WriteFailed WriteFailed e k = subst (λ (z : Option (List ℕ)). WrotePart left0 left2 g0 z) (sym k.0) (broken_off left0 left left2 g0 g1 g2 s held bytes w1 so consumed none fed)
+    broken_by halt.WriteFailed WriteFailed e k = subst (λ (z : Option (List ℕ)). WrotePart left0 left2 g0 z) (sym k.0) (broken_off left0 left left2 g0 new.got old bytes read fed)
 
 -- A halt is no success.
-pub fed_all : {A : Type 0} (r : Result A Halt) (x : A) (s s2 : Option SystemView) (held held2 bytes w1 w2 : List ℕ) (g1 g2 : Option (List ℕ)) → r ≡ Ok x → FedBy r s held bytes w1 g1 s2 held2 w2 g2 → Fed s held bytes w1 g1 s2 held2 w2 g2
-fed_all (Ok y) x s s2 held held2 bytes w1 w2 g1 g2 is fed = fed
-fed_all (Err h) x s s2 held held2 bytes w1 w2 g1 g2 is fed = absurd (cc is)
+pub fed_all : {A : Type 0} (r : Result A Halt) (x : A) (old new : Point) (bytes : List ℕ) → r ≡ Ok x → FedBy r old bytes new → Fed old bytes new
+fed_all (Ok y) x old new bytes is fed = fed
+fed_all (Err h) x old new bytes is fed = absurd (cc is)
 
 -- A read that gave bytes is one more.
 pub more_read : (n before after turn : ℕ) → n ≢ 0 → after ≡ cond (n == 0) before (before + 1) → before ≡ turn → after ≡ turn + 1

@@ -67,4 +67,4 @@ FailedCalls (Err NoMemory) reads failed_reads failed_writes = (failed_reads ≡ 
 pub record SoFar (left left' got got' : Option (List ℕ)) (new : Option SystemView) (held : List ℕ) : Type 0 where
   pub read : List ℕ
   pub consumed : Consumes left left' read
-  pub fed : FedTo None [] read [] got new held [] got'
+  pub fed : FedTo None [] read [] got (record { system = new; held = held; waits = []; got = got' })

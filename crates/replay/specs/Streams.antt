@@ -34,18 +34,27 @@ abbrev pub after_lines : Option World → List (List ℕ) → Option World
 after_lines world [] = world
 after_lines world (line ∷ lines) = after_lines (after_line world line) lines
 
--- A line was answered.
+-- Where a stream stands: the system, as much as matters of the beginning of a line that is held, the answers that wait to be
+-- written, and what the sink got, where it tells that.
+pub record Point : Type 0 where
+  pub system : Option SystemView
+  pub held : List ℕ
+  pub waits : List ℕ
+  pub got : Option (List ℕ)
+
+-- A line was answered: its answer waits behind the others.
 abbrev pub Turned : Option SystemView → List ℕ → List ℕ → List ℕ → Option SystemView → Type 0
 Turned old line waits waits' new = (world : Option World) → IsAt old world → (waits' ≡ waits ++ line_text world line) × IsAt new (after_line world line)
 
--- What was held, and more bytes, came to these lines, each answered, and less than a line, of which as much is held as matters.
-pub record FedTo (world : Option World) (tail bytes waits : List ℕ) (got : Option (List ℕ)) (new : Option SystemView) (held waits' : List ℕ) (got' : Option (List ℕ)) : Type 0 where
+-- A stream that was at this world behind the beginning `tail` of a line, with these answers waiting and got, was fed the bytes, and
+-- stands at `new`: tail and bytes are whole lines, each answered, and less than a line, of which as much is held as matters.
+pub record FedTo (world : Option World) (tail bytes waits : List ℕ) (got : Option (List ℕ)) (new : Point) : Type 0 where
   pub lines : List (List ℕ)
   pub rest : List ℕ
   pub splits : Splits (tail ++ bytes) lines rest
-  pub holds : held ≡ take 1025 rest
-  pub grows : Grows got waits got' waits' (told world lines)
-  pub at : IsAt new (after_lines world lines)
+  pub holds : new.held ≡ take 1025 rest
+  pub grows : Grows got waits new.got new.waits (told world lines)
+  pub at : IsAt new.system (after_lines world lines)
 
 -- Memory was refused at a line that takes memory: the lines before it are answered.
 pub record StoppedIn (world : Option World) (bytes waits : List ℕ) (got : Option (List ℕ)) (waits' : List ℕ) (got' : Option (List ℕ)) : Type 0 where
@@ -64,17 +73,18 @@ pub record BrokenIn (world : Option World) (bytes waits : List ℕ) (got got' : 
   pub part : AppendsPart got got' (waits ++ told world lines)
 
 -- For each world that the system is at, and each beginning of a line of which this is held.
-abbrev pub ForEachStart : Option SystemView → List ℕ → (Option World → List ℕ → Type 0) → Type 0
-ForEachStart old held P = (world : Option World) → IsAt old world → (tail : List ℕ) → IsPiece tail → held ≡ take 1025 tail → P world tail
+abbrev pub ForEachStart : Point → (Option World → List ℕ → Type 0) → Type 0
+ForEachStart old P = (world : Option World) → IsAt old.system world → (tail : List ℕ) → IsPiece tail → old.held ≡ take 1025 tail → P world tail
 
-abbrev pub Fed : Option SystemView → List ℕ → List ℕ → List ℕ → Option (List ℕ) → Option SystemView → List ℕ → List ℕ → Option (List ℕ) → Type 0
-Fed old held bytes waits got new held' waits' got' = ForEachStart old held (λ world tail. FedTo world tail bytes waits got new held' waits' got')
+-- The bytes were fed: they brought the stream from the one point to the other.
+abbrev pub Fed : Point → List ℕ → Point → Type 0
+Fed old bytes new = ForEachStart old (λ world tail. FedTo world tail bytes old.waits old.got new)
 
--- What is so after bytes were fed, by how that ended.
-abbrev pub FedBy : {A : Type 0} → Result A Halt → Option SystemView → List ℕ → List ℕ → List ℕ → Option (List ℕ) → Option SystemView → List ℕ → List ℕ → Option (List ℕ) → Type 0
-FedBy (Ok x) old held bytes waits got new held' waits' got' = Fed old held bytes waits got new held' waits' got'
-FedBy (Err halt.NoMemory) old held bytes waits got new held' waits' got' = ForEachStart old held (λ world tail. StoppedIn world (tail ++ bytes) waits got waits' got')
-FedBy (Err halt.WriteFailed) old held bytes waits got new held' waits' got' = ForEachStart old held (λ world tail. BrokenIn world (tail ++ bytes) waits got got')
+-- What is so after bytes were fed, by how that ended: all was fed, memory was refused at a line, or a write failed.
+abbrev pub FedBy : {A : Type 0} → Result A Halt → Point → List ℕ → Point → Type 0
+FedBy (Ok x) old bytes new = Fed old bytes new
+FedBy (Err halt.NoMemory) old bytes new = ForEachStart old (λ world tail. StoppedIn world (tail ++ bytes) old.waits old.got new.waits new.got)
+FedBy (Err halt.WriteFailed) old bytes new = ForEachStart old (λ world tail. BrokenIn world (tail ++ bytes) old.waits old.got new.got)
 
 -- How many writes failed.
 abbrev pub failed_writes : Halt → ℕ

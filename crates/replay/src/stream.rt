@@ -172,7 +172,10 @@ fn feed<W: Sink>(
     requires waits_room { 2 ^ 17 ≤ vec_capacity waits.old }
     requires few_wait { vec_len waits.old < 2 ^ 16 }
     ensures failures { MatchResult result (λ _. W.failures sink.new ≡ 0) (λ halt. W.failures sink.new ≡ failed_writes halt) }
-    ensures fed { FedBy result system.old held.old bytes.now waits.old.items (W.got sink.old) system.new held.new waits.new.items (W.got sink.new) }
+    ensures fed { FedBy result
+        (record { system = system.old; held = held.old; waits = waits.old.items; got = W.got sink.old })
+        bytes.now
+        (record { system = system.new; held = held.new; waits = waits.new.items; got = W.got sink.new }) }
     ensures text_room { 2 ^ 16 ≤ vec_capacity text.new }
     ensures waits_room { 2 ^ 17 ≤ vec_capacity waits.new }
 {

@@ -1,5 +1,5 @@
 use Rattle.std.proofs.Common.{◌<◌, ℕ, List, length, take, subst, arith}
-use Rattle.replay.specs.Streams.{FedBy}
+use Rattle.replay.specs.Streams.{Point, FedBy}
 use Rattle.replay.proofs.Whole.{so_far_more, more_read, unwritten, fed_all, finished_wrote, gave_up_wrote, unread, too_many, read_end, block_is}
 use Rattle.replay.proofs.stream.answer_all.Goals as goal
 
@@ -12,22 +12,31 @@ returns-then-n-eq0-clause-wrote g c =
 
 pub returns-in-Err-clause-wrote : goal.returns-in-Err-clause-wrote
 returns-in-Err-clause-wrote g c =
-    let fed : FedBy c.feed.result c.loop-turn.system c.loop-turn.held (take c.in-Ok.n c.read.new.buf) c.loop-turn.waits.items (g.W.Sink.got c.loop-turn.sink) c.feed.new.system c.feed.new.held c.feed.new.waits.items (g.W.Sink.got c.feed.new.sink)
-    = subst (λ (z : List ℕ). FedBy c.feed.result c.loop-turn.system c.loop-turn.held (take c.in-Ok.n z) c.loop-turn.waits.items (g.W.Sink.got c.loop-turn.sink) c.feed.new.system c.feed.new.held c.feed.new.waits.items (g.W.Sink.got c.feed.new.sink)) (block_is c.read.new.buf c.loop-turn.block.items c.loop-turn.block.len (omega (arith, c.read.auto.buf, c.deref_mut.ensures.len))) (rw c.deref.ensures.value at c.feed.ensures.fed) in
-    gave_up_wrote (Unit {0}) c.feed.result c.in-Err.halt c.give_up.result (g.W.Sink.failures c.give_up.new.sink) (g.R.Source.left c.args.source.now) (g.R.Source.left c.loop-turn.source) (g.R.Source.left c.read.new.self) (g.W.Sink.got c.args.sink.now) (g.W.Sink.got c.loop-turn.sink) (g.W.Sink.got c.feed.new.sink) (g.W.Sink.got c.give_up.new.sink) c.loop-turn.system c.feed.new.system c.loop-turn.held c.feed.new.held (take c.in-Ok.n c.read.new.buf) c.loop-turn.waits.items c.feed.new.waits.items c.in-Err.is c.loop-turn.invariant.so_far c.in-Ok.ensures.bytes.0 c.loop-turn.invariant.none fed c.give_up.ensures
+    let old : Point = record { system = c.loop-turn.system; held = c.loop-turn.held; waits = c.loop-turn.waits.items; got = g.W.Sink.got c.loop-turn.sink } in
+    let new : Point = record { system = c.feed.new.system; held = c.feed.new.held; waits = c.feed.new.waits.items; got = g.W.Sink.got c.feed.new.sink } in
+    let fed : FedBy c.feed.result old (take c.in-Ok.n c.read.new.buf) new
+    = subst (λ (z : List ℕ). FedBy c.feed.result old (take c.in-Ok.n z) new) (block_is c.read.new.buf c.loop-turn.block.items c.loop-turn.block.len (omega (arith, c.read.auto.buf, c.deref_mut.ensures.len))) (rw c.deref.ensures.value at c.feed.ensures.fed) in
+    gave_up_wrote (Unit {0}) c.feed.result c.in-Err.halt c.give_up.result (g.W.Sink.failures c.give_up.new.sink)
+    (g.R.Source.left c.args.source.now) (g.R.Source.left c.loop-turn.source) (g.R.Source.left c.read.new.self) (g.W.Sink.got c.args.sink.now) (g.W.Sink.got c.give_up.new.sink)
+    old new (take c.in-Ok.n c.read.new.buf) c.in-Err.is (record { so = c.loop-turn.invariant.so_far; consumed = c.in-Ok.ensures.bytes.0; none = c.loop-turn.invariant.none }) fed c.give_up.ensures
 
 pub returns-in-Err-flush-clause-wrote : goal.returns-in-Err-flush-clause-wrote
 returns-in-Err-flush-clause-wrote g c =
-    let fed : FedBy c.feed.result c.loop-turn.system c.loop-turn.held (take c.in-Ok.n c.read.new.buf) c.loop-turn.waits.items (g.W.Sink.got c.loop-turn.sink) c.feed.new.system c.feed.new.held c.feed.new.waits.items (g.W.Sink.got c.feed.new.sink)
-    = subst (λ (z : List ℕ). FedBy c.feed.result c.loop-turn.system c.loop-turn.held (take c.in-Ok.n z) c.loop-turn.waits.items (g.W.Sink.got c.loop-turn.sink) c.feed.new.system c.feed.new.held c.feed.new.waits.items (g.W.Sink.got c.feed.new.sink)) (block_is c.read.new.buf c.loop-turn.block.items c.loop-turn.block.len (omega (arith, c.read.auto.buf, c.deref_mut.ensures.len))) (rw c.deref.ensures.value at c.feed.ensures.fed) in
-    let all = fed_all c.feed.result c.in-Ok-feed.field-0 c.loop-turn.system c.feed.new.system c.loop-turn.held c.feed.new.held (take c.in-Ok.n c.read.new.buf) c.loop-turn.waits.items c.feed.new.waits.items (g.W.Sink.got c.loop-turn.sink) (g.W.Sink.got c.feed.new.sink) c.in-Ok-feed.is fed in
-    unwritten (g.R.Source.left c.args.source.now) (g.R.Source.left c.loop-turn.source) (g.R.Source.left c.read.new.self) (g.W.Sink.got c.args.sink.now) (g.W.Sink.got c.loop-turn.sink) (g.W.Sink.got c.feed.new.sink) (g.W.Sink.got c.flush.new.sink) c.loop-turn.system c.feed.new.system c.loop-turn.held c.feed.new.held (take c.in-Ok.n c.read.new.buf) c.loop-turn.waits.items c.feed.new.waits.items c.loop-turn.invariant.so_far c.in-Ok.ensures.bytes.0 c.loop-turn.invariant.none all c.in-Err-flush.ensures.part.0
+    let old : Point = record { system = c.loop-turn.system; held = c.loop-turn.held; waits = c.loop-turn.waits.items; got = g.W.Sink.got c.loop-turn.sink } in
+    let new : Point = record { system = c.feed.new.system; held = c.feed.new.held; waits = c.feed.new.waits.items; got = g.W.Sink.got c.feed.new.sink } in
+    let fed : FedBy c.feed.result old (take c.in-Ok.n c.read.new.buf) new
+    = subst (λ (z : List ℕ). FedBy c.feed.result old (take c.in-Ok.n z) new) (block_is c.read.new.buf c.loop-turn.block.items c.loop-turn.block.len (omega (arith, c.read.auto.buf, c.deref_mut.ensures.len))) (rw c.deref.ensures.value at c.feed.ensures.fed) in
+    let all = fed_all c.feed.result c.in-Ok-feed.field-0 old new (take c.in-Ok.n c.read.new.buf) c.in-Ok-feed.is fed in
+    unwritten (g.R.Source.left c.args.source.now) (g.R.Source.left c.loop-turn.source) (g.R.Source.left c.read.new.self) (g.W.Sink.got c.args.sink.now) (g.W.Sink.got c.flush.new.sink)
+    old new (take c.in-Ok.n c.read.new.buf) (record { so = c.loop-turn.invariant.so_far; consumed = c.in-Ok.ensures.bytes.0; none = c.loop-turn.invariant.none }) all c.in-Err-flush.ensures.part.0
 
 pub loop-turn-preserved : goal.loop-turn-preserved
 loop-turn-preserved g c =
-    let fed : FedBy c.feed.result c.loop-turn.system c.loop-turn.held (take c.in-Ok.n c.read.new.buf) c.loop-turn.waits.items (g.W.Sink.got c.loop-turn.sink) c.feed.new.system c.feed.new.held c.feed.new.waits.items (g.W.Sink.got c.feed.new.sink)
-    = subst (λ (z : List ℕ). FedBy c.feed.result c.loop-turn.system c.loop-turn.held (take c.in-Ok.n z) c.loop-turn.waits.items (g.W.Sink.got c.loop-turn.sink) c.feed.new.system c.feed.new.held c.feed.new.waits.items (g.W.Sink.got c.feed.new.sink)) (block_is c.read.new.buf c.loop-turn.block.items c.loop-turn.block.len (omega (arith, c.read.auto.buf, c.deref_mut.ensures.len))) (rw c.deref.ensures.value at c.feed.ensures.fed) in
-    let all = fed_all c.feed.result c.in-Ok-feed.field-0 c.loop-turn.system c.feed.new.system c.loop-turn.held c.feed.new.held (take c.in-Ok.n c.read.new.buf) c.loop-turn.waits.items c.feed.new.waits.items (g.W.Sink.got c.loop-turn.sink) (g.W.Sink.got c.feed.new.sink) c.in-Ok-feed.is fed in
+    let old : Point = record { system = c.loop-turn.system; held = c.loop-turn.held; waits = c.loop-turn.waits.items; got = g.W.Sink.got c.loop-turn.sink } in
+    let new : Point = record { system = c.feed.new.system; held = c.feed.new.held; waits = c.feed.new.waits.items; got = g.W.Sink.got c.feed.new.sink } in
+    let fed : FedBy c.feed.result old (take c.in-Ok.n c.read.new.buf) new
+    = subst (λ (z : List ℕ). FedBy c.feed.result old (take c.in-Ok.n z) new) (block_is c.read.new.buf c.loop-turn.block.items c.loop-turn.block.len (omega (arith, c.read.auto.buf, c.deref_mut.ensures.len))) (rw c.deref.ensures.value at c.feed.ensures.fed) in
+    let all = fed_all c.feed.result c.in-Ok-feed.field-0 old new (take c.in-Ok.n c.read.new.buf) c.in-Ok-feed.is fed in
     record {
       reads = more_read c.in-Ok.n (g.R.Source.reads c.loop-turn.source) (g.R.Source.reads c.read.new.self) c.loop-turn.turn c.if-n-eq0.false c.in-Ok.ensures.reads c.loop-turn.invariant.reads;
       source = c.in-Ok.ensures.failures;
@@ -37,7 +46,8 @@ loop-turn-preserved g c =
       waits_room = omega (arith, c.feed.ensures.waits_room, c.flush.ensures.kept);
       none_wait = c.in-Ok-flush.ensures.none_wait;
       none = c.in-Ok-flush.ensures.done.1;
-      so_far = so_far_more (g.R.Source.left c.args.source.now) (g.R.Source.left c.loop-turn.source) (g.R.Source.left c.read.new.self) (g.W.Sink.got c.args.sink.now) (g.W.Sink.got c.loop-turn.sink) (g.W.Sink.got c.feed.new.sink) (g.W.Sink.got c.flush.new.sink) c.loop-turn.system c.feed.new.system c.loop-turn.held c.feed.new.held (take c.in-Ok.n c.read.new.buf) c.loop-turn.waits.items c.feed.new.waits.items c.loop-turn.invariant.so_far c.in-Ok.ensures.bytes.0 c.loop-turn.invariant.none all c.in-Ok-flush.ensures.done.0;
+      so_far = so_far_more (g.R.Source.left c.args.source.now) (g.R.Source.left c.loop-turn.source) (g.R.Source.left c.read.new.self) (g.W.Sink.got c.args.sink.now) (g.W.Sink.got c.flush.new.sink)
+          old new (take c.in-Ok.n c.read.new.buf) (record { so = c.loop-turn.invariant.so_far; consumed = c.in-Ok.ensures.bytes.0; none = c.loop-turn.invariant.none }) all c.in-Ok-flush.ensures.done.0;
     }
 
 pub returns-in_default-clause-wrote : goal.returns-in_default-clause-wrote

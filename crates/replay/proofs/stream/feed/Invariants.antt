@@ -12,5 +12,6 @@ invariant-loop-at g l = record {
   text_room : 2 ^ 16 ≤ vec_capacity l.text;
   waits_room : 2 ^ 17 ≤ vec_capacity l.waits;
   few_wait : vec_len l.waits < 2 ^ 16;
-  fed : Fed l.fn.system l.fn.held (take l.at l.bytes) l.fn.waits.items (g.W.Sink.got l.fn.sink) l.system l.held l.waits.items (g.W.Sink.got l.sink);
+  fed : Fed (record { system = l.fn.system; held = l.fn.held; waits = l.fn.waits.items; got = g.W.Sink.got l.fn.sink }) (take l.at l.bytes)
+      (record { system = l.system; held = l.held; waits = l.waits.items; got = g.W.Sink.got l.sink });
 }
