@@ -7,7 +7,7 @@ use Rattle.desk.specs.declared.entries.Live.{Live}
 use Rattle.desk.specs.Machine.{State, Current, names_of, is_live, place_of}
 use Rattle.desk.specs.Fields.{Fields, IsKept}
 use Rattle.desk.specs.Rising.{AreRising}
-use Rattle.desk.specs.Targets.{is_due_target, due_after}
+use Rattle.desk.specs.Targets.{is_due_target, due_after, live_after}
 use Rattle.desk.proofs.Rising.{live_names_rise}
 
 -- a name of the list is no less than the least
@@ -55,6 +55,25 @@ pub none_before : (least name i : ℕ) (cs : List Current) (ls : List Live) (l :
 none_before least name i cs ls l r here is =
     let next : i + 1 ≡ suc i = omega arith in
     ap (λ k. due_after name cs (drop k ls)) next ∙ none_until least name i cs ls l r here is
+
+above_until : (least name i : ℕ) (ls : List Live) (l : Live) → AreRising least (names_of ls) → slice_get ls i ≡ Some l → l.name ≡ name
+    → live_after name (drop (suc i) ls) ≡ live_after name ls
+above_until least name i [] l r here is = cc
+above_until least name zero (x ∷ ls) l r here is =
+    let same : x ≡ l = cc in
+    let low : x.name ≡ name = ap (λ (y : Live). y.name) same ∙ is in
+    sym (ap (λ b. cond b (Some x.name) (live_after name ls)) (le-ltb name x.name (omega arith)))
+above_until least name (suc i) (x ∷ ls) l r here is =
+    let k = no_less (x.name + 1) i ls l r.1 here in
+    above_until (x.name + 1) name i ls l r.1 here is
+    ∙ sym (ap (λ b. cond b (Some x.name) (live_after name ls)) (le-ltb name x.name (omega arith)))
+
+-- the least name above it stands behind it
+pub above_behind : (least name i : ℕ) (ls : List Live) (l : Live) → AreRising least (names_of ls) → slice_get ls i ≡ Some l → l.name ≡ name
+    → live_after name (drop (i + 1) ls) ≡ live_after name ls
+above_behind least name i ls l r here is =
+    let next : i + 1 ≡ suc i = omega arith in
+    ap (λ k. live_after name (drop k ls)) next ∙ above_until least name i ls l r here is
 
 -- the live names of a desk rise
 pub kept_rise : {J : Type 0} {d : Fields J} → IsKept d → AreRising 0 (names_of d.live)

@@ -104,6 +104,11 @@ abbrev pub name_at : ℕ → List Live → Option ℕ
 name_at place [] = None
 name_at place (l ∷ ls) = if l.place == place then Some l.name else name_at place ls
 
+-- the least live name above this one
+abbrev pub live_after : ℕ → List Live → Option ℕ
+live_after name [] = None
+live_after name (l ∷ ls) = if nat_lt name l.name then Some l.name else live_after name ls
+
 abbrev pub front_kind : List Current → Option Bool
 front_kind [] = None
 front_kind (c ∷ cs) = Some (is_census c.request)

@@ -4,7 +4,7 @@ ghost use Rattle.std.specs.List.{list_any};
 ghost use Rattle.operations.specs.Requests.{is_census};
 ghost use Rattle.desk.specs.Machine.{Current, names_of, place_of};
 ghost use Rattle.desk.specs.Rising.{AreRising};
-ghost use Rattle.desk.specs.Targets.{is_asked, is_owed, is_target_of, standing_to, is_untold, is_told, is_undone, untold_in, progress_in, is_due_target, due_after, due_of, of_which, oldest, name_at};
+ghost use Rattle.desk.specs.Targets.{is_asked, is_owed, is_target_of, standing_to, is_untold, is_told, is_undone, untold_in, progress_in, is_due_target, due_after, due_of, of_which, oldest, name_at, live_after};
 ghost use Rattle.desk.specs.Fields.{current_of};
 
 use crate::entries::{Live, Opened, Progress, Standing, Target};
@@ -34,7 +34,8 @@ pub fn place_of(live: &[Live], name: u64) -> Option<usize>
 #[inline(always)]
 fn behind(live: &[Live], name: u64) -> &[Live]
     requires rising { AreRising 0 (names_of live.now) }
-    ensures { (cs : List Current) → due_after name cs result.now ≡ due_after name cs live.now }
+    ensures due { (cs : List Current) → due_after name cs result.now ≡ due_after name cs live.now }
+    ensures above { live_after name result.now ≡ live_after name live.now }
 {
     match found_at(live, name) {
         Some(index) => &live[index + 1..],
@@ -49,6 +50,21 @@ pub fn name_at(live: &[Live], place: usize) -> Option<u64>
     let mut rest = live;
     while let Some((one, others)) = rest.split_first() {
         if one.place == place {
+            return Some(one.name);
+        }
+        rest = others;
+    }
+    None
+}
+
+/// The least live name above this one.
+pub fn live_after(live: &[Live], name: u64) -> Option<u64>
+    requires rising { AreRising 0 (names_of live.now) }
+    ensures { result ≡ live_after name live.now }
+{
+    let mut rest = behind(live, name);
+    while let Some((one, others)) = rest.split_first() {
+        if name < one.name {
             return Some(one.name);
         }
         rest = others;

@@ -3,14 +3,14 @@ ghost use Rattle.std.specs.Prelude.{◌≡◌, ℕ, ◌+◌, ◌<◌, true, fals
 ghost use Rattle.desk.specs.Machine.{is_taken, names_of, lawful};
 ghost use Rattle.desk.specs.Refusals.{start_refused, MayStart};
 ghost use Rattle.desk.specs.Fields.{at, Enters};
-ghost use Rattle.desk.specs.Targets.{name_at};
+ghost use Rattle.desk.specs.Targets.{name_at, live_after};
 
 use crate::desk::{Desk, LAST};
 use crate::entries::{Entry, Live};
 use crate::faults::{NotLive, StartFault, start_fault};
 use crate::lists::{is_census_open, least_free, leave, lives, make_room, names_of};
 use crate::log::Receipt;
-use crate::targets::name_at;
+use crate::targets::{live_after, name_at};
 use bodies::Name;
 use operations::job::Errand;
 use std::alloc::AllocError;
@@ -84,5 +84,12 @@ impl<N: Name, J: Errand> Desk<N, J> {
         ensures { result ≡ name_at place (at self.now).live }
     {
         name_at(self.live.as_slice(), place)
+    }
+
+    /// The least live name above this one.
+    pub fn live_after(&self, name: u64) -> Option<u64>
+        ensures { result ≡ live_after name (at self.now).live }
+    {
+        live_after(self.live.as_slice(), name)
     }
 }
