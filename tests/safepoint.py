@@ -35,7 +35,7 @@ SECONDS = 600
 FLAGS = ("-O2", "-g", "-Wall", "-Wextra", "-Werror")
 CONDITION, RACES, MEMORY = "-DSP_PTHREAD", "-fsanitize=thread", "-fsanitize=address,undefined"
 # What takes memory, and so is refused it.
-GROWING = {"sp_make", "sp_fork", "sp_start", "sp_target", "sp_submit", "sp_census", "sp_install", "sp_reclaim_begin", "sp_reply", "sp_live_after", "sp_operate"}
+GROWING = {"sp_make", "sp_fork", "sp_start", "sp_target", "sp_submit", "sp_census", "sp_install", "sp_reclaim_begin", "sp_reply", "sp_operate"}
 # Threads, requests and the seed of each run of safepoint_threads.
 RUNS = ((1, 4000, 1), (4, 1000, 3), (16, 200, 5), (64, 20, 6))
 SLOW_RUNS = ((4, 200, 7), (16, 40, 8))

@@ -194,24 +194,11 @@ pub(crate) fn reply<N: Name>(system: &System<N>, op: u64, name: u64) -> Result<u
     }
 }
 
-// The first of the names that is above this one, 0 for none.
-fn first_above(names: &[u64], name: u64) -> u64 {
-    for live in names {
-        if *live > name {
-            return *live;
-        }
-    }
-    0
-}
-
 pub(crate) fn live_after<N: Name>(system: &System<N>, name: u64) -> Result<u64, Fault> {
     let Some(desk) = system.try_desk() else {
         return Err(Fault::Again);
     };
-    match desk.value.live() {
-        Ok(names) => Ok(first_above(names.as_slice(), name)),
-        Err(_) => Err(Fault::NoMemory),
-    }
+    Ok(desk.value.live_after(name).unwrap_or(0))
 }
 
 pub(crate) fn forget<N: Name>(system: &System<N>) -> Result<u64, Fault> {

@@ -126,8 +126,8 @@ int64_t sp_census(struct sp_party *party);
    thread enters the code any more: 0; SP_UNKNOWN, SP_NOT_IN_USE. */
 int64_t sp_install(struct sp_party *party, uint32_t method);
 int64_t sp_invalidate(struct sp_party *party, uint64_t serial);
-/* What the name answered in an operation; SP_NOT_ANSWERED. The least name above this one that is
-   live, 0 for none. SP_NO_MEMORY. */
+/* What the name answered in an operation; SP_NOT_ANSWERED, SP_NO_MEMORY. The least name above
+   this one that is live, 0 for none. */
 int64_t sp_reply(struct sp_party *party, uint64_t operation, uint64_t name);
 int64_t sp_live_after(struct sp_party *party, uint64_t name);
 /* 0: all that was entered so far is forgotten, with the replies of what is neither open nor
