@@ -1,10 +1,13 @@
 -- Codes that are installed, replaced and freed one after the other.
 use Rattle.std.proofs.Common.{◌≡◌, ◌∙◌, ◌+◌, ◌*◌, ℕ, suc, List, [], ◌∷◌, ◌++◌, Option, Some, None, length, length-append, inl, inr, refl, ap, sym, subst, append_assoc, slice_index, arith}
 use Rattle.std.proofs.lemmas.List.{length-set}
-use Rattle.std.specs.Prelude.{IfSome}
+use Rattle.std.specs.Prelude.{IfSome, IfNone}
+use Rattle.held_threads.specs.Reclaiming.{IsReclaimed}
+use Rattle.held_threads.specs.declared.faults.Reclaimed.{Reclaimed}
+use Rattle.held_threads.specs.declared.faults.Reclaimed.TheVariants.{Freed, Used, Late}
 use Rattle.desk.specs.Machine.{Stands}
 use Rattle.desk.specs.declared.entries.Entry.TheVariants.{Free}
-use Rattle.workers.specs.Replacing.{Codes, IsInstall, AreInstalls, InstallsEach, IsKept, IsKeptBy, Replaced, ReplacedFirst, ReplacedEach, CountsMore, AreFreed, FreesSome}
+use Rattle.workers.specs.Replacing.{Codes, IsInstall, AreInstalls, InstallsEach, IsKept, IsKeptBy, Replaced, ReplacedFirst, ReplacedEach, CountsMore, WasLeft, IsLeft, AreFreed, FreesSome}
 
 -- one more code behind the others
 installs_more : (method : ℕ) (ss : List ℕ) (rs : List Stands) (s : ℕ) (r : Stands)
@@ -28,15 +31,28 @@ installs_next ss rs s r method ss' rs' long are is more another =
     (installs_more 0 ss rs s r are (subst (λ (m : ℕ). IsInstall m s r) here is)))
 
 -- one more of them is freed, or not
-pub frees_none : (ss : List ℕ) (rs : List Stands) (s : ℕ) → AreFreed ss rs → AreFreed (ss ++ s ∷ []) rs
-frees_none [] rs s none = inl none
-frees_none (x ∷ ss) rs s (inl rest) = inl (frees_none ss rs s rest)
-frees_none (x ∷ ss) rs s (inr (r, more, is, freed, rest)) = inr (r, more, is, freed, frees_none ss more s rest)
+pub frees_none : (ss : List ℕ) (rs : List Stands) (s : ℕ) → WasLeft s → AreFreed ss rs → AreFreed (ss ++ s ∷ []) rs
+frees_none [] rs s left none = inl (left, none)
+frees_none (x ∷ ss) rs s left (inl (was, rest)) = inl (was, frees_none ss rs s left rest)
+frees_none (x ∷ ss) rs s left (inr (r, more, is, freed, rest)) = inr (r, more, is, freed, frees_none ss more s left rest)
 
 pub frees_one : (ss : List ℕ) (rs : List Stands) (s : ℕ) (r : Stands) → AreFreed ss rs → r.entry ≡ Free s → AreFreed (ss ++ s ∷ []) (rs ++ r ∷ [])
 frees_one [] rs s r none freed = inr (r, [], ap (λ ts. ts ++ r ∷ []) none, freed, refl)
-frees_one (x ∷ ss) rs s r (inl rest) freed = inl (frees_one ss rs s r rest freed)
+frees_one (x ∷ ss) rs s r (inl (was, rest)) freed = inl (was, frees_one ss rs s r rest freed)
 frees_one (x ∷ ss) rs s r (inr (y, more, is, was, rest)) freed = inr (y, more ++ r ∷ [], ap (λ ts. ts ++ r ∷ []) is, was, frees_one ss more s r rest freed)
+
+-- what reclaiming answers where it frees nothing
+pub left_of : {N : Type 0} (places serial : ℕ) (r : Reclaimed N) → IsReclaimed places serial r → IsLeft r → WasLeft serial
+left_of places serial (Freed x) is left = absurd left
+left_of places serial (Used n) is left = (places, is.before, is.looked, is.after, is.looks, inl (n, is.frees.0))
+left_of places serial (Late place) is left = (places, is.before, is.looked, is.after, is.looks, inr (place, is.frees.0))
+
+-- the same where it answers no receipt
+pub left_unless : {A : Type 0} (N : Type 0) (places serial : ℕ) (said : Option A) → said ≡ None
+    → IfNone said ((r : Reclaimed N) × IsReclaimed places serial r × IsLeft r) → WasLeft serial
+left_unless {A} N places serial said is stays =
+    let (r, was, left) = subst (λ (o : Option A). IfNone o ((r : Reclaimed N) × IsReclaimed places serial r × IsLeft r)) is stays in
+    left_of {N = N} places serial r was left
 
 -- one code that was replaced counts as one more
 kept_counts : (serial : ℕ) (freed : List Stands) (left : List ℕ) (freed' : List Stands) (left' : List ℕ)
@@ -45,7 +61,7 @@ kept_counts serial freed left freed' left' (inl (r, is, more, same)) =
     let long : length freed' ≡ length freed + 1 = ap length more ∙ length-append freed (r ∷ []) in
     let rest : length left' ≡ length left = ap length same in
     omega (arith, long, rest)
-kept_counts serial freed left freed' left' (inr (same, more)) =
+kept_counts serial freed left freed' left' (inr (was, same, more)) =
     let long : length left' ≡ length left + 1 = ap length more ∙ length-append left (serial ∷ []) in
     let rest : length freed' ≡ length freed = ap length same in
     omega (arith, long, rest)
@@ -55,14 +71,14 @@ pub kept_from : (serial other : ℕ) (freed was : List Stands) (left had : List 
     → serial ≡ other → freed ≡ was → left ≡ had → IsKept serial freed left freed' left' → IsKept other was had freed' left'
 kept_from serial other freed was left had freed' left' one is has (inl (r, free, more, same)) =
     inl (r, free ∙ ap (λ (n : ℕ). Free n) one, more ∙ ap (λ rs. rs ++ r ∷ []) is, same ∙ has)
-kept_from serial other freed was left had freed' left' one is has (inr (same, more)) =
-    inr (same ∙ is, more ∙ ap (λ ss. ss ++ serial ∷ []) has ∙ ap (λ (n : ℕ). had ++ n ∷ []) one)
+kept_from serial other freed was left had freed' left' one is has (inr (held, same, more)) =
+    inr (subst WasLeft one held, same ∙ is, more ∙ ap (λ ss. ss ++ serial ∷ []) has ∙ ap (λ (n : ℕ). had ++ n ∷ []) one)
 
--- by its receipt, where it is freed
-pub kept_by : (serial : ℕ) (said : Option Stands) (freed : List Stands) (left : List ℕ) (freed' : List Stands) (left' : List ℕ)
-    → IfSome said (λ r. r.entry ≡ Free serial) → IsKeptBy serial said freed left freed' left' → IsKept serial freed left freed' left'
-kept_by serial (Some r) freed left freed' left' free (more, same) = inl (r, free, more, same)
-kept_by serial None freed left freed' left' free kept = inr kept
+-- by its receipt, where it is freed, and else by what reclaiming answers
+pub kept_by : (N : Type 0) (places serial : ℕ) (said : Option Stands) (freed : List Stands) (left : List ℕ) (freed' : List Stands) (left' : List ℕ)
+    → IfSome said (λ r. r.entry ≡ Free serial) → IfNone said ((r : Reclaimed N) × IsReclaimed places serial r × IsLeft r) → IsKeptBy serial said freed left freed' left' → IsKept serial freed left freed' left'
+kept_by N places serial (Some r) freed left freed' left' free stays (more, same) = inl (r, free, more, same)
+kept_by N places serial None freed left freed' left' free (r, is, stays) (same, more) = inr (left_of places serial r is stays, same, more)
 
 counts_one : (method : ℕ) (old new : Codes) → Replaced method old new → CountsMore 1 old new
 counts_one method old new (serial, r, install, in_use, installed, kept) = (
@@ -88,8 +104,8 @@ unfolding ReplacedFirst
 none_replaced old = refl
 
 -- the same of receipts behind others
-pub some_more : (ss : List ℕ) (s : ℕ) (old new : List Stands) → FreesSome ss old new → FreesSome (ss ++ s ∷ []) old new
-some_more ss s old new (more, is, freed) = (more, is, frees_none ss more s freed)
+pub some_more : (ss : List ℕ) (s : ℕ) (old new : List Stands) → WasLeft s → FreesSome ss old new → FreesSome (ss ++ s ∷ []) old new
+some_more ss s old new left (more, is, freed) = (more, is, frees_none ss more s left freed)
 
 pub some_and_one : (ss : List ℕ) (s : ℕ) (old mid : List Stands) (r : Stands) → FreesSome ss old mid → r.entry ≡ Free s → FreesSome (ss ++ s ∷ []) old (mid ++ r ∷ [])
 some_and_one ss s old mid r (more, is, freed) one = (more ++ r ∷ [], ap (λ rs. rs ++ r ∷ []) is ∙ append_assoc old more (r ∷ []), frees_one ss more s r freed one)

@@ -1,7 +1,10 @@
 -- The codes of a run, by their serials and the receipts of their entries.
 use Rattle.std.specs.Prelude.{◌≡◌, ◌⊎◌, ◌+◌, ◌++◌, ℕ, zero, suc, List, [], ◌∷◌, Option, Some, None, length, slice_index, slice_set, ⊤}
+use Rattle.board.specs.declared.weighed.Weighed.TheVariants.{NotLooked, Used as InUse}
+use Rattle.desk.specs.Fields.{DeskSeen, LooksAtAll}
 use Rattle.desk.specs.Machine.{Stands}
 use Rattle.desk.specs.declared.entries.Entry.TheVariants.{Install, Free}
+use Rattle.held_threads.specs.Reclaiming.{WasWeighed}
 use Rattle.held_threads.specs.declared.faults.Reclaimed.{Reclaimed}
 use Rattle.held_threads.specs.declared.faults.Reclaimed.TheVariants.{Freed, Used, Late}
 
@@ -28,10 +31,16 @@ abbrev pub InstallsEach : ℕ → Codes → Type 0
 InstallsEach methods c =
     (length c.in_use ≡ methods) × (length c.installed ≡ methods) × AreInstalls 0 c.in_use c.installed × (c.left ≡ []) × (c.freed ≡ [])
 
--- A code is freed, or left: by these freed and left before and after.
+-- Once all places had been looked at the code was weighed: activations stand, or a place is late.
+abbrev pub WasLeft : ℕ → Type 0
+WasLeft serial =
+    (places : ℕ) × (before : DeskSeen) × (looked : DeskSeen) × (after : DeskSeen) × LooksAtAll serial places before looked
+    × (((n : ℕ) × WasWeighed places serial looked after (InUse n)) ⊎ ((place : ℕ) × WasWeighed places serial looked after (NotLooked place)))
+
+-- A code is freed, or weighed and left: by these freed and left before and after.
 abbrev pub IsKept : ℕ → List Stands → List ℕ → List Stands → List ℕ → Type 0
 IsKept serial freed left freed' left' =
-    ((r : Stands) × (r.entry ≡ Free serial) × (freed' ≡ freed ++ r ∷ []) × (left' ≡ left)) ⊎ ((freed' ≡ freed) × (left' ≡ left ++ serial ∷ []))
+    ((r : Stands) × (r.entry ≡ Free serial) × (freed' ≡ freed ++ r ∷ []) × (left' ≡ left)) ⊎ (WasLeft serial × (freed' ≡ freed) × (left' ≡ left ++ serial ∷ []))
 
 -- What was reclaimed wasn't freed: activations stand, or a place is late.
 abbrev pub IsLeft : {N : Type 0} → Reclaimed N → Type 0
@@ -65,10 +74,10 @@ CountsMore n old new =
 abbrev pub ReplacedEach : Codes → Codes → Type 0
 ReplacedEach old new = ReplacedFirst (length old.in_use) old new × CountsMore (length old.in_use) old new
 
--- Some of these codes were freed, each once at most.
+-- Some of these codes were freed, each once at most, and the others were left.
 abbrev pub AreFreed : List ℕ → List Stands → Type 0
 AreFreed [] rs = rs ≡ []
-AreFreed (s ∷ ss) rs = AreFreed ss rs ⊎ ((r : Stands) × (more : List Stands) × (rs ≡ r ∷ more) × (r.entry ≡ Free s) × AreFreed ss more)
+AreFreed (s ∷ ss) rs = (WasLeft s × AreFreed ss rs) ⊎ ((r : Stands) × (more : List Stands) × (rs ≡ r ∷ more) × (r.entry ≡ Free s) × AreFreed ss more)
 
 -- Behind the receipts of codes that were freed are those of some of these.
 abbrev pub FreesSome : List ℕ → List Stands → List Stands → Type 0

@@ -17,5 +17,5 @@ returns g c =
       c.in_ok-new.ensures,
       search rules,
       search rules,
-      kept_from _ _ _ _ _ _ _ _ code freed left (kept_by _ _ _ _ _ _ c.in_ok-reclaimed.ensures.freed c.in_ok-keep.ensures.kept),
+      kept_from _ _ _ _ _ _ _ _ code freed left (kept_by _ _ _ _ _ _ _ _ c.in_ok-reclaimed.ensures.freed c.in_ok-reclaimed.ensures.left c.in_ok-keep.ensures.kept),
     )
