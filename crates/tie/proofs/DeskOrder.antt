@@ -55,9 +55,9 @@ told_order w name opened k h i = record {
         (sym (find_filter (λ (o : Opened). not (is_marked w.requests.told o.number name)) (λ o. is_live_target w o name) w.requests.opened) ∙ i.least) in
         ⊎_elim
         (λ before. ⊎_elim (λ e. yes (is_marked w.requests.told a.number name) e) (λ e. absurd (false≢true (sym e ∙ and_from (among name a.live) (is_live w name) live lives)))
-        (and_cases (not (is_marked w.requests.told a.number name)) (is_live_target w a name) (found.2 m a before x)))
-        (λ behind. (let low : found.0 < n = omega arith in let r = k.numbers.opened_rise found.0 n opened b low found.1 y in absurd (omega arith)))
-        (cases_lt m found.0)
+        (and_cases (not (is_marked w.requests.told a.number name)) (is_live_target w a name) (found.none_before m a before x)))
+        (λ behind. (let low : found.place < n = omega arith in let r = k.numbers.opened_rise found.place n opened b low found.at y in absurd (omega arith)))
+        (cases_lt m found.place)
       where
         yes : (t : Bool) → not t ≡ false → t ≡ true
         yes true e = refl
@@ -101,7 +101,7 @@ order_kept w k h = record {
         let low = at_low (with_operated w opened).opened n b y in absurd (omega arith));
   };
   closes = λ number opened i. record {
-    each = λ m n a b name less x y told live. (let r = filter_pair (λ (o : Opened). not (o.number == opened.number)) w.requests.opened m n a b less x y in h.each r.0 r.1 a b name r.2 r.3 r.4 told live);
+    each = λ m n a b name less x y told live. (let r = filter_pair (λ (o : Opened). not (o.number == opened.number)) w.requests.opened m n a b less x y in h.each r.first r.second a b name r.in_order r.at_first r.at_second told live);
   };
   counts = λ serial code i. h;
   says_state = λ serial code i. h;

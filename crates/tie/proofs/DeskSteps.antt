@@ -281,12 +281,12 @@ finish_least w name o h told_ least = all_map (λ (c : Current). not (nat_lt c.n
     let due = due_parts w.requests.done name x parts.1 in
     let r = find_before (is_undone w.requests name) w.requests.opened o least in
     ⊎_elim
-    (λ before. (let told = h.order.each n r.0 x o name before at r.1 told_ due.0 in
-    false≢true (sym (r.2 n x before at) ∙ and_from (is_marked w.requests.told x.number name) (not (is_marked w.requests.done x.number name)) told (not_from_false _ due.1))))
-    (λ behind. dite (ℕ_discrete r.0 n)
-    (λ e. (let same : o ≡ x = same_at w.requests.opened n o x (subst (λ m. slice_get w.requests.opened m ≡ Some o) e r.1) at in let z : o.number ≡ x.number = ap (λ (y : Opened). y.number) same in absurd (omega arith)))
-    (λ ne. (let more : r.0 < n = further r.0 n behind ne in let z = h.kept.numbers.opened_rise r.0 n o x more r.1 at in absurd (omega arith))))
-    (cases_lt n r.0)))))
+    (λ before. (let told = h.order.each n r.place x o name before at r.at told_ due.0 in
+    false≢true (sym (r.none_before n x before at) ∙ and_from (is_marked w.requests.told x.number name) (not (is_marked w.requests.done x.number name)) told (not_from_false _ due.1))))
+    (λ behind. dite (ℕ_discrete r.place n)
+    (λ e. (let same : o ≡ x = same_at w.requests.opened n o x (subst (λ m. slice_get w.requests.opened m ≡ Some o) e r.at) at in let z : o.number ≡ x.number = ap (λ (y : Opened). y.number) same in absurd (omega arith)))
+    (λ ne. (let more : r.place < n = further r.place n behind ne in let z = h.kept.numbers.opened_rise r.place n o x more r.at at in absurd (omega arith))))
+    (cases_lt n r.place)))))
   where
     further : (a b : ℕ) → a ≤ b → (a ≡ b → ⊥) → a < b
     further a b low ne = omega (arith, ne)

@@ -176,11 +176,11 @@ by_name_kept w k h = record {
   tells = λ name opened_ i. quiet w _ h refl (λ n. refl) refl (λ name l. l);
   finds_gone = λ name i. quiet w _ h refl (λ n. refl) refl (λ name l. l);
   operates = λ o others i. stays w _ h
-      (λ n x at. (let m = map_at (operated_if o.number) w.requests.opened n x at in let same = m.2 in
-      (n, m.0, m.1, sym (operated_number o.number m.0) ∙ ap (λ (y : Opened). y.number) same, sym (operated_request o.number m.0) ∙ ap (λ (y : Opened). y.request) same, sym (operated_live o.number m.0) ∙ ap (λ (y : Opened). y.live) same)))
+      (λ n x at. (let m = map_at (operated_if o.number) w.requests.opened n x at in let same = m.is in
+      (n, m.before, m.at, sym (operated_number o.number m.before) ∙ ap (λ (y : Opened). y.number) same, sym (operated_request o.number m.before) ∙ ap (λ (y : Opened). y.request) same, sym (operated_live o.number m.before) ∙ ap (λ (y : Opened). y.live) same)))
       (λ n. refl) refl (λ name l. l);
   closes = λ number o i. stays w _ h
-      (λ n x at. (let f = filter_at (λ (y : Opened). not (y.number == o.number)) w.requests.opened n x at in (f.0, x, f.1, refl, refl, refl)))
+      (λ n x at. (let f = filter_at (λ (y : Opened). not (y.number == o.number)) w.requests.opened n x at in (f.from, x, f.at, refl, refl, refl)))
       (λ n. refl) refl (λ name l. l);
   counts = λ serial code i. quiet w _ h refl (λ n. refl) refl (λ name l. l);
   says_state = λ serial code i. quiet w _ h refl (λ n. refl) refl (λ name l. l);
@@ -252,7 +252,7 @@ none_left p (o ∷ os) h = by (p o) refl h (none_left p os)
     by false e k rest = (λ j. e j || list_any p os) ∙ rest k
 
 some_left : (p : Opened → Bool) (os : List Opened) (x : Opened) (xs : List Opened) → filter p os ≡ x ∷ xs → list_any p os ≡ true
-some_left p os x xs h = let f = filter_at p os 0 x (ap (λ (ys : List Opened). slice_get ys 0) h) in any_here p os f.0 x f.1 f.2
+some_left p os x xs h = let f = filter_at p os 0 x (ap (λ (ys : List Opened). slice_get ys 0) h) in any_here p os f.from x f.at f.passes
 
 -- Where a live name is at the desk.
 place_none : (name : ℕ) (ls : List Live) → is_live name ls ≡ false → place_of name ls ≡ None
@@ -335,7 +335,7 @@ tells_say w name h = test Q (not (is_empty w.requests.opened)) refusal.NothingOp
     asked_ : standing (desk_of w) name ≡ rest true → (x : Opened) (xs : List Opened) → filter (λ o. is_live_target w o name) w.requests.opened ≡ x ∷ xs → IsAsked w name
     asked_ s x xs e =
         let f = filter_at (λ o. is_live_target w o name) w.requests.opened 0 x (ap (λ (ys : List Opened). slice_get ys 0) e) in
-        let live : lives w name ≡ true = (and_parts (among name x.live) (lives w name) f.2).1 in
+        let live : lives w name ≡ true = (and_parts (among name x.live) (lives w name) f.passes).1 in
         record {
           target = record { place = (seat live).0; is_census = has_census (map (current_of w.requests.done w.log) w.requests.opened) };
           standing_is = s ∙ (λ j. standing_at (at live j) ((has_is live ∙ some_left (λ o. is_live_target w o name) w.requests.opened x xs e) j) (has_census (map (current_of w.requests.done w.log) w.requests.opened)));
@@ -376,15 +376,15 @@ next_found w name i reply o h at told may f is =
         let passes_ = Rattle.system.proofs.Lists.found_passes (is_undone w.requests name) w.requests.opened x e in
         let parts = and_parts (is_marked w.requests.told x.number name) (not (is_marked w.requests.done x.number name)) passes_ in
         ⊎_elim
-        (λ before. (let less = h.kept.numbers.opened_rise r.0 i x o before r.1 at in
-        let plain = plain_beside w i r.0 o x h.kept at r.1 before in
-        let due = told_due w name r.0 x h.kept r.1 plain parts.0 (not-true _ parts.1) in
-        let free = least_at w.requests.opened r.0 x least r.1 in
+        (λ before. (let less = h.kept.numbers.opened_rise r.place i x o before r.at at in
+        let plain = plain_beside w i r.place o x h.kept at r.at before in
+        let due = told_due w name r.place x h.kept r.at plain parts.0 (not-true _ parts.1) in
+        let free = least_at w.requests.opened r.place x least r.at in
         absurd (false≢true (sym (not-true _ free) ∙ and_from (nat_lt x.number o.number) (among name (due_of w.requests.done x)) (lt-ltb x.number o.number less) due))))
-        (λ behind. dite (ℕ_discrete i r.0)
-        (λ same. ap (λ (y : Opened). Some y) (same_at w.requests.opened i x o (subst (λ n. slice_get w.requests.opened n ≡ Some x) (sym same) r.1) at))
-        (λ ne. absurd (false≢true (sym (r.2 i o (further i r.0 behind ne) at) ∙ undone))))
-        (cases_lt r.0 i)
+        (λ behind. dite (ℕ_discrete i r.place)
+        (λ same. ap (λ (y : Opened). Some y) (same_at w.requests.opened i x o (subst (λ n. slice_get w.requests.opened n ≡ Some x) (sym same) r.at) at))
+        (λ ne. absurd (false≢true (sym (r.none_before i o (further i r.place behind ne) at) ∙ undone))))
+        (cases_lt r.place i)
       where
         further : (a b : ℕ) → a ≤ b → (a ≡ b → ⊥) → a < b
         further a b low ne = omega (arith, ne)

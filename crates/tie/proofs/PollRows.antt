@@ -226,10 +226,10 @@ noted_in w e given silent few h = log_row w.places w.requests w.log e given sile
 
 operated_open : (n : ℕ) (os : List Opened) → WasOpen os (map (operated_if n) os)
 operated_open n os i o is = let m = map_at (operated_if n) os i o is in
-    (i, m.0, m.1, sym (operated_number n m.0) ∙ ap (λ (x : Opened). x.number) m.2, sym (operated_live n m.0) ∙ ap (λ (x : Opened). x.live) m.2)
+    (i, m.before, m.at, sym (operated_number n m.before) ∙ ap (λ (x : Opened). x.number) m.is, sym (operated_live n m.before) ∙ ap (λ (x : Opened). x.live) m.is)
 
 closed_open : (test : Opened → Bool) (os : List Opened) → WasOpen os (filter test os)
-closed_open test os i o is = let m = filter_at test os i o is in (m.0, o, m.1, refl, refl)
+closed_open test os i o is = let m = filter_at test os i o is in (m.from, o, m.at, refl, refl)
 
 pub row_kept : (w : World) → IsSound w → LogTells w → RowIn w → Cases w (λ e a v. RowIn v)
 row_kept w sound ran h = record {

@@ -84,7 +84,7 @@ pub told_after : (w : World) (name : ℕ) (opened : Opened) → IsSound w → Te
 told_after w name opened sound i lives j o at live new =
     let here = filter_has (λ x. is_live_target w x name) w.requests.opened j o at (and_from (among name o.live) (is_live w name) live lives) in
     let least = find_before (λ x. not (is_marked w.requests.told x.number name)) (filter (λ x. is_live_target w x name) w.requests.opened) opened i.least in
-    by here.0 here.1 least.0 least.1 least.2 (nat_lt here.0 least.0) refl (nat_lt least.0 here.0) refl
+    by here.0 here.1 least.place least.at least.none_before (nat_lt here.0 least.place) refl (nat_lt least.place here.0) refl
   where
     told_if : (b : Bool) → not b ≡ false → b ≡ true
     told_if true e = refl
@@ -94,7 +94,7 @@ told_after w name opened sound i lives j o at live new =
         → ((l : ℕ) (y : Opened) → l < k → slice_get (filter (λ x. is_live_target w x name) w.requests.opened) l ≡ Some y → not (is_marked w.requests.told y.number name) ≡ false)
         → (b : Bool) → nat_lt a k ≡ b → (c : Bool) → nat_lt k a ≡ c → opened.number < o.number
     by a there k first before true e c f = absurd (false≢true (sym new ∙ marked_old w.requests.told opened.number name o.number name (told_if (is_marked w.requests.told o.number name) (before a o (ltb-true a k e) there))))
-    by a there k first before false e true f = let r = filter_pair (λ x. is_live_target w x name) w.requests.opened k a opened o (ltb-true k a f) first there in sound.numbers.opened_rise r.0 r.1 opened o r.2 r.3 r.4
+    by a there k first before false e true f = let r = filter_pair (λ x. is_live_target w x name) w.requests.opened k a opened o (ltb-true k a f) first there in sound.numbers.opened_rise r.first r.second opened o r.in_order r.at_first r.at_second
     by a there k first before false e false f =
         let is : opened ≡ o = same_at (filter (λ x. is_live_target w x name) w.requests.opened) a opened o (subst (λ n. slice_get (filter (λ x. is_live_target w x name) w.requests.opened) n ≡ Some opened) (let x = ltb-false a k e in let y = ltb-false k a f in omega (arith, x, y)) first) there in
         absurd (false≢true (sym new ∙ subst (λ (z : Opened). is_marked (with_mark w.requests.told opened.number name) z.number name ≡ true) is (marked_new w.requests.told opened.number name)))
@@ -155,7 +155,7 @@ pub least_cleared : (w : World) (p : ℕ) (t : Thread) (opened : Opened) → IsS
 least_cleared w p t opened sound i m told uncleared =
     let o = sound.marks.uncleared_open p t m i.acts.stands.there told uncleared in
     let least = find_before (is_uncleared w.requests t.name) w.requests.opened opened i.least in
-    by o.0 o.1 o.2 o.3 least.0 least.1 least.2 (nat_lt o.0 least.0) refl (nat_lt least.0 o.0) refl
+    by o.0 o.1 o.2 o.3 least.place least.at least.none_before (nat_lt o.0 least.place) refl (nat_lt least.place o.0) refl
   where
     passes : (x : Opened) → x.number ≡ m → is_uncleared w.requests t.name x ≡ true
     passes x e = let a : is_marked w.requests.told x.number t.name ≡ true = ap (λ n. is_marked w.requests.told n t.name) e ∙ told in

@@ -67,9 +67,9 @@ freed_installed w method slot h i n m a b x y e lt = ⊎_elim
 pub freed_restated : (w : World) (s : ℕ) (k : Code) (from to : CodeState) → TableIsSound w.slots w.methods w.codes → OldAreFreed w.codes → IsCode w s k from → OldAreFreed (with_state w.codes s to)
 freed_restated w s k from to t h i n m a b x y e lt =
     let p = map_at (in_state s to) w.codes n a x in let q = map_at (in_state s to) w.codes m b y in
-    let slots : p.0.slot ≡ q.0.slot = sym (in_state_slot s to p.0) ∙ (ap (λ (z : Code). z.slot) p.2 ∙ (e ∙ (ap (λ (z : Code). z.slot) (sym q.2) ∙ in_state_slot s to q.0))) in
-    let freed = h n m p.0 q.0 p.1 q.1 slots lt in
-    let is_k : (p.0.serial ≡ s) → p.0 ≡ k = (λ z. (let u : Some p.0 ≡ Some k = sym (code_at w.slots w.methods w.codes t n p.0 p.1) ∙ (ap (code_of w.codes) z ∙ unfreed_code w.slots w.methods w.codes t s k i.found) in cc)) in
-    dite (ℕ_discrete p.0.serial s)
+    let slots : p.before.slot ≡ q.before.slot = sym (in_state_slot s to p.before) ∙ (ap (λ (z : Code). z.slot) p.is ∙ (e ∙ (ap (λ (z : Code). z.slot) (sym q.is) ∙ in_state_slot s to q.before))) in
+    let freed = h n m p.before q.before p.at q.at slots lt in
+    let is_k : (p.before.serial ≡ s) → p.before ≡ k = (λ z. (let u : Some p.before ≡ Some k = sym (code_at w.slots w.methods w.codes t n p.before p.at) ∙ (ap (code_of w.codes) z ∙ unfreed_code w.slots w.methods w.codes t s k i.found) in cc)) in
+    dite (ℕ_discrete p.before.serial s)
     (λ z. absurd (false≢true (sym freed ∙ (ap (λ (z : Code). takes_slot z.state) (is_k z) ∙ unfreed_takes w.codes s k i.found))))
-    (λ z. ap (λ (z : Code). takes_slot z.state) (sym p.2 ∙ in_state_other s to p.0 z) ∙ freed)
+    (λ z. ap (λ (z : Code). takes_slot z.state) (sym p.is ∙ in_state_other s to p.before z) ∙ freed)
