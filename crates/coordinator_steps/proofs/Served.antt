@@ -16,10 +16,10 @@ use Rattle.held_threads.proofs.Each.{some_is}
 
 pub serves : (old new : Holding) (place index number : ℕ) (finish : FinishSeen) (before behind : DeskSeen) (stood body after : BodyView)
     → StandsAt old.held index place stood → IsServeFault old index place None → slice_get old.held index ≡ Some body → new ≡ record old { held = slice_set old.held index after }
-    → IsOperated number body after → Enters before behind (Finish number body.name (reply finish.ask body.image.frames)) finish.stands → Serves old new place finish
+    → IsOperated number body after → Enters before behind (Finish number body.name (reply finish.ask body.image.frames)) finish.stands → Serves old new place number finish
 serves old new place index number finish before behind stood body after stands fault here is operated entered =
     let same = some_is stood body (sym stands.0 ∙ here) in
-    (index, body, after, number, (here, subst (λ (b : BodyView). b.seat.place ≡ place) same stands.1), fault, is, operated, ap (λ (r : Stands). r.entry) entered.receipt_is)
+    (index, body, after, (here, subst (λ (b : BodyView). b.seat.place ≡ place) same stands.1), fault, is, operated, ap (λ (r : Stands). r.entry) entered.receipt_is)
 
 pub each_ok : {A E : Type 0} {P Q : A → Type 0} → ((a : A) → P a → Q a) → (r : Result A E) → IfOk r P → IfOk r Q
 each_ok f (Ok a) p = f a p

@@ -12,10 +12,10 @@ use Rattle.held_threads.specs.Held.{StandsAt}
 use Rattle.held_threads.specs.Holding.{Holding}
 use Rattle.held_threads.specs.Refused.{IsServeFault}
 
--- Serving the body at the index publishes it, and enters what its job answered, by the ask on its frames; the others stay.
-abbrev pub Serves : Holding → Holding → ℕ → FinishSeen → Type 0
-Serves old new place finish
-    = (index : ℕ) × (body : BodyView) × (after : BodyView) × (number : ℕ) × StandsAt old.held index place body × IsServeFault old index place None
+-- Serving the body at the index publishes it, and enters what its job of that number answered, by the ask on its frames; the others stay.
+abbrev pub Serves : (old new : Holding) → (place number : ℕ) → FinishSeen → Type 0
+Serves old new place number finish
+    = (index : ℕ) × (body : BodyView) × (after : BodyView) × StandsAt old.held index place body × IsServeFault old index place None
     × (new ≡ record old { held = slice_set old.held index after }) × IsOperated number body after
     × (finish.stands.entry ≡ Finish number body.name (reply finish.ask body.image.frames))
 

@@ -112,7 +112,7 @@ impl<N: Name> Steps<N> {
     ) -> Result<Result<(u64, Finished<N>), Unserved>, ServeFault>
         requires board { board.now ≡ N.board }
         requires row { row.now ≡ N.poll_row }
-        ensures served { IfOk result (λ r. IfOk r (λ f. Serves self.old self.new place f.1)) }
+        ensures served { IfOk result (λ r. IfOk r (λ f. Serves self.old self.new place f.0 f.1)) }
         ensures refused { IfErr result (λ e. serve_refused self.old N.board.places place e × (self.new ≡ self.old) × (desk.new ≡ desk.old)) }
         ensures others { (self.new.armer ≡ self.old.armer) × (self.new.operated ≡ self.old.operated) }
     {

@@ -24,7 +24,7 @@ use Rattle.held_threads.specs.Holding.{Holding}
 use Rattle.desk.specs.declared.entries.Entry.{Entry}
 use Rattle.desk.specs.Machine.{State as Desk, Book}
 use Rattle.desk.specs.Refusals.{start_refused}
-use Rattle.parties.specs.Asked.{Told, WasEntered, Submits, Installs, Invalidates, Begins}
+use Rattle.parties.specs.Asked.{Told, WasEntered, Submits, Installs, Invalidates, Begins, FindsReply, FindsNext, Forgets, Notes}
 use Rattle.parties.specs.Coordinated as coordinated
 use Rattle.parties.specs.declared.acts.Act.{Act}
 use Rattle.parties.specs.declared.acts.Act.TheVariants as act
@@ -72,12 +72,12 @@ Returns old (Err fault.EmptyStack) new = return_refused old returns.EmptyStack �
 Returns old (Err e) new = ⊥
 
 abbrev pub Publishes : Running → Told → Running → Type 0
-Publishes old (Ok n) new = (is_running old.state ≡ true) × (new.state ≡ old.state) × ((before : BodyView) × (after : BodyView) × (old.body ≡ Some before) × (new.body ≡ Some after) × IsPublished before after)
+Publishes old (Ok n) new = (n ≡ 0) × (is_running old.state ≡ true) × (new.state ≡ old.state) × ((before : BodyView) × (after : BodyView) × (old.body ≡ Some before) × (new.body ≡ Some after) × IsPublished before after)
 Publishes old (Err fault.Illegal) new = (is_running old.state ≡ false) × (new ≡ old)
 Publishes old (Err e) new = ⊥
 
 abbrev pub IntoVm : Running → Told → Running → Type 0
-IntoVm old (Ok n) new = (old.state ≡ InJava) × (new ≡ record old { state = InVm })
+IntoVm old (Ok n) new = (n ≡ 0) × (old.state ≡ InJava) × (new ≡ record old { state = InVm })
 IntoVm old (Err fault.Illegal) new = (old.state ≢ InJava) × (new ≡ old)
 IntoVm old (Err e) new = ⊥
 
@@ -87,7 +87,7 @@ OutOfVm old (Err fault.Illegal) new = (old.state ≢ InVm) × (new ≡ old)
 OutOfVm old (Err e) new = ⊥
 
 abbrev pub IntoNative : Running → Told → Running → Type 0
-IntoNative old (Ok n) new = (table.step old.state movement.ToNative ≡ Some new.state) × Gives old new
+IntoNative old (Ok n) new = (n ≡ 0) × (table.step old.state movement.ToNative ≡ Some new.state) × Gives old new
 IntoNative old (Err fault.Illegal) new = (table.step old.state movement.ToNative ≡ None) × (new ≡ old)
 IntoNative old (Err fault.Again) new = new ≡ old
 IntoNative old (Err e) new = ⊥
@@ -99,7 +99,7 @@ OutOfNative old (Err fault.Again) new = new ≡ old
 OutOfNative old (Err e) new = ⊥
 
 abbrev pub Blocks : Running → Told → Running → Type 0
-Blocks old (Ok n) new = (old.state ≡ InVm) × (new.state ≡ Blocked) × Gives old new
+Blocks old (Ok n) new = (n ≡ 0) × (old.state ≡ InVm) × (new.state ≡ Blocked) × Gives old new
 Blocks old (Err fault.Illegal) new = (old.state ≢ InVm) × (new ≡ old)
 Blocks old (Err fault.Again) new = new ≡ old
 Blocks old (Err e) new = ⊥
@@ -220,13 +220,13 @@ Acts places old act.Exit said new = Exits old said new
 Acts places old act.Name said new = OfThread (Tells (λ r. r.name)) old said new
 Acts places old act.Place said new = OfThread (Tells (λ r. r.place)) old said new
 Acts places old act.State said new = OfThread (Tells (λ r. code_of r.state)) old said new
-Acts places old (act.Target name) said new = new ≡ old
+Acts places old (act.Target name) said new = AsksOf Notes old said new
 Acts places old (act.Submit ask) said new = AsksOf (Asks ask) old said new
 Acts places old (act.Install method) said new = AsksOf (Installs method) old said new
 Acts places old (act.Invalidate serial) said new = AsksOf (Invalidates serial) old said new
-Acts places old (act.Reply op name) said new = new ≡ old
-Acts places old (act.LiveAfter name) said new = new ≡ old
-Acts places old act.Forget said new = new ≡ old
+Acts places old (act.Reply op name) said new = AsksOf (FindsReply op name) old said new
+Acts places old (act.LiveAfter name) said new = AsksOf (FindsNext name) old said new
+Acts places old act.Forget said new = AsksOf Forgets old said new
 Acts places old act.Open said new = OfCoordinator Opens old said new
 Acts places old (act.Tell name) said new = OfCoordinator (coordinated.Tells name) old said new
 Acts places old (act.Hold place) said new = OfCoordinator (coordinated.Holds places place) old said new

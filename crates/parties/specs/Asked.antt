@@ -1,5 +1,5 @@
 -- What comes of what a party asks of the desk.
-use Rattle.std.specs.Prelude.{◌≡◌, ℕ, Bool, List, Result, Ok, Err, Option, Some, None}
+use Rattle.std.specs.Prelude.{◌≡◌, ◌==◌, ℕ, Bool, List, [], ◌∷◌, length, Result, Ok, Err, Option, Some, None, if◌then◌else◌}
 use Rattle.frames.specs.declared.CodeId.{CodeId}
 use Rattle.frames.specs.BoardViews.{went_round}
 use Rattle.method_table.specs.Codes.{unfreed}
@@ -10,6 +10,8 @@ use Rattle.operations.specs.declared.Request.TheVariants.{Handshake, Census}
 use Rattle.desk.specs.declared.entries.Entry.{Entry}
 use Rattle.desk.specs.Fields.{DeskSeen, Enters, EntersInstall}
 use Rattle.desk.specs.Machine.{State, Book, Stands}
+use Rattle.desk.specs.Replies.{replies_kept}
+use Rattle.desk.specs.Targets.{live_after}
 use Rattle.desk.specs.Refusals.{ask_refused, install_refused, reclaim_refused}
 use Rattle.parties.specs.declared.acts.Fault.{Fault}
 use Rattle.parties.specs.declared.acts.Fault.TheVariants as fault
@@ -55,3 +57,39 @@ Begins serial (Err (fault.Reclaim f)) = (s : State) × (r : Option Request) × (
 Begins serial (Err fault.Again) = Unit {0}
 Begins serial (Err fault.NoMemory) = Unit {0}
 Begins serial (Err e) = ⊥
+
+-- The reply of the name in a list of names with their replies: its first.
+abbrev pub reply_of : (name : ℕ) → List (ℕ × ℕ) → Option ℕ
+reply_of name [] = None
+reply_of name ((who, reply) ∷ rest) = if who == name then Some reply else reply_of name rest
+
+-- The name's reply in the operation, of those that a desk keeps.
+abbrev pub FindsReply : (op name : ℕ) → Told → Type 0
+FindsReply op name (Ok n) = (book : Book) × (reply_of name (replies_kept op book) ≡ Some n)
+FindsReply op name (Err fault.NotAnswered) = (book : Book) × (reply_of name (replies_kept op book) ≡ None)
+FindsReply op name (Err fault.Again) = Unit {0}
+FindsReply op name (Err fault.NoMemory) = Unit {0}
+FindsReply op name (Err e) = ⊥
+
+abbrev pub or_zero : Option ℕ → ℕ
+or_zero None = 0
+or_zero (Some n) = n
+
+-- The least name above this one that is live at a desk, 0 for none.
+abbrev pub FindsNext : (name : ℕ) → Told → Type 0
+FindsNext name (Ok n) = (s : State) × (n ≡ or_zero (live_after name s.live))
+FindsNext name (Err fault.Again) = Unit {0}
+FindsNext name (Err e) = ⊥
+
+-- A desk has forgotten all entries that it had.
+abbrev pub Forgets : Told → Type 0
+Forgets (Ok n)
+    = (n ≡ 0) × ((old : DeskSeen) × (new : DeskSeen) × (new.book.history ≡ old.book.history) × (new.book.gone.entries ≡ length old.book.history))
+Forgets (Err fault.Again) = Unit {0}
+Forgets (Err e) = ⊥
+
+-- The name is noted, where there is memory for it.
+abbrev pub Notes : Told → Type 0
+Notes (Ok n) = n ≡ 0
+Notes (Err fault.NoMemory) = Unit {0}
+Notes (Err e) = ⊥

@@ -54,13 +54,13 @@ abbrev pub Unserved : ℕ → ℕ → Holding → ServeFault → Type 0
 Unserved places place old f = ((places ≤ place) × (f ≡ serve.NoSuchPlace)) ⊎ steps.serve_refused old places place f
 
 abbrev pub Serves : ℕ → ℕ → Holding → Told → Holding → Type 0
-Serves places place old (Ok n) new = (finish : FinishSeen) × done.Serves old new place finish
+Serves places place old (Ok n) new = (finish : FinishSeen) × done.Serves old new place n finish
 Serves places place old (Err (fault.Serve f)) new = Unserved places place old f × (new ≡ old)
 Serves places place old (Err fault.Again) new = (new.armer ≡ old.armer) × (new.operated ≡ old.operated)
 Serves places place old (Err e) new = ⊥
 
 abbrev pub Releases : ℕ → ℕ → Holding → Told → Holding → Type 0
-Releases places place old (Ok n) new = (receipt : Moved) × done.Releases old new place receipt
+Releases places place old (Ok n) new = (n ≡ 0) × ((receipt : Moved) × done.Releases old new place receipt)
 Releases places place old (Err (fault.Release f)) new = steps.HasNoHeld places place f × (new ≡ old)
 Releases places place old (Err fault.Again) new = new ≡ old
 Releases places place old (Err e) new = ⊥

@@ -1,6 +1,6 @@
 //! What any party asks of the desk, under its lock.
 ghost use Rattle.std.specs.Prelude.{◌≡◌, ◌≢◌, ◌<◌, Some, None, Err, IfOk, IfErr};
-ghost use Rattle.parties.specs.Asked.{request_for, Submits, Installs, Invalidates, Begins};
+ghost use Rattle.parties.specs.Asked.{request_for, Submits, Installs, Invalidates, Begins, FindsReply, FindsNext, Forgets, reply_of};
 
 use crate::acts::Fault;
 use crate::system::System;
@@ -172,16 +172,22 @@ pub(crate) fn invalidate<N: Name>(system: &System<N>, serial: u64) -> Result<u64
 }
 
 // The reply of the name in the list.
-fn found_in(list: &[(u64, u64)], name: u64) -> Option<u64> {
-    for said in list {
-        if said.0 == name {
-            return Some(said.1);
+fn found_in(list: &[(u64, u64)], name: u64) -> Option<u64>
+    ensures { result ≡ reply_of name list.now }
+{
+    let mut rest = list;
+    while let [(who, reply), others @ ..] = rest {
+        if *who == name {
+            return Some(*reply);
         }
+        rest = others;
     }
     None
 }
 
-pub(crate) fn reply<N: Name>(system: &System<N>, op: u64, name: u64) -> Result<u64, Fault> {
+pub(crate) fn reply<N: Name>(system: &System<N>, op: u64, name: u64) -> Result<u64, Fault>
+    ensures { FindsReply op name result }
+{
     let Some(desk) = system.try_desk() else {
         return Err(Fault::Again);
     };
@@ -194,14 +200,21 @@ pub(crate) fn reply<N: Name>(system: &System<N>, op: u64, name: u64) -> Result<u
     }
 }
 
-pub(crate) fn live_after<N: Name>(system: &System<N>, name: u64) -> Result<u64, Fault> {
+pub(crate) fn live_after<N: Name>(system: &System<N>, name: u64) -> Result<u64, Fault>
+    ensures { FindsNext name result }
+{
     let Some(desk) = system.try_desk() else {
         return Err(Fault::Again);
     };
-    Ok(desk.value.live_after(name).unwrap_or(0))
+    match desk.value.live_after(name) {
+        Some(next) => Ok(next),
+        None => Ok(0),
+    }
 }
 
-pub(crate) fn forget<N: Name>(system: &System<N>) -> Result<u64, Fault> {
+pub(crate) fn forget<N: Name>(system: &System<N>) -> Result<u64, Fault>
+    ensures { Forgets result }
+{
     let Some(mut desk) = system.try_desk() else {
         return Err(Fault::Again);
     };
