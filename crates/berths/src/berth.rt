@@ -143,13 +143,13 @@ impl<N: Name, J: Errand> Berth<N, J> {
         unreachable!()
     }
 
-    fn try_settle<R: Wait>(&self, rt: &R, body: Body<N>) -> Result<BodyReceipt<N>, Body<N>>
+    fn try_move_in<R: Wait>(&self, rt: &R, body: Body<N>) -> Result<BodyReceipt<N>, Body<N>>
         requires body { (body.seat.stored ≢ 0) × (0 < body.name) }
-        ensures ok { IfOk result (λ r. r ≡ moved body BodyAct.Settled) }
+        ensures ok { IfOk result (λ r. r ≡ moved body BodyAct.MovedIn) }
         ensures err { IfErr result (λ b. b ≡ body) }
     {
         let mut room = self.room.lock(rt);
-        let receipt = room.settle(body)?;
+        let receipt = room.move_in(body)?;
         let wanted = room.has_sleepers();
         drop(room);
         self.ring(wanted);
@@ -157,13 +157,13 @@ impl<N: Name, J: Errand> Berth<N, J> {
     }
 
     /// Name and body of a thread that starts go in.
-    pub fn settle<R: Wait>(&self, rt: &R, body: Body<N>) -> BodyReceipt<N>
+    pub fn move_in<R: Wait>(&self, rt: &R, body: Body<N>) -> BodyReceipt<N>
         requires body { (body.seat.stored ≢ 0) × (0 < body.name) }
-        ensures { result ≡ moved body BodyAct.Settled }
+        ensures { result ≡ moved body BodyAct.MovedIn }
     {
         let mut body = body;
         for _ in rt.forever() {
-            match self.try_settle(rt, body) {
+            match self.try_move_in(rt, body) {
                 Ok(receipt) => return receipt,
                 Err(back) => body = back,
             }

@@ -38,7 +38,7 @@ fn pause() {
 
 /// How the coordinator waits for a body that isn't in its berth: it looks for it as often as looks are left, or sleeps until it is there.
 #[derive(Drop)]
-pub enum Waiting {
+pub enum CensusWait {
     Looking(Looks),
     Asleep,
 }
@@ -107,7 +107,7 @@ impl<'a, N: Name, J: Errand> Coordinator<'a, N, J> {
         ensures holds { IfNone result (HoldsOn self.old self.new) }
         ensures arms { ArmsOn self.old.armer self.new.armer }
     {
-        self.hold_listed(rt, Waiting::Looking(Looks::new(LOOKS)));
+        self.hold_listed(rt, CensusWait::Looking(Looks::new(LOOKS)));
         for _ in rt.forever() {
             match self.operate(rt) {
                 Ok((_, list, _)) => return Some(list),
@@ -133,11 +133,11 @@ impl<'a, N: Name, J: Errand> Coordinator<'a, N, J> {
         ensures { HoldsOn self.old self.new }
     {
         self.list_due(rt, false);
-        self.hold_listed(rt, Waiting::Asleep);
+        self.hold_listed(rt, CensusWait::Asleep);
     }
 
     // Holds the threads that are listed. One that exited before it was told doesn't come.
-    fn hold_listed<R: Wait>(&mut self, rt: &R, waiting: Waiting)
+    fn hold_listed<R: Wait>(&mut self, rt: &R, waiting: CensusWait)
         ensures { HoldsOn self.old self.new }
     {
         let mut waiting = waiting;
@@ -151,15 +151,15 @@ impl<'a, N: Name, J: Errand> Coordinator<'a, N, J> {
     }
 
     // Takes the body of a thread out of its berth, where it isn't held.
-    fn hold_due<R: Wait>(&mut self, rt: &R, due: Live, waiting: &mut Waiting)
+    fn hold_due<R: Wait>(&mut self, rt: &R, due: Live, waiting: &mut CensusWait)
         ensures { HoldsOn self.old self.new }
     {
         if due.place >= self.places || self.bodies.has(due.place) {
             return;
         }
         match waiting {
-            Waiting::Looking(looks) => self.look_for(rt, due, looks),
-            Waiting::Asleep => {
+            CensusWait::Looking(looks) => self.look_for(rt, due, looks),
+            CensusWait::Asleep => {
                 let _receipt = self.bodies.hold_soon(rt, self.shared, due.name, due.place);
             }
         }

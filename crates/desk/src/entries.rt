@@ -1,5 +1,5 @@
 //! Entries of the history, and what the desk keeps of them.
-use crate::names::{Due, Names};
+use crate::names::{Awaited, Names};
 use frames::CodeId;
 use operations::Request;
 use std::collections::VecDeque;
@@ -77,7 +77,7 @@ pub struct Opened<J> {
     /// How many Finish entries, or whether an Operate entry, is kept for it.
     pub left: usize,
     /// The targets that were live at the Open and have no Finish.
-    pub due: Due,
+    pub due: Awaited,
     pub request: Request,
     /// The name that was given out next at the Open: a thread with a lesser name was live then, if it is live now.
     pub before: u64,

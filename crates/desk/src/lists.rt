@@ -70,7 +70,7 @@ pub fn make_room(live: &mut Vec<Live>, has_image: bool) -> bool
 }
 
 /// Takes a name off.
-pub fn leave(live: &mut Vec<Live>, name: u64)
+pub fn take_off_live(live: &mut Vec<Live>, name: u64)
     ensures items { live.new.items ≡ without name live.old.items }
     ensures capacity { vec_capacity live.new ≡ vec_capacity live.old }
 {

@@ -155,14 +155,14 @@ impl Names {
 
 /// The names that are due of an open request. Contracts see them in their order, and for how many behind the first there is memory.
 #[derive(Drop)]
-pub struct Due {
+pub struct Awaited {
     first: Option<u64>,
     later: Vec<u64>,
     /// How many of the later ones were taken off where they stand.
     gone: usize,
 }
 
-impl Model for Due {
+impl Model for Awaited {
     ghost use Rattle.std.specs.Prelude.{◌++◌, ◌≤◌, drop, length, vec_capacity};
     ghost use Rattle.std.specs.Option.{option_to_list};
     ghost use Rattle.desk.specs.Names.{NamesSeen};
@@ -174,13 +174,13 @@ impl Model for Due {
     ghost invariant = { λ d. d.gone ≤ length d.later.items };
 }
 
-impl Due {
+impl Awaited {
     /// All of these.
-    pub fn of(names: Names) -> Due
+    pub fn of(names: Names) -> Awaited
         ensures { result ≡ names }
     {
         let Names { first, later } = names;
-        Due {
+        Awaited {
             first,
             later,
             gone: 0,
@@ -191,7 +191,7 @@ impl Due {
     pub fn into_names(self) -> Names
         ensures { result.capacity ≡ self.capacity }
     {
-        let Due {
+        let Awaited {
             first,
             later,
             gone: _,

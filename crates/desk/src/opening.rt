@@ -11,7 +11,7 @@ use crate::entries::{Carried, Entry, Opened};
 use crate::faults::{CloseFault, OpenFault};
 use crate::lists::{holds_target, is_census, may_close, may_open_more, place_chosen, steps_of};
 use crate::log::Receipt;
-use crate::names::Due;
+use crate::names::Awaited;
 use bodies::{Body, Name};
 use operations::job::Errand;
 use operations::queue::Waiting;
@@ -47,7 +47,7 @@ impl<N: Name, J: Errand> Desk<N, J> {
             request,
             before: self.next_name,
             left,
-            due: Due::of(due),
+            due: Awaited::of(due),
             operated: false,
             jobs: VecDeque::from_vec(jobs),
         });

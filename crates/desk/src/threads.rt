@@ -8,7 +8,7 @@ ghost use Rattle.desk.specs.Targets.{name_at, live_after};
 use crate::desk::{Desk, LAST};
 use crate::entries::{Entry, Live};
 use crate::faults::{NotLive, StartFault, start_fault};
-use crate::lists::{is_census_open, least_free, leave, lives, make_room, names_of};
+use crate::lists::{is_census_open, least_free, lives, make_room, names_of, take_off_live};
 use crate::log::Receipt;
 use crate::targets::{live_after, name_at};
 use bodies::Name;
@@ -68,7 +68,7 @@ impl<N: Name, J: Errand> Desk<N, J> {
         if !lives(self.live.as_slice(), name) {
             return Err(NotLive);
         }
-        leave(&mut self.live, name);
+        take_off_live(&mut self.live, name);
         Ok(self.log.enter(Entry::Exit(name)))
     }
 

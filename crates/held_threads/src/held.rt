@@ -53,11 +53,11 @@ impl<N: Name> Model for Held<N> {
 }
 
 /// A body on its way back into its berth. It isn't `Drop`, so it gets there. Contracts see the body.
-pub struct Loose<N: Name> {
+pub struct Returning<N: Name> {
     body: Body<N>,
 }
 
-impl<N: Name> Model for Loose<N> {
+impl<N: Name> Model for Returning<N> {
     ghost use Rattle.std.specs.Prelude.{◌≢◌, ◌<◌};
     ghost use Rattle.bodies.specs.Bodies.{BodyView};
 
@@ -68,7 +68,7 @@ impl<N: Name> Model for Loose<N> {
     ghost invariant = { λ l. (0 < l.body.name) × (l.body.seat.stored ≢ 0) };
 }
 
-impl<N: Name> Loose<N> {
+impl<N: Name> Returning<N> {
     /// The body goes into its berth. Where a census was operated over it, nothing keeps its thread any more.
     pub fn back<J: Errand, R: Wait>(
         self,
@@ -78,7 +78,7 @@ impl<N: Name> Loose<N> {
     ) -> BodyReceipt<N>
         ensures { result ≡ moved self (BodyAct.Released operated) }
     {
-        let Loose { body } = self;
+        let Returning { body } = self;
         shared.berth_of(&body).release(rt, body, operated)
     }
 
@@ -91,7 +91,7 @@ impl<N: Name> Loose<N> {
     ) -> (BodyReceipt<N>, bool)
         ensures { result.0 ≡ moved self (BodyAct.Released operated) }
     {
-        let Loose { body } = self;
+        let Returning { body } = self;
         shared.berth_of(&body).release_quietly(rt, body, operated)
     }
 
@@ -261,17 +261,17 @@ impl<N: Name> Held<N> {
     }
 
     /// The body at the index comes out.
-    pub fn take(&mut self, index: usize) -> Loose<N>
+    pub fn take(&mut self, index: usize) -> Returning<N>
         requires index { index < length self.old }
         ensures body { slice_get self.old index ≡ Some result }
         ensures left { self.new ≡ remove self.old index }
     {
         let body = self.bodies.remove(index);
-        Loose { body }
+        Returning { body }
     }
 
     /// The last body comes out.
-    pub fn take_last(&mut self) -> Option<Loose<N>>
+    pub fn take_last(&mut self) -> Option<Returning<N>>
         ensures some { IfSome result (λ body. self.old ≡ self.new ++ body ∷ []) }
         ensures none { IfNone result ((self.old ≡ []) × (self.new ≡ [])) }
     {
@@ -279,7 +279,7 @@ impl<N: Name> Held<N> {
         if self.bodies.is_empty() {
             self.came = 0;
         }
-        Some(Loose { body })
+        Some(Returning { body })
     }
 
     /// Publishes each body.
@@ -352,7 +352,7 @@ impl<N: Name> Held<N> {
         if !room.is_out(body.name()) || room.place() != body.place() {
             return None;
         }
-        let Loose { body } = self.take(index);
+        let Returning { body } = self.take(index);
         match room.release(body, operated) {
             Ok(receipt) => Some(receipt),
             Err(_) => unreachable!(),

@@ -21,7 +21,7 @@ mod weighing;
 
 pub use faults::{HoldFault, OperateFault, Reclaimed, ReleaseFault, ServeFault, TellFault, Told};
 pub use finding::{Found, hold_fault_at, look_up, serve_fault_of, unserved};
-pub use held::{Held, Loose};
+pub use held::{Held, Returning};
 pub use operating::operate_over;
 pub use served::{Brought, Served};
 pub use serving::Unserved;

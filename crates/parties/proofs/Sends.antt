@@ -28,12 +28,12 @@ use Rattle.berths.specs.contracts.room.Holder as Holder
 use Rattle.berths.specs.contracts.room.Room as Room
 use Rattle.berths.specs.contracts.room.BodyReceipt as BodyReceipt
 use Rattle.thread_list.specs.contracts.hints.Hints as Hints
-use Rattle.thread_steps.specs.contracts.standing.Standing as Standing
+use Rattle.thread_steps.specs.contracts.body_state.BodyState as BodyState
 use Rattle.thread_steps.specs.contracts.runner.Stepper as Stepper
 use Rattle.thread_steps.specs.contracts.ends.Entered as Entered
 use Rattle.held_threads.specs.contracts.held.Held as Held
 use Rattle.coordinator_steps.specs.contracts.steps.Steps as Steps
-use Rattle.parties.specs.contracts.system.System as System
+use Rattle.parties.specs.contracts.system.SharedSystem as SharedSystem
 use Rattle.parties.specs.contracts.party.Role as Role
 use Rattle.parties.specs.contracts.party.Party as Party
 
@@ -69,20 +69,20 @@ module _ (N J : RattleType) (n : name.Ghosts N.Denot) (j : errand.Ghosts J.Denot
   desk_send = search (sendable, crosses, codes_send, log_send, queue.the_send, carried.the_field_send, opened.the_field_send) depth 40
 
 module _ (N : RattleType) (n : name.Ghosts N.Denot) (sn : IsSend N) where
-  system_sync : IsSync (System.the_row N n)
+  system_sync : IsSync (SharedSystem.the_row N n)
   system_sync = search (sendable, crosses, board.the_sync, row.the_sync, hints_sync, lock.the_sync, room_send, desk_send) depth 40
 
-  system_send : IsSend (System.the_row N n)
+  system_send : IsSend (SharedSystem.the_row N n)
   system_send = search (sendable, crosses, board.the_send, row.the_send, hints_send, lock.the_send, room_send, desk_send) depth 40
 
   receipt_send : IsSend (BodyReceipt.the_row N n)
   receipt_send = search (sendable, crosses) depth 20
 
-  standing_send : IsSend (Standing.the_field N n).row
-  standing_send = search (sendable, crosses, body.the_send, receipt_send) depth 40
+  body_state_send : IsSend (BodyState.the_field N n).row
+  body_state_send = search (sendable, crosses, body.the_send, receipt_send) depth 40
 
   stepper_send : IsSend (Stepper.the_row N n)
-  stepper_send = search (sendable, crosses, standing_send, receipt_send) depth 40
+  stepper_send = search (sendable, crosses, body_state_send, receipt_send) depth 40
 
   entered_send : IsSend (Entered.the_row N n)
   entered_send = search (sendable, crosses) depth 40

@@ -3,7 +3,7 @@ ghost use Rattle.std.specs.Prelude.{◌≡◌, ◌≢◌, ◌<◌, Some, None, E
 ghost use Rattle.parties.specs.Asked.{request_for, Submits, Installs, Invalidates, Begins, FindsReply, FindsNext, Forgets, reply_of};
 
 use crate::acts::Fault;
-use crate::system::System;
+use crate::system::SharedSystem;
 use bodies::Name;
 use desk::{AskFault, NotReclaimed, ReclaimFault, Refused};
 use operations::job::Query;
@@ -80,7 +80,7 @@ fn forget_names_of(names: &mut Vec<u64>, fault: ReclaimFault) {
 /// A request waits: a handshake of the names with the ask, or a census. Answers its number. The list of names is empty then, but where the
 /// answer is to be asked for again, or there was no memory.
 pub(crate) fn submit<'s, 'n, N: Name>(
-    system: &'s System<N>,
+    system: &'s SharedSystem<N>,
     alloc: Global,
     names: &'n mut Vec<u64>,
     ask: Option<Ask>,
@@ -111,7 +111,7 @@ pub(crate) fn submit<'s, 'n, N: Name>(
 /// The first step of reclaiming a code: a round, and a handshake of the names waits that asks for the frames of the code, where there are
 /// any names. Answers the number of the handshake, 0 without one. The list of names is empty then, as behind `submit`.
 pub(crate) fn reclaim<'s, 'n, N: Name>(
-    system: &'s System<N>,
+    system: &'s SharedSystem<N>,
     alloc: Global,
     names: &'n mut Vec<u64>,
     serial: u64,
@@ -144,7 +144,7 @@ pub(crate) fn reclaim<'s, 'n, N: Name>(
     }
 }
 
-pub(crate) fn install<N: Name>(system: &System<N>, method: u32) -> Result<u64, Fault>
+pub(crate) fn install<N: Name>(system: &SharedSystem<N>, method: u32) -> Result<u64, Fault>
     ensures { Installs method result }
 {
     let Some(mut desk) = system.try_desk() else {
@@ -159,7 +159,7 @@ pub(crate) fn install<N: Name>(system: &System<N>, method: u32) -> Result<u64, F
     }
 }
 
-pub(crate) fn invalidate<N: Name>(system: &System<N>, serial: u64) -> Result<u64, Fault>
+pub(crate) fn invalidate<N: Name>(system: &SharedSystem<N>, serial: u64) -> Result<u64, Fault>
     ensures { Invalidates serial result }
 {
     let Some(mut desk) = system.try_desk() else {
@@ -185,7 +185,7 @@ fn found_in(list: &[(u64, u64)], name: u64) -> Option<u64>
     None
 }
 
-pub(crate) fn reply<N: Name>(system: &System<N>, op: u64, name: u64) -> Result<u64, Fault>
+pub(crate) fn reply<N: Name>(system: &SharedSystem<N>, op: u64, name: u64) -> Result<u64, Fault>
     ensures { FindsReply op name result }
 {
     let Some(desk) = system.try_desk() else {
@@ -200,7 +200,7 @@ pub(crate) fn reply<N: Name>(system: &System<N>, op: u64, name: u64) -> Result<u
     }
 }
 
-pub(crate) fn live_after<N: Name>(system: &System<N>, name: u64) -> Result<u64, Fault>
+pub(crate) fn live_after<N: Name>(system: &SharedSystem<N>, name: u64) -> Result<u64, Fault>
     ensures { FindsNext name result }
 {
     let Some(desk) = system.try_desk() else {
@@ -212,7 +212,7 @@ pub(crate) fn live_after<N: Name>(system: &System<N>, name: u64) -> Result<u64, 
     }
 }
 
-pub(crate) fn forget<N: Name>(system: &System<N>) -> Result<u64, Fault>
+pub(crate) fn forget<N: Name>(system: &SharedSystem<N>) -> Result<u64, Fault>
     ensures { Forgets result }
 {
     let Some(mut desk) = system.try_desk() else {

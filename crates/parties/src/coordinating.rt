@@ -3,7 +3,7 @@ ghost use Rattle.std.specs.Prelude.{◌≡◌, IfOk, IfErr};
 ghost use Rattle.parties.specs.Coordinated.{Opens, Tells, Holds, Serves, Releases, Operates, Closes, Weighs};
 
 use crate::acts::Fault;
-use crate::system::System;
+use crate::system::SharedSystem;
 use bodies::Name;
 use coordinator_steps::{
     HoldFault, Reclaimed, ReleaseFault, ServeFault, Steps, weigh as weigh_code,
@@ -11,7 +11,7 @@ use coordinator_steps::{
 use operations::job::Query;
 use std::alloc::Global;
 
-pub(crate) fn open<N: Name>(system: &System<N>) -> Result<u64, Fault>
+pub(crate) fn open<N: Name>(system: &SharedSystem<N>) -> Result<u64, Fault>
     ensures { Opens result }
 {
     let Some(mut desk) = system.try_desk() else {
@@ -25,7 +25,7 @@ pub(crate) fn open<N: Name>(system: &System<N>) -> Result<u64, Fault>
 
 /// Tells a name: the number that its place is armed with, 0 where it is gone.
 pub(crate) fn tell<'s, 'c, 'h, N: Name>(
-    system: &'s System<N>,
+    system: &'s SharedSystem<N>,
     keeps: &'c mut Steps<N>,
     name: u64,
     hand: &'h mut Option<Query>,
@@ -58,7 +58,7 @@ pub(crate) fn tell<'s, 'c, 'h, N: Name>(
 
 /// Holds the thread of a place: the number of the oldest operation that it owes.
 pub(crate) fn hold<'s, 'c, N: Name>(
-    system: &'s System<N>,
+    system: &'s SharedSystem<N>,
     keeps: &'c mut Steps<N>,
     place: usize,
 ) -> Result<u64, Fault>
@@ -81,7 +81,7 @@ pub(crate) fn hold<'s, 'c, N: Name>(
 
 /// Serves the held thread of a place: the number of the operation.
 pub(crate) fn serve<'s, 'c, N: Name>(
-    system: &'s System<N>,
+    system: &'s SharedSystem<N>,
     keeps: &'c mut Steps<N>,
     place: usize,
 ) -> Result<u64, Fault>
@@ -111,7 +111,7 @@ pub(crate) fn serve<'s, 'c, N: Name>(
 
 /// The held thread of a place is let go.
 pub(crate) fn release<'s, 'c, N: Name>(
-    system: &'s System<N>,
+    system: &'s SharedSystem<N>,
     keeps: &'c mut Steps<N>,
     place: usize,
 ) -> Result<u64, Fault>
@@ -135,7 +135,7 @@ pub(crate) fn release<'s, 'c, N: Name>(
 
 /// Operates the open census over the held threads: its number. What it counted takes the place of the list.
 pub(crate) fn operate<'s, 'c, 'l, N: Name>(
-    system: &'s System<N>,
+    system: &'s SharedSystem<N>,
     keeps: &'c mut Steps<N>,
     alloc: Global,
     counts: &'l mut Vec<(u64, u32)>,
@@ -156,7 +156,7 @@ pub(crate) fn operate<'s, 'c, 'l, N: Name>(
 
 /// Closes the open request of the number, or without one the oldest: its number.
 pub(crate) fn close<'s, 'c, N: Name>(
-    system: &'s System<N>,
+    system: &'s SharedSystem<N>,
     keeps: &'c mut Steps<N>,
     number: Option<u64>,
 ) -> Result<u64, Fault>
@@ -172,7 +172,7 @@ pub(crate) fn close<'s, 'c, N: Name>(
 }
 
 /// Weighs a code, and frees it where no activation stands: 0 then, or how many stand.
-pub(crate) fn weigh<N: Name>(system: &System<N>, serial: u64) -> Result<u64, Fault>
+pub(crate) fn weigh<N: Name>(system: &SharedSystem<N>, serial: u64) -> Result<u64, Fault>
     ensures { Weighs N N.board.places serial result }
 {
     let Some(mut desk) = system.try_desk() else {

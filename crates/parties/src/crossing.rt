@@ -6,7 +6,7 @@ ghost use Rattle.parties.specs.Asked.{WasEntered};
 ghost use Rattle.parties.specs.Acted.{number_of, StartFails, IntoNative, OutOfNative, Blocks, Unblocks, Next, Serves, StaysOn};
 
 use crate::acts::Fault;
-use crate::system::System;
+use crate::system::SharedSystem;
 use berths::{BodyAct, BodyReceipt};
 use bodies::Name;
 use thread_list::Poll;
@@ -24,7 +24,7 @@ pub(crate) fn number_of(poll: Poll) -> u64
 }
 
 pub(crate) fn to_native<'s, 'r, N: Name>(
-    system: &'s System<N>,
+    system: &'s SharedSystem<N>,
     runner: &'r mut Stepper<N>,
 ) -> Result<u64, Fault>
     ensures said { IntoNative runner.old result runner.new }
@@ -41,7 +41,7 @@ pub(crate) fn to_native<'s, 'r, N: Name>(
 }
 
 pub(crate) fn from_native<'s, 'r, N: Name>(
-    system: &'s System<N>,
+    system: &'s SharedSystem<N>,
     runner: &'r mut Stepper<N>,
 ) -> Result<u64, Fault>
     ensures said { OutOfNative runner.old result runner.new }
@@ -58,7 +58,7 @@ pub(crate) fn from_native<'s, 'r, N: Name>(
 }
 
 pub(crate) fn block<'s, 'r, N: Name>(
-    system: &'s System<N>,
+    system: &'s SharedSystem<N>,
     runner: &'r mut Stepper<N>,
 ) -> Result<u64, Fault>
     ensures said { Blocks runner.old result runner.new }
@@ -75,7 +75,7 @@ pub(crate) fn block<'s, 'r, N: Name>(
 }
 
 pub(crate) fn unblock<'s, 'r, N: Name>(
-    system: &'s System<N>,
+    system: &'s SharedSystem<N>,
     runner: &'r mut Stepper<N>,
 ) -> Result<u64, Fault>
     ensures said { Unblocks runner.old result runner.new }
@@ -92,7 +92,7 @@ pub(crate) fn unblock<'s, 'r, N: Name>(
 }
 
 pub(crate) fn stop_next<'s, 'r, N: Name>(
-    system: &'s System<N>,
+    system: &'s SharedSystem<N>,
     runner: &'r mut Stepper<N>,
 ) -> Result<u64, Fault>
     ensures said { Next runner.old result runner.new }
@@ -109,7 +109,7 @@ pub(crate) fn stop_next<'s, 'r, N: Name>(
 }
 
 pub(crate) fn stop_serve<'s, 'r, N: Name>(
-    system: &'s System<N>,
+    system: &'s SharedSystem<N>,
     runner: &'r mut Stepper<N>,
 ) -> Result<u64, Fault>
     ensures said { Serves runner.old result runner.new }
@@ -127,7 +127,7 @@ pub(crate) fn stop_serve<'s, 'r, N: Name>(
 
 /// Enters a Start: the name and the place of the thread.
 pub(crate) fn enter_start<N: Name>(
-    system: &System<N>,
+    system: &SharedSystem<N>,
     has_image: bool,
 ) -> Result<(u64, usize), Fault>
     ensures entered { IfOk result (λ r. (0 < r.0) × (r.1 < N.board.places) × (has_image ≡ true) × WasEntered (Entry.Start r.0 r.1)) }
@@ -142,8 +142,8 @@ pub(crate) fn enter_start<N: Name>(
     }
 }
 
-pub(crate) fn settle<N: Name>(
-    system: &System<N>,
+pub(crate) fn move_in<N: Name>(
+    system: &SharedSystem<N>,
     entered: Entered<N>,
 ) -> Result<Stepper<N>, Entered<N>>
     ensures started { IfOk result (λ r. (r.name ≡ entered.name) × (r.place ≡ entered.place) × IsResumed r) }
@@ -152,12 +152,12 @@ pub(crate) fn settle<N: Name>(
     let Some(mut room) = system.try_room(entered.place()) else {
         return Err(entered);
     };
-    entered.settle(&mut *room.value, system.board(), system.row())
+    entered.move_in(&mut *room.value, system.board(), system.row())
 }
 
 /// The thread gives its place up. Else what it is told, with the thread.
 pub(crate) fn vacate<N: Name>(
-    system: &System<N>,
+    system: &SharedSystem<N>,
     runner: Stepper<N>,
 ) -> Result<BodyReceipt<N>, (Result<u64, Fault>, Stepper<N>)>
     ensures vacated { IfOk result (λ r. (r.act ≡ BodyAct.Vacated) × (r.body.name ≡ runner.name)) }
@@ -181,7 +181,7 @@ pub(crate) fn vacate<N: Name>(
 }
 
 /// Whether the Exit of the name was entered.
-pub(crate) fn leave<N: Name>(system: &System<N>, name: u64) -> bool
+pub(crate) fn take_off<N: Name>(system: &SharedSystem<N>, name: u64) -> bool
     ensures { result ≡ true → WasEntered (Entry.Exit name) }
 {
     let Some(mut desk) = system.try_desk() else {

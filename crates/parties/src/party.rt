@@ -3,7 +3,7 @@ ghost use Rattle.std.specs.Prelude.{◌≡◌, IfOk};
 ghost use Rattle.parties.specs.Acted.{Acts};
 
 use crate::acts::{Act, Fault};
-use crate::system::System;
+use crate::system::SharedSystem;
 use berths::BodyReceipt;
 use bodies::Name;
 use coordinator_steps::Steps;
@@ -33,7 +33,7 @@ pub enum Role<N: Name> {
 /// A party, with what it shares. Contracts see what it is.
 #[derive(Drop)]
 pub struct Party<N: Name> {
-    pub(crate) system: Arc<System<N>>,
+    pub(crate) system: Arc<SharedSystem<N>>,
     pub(crate) alloc: Global,
     pub(crate) role: Role<N>,
     /// The names of the next request's targets.
@@ -58,7 +58,7 @@ impl<N: Name> Model for Party<N> {
 
 impl<N: Name> Party<N> {
     /// A party that only shares the system.
-    pub fn new(alloc: Global, system: Arc<System<N>>) -> Party<N>
+    pub fn new(alloc: Global, system: Arc<SharedSystem<N>>) -> Party<N>
         ensures { result ≡ Role.Shares }
     {
         Party {
@@ -72,7 +72,7 @@ impl<N: Name> Party<N> {
     }
 
     /// The coordinator.
-    pub fn coordinator(alloc: Global, system: Arc<System<N>>, steps: Steps<N>) -> Party<N>
+    pub fn coordinator(alloc: Global, system: Arc<SharedSystem<N>>, steps: Steps<N>) -> Party<N>
         ensures { result ≡ Role.Coordinates steps }
     {
         Party {

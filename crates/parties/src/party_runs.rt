@@ -214,9 +214,9 @@ impl<N: Name> Party<N> {
         match &self.role {
             Role::Shares => {
                 self.enter_start()?;
-                self.settle()
+                self.move_in()
             }
-            Role::Starts(_) => self.settle(),
+            Role::Starts(_) => self.move_in(),
             Role::Runs(_) | Role::Leaves(_) | Role::Gone | Role::Coordinates(_) => {
                 Err(Fault::NotThis)
             }
@@ -235,7 +235,7 @@ impl<N: Name> Party<N> {
         Ok(())
     }
 
-    fn settle(&mut self) -> Result<u64, Fault>
+    fn move_in(&mut self) -> Result<u64, Fault>
         requires { (e : _) × (self.old ≡ Role.Starts e) }
         ensures { Acts N.board.places self.old Act.Start result self.new }
     {
@@ -243,7 +243,7 @@ impl<N: Name> Party<N> {
             unreachable!()
         };
         let name = entered.name();
-        match crossing::settle(&self.system, entered) {
+        match crossing::move_in(&self.system, entered) {
             Ok(runner) => {
                 self.role = Role::Runs(runner);
                 Ok(name)
@@ -265,7 +265,7 @@ impl<N: Name> Party<N> {
                 return Ok(said);
             }
         }
-        self.leave()
+        self.take_off()
     }
 
     fn vacate(&mut self) -> Result<u64, Fault>
@@ -289,7 +289,7 @@ impl<N: Name> Party<N> {
         }
     }
 
-    fn leave(&mut self) -> Result<u64, Fault>
+    fn take_off(&mut self) -> Result<u64, Fault>
         ensures { Acts N.board.places self.old Act.Exit result self.new }
     {
         let name = match &self.role {
@@ -298,7 +298,7 @@ impl<N: Name> Party<N> {
                 return Err(Fault::NotThis);
             }
         };
-        if !crossing::leave(&self.system, name) {
+        if !crossing::take_off(&self.system, name) {
             return Err(Fault::Again);
         }
         self.role = Role::Gone;

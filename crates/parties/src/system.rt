@@ -17,7 +17,7 @@ use tried_lock::{Guard, TriedLock};
 /// The words, the desk under a lock, and a room for each place, each under a lock of its own. Contracts see how many methods there
 /// are.
 #[derive(Drop)]
-pub struct System<N: Name> {
+pub struct SharedSystem<N: Name> {
     board: Board,
     row: PollRow,
     rooms: Vec<TriedLock<Box<Room<N, Query>>>>,
@@ -25,7 +25,7 @@ pub struct System<N: Name> {
     hints: Hints,
 }
 
-impl<N: Name> Model for System<N> {
+impl<N: Name> Model for SharedSystem<N> {
     ghost use Rattle.std.specs.Prelude.{◌≡◌, length};
     ghost use Rattle.parties.specs.Systems.{SystemSeen};
 
@@ -54,9 +54,9 @@ fn locked_rooms<N: Name>(
     Ok(locks)
 }
 
-impl<N: Name> System<N> {
+impl<N: Name> SharedSystem<N> {
     /// A system over these parts, and the armer of its poll words.
-    pub fn new(alloc: Global, parts: Parts) -> Result<(System<N>, Armer), AllocError>
+    pub fn new(alloc: Global, parts: Parts) -> Result<(SharedSystem<N>, Armer), AllocError>
         requires tables { (parts.board ≡ N.board) × (parts.row ≡ N.poll_row) }
         ensures armer { IfOk result (λ r. r.1 ≡ full_armer N.poll_row N.board.places) }
         ensures methods { IfOk result (λ r. r.0.methods ≡ parts.methods) }
@@ -76,7 +76,7 @@ impl<N: Name> System<N> {
         let boxed = Box::new(alloc, desk)?;
         let desk = TriedLock::new(alloc, boxed)?;
         Ok((
-            System {
+            SharedSystem {
                 board,
                 row,
                 rooms,

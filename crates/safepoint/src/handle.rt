@@ -11,7 +11,7 @@ use bodies::Name;
 use coordinator_steps::Steps;
 use parties::acts::{Act, Fault};
 use parties::party::{Party, Role};
-use parties::system::System;
+use parties::system::SharedSystem;
 use std::alloc::Global;
 use std::marker::{Brand, Model};
 use std::mem::replace;
@@ -71,7 +71,7 @@ fn make<N: Name>(alloc: Global, parts: Parts) -> (Loose<Party<N>, Global>, bool)
     requires { (parts.board ≡ N.board) × (parts.row ≡ N.poll_row) }
     ensures { Begins N.board N.poll_row result.0.value result.1 }
 {
-    let Ok((system, armer)) = System::<N>::new(alloc, parts) else {
+    let Ok((system, armer)) = SharedSystem::<N>::new(alloc, parts) else {
         return (Loose::none(alloc), false);
     };
     let Ok(steps) = Steps::new(alloc, armer, system.row()) else {
@@ -85,7 +85,7 @@ fn make<N: Name>(alloc: Global, parts: Parts) -> (Loose<Party<N>, Global>, bool)
 
 fn begun<N: Name>(
     alloc: Global,
-    system: Arc<System<N>>,
+    system: Arc<SharedSystem<N>>,
     steps: Steps<N>,
 ) -> (Loose<Party<N>, Global>, bool)
     requires { steps ≡ held_nothing N.poll_row N.board.places }

@@ -121,7 +121,7 @@ impl<'a, N: Name, J: Errand, R: Wait> Player<'a, N, J, R> {
     fn act(&mut self, thread: &mut Mutator<'_, N, J>) {
         match self.choices.below(20) {
             0 | 1 | 2 | 3 | 4 | 5 => self.call(thread),
-            6 | 7 | 8 | 9 | 10 | 11 => self.leave(thread),
+            6 | 7 | 8 | 9 | 10 | 11 => self.return_from(thread),
             12 | 13 => self.turn(thread),
             14 => self.publish(thread),
             15 => self.go_native(thread),
@@ -173,13 +173,13 @@ impl<'a, N: Name, J: Errand, R: Wait> Player<'a, N, J, R> {
     }
 
     // Returns from the method of the top frame.
-    fn leave(&mut self, thread: &mut Mutator<'_, N, J>) {
+    fn return_from(&mut self, thread: &mut Mutator<'_, N, J>) {
         match thread.ret() {
             Ok(poll) => {
                 if self.stack.pop().is_none() {
                     self.note(Wrong::Answer(Step::Return));
                 }
-                self.settle(thread, poll);
+                self.serve_stop(thread, poll);
             }
             Err(fault) => {
                 if fault != ReturnFault::EmptyStack || !self.stack.is_empty() {
@@ -192,7 +192,7 @@ impl<'a, N: Name, J: Errand, R: Wait> Player<'a, N, J, R> {
 
     fn turn(&mut self, thread: &mut Mutator<'_, N, J>) {
         match thread.back_edge() {
-            Ok(poll) => self.settle(thread, poll),
+            Ok(poll) => self.serve_stop(thread, poll),
             Err(_) => self.note(Wrong::Answer(Step::BackEdge)),
         }
     }
@@ -204,7 +204,7 @@ impl<'a, N: Name, J: Errand, R: Wait> Player<'a, N, J, R> {
     }
 
     // Stops where the poll says so.
-    fn settle(&mut self, thread: &mut Mutator<'_, N, J>, poll: Poll) {
+    fn serve_stop(&mut self, thread: &mut Mutator<'_, N, J>, poll: Poll) {
         let Poll::Stop(op) = poll else {
             return;
         };
@@ -238,7 +238,7 @@ impl<'a, N: Name, J: Errand, R: Wait> Player<'a, N, J, R> {
         }
         self.give_way();
         match thread.from_native(self.rt) {
-            Ok(poll) => self.settle(thread, poll),
+            Ok(poll) => self.serve_stop(thread, poll),
             Err(_) => self.note(Wrong::Answer(Step::FromNative)),
         }
     }
@@ -257,7 +257,7 @@ impl<'a, N: Name, J: Errand, R: Wait> Player<'a, N, J, R> {
             self.note(Wrong::Answer(Step::ToVm));
         }
         match thread.from_vm() {
-            Ok(poll) => self.settle(thread, poll),
+            Ok(poll) => self.serve_stop(thread, poll),
             Err(_) => self.note(Wrong::Answer(Step::FromVm)),
         }
     }
@@ -269,7 +269,7 @@ impl<'a, N: Name, J: Errand, R: Wait> Player<'a, N, J, R> {
         }
         self.give_way();
         match thread.unblock(self.rt) {
-            Ok(poll) => self.settle(thread, poll),
+            Ok(poll) => self.serve_stop(thread, poll),
             Err(_) => self.note(Wrong::Answer(Step::Unblock)),
         }
     }
@@ -291,7 +291,7 @@ impl<'a, N: Name, J: Errand, R: Wait> Player<'a, N, J, R> {
             if self.stack.is_empty() {
                 return;
             }
-            self.leave(thread);
+            self.return_from(thread);
         }
         unreachable!()
     }
@@ -307,7 +307,7 @@ impl<'a, N: Name, J: Errand, R: Wait> Player<'a, N, J, R> {
                 Err((_, back)) => thread = back,
             }
             self.note(Wrong::Answer(Step::Exit));
-            self.leave(&mut thread);
+            self.return_from(&mut thread);
         }
         unreachable!()
     }

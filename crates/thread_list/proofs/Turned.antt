@@ -12,7 +12,7 @@ use Rattle.desk.specs.Finishing.{FinishSeen}
 use Rattle.berths.specs.Berths.{Moved, moved, Outed}
 use Rattle.thread_list.specs.Moves.{IsTurn, IsCleared, IsVacated, IsKept, HasStopped, IsFirst}
 use Rattle.thread_list.specs.Refused.{HasNoFrame}
-use Rattle.berths.specs.declared.room.BodyAct.TheVariants.{Given, Served, Settled, Vacated}
+use Rattle.berths.specs.declared.room.BodyAct.TheVariants.{Given, Served, MovedIn, Vacated}
 
 pub turned : (place name n whom : ℕ) (ask : Ask) (out : Moved) (r : FinishSeen) (body published after : BodyView) (found : ℕ)
     → out ≡ moved body (Served (Some (record { number = n; ask = ask }))) → body.name ≡ name → body.seat.place ≡ place → 0 < n → IsPublished body published
@@ -71,10 +71,10 @@ stopped_of served served' first b body same is stopped =
     subst (λ o. IfSome o (λ t. HasStopped b (first t))) (sym same) (subst (λ x. IfSome served' (λ t. HasStopped x (first t))) (sym is) stopped)
 
 -- The first body of a thread, made in the seat that came out of its place, was published once and went into its berth.
-pub first_of_seat : (name : ℕ) (seat : SpareView) (image : ImageView) (body published : BodyView) (settled : Moved)
+pub first_of_seat : (name : ℕ) (seat : SpareView) (image : ImageView) (body published : BodyView) (moved_in : Moved)
     → image.frames ≡ [] → body.name ≡ name → body.image ≡ image → body.seat ≡ seat.seat → body.poller ≡ seat.poller
-    → IsPublished body published → settled ≡ moved published Settled → IsFirst name seat settled.body
-first_of_seat name seat image body published settled empty named imaged seated polled p is = record {
+    → IsPublished body published → moved_in ≡ moved published MovedIn → IsFirst name seat moved_in.body
+first_of_seat name seat image body published moved_in empty named imaged seated polled p is = record {
   image = image;
   empty = empty;
   published = subst (λ (b : BodyView). IsPublished (record { name = name; image = image; seat = seat.seat; poller = seat.poller }) b) (sym (ap (λ (m : Moved). m.body) is))

@@ -4,5 +4,5 @@ pub mod Moves
 pub mod Refused
 pub mod Sized
 pub mod Sharing
-pub mod Standings
+pub mod BodyStates
 pub mod Texts

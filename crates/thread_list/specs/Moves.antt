@@ -13,7 +13,7 @@ use Rattle.desk.specs.declared.entries.Entry.{Entry}
 use Rattle.desk.specs.Finishing.{FinishSeen}
 use Rattle.berths.specs.Berths.{Moved, moved, Outed, Went}
 use Rattle.berths.specs.declared.room.ToldJob.{ToldJob}
-use Rattle.berths.specs.declared.room.BodyAct.TheVariants.{Settled, Given, Resumed, Served, Vacated}
+use Rattle.berths.specs.declared.room.BodyAct.TheVariants.{MovedIn, Given, Resumed, Served, Vacated}
 use Rattle.thread_list.specs.declared.polls.Poll.{Poll}
 use Rattle.thread_list.specs.declared.polls.Poll.TheVariants.{Go, Stop}
 
@@ -63,14 +63,14 @@ pub record IsFirst (name : ℕ) (seat : SpareView) (body : BodyView) : Type 0 wh
 
 -- What a mutator keeps: a body is the thread's own, the thread has it in hand in the states in which it owns itself, its name and its
 -- first body, with an empty stack and published once, went into its berth when it started, and a body that it hasn't in hand went there since.
-pub record IsRunning (places name place : ℕ) (state : State) (body : Option BodyView) (seat : SpareView) (settled crossed : Moved) : Type 0 where
+pub record IsRunning (places name place : ℕ) (state : State) (body : Option BodyView) (seat : SpareView) (moved_in crossed : Moved) : Type 0 where
   pub own : IsOf name place body
   pub there : owns state ≡ true → is_there body ≡ true
   pub named : 0 < name
   pub seated : place < places
-  pub settled_there : Went place name Settled settled
-  pub settled_empty : settled.body.image.frames ≡ []
-  pub settled_first : IsFirst name seat settled.body
+  pub moved_in_there : Went place name MovedIn moved_in
+  pub moved_in_empty : moved_in.body.image.frames ≡ []
+  pub moved_in_first : IsFirst name seat moved_in.body
   pub given_there : IsGiven name place body crossed
 
 -- It is the same thread: what no call changes.

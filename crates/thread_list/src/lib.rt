@@ -7,11 +7,12 @@
 //! itself its body is in its berth (`berths`), where another may take it, step for it and bring it back.
 //!
 //! There is one lock for the desk and one for each berth. `Shared::submit`, `install`, `invalidate`, `live`, `replies`, `finish` and
-//! `leave` take the desk's, once in each try. `Mutator::to_native`, `from_native`, `block` and `unblock` take the lock of the
+//! `take_off` take the desk's, once in each try. `Mutator::to_native`, `from_native`, `block` and `unblock` take the lock of the
 //! thread's berth. `Shared::start`, `Mutator::stop` and `exit` take both, one after the other. `Shared::hint` and `peek_counts` read
 //! words and take none. No call holds two locks.
 #![tactic(auto)]
 
+mod body_state;
 mod forgotten;
 mod hints;
 mod mutator;
@@ -20,7 +21,6 @@ mod polls;
 mod runner;
 mod serving;
 mod shared;
-mod standing;
 mod starts;
 mod texts;
 mod turns;

@@ -6,9 +6,9 @@ ghost use Rattle.bodies.specs.Bodies.{BodyView, IsCalled, IsPublished};
 ghost use Rattle.thread_list.specs.Moves.{SameThread, Polls, Leaves, is_running};
 ghost use Rattle.thread_list.specs.Refused.{call_accepted, call_refused, return_refused};
 
+use crate::body_state::BodyState;
 use crate::mutator::{CallFault, ReturnFault};
 use crate::polls::{Poll, poll_of};
-use crate::standing::Standing;
 use berths::{BodyReceipt, SeatReceipt};
 use board::Board;
 use bodies::{Body, Called, Name};
@@ -24,17 +24,17 @@ pub struct Runner<N: Name> {
     pub(crate) name: u64,
     pub(crate) place: usize,
     pub(crate) methods: u32,
-    pub(crate) standing: Standing<N>,
+    pub(crate) body_state: BodyState<N>,
     /// Of its start: the seat of its place came out, and its body went in, published once.
     pub(crate) seat: SeatReceipt<N>,
-    pub(crate) settled: BodyReceipt<N>,
+    pub(crate) moved_in: BodyReceipt<N>,
     /// Of its last crossing at its berth: its body went in, or came out.
     pub(crate) crossed: BodyReceipt<N>,
 }
 
 impl<N: Name> Model for Runner<N> {
     ghost use Rattle.thread_list.specs.Moves.{Running, IsRunning};
-    ghost use Rattle.thread_list.specs.Standings.{state_in, body_in};
+    ghost use Rattle.thread_list.specs.BodyStates.{state_in, body_in};
 
     ghost Value = { Running };
 
@@ -42,13 +42,13 @@ impl<N: Name> Model for Runner<N> {
       name = m.name;
       place = m.place;
       methods = m.methods;
-      state = state_in m.standing;
-      body = body_in m.standing;
+      state = state_in m.body_state;
+      body = body_in m.body_state;
       crossed = m.crossed;
     } };
 
-    ghost invariant = { λ m. IsRunning N.board.places m.name m.place (state_in m.standing)
-        (body_in m.standing) m.seat m.settled m.crossed };
+    ghost invariant = { λ m. IsRunning N.board.places m.name m.place (state_in m.body_state)
+        (body_in m.body_state) m.seat m.moved_in m.crossed };
 }
 
 impl<N: Name> Runner<N> {
@@ -71,7 +71,7 @@ impl<N: Name> Runner<N> {
     pub fn state(&self) -> State
         ensures { result ≡ self.now.state }
     {
-        self.standing.state()
+        self.body_state.state()
     }
 
     /// Enters a method: by the code of the hint where its entry is found in use, by one load, and otherwise, or without a
@@ -94,7 +94,7 @@ impl<N: Name> Runner<N> {
         ensures same { SameThread self.old self.new }
         ensures err { IfErr result (λ e. (self.new ≡ self.old) × call_refused self.old method e) }
     {
-        let Standing::InJava(body) = &mut self.standing else {
+        let BodyState::InJava(body) = &mut self.body_state else {
             return Err(CallFault::Illegal(self.state()));
         };
         // What is accepted comes first in each test: the compiler lays it out as one line.
@@ -118,7 +118,7 @@ impl<N: Name> Runner<N> {
         ensures same { SameThread self.old self.new }
         ensures err { IfErr result (λ e. (self.new ≡ self.old) × return_refused self.old e) }
     {
-        let Standing::InJava(body) = &mut self.standing else {
+        let BodyState::InJava(body) = &mut self.body_state else {
             return Err(ReturnFault::Illegal(self.state()));
         };
         if body.depth() == 0 {
@@ -142,7 +142,7 @@ impl<N: Name> Runner<N> {
         ensures err { IfErr result (λ s. (s ≡ self.old.state) × (s ≢ IsInJava)
             × (self.new ≡ self.old)) }
     {
-        let Standing::InJava(body) = &mut self.standing else {
+        let BodyState::InJava(body) = &mut self.body_state else {
             return Err(self.state());
         };
         let found = body.poll(row);
@@ -165,10 +165,10 @@ impl<N: Name> Runner<N> {
         ensures err { IfErr result (λ s. (s ≡ self.old.state) × (is_running s ≡ false)
             × (self.new ≡ self.old)) }
     {
-        match &mut self.standing {
-            Standing::InJava(body) => body.publish(board),
-            Standing::InVm(body) => body.publish(board),
-            Standing::AtPoll(_, _) | Standing::InNative(_) | Standing::Blocked => {
+        match &mut self.body_state {
+            BodyState::InJava(body) => body.publish(board),
+            BodyState::InVm(body) => body.publish(board),
+            BodyState::AtPoll(_, _) | BodyState::InNative(_) | BodyState::Blocked => {
                 return Err(self.state());
             }
         }
@@ -183,11 +183,11 @@ impl<N: Name> Runner<N> {
         ensures err { IfErr result (λ s. (s ≡ self.old.state) × (s ≢ IsInJava)
             × (self.new ≡ self.old)) }
     {
-        let Standing::InJava(_) = &self.standing else {
+        let BodyState::InJava(_) = &self.body_state else {
             return Err(self.state());
         };
-        let body = self.standing.take_body();
-        self.standing = Standing::InVm(body);
+        let body = self.body_state.take_body();
+        self.body_state = BodyState::InVm(body);
         Ok(())
     }
 
@@ -201,7 +201,7 @@ impl<N: Name> Runner<N> {
         ensures err { IfErr result (λ s. (s ≡ self.old.state) × (s ≢ IsInVm)
             × (self.new ≡ self.old)) }
     {
-        let Standing::InVm(body) = &mut self.standing else {
+        let BodyState::InVm(body) = &mut self.body_state else {
             return Err(self.state());
         };
         let found = body.poll(row);
@@ -218,11 +218,11 @@ impl<N: Name> Runner<N> {
         ensures { self.new
             ≡ record self.old { state = if stops then IsAtPoll OfJava else IsInJava } }
     {
-        let body = self.standing.take_body();
-        self.standing = if stops {
-            Standing::AtPoll(Back::Java, body)
+        let body = self.body_state.take_body();
+        self.body_state = if stops {
+            BodyState::AtPoll(Back::Java, body)
         } else {
-            Standing::InJava(body)
+            BodyState::InJava(body)
         };
     }
 }

@@ -7,11 +7,11 @@ ghost use Rattle.desk.specs.Machine.{State as DeskState, Book};
 ghost use Rattle.desk.specs.Refusals.{start_refused};
 ghost use Rattle.bodies.specs.Bodies.{BodyView};
 
+use crate::body_state::{BodyState, OwnHand};
 use crate::mutator::Mutator;
 use crate::runner::Runner;
 use crate::serving::served;
 use crate::shared::Shared;
-use crate::standing::{OwnHand, Standing};
 use berths::BodyReceipt;
 use bodies::{Body, Name};
 use desk::{Receipt, StartFault};
@@ -44,15 +44,15 @@ impl<N: Name, J: Errand> Shared<N, J> {
         let (spare, seat) = berth.start(rt, place);
         let mut body = spare.body(name, image);
         body.publish(self.board());
-        let settled = berth.settle(rt, body);
+        let moved_in = berth.move_in(rt, body);
         let (body, crossed) = self.go_on(rt, name, place);
         let runner = Runner {
             name,
             place,
             methods: self.methods(),
-            standing: Standing::InJava(body),
+            body_state: BodyState::InJava(body),
             seat,
-            settled,
+            moved_in,
             crossed,
         };
         let mutator = Mutator {

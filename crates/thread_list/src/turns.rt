@@ -3,9 +3,9 @@ ghost use Rattle.std.specs.Prelude.{◌≡◌, ◌<◌, ◌≢◌, ℕ, Some, No
 ghost use Rattle.berths.specs.Berths.{moved};
 ghost use Rattle.thread_list.specs.Moves.{SameBody, TakesTurn, IsTurn, as_polled, first_of};
 
+use crate::body_state::OwnHand;
 use crate::serving::serve;
 use crate::shared::Shared;
-use crate::standing::OwnHand;
 use berths::{BodyAct, CameOut, Outing};
 use bodies::{Body, Name};
 use desk::Finished;

@@ -10,15 +10,15 @@ ghost use Rattle.thread_state.specs.States as table;
 ghost use Rattle.desk.specs.declared.entries.Entry.{Entry};
 ghost use Rattle.thread_list.specs.declared.polls.Poll.TheVariants.{Go as GoesOn};
 ghost use Rattle.thread_list.specs.Moves.{SameThread, SameBody, ComesBack, GoesBack, Gives, IsResumed, IsTurn, IsVacated, IsKept, HasStopped, IsGivenUp, IsGivenUpAfter, as_polled, first_of, is_running};
-ghost use Rattle.thread_list.specs.Standings.{state_in, body_in};
+ghost use Rattle.thread_list.specs.BodyStates.{state_in, body_in};
 ghost use Rattle.thread_list.specs.Refused.{exit_refused, HasNoFrame};
 
+use crate::body_state::{BodyState, OwnHand};
 use crate::mutator::Mutator;
 use crate::polls::{Poll, poll_of};
 use crate::runner::{Runner, is_running};
 use crate::serving::served;
 use crate::shared::{Exited, Shared};
-use crate::standing::{OwnHand, Standing};
 use crate::turns::Turn;
 use berths::{BodyAct, BodyReceipt};
 use bodies::{Body, Name};
@@ -36,13 +36,13 @@ pub enum ExitFault {
 
 // A thread with this body goes on where its way back leads.
 #[inline(always)]
-fn going_on<N: Name>(back: Back, body: Body<N>) -> Standing<N>
+fn going_on<N: Name>(back: Back, body: Body<N>) -> BodyState<N>
     ensures state { state_in result ≡ table.state_of back }
     ensures body { body_in result ≡ Some body }
 {
     match back {
-        Back::Java => Standing::InJava(body),
-        Back::Vm => Standing::InVm(body),
+        Back::Java => BodyState::InJava(body),
+        Back::Vm => BodyState::InVm(body),
     }
 }
 
@@ -58,14 +58,14 @@ impl<'a, N: Name, J: Errand> Mutator<'a, N, J> {
         ensures err { IfErr result (λ s. (s ≡ self.old.state)
             × (table.step s movement.ToNative ≡ None) × (self.new ≡ self.old)) }
     {
-        let back = match &self.runner.standing {
-            Standing::InJava(_) => Back::Java,
-            Standing::InVm(_) => Back::Vm,
-            Standing::AtPoll(_, _) | Standing::InNative(_) | Standing::Blocked => {
+        let back = match &self.runner.body_state {
+            BodyState::InJava(_) => Back::Java,
+            BodyState::InVm(_) => Back::Vm,
+            BodyState::AtPoll(_, _) | BodyState::InNative(_) | BodyState::Blocked => {
                 return Err(self.state());
             }
         };
-        self.give(rt, Standing::InNative(back));
+        self.give(rt, BodyState::InNative(back));
         Ok(())
     }
 
@@ -80,7 +80,7 @@ impl<'a, N: Name, J: Errand> Mutator<'a, N, J> {
         ensures err { IfErr result (λ s. (s ≡ self.old.state) × ((back : WayBack)
             → s ≢ IsInNative back) × (self.new ≡ self.old)) }
     {
-        let Standing::InNative(back) = &self.runner.standing else {
+        let BodyState::InNative(back) = &self.runner.body_state else {
             return Err(self.state());
         };
         let back = *back;
@@ -96,10 +96,10 @@ impl<'a, N: Name, J: Errand> Mutator<'a, N, J> {
         ensures err { IfErr result (λ s. (s ≡ self.old.state) × (s ≢ IsInVm)
             × (self.new ≡ self.old)) }
     {
-        let Standing::InVm(_) = &self.runner.standing else {
+        let BodyState::InVm(_) = &self.runner.body_state else {
             return Err(self.state());
         };
-        self.give(rt, Standing::Blocked);
+        self.give(rt, BodyState::Blocked);
         Ok(())
     }
 
@@ -113,7 +113,7 @@ impl<'a, N: Name, J: Errand> Mutator<'a, N, J> {
         ensures err { IfErr result (λ s. (s ≡ self.old.state) × (s ≢ IsBlocked)
             × (self.new ≡ self.old)) }
     {
-        let Standing::Blocked = &self.runner.standing else {
+        let BodyState::Blocked = &self.runner.body_state else {
             return Err(self.state());
         };
         Ok(self.come_back(rt, Back::Vm))
@@ -133,19 +133,19 @@ impl<'a, N: Name, J: Errand> Mutator<'a, N, J> {
         ensures err { IfErr result (λ s. (s ≡ self.old.state) × ((back : WayBack)
             → s ≢ IsAtPoll back) × (self.new ≡ self.old)) }
     {
-        let Standing::AtPoll(back, _) = &self.runner.standing else {
+        let BodyState::AtPoll(back, _) = &self.runner.body_state else {
             return Err(self.state());
         };
         let back = *back;
-        let body = self.runner.standing.take_body();
+        let body = self.runner.body_state.take_body();
         let (body, turn) = served(rt, self.shared, body);
-        self.runner.standing = going_on(back, body);
+        self.runner.body_state = going_on(back, body);
         Ok(turn)
     }
 
     // The body goes into its berth, and the thread is in this state, in which it doesn't own itself.
     #[inline(always)]
-    fn give<R: Wait>(&mut self, rt: &R, to: Standing<N>)
+    fn give<R: Wait>(&mut self, rt: &R, to: BodyState<N>)
         requires running { is_running self.old.state ≡ true }
         requires safe { table.is_safe (state_in to) ≡ true }
         requires away { body_in to ≡ None }
@@ -153,8 +153,8 @@ impl<'a, N: Name, J: Errand> Mutator<'a, N, J> {
         ensures given { Gives self.old self.new }
         ensures same { SameThread self.old self.new }
     {
-        let body = self.runner.standing.take_body();
-        self.runner.standing = to;
+        let body = self.runner.body_state.take_body();
+        self.runner.body_state = to;
         let berth = self.shared.berth_of(&body);
         self.runner.crossed = berth.give(rt, body);
     }
@@ -171,10 +171,10 @@ impl<'a, N: Name, J: Errand> Mutator<'a, N, J> {
         let mut body = outgoing.in_hand(&OwnHand);
         let found = body.poll(self.shared.row());
         self.runner.crossed = resumed;
-        self.runner.standing = if found == 0 {
+        self.runner.body_state = if found == 0 {
             going_on(back, body)
         } else {
-            Standing::AtPoll(back, body)
+            BodyState::AtPoll(back, body)
         };
         poll_of(found)
     }
@@ -210,22 +210,22 @@ impl<'a, N: Name, J: Errand> Mutator<'a, N, J> {
             name,
             place,
             methods,
-            mut standing,
+            mut body_state,
             seat,
-            settled,
+            moved_in,
             crossed: _,
         } = runner;
-        let body = standing.take_body();
+        let body = body_state.take_body();
         match vacate(rt, shared, body) {
-            Ok((vacated, served)) => Ok(shared.leave(rt, vacated, served)),
+            Ok((vacated, served)) => Ok(shared.take_off(rt, vacated, served)),
             Err((body, crossed)) => {
                 let runner = Runner {
                     name,
                     place,
                     methods,
-                    standing: Standing::InJava(body),
+                    body_state: BodyState::InJava(body),
                     seat,
-                    settled,
+                    moved_in,
                     crossed,
                 };
                 let back = Mutator { shared, runner };
@@ -238,11 +238,11 @@ impl<'a, N: Name, J: Errand> Mutator<'a, N, J> {
     fn depth(&self) -> usize
         ensures deep { (b : _) → self.now.body ≡ Some b → result ≡ length b.image.frames }
     {
-        match &self.runner.standing {
-            Standing::InJava(body) => body.depth(),
-            Standing::InVm(body) => body.depth(),
-            Standing::AtPoll(_, body) => body.depth(),
-            Standing::InNative(_) | Standing::Blocked => 0,
+        match &self.runner.body_state {
+            BodyState::InJava(body) => body.depth(),
+            BodyState::InVm(body) => body.depth(),
+            BodyState::AtPoll(_, body) => body.depth(),
+            BodyState::InNative(_) | BodyState::Blocked => 0,
         }
     }
 }

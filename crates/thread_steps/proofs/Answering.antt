@@ -12,7 +12,7 @@ use Rattle.desk.specs.declared.entries.Entry.{Entry}
 use Rattle.berths.specs.Berths.{Moved}
 use Rattle.thread_list.specs.Moves.{Running, IsOf}
 use Rattle.thread_steps.specs.Moves.{IsStepping, TakesUp, next_of}
-use Rattle.thread_steps.specs.Standings.{IsReady, IsAnswered, IsAnswer, last_of, serves}
+use Rattle.thread_steps.specs.BodyStates.{IsReady, IsAnswered, IsAnswer, last_of, serves}
 
 pub ready_of : (s : State) (o : Option BodyView) (back : Back) (b : BodyView) → (serves s ≡ true → IsReady o) → s ≡ Serving back → o ≡ Some b → IsSettled b.image
 ready_of s o back b ready is here = subst IsReady here (ready (ap serves is))
@@ -27,16 +27,16 @@ entry_of name place o b crossed d e own here is entered =
     entered ∙ (λ k. Entry.Finish d.op ((sym is.0 ∙ mine.0) k) (is.2 k))
 
 -- Where the answer isn't entered the thread serves on.
-pub restored : (places name place : ℕ) (back : Back) (s : State) (o : Option BodyView) (a : Option DoneView) (given : Option Moved) (settled crossed : Moved) (b : BodyView) (d again : DoneView)
-    → IsStepping places name place s o a settled (last_of given crossed) → s ≡ Serving back → o ≡ Some b → a ≡ Some d → given ≡ None → again ≡ d
-    → IsStepping places name place (Serving back) (Some b) (Some again) settled crossed
-restored places name place back s o a given settled crossed b d again run is here said none same = record {
+pub restored : (places name place : ℕ) (back : Back) (s : State) (o : Option BodyView) (a : Option DoneView) (given : Option Moved) (moved_in crossed : Moved) (b : BodyView) (d again : DoneView)
+    → IsStepping places name place s o a moved_in (last_of given crossed) → s ≡ Serving back → o ≡ Some b → a ≡ Some d → given ≡ None → again ≡ d
+    → IsStepping places name place (Serving back) (Some b) (Some again) moved_in crossed
+restored places name place back s o a given moved_in crossed b d again run is here said none same = record {
   own = subst (IsOf name place) here run.own;
   there = λ _. refl;
   named = run.named;
   seated = run.seated;
-  settled_there = run.settled_there;
-  settled_empty = run.settled_empty;
+  moved_in_there = run.moved_in_there;
+  moved_in_empty = run.moved_in_empty;
   given_there = tt;
   ready = λ _. ready_of s o back b run.ready is here;
   answered = subst (λ x. IsAnswer b crossed x) (sym same) (subst (λ g. IsAnswer b (last_of g crossed) d) none (answer_of o (last_of given crossed) a b d run.answered here said));

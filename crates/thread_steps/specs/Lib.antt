@@ -1,3 +1,3 @@
-pub mod Standings
+pub mod BodyStates
 pub mod Moves
 pub mod Refused

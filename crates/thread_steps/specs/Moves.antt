@@ -11,21 +11,21 @@ use Rattle.desk.specs.declared.entries.Entry.{Entry}
 use Rattle.desk.specs.Finishing.{FinishSeen}
 use Rattle.berths.specs.Berths.{Moved, Went}
 use Rattle.berths.specs.declared.room.ToldJob.{ToldJob}
-use Rattle.berths.specs.declared.room.BodyAct.TheVariants.{Settled, Served}
+use Rattle.berths.specs.declared.room.BodyAct.TheVariants.{MovedIn, Served}
 use Rattle.thread_list.specs.declared.polls.Poll.{Poll}
 use Rattle.thread_list.specs.Moves.{Running, IsOf, IsGiven, Crosses, IsCleared, as_polled, is_running, is_there}
-use Rattle.thread_steps.specs.Standings.{IsReady, IsAnswered, serves}
+use Rattle.thread_steps.specs.BodyStates.{IsReady, IsAnswered, serves}
 
 -- What a stepper keeps: a body is the thread's own, the thread has it in hand where it runs its own code, its name and its
 -- first body, with an empty stack, went into its berth when it started, a body that it hasn't in hand went there since, and what a job
 -- answered is by the body with which the job came out.
-pub record IsStepping (places name place : ℕ) (state : State) (body : Option BodyView) (answer : Option DoneView) (settled crossed : Moved) : Type 0 where
+pub record IsStepping (places name place : ℕ) (state : State) (body : Option BodyView) (answer : Option DoneView) (moved_in crossed : Moved) : Type 0 where
   pub own : IsOf name place body
   pub there : is_running state ≡ true → is_there body ≡ true
   pub named : 0 < name
   pub seated : place < places
-  pub settled_there : Went place name Settled settled
-  pub settled_empty : settled.body.image.frames ≡ []
+  pub moved_in_there : Went place name MovedIn moved_in
+  pub moved_in_empty : moved_in.body.image.frames ≡ []
   pub given_there : IsGiven name place body crossed
   pub ready : serves state ≡ true → IsReady body
   pub answered : IsAnswered body crossed answer

@@ -10,8 +10,8 @@ ghost use Rattle.thread_list.specs.Moves.{SameThread, IsResumed};
 ghost use Rattle.thread_steps.specs.Moves.{PollsIn};
 ghost use Rattle.thread_steps.specs.Refused.{exit_refused};
 
+use crate::body_state::{BodyState, OwnHand};
 use crate::runner::{Stepper, after_poll};
-use crate::standing::{OwnHand, Standing};
 use berths::{BodyAct, BodyReceipt, Room};
 use board::Board;
 use bodies::Name;
@@ -76,7 +76,7 @@ impl<N: Name> Entered<N> {
 
     /// The thread takes its place, makes its first publication, and polls on its way into Java. It comes back where another has the
     /// place.
-    pub fn settle<J: Errand>(
+    pub fn move_in<J: Errand>(
         self,
         room: &mut Room<N, J>,
         board: &Board,
@@ -104,7 +104,7 @@ impl<N: Name> Entered<N> {
         } = self;
         let mut body = spare.body(name, image);
         body.publish(board);
-        let Ok(settled) = room.settle(body) else {
+        let Ok(moved_in) = room.move_in(body) else {
             unreachable!()
         };
         let Some((outgoing, crossed)) = room.resume(name, place) else {
@@ -112,13 +112,13 @@ impl<N: Name> Entered<N> {
         };
         let mut body = outgoing.in_hand(&OwnHand);
         let found = body.poll(row);
-        let standing = after_poll(Back::Java, body, found);
+        let body_state = after_poll(Back::Java, body, found);
         Ok(Stepper {
             name,
             place,
             methods,
-            standing,
-            settled,
+            body_state,
+            moved_in,
             crossed,
         })
     }
@@ -159,23 +159,23 @@ impl<N: Name> Stepper<N> {
             name,
             place,
             methods,
-            mut standing,
-            settled,
+            mut body_state,
+            moved_in,
             crossed,
         } = self;
-        let mut body = standing.take_body();
+        let mut body = body_state.take_body();
         body.publish(board);
         match room.exit(body, board) {
             Ok(vacated) => Ok(vacated),
             Err(mut body) => {
                 let found = body.poll(row);
-                let standing = after_poll(Back::Java, body, found);
+                let body_state = after_poll(Back::Java, body, found);
                 let back = Stepper {
                     name,
                     place,
                     methods,
-                    standing,
-                    settled,
+                    body_state,
+                    moved_in,
                     crossed,
                 };
                 Err((ExitFault::Told(poll_of(found)), back))
@@ -188,12 +188,12 @@ impl<N: Name> Stepper<N> {
         ensures deep { (b : _) → self.now.body ≡ Some b → result ≡ length b.image.frames }
     {
         let _ = &self.name;
-        match &self.standing {
-            Standing::InJava(body) => body.depth(),
-            Standing::InVm(body) => body.depth(),
-            Standing::AtPoll(_, body) => body.depth(),
-            Standing::Serves(_, body, _) => body.depth(),
-            Standing::InNative(_) | Standing::Blocked | Standing::Given(_, _) => 0,
+        match &self.body_state {
+            BodyState::InJava(body) => body.depth(),
+            BodyState::InVm(body) => body.depth(),
+            BodyState::AtPoll(_, body) => body.depth(),
+            BodyState::Serves(_, body, _) => body.depth(),
+            BodyState::InNative(_) | BodyState::Blocked | BodyState::Given(_, _) => 0,
         }
     }
 }

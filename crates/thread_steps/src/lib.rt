@@ -3,9 +3,9 @@
 //! Read `src/runner.rt` first, then `src/stops.rt` and `specs/Moves.antt`.
 #![tactic(auto)]
 
+mod body_state;
 mod ends;
 mod runner;
-mod standing;
 mod stops;
 
 pub use ends::{Entered, ExitFault};

@@ -10,9 +10,9 @@ ghost use Rattle.berths.specs.Berths.{moved};
 ghost use Rattle.bodies.specs.Bodies.{BodyView, IsCalled, IsPublished};
 ghost use Rattle.thread_list.specs.Moves.{SameThread, Polls, Leaves, Gives, ComesBack, GoesBack, IsResumed, is_running};
 ghost use Rattle.thread_list.specs.Refused.{call_accepted, call_refused, return_refused};
-ghost use Rattle.thread_steps.specs.Standings.{state_in, body_in, answer_in, given_in, last_of, serves};
+ghost use Rattle.thread_steps.specs.BodyStates.{state_in, body_in, answer_in, given_in, last_of, serves};
 
-use crate::standing::{OwnHand, Standing};
+use crate::body_state::{BodyState, OwnHand};
 use berths::{BodyReceipt, Room};
 use board::Board;
 use bodies::{Body, Called, Name};
@@ -30,8 +30,8 @@ pub struct Stepper<N: Name> {
     pub(crate) name: u64,
     pub(crate) place: usize,
     pub(crate) methods: u32,
-    pub(crate) standing: Standing<N>,
-    pub(crate) settled: BodyReceipt<N>,
+    pub(crate) body_state: BodyState<N>,
+    pub(crate) moved_in: BodyReceipt<N>,
     /// Of its last crossing at its berth: its body went in, or came out.
     pub(crate) crossed: BodyReceipt<N>,
 }
@@ -39,13 +39,13 @@ pub struct Stepper<N: Name> {
 impl<N: Name> Model for Stepper<N> {
     ghost use Rattle.thread_list.specs.Moves.{Running};
     ghost use Rattle.thread_steps.specs.Moves.{IsStepping};
-    ghost use Rattle.thread_steps.specs.Standings.{state_in, body_in, answer_in, given_in, last_of};
+    ghost use Rattle.thread_steps.specs.BodyStates.{state_in, body_in, answer_in, given_in, last_of};
 
     ghost Value = { Running };
 
-    ghost view = { λ m. record { name = m.name; place = m.place; methods = m.methods; state = state_in m.standing; body = body_in m.standing; crossed = last_of (given_in m.standing) m.crossed } };
+    ghost view = { λ m. record { name = m.name; place = m.place; methods = m.methods; state = state_in m.body_state; body = body_in m.body_state; crossed = last_of (given_in m.body_state) m.crossed } };
 
-    ghost invariant = { λ m. IsStepping N.board.places m.name m.place (state_in m.standing) (body_in m.standing) (answer_in m.standing) m.settled (last_of (given_in m.standing) m.crossed) };
+    ghost invariant = { λ m. IsStepping N.board.places m.name m.place (state_in m.body_state) (body_in m.body_state) (answer_in m.body_state) m.moved_in (last_of (given_in m.body_state) m.crossed) };
 }
 
 impl<N: Name> Stepper<N> {
@@ -53,7 +53,7 @@ impl<N: Name> Stepper<N> {
     pub fn name(&self) -> u64
         ensures { result ≡ self.now.name }
     {
-        let _ = &self.standing;
+        let _ = &self.body_state;
         self.name
     }
 
@@ -62,7 +62,7 @@ impl<N: Name> Stepper<N> {
         ensures value { result ≡ self.now.place }
         ensures bound { result < N.board.places }
     {
-        let _ = &self.standing;
+        let _ = &self.body_state;
         self.place
     }
 
@@ -70,7 +70,7 @@ impl<N: Name> Stepper<N> {
     pub fn state(&self) -> State
         ensures { result ≡ self.now.state }
     {
-        self.standing.state()
+        self.body_state.state()
     }
 
     /// Enters a method: by the code of the hint where its entry is found in use, by one load, and otherwise, or without a
@@ -90,7 +90,7 @@ impl<N: Name> Stepper<N> {
         ensures same { SameThread self.old self.new }
         ensures err { IfErr result (λ e. (self.new ≡ self.old) × call_refused self.old method e) }
     {
-        let Standing::InJava(body) = &mut self.standing else {
+        let BodyState::InJava(body) = &mut self.body_state else {
             return Err(CallFault::Illegal(self.state()));
         };
         // What is accepted comes first in each test: the compiler lays it out as one line.
@@ -114,7 +114,7 @@ impl<N: Name> Stepper<N> {
         ensures same { SameThread self.old self.new }
         ensures err { IfErr result (λ e. (self.new ≡ self.old) × return_refused self.old e) }
     {
-        let Standing::InJava(body) = &mut self.standing else {
+        let BodyState::InJava(body) = &mut self.body_state else {
             return Err(ReturnFault::Illegal(self.state()));
         };
         if body.depth() == 0 {
@@ -136,7 +136,7 @@ impl<N: Name> Stepper<N> {
         ensures same { SameThread self.old self.new }
         ensures err { IfErr result (λ s. (s ≡ self.old.state) × (s ≢ IsInJava) × (self.new ≡ self.old)) }
     {
-        let Standing::InJava(body) = &mut self.standing else {
+        let BodyState::InJava(body) = &mut self.body_state else {
             return Err(self.state());
         };
         let found = body.poll(row);
@@ -157,14 +157,14 @@ impl<N: Name> Stepper<N> {
         ensures same { SameThread self.old self.new }
         ensures err { IfErr result (λ s. (s ≡ self.old.state) × (is_running s ≡ false) × (self.new ≡ self.old)) }
     {
-        match &mut self.standing {
-            Standing::InJava(body) => body.publish(board),
-            Standing::InVm(body) => body.publish(board),
-            Standing::AtPoll(_, _)
-            | Standing::InNative(_)
-            | Standing::Blocked
-            | Standing::Given(_, _)
-            | Standing::Serves(_, _, _) => {
+        match &mut self.body_state {
+            BodyState::InJava(body) => body.publish(board),
+            BodyState::InVm(body) => body.publish(board),
+            BodyState::AtPoll(_, _)
+            | BodyState::InNative(_)
+            | BodyState::Blocked
+            | BodyState::Given(_, _)
+            | BodyState::Serves(_, _, _) => {
                 return Err(self.state());
             }
         }
@@ -176,11 +176,11 @@ impl<N: Name> Stepper<N> {
         ensures ok { OnOk result ((self.old.state ≡ IsInJava) × (self.new ≡ record self.old { state = IsInVm })) }
         ensures err { IfErr result (λ s. (s ≡ self.old.state) × (s ≢ IsInJava) × (self.new ≡ self.old)) }
     {
-        let Standing::InJava(_) = &self.standing else {
+        let BodyState::InJava(_) = &self.body_state else {
             return Err(self.state());
         };
-        let body = self.standing.take_body();
-        self.standing = Standing::InVm(body);
+        let body = self.body_state.take_body();
+        self.body_state = BodyState::InVm(body);
         Ok(())
     }
 
@@ -191,7 +191,7 @@ impl<N: Name> Stepper<N> {
         ensures same { SameThread self.old self.new }
         ensures err { IfErr result (λ s. (s ≡ self.old.state) × (s ≢ IsInVm) × (self.new ≡ self.old)) }
     {
-        let Standing::InVm(body) = &mut self.standing else {
+        let BodyState::InVm(body) = &mut self.body_state else {
             return Err(self.state());
         };
         let found = body.poll(row);
@@ -207,11 +207,11 @@ impl<N: Name> Stepper<N> {
         requires running { is_running self.old.state ≡ true }
         ensures { self.new ≡ record self.old { state = if stops then IsAtPoll OfJava else IsInJava } }
     {
-        let body = self.standing.take_body();
-        self.standing = if stops {
-            Standing::AtPoll(Back::Java, body)
+        let body = self.body_state.take_body();
+        self.body_state = if stops {
+            BodyState::AtPoll(Back::Java, body)
         } else {
-            Standing::InJava(body)
+            BodyState::InJava(body)
         };
     }
 
@@ -225,18 +225,18 @@ impl<N: Name> Stepper<N> {
         ensures same { SameThread self.old self.new }
         ensures err { IfErr result (λ s. (s ≡ self.old.state) × (table.step s movement.ToNative ≡ None) × (self.new ≡ self.old)) }
     {
-        let back = match &self.standing {
-            Standing::InJava(_) => Back::Java,
-            Standing::InVm(_) => Back::Vm,
-            Standing::AtPoll(_, _)
-            | Standing::InNative(_)
-            | Standing::Blocked
-            | Standing::Given(_, _)
-            | Standing::Serves(_, _, _) => {
+        let back = match &self.body_state {
+            BodyState::InJava(_) => Back::Java,
+            BodyState::InVm(_) => Back::Vm,
+            BodyState::AtPoll(_, _)
+            | BodyState::InNative(_)
+            | BodyState::Blocked
+            | BodyState::Given(_, _)
+            | BodyState::Serves(_, _, _) => {
                 return Err(self.state());
             }
         };
-        Ok(self.give(room, back, Standing::InNative(back)))
+        Ok(self.give(room, back, BodyState::InNative(back)))
     }
 
     /// Back from native code: the body comes out of its room, where nobody holds it, without what was told to it, and the thread
@@ -254,7 +254,7 @@ impl<N: Name> Stepper<N> {
         ensures same { SameThread self.old self.new }
         ensures err { IfErr result (λ s. (s ≡ self.old.state) × ((back : WayBack) → s ≢ IsInNative back) × (self.new ≡ self.old)) }
     {
-        let Standing::InNative(back) = &self.standing else {
+        let BodyState::InNative(back) = &self.body_state else {
             return Err(self.state());
         };
         let back = *back;
@@ -270,10 +270,10 @@ impl<N: Name> Stepper<N> {
         ensures same { SameThread self.old self.new }
         ensures err { IfErr result (λ s. (s ≡ self.old.state) × (s ≢ IsInVm) × (self.new ≡ self.old)) }
     {
-        let Standing::InVm(_) = &self.standing else {
+        let BodyState::InVm(_) = &self.body_state else {
             return Err(self.state());
         };
-        Ok(self.give(room, Back::Vm, Standing::Blocked))
+        Ok(self.give(room, Back::Vm, BodyState::Blocked))
     }
 
     /// Back from a wait: the body comes out of its room, where nobody holds it, without what was told to it, and the thread polls. A
@@ -290,7 +290,7 @@ impl<N: Name> Stepper<N> {
         ensures same { SameThread self.old self.new }
         ensures err { IfErr result (λ s. (s ≡ self.old.state) × (s ≢ IsBlocked) × (self.new ≡ self.old)) }
     {
-        let Standing::Blocked = &self.standing else {
+        let BodyState::Blocked = &self.body_state else {
             return Err(self.state());
         };
         Ok(self.come_back(room, row, Back::Vm))
@@ -298,7 +298,7 @@ impl<N: Name> Stepper<N> {
 
     // The body goes into its room, and the thread is in this state, in which it doesn't own itself.
     #[inline(always)]
-    fn give<J: Errand>(&mut self, room: &mut Room<N, J>, back: Back, to: Standing<N>) -> bool
+    fn give<J: Errand>(&mut self, room: &mut Room<N, J>, back: Back, to: BodyState<N>) -> bool
         requires running { self.old.state ≡ table.state_of back }
         requires safe { (is_running (state_in to) ≡ false) × (serves (state_in to) ≡ false) }
         requires away { (body_in to ≡ None) × (answer_in to ≡ None) × (given_in to ≡ None) }
@@ -307,15 +307,15 @@ impl<N: Name> Stepper<N> {
         ensures again { result ≡ false → self.new ≡ self.old }
         ensures same { SameThread self.old self.new }
     {
-        let body = self.standing.take_body();
+        let body = self.body_state.take_body();
         match room.give(body) {
             Ok(receipt) => {
-                self.standing = to;
+                self.body_state = to;
                 self.crossed = receipt;
                 true
             }
             Err(body) => {
-                self.standing = going_on(back, body);
+                self.body_state = going_on(back, body);
                 false
             }
         }
@@ -339,32 +339,32 @@ impl<N: Name> Stepper<N> {
         let mut body = outgoing.in_hand(&OwnHand);
         let found = body.poll(row);
         self.crossed = resumed;
-        self.standing = after_poll(back, body, found);
+        self.body_state = after_poll(back, body, found);
         Some(poll_of(found))
     }
 }
 
 // A thread that has polled with this body, and found this number, goes on where its way back leads, or stops there.
 #[inline(always)]
-pub(crate) fn after_poll<N: Name>(back: Back, body: Body<N>, found: u64) -> Standing<N>
+pub(crate) fn after_poll<N: Name>(back: Back, body: Body<N>, found: u64) -> BodyState<N>
     ensures state { table.either (found == 0) (table.state_of back) back ≡ Some (state_in result) }
     ensures body { (body_in result ≡ Some body) × (answer_in result ≡ None) × (given_in result ≡ None) }
 {
     if found == 0 {
         going_on(back, body)
     } else {
-        Standing::AtPoll(back, body)
+        BodyState::AtPoll(back, body)
     }
 }
 
 // A thread with this body goes on where its way back leads.
 #[inline(always)]
-pub(crate) fn going_on<N: Name>(back: Back, body: Body<N>) -> Standing<N>
+pub(crate) fn going_on<N: Name>(back: Back, body: Body<N>) -> BodyState<N>
     ensures state { state_in result ≡ table.state_of back }
     ensures body { (body_in result ≡ Some body) × (answer_in result ≡ None) × (given_in result ≡ None) }
 {
     match back {
-        Back::Java => Standing::InJava(body),
-        Back::Vm => Standing::InVm(body),
+        Back::Java => BodyState::InJava(body),
+        Back::Vm => BodyState::InVm(body),
     }
 }

@@ -4,8 +4,8 @@ ghost use Rattle.thread_state.specs.declared.State.TheVariants.{AtPoll as IsAtPo
 ghost use Rattle.thread_list.specs.Moves.{SameThread};
 ghost use Rattle.thread_steps.specs.Moves.{StopsNext, EndsServing};
 
+use crate::body_state::{BodyState, OwnHand, OwnRecorder};
 use crate::runner::{Stepper, after_poll};
-use crate::standing::{OwnHand, OwnRecorder, Standing};
 use berths::Room;
 use board::Board;
 use bodies::Name;
@@ -33,14 +33,14 @@ impl<N: Name> Stepper<N> {
         ensures same { SameThread self.old self.new }
         ensures err { IfErr result (λ s. (s ≡ self.old.state) × (self.new ≡ self.old)) }
     {
-        let back = match &self.standing {
-            Standing::AtPoll(back, _) => *back,
-            Standing::Given(back, _) => *back,
-            Standing::InJava(_)
-            | Standing::InVm(_)
-            | Standing::InNative(_)
-            | Standing::Blocked
-            | Standing::Serves(_, _, _) => return Err(self.state()),
+        let back = match &self.body_state {
+            BodyState::AtPoll(back, _) => *back,
+            BodyState::Given(back, _) => *back,
+            BodyState::InJava(_)
+            | BodyState::InVm(_)
+            | BodyState::InNative(_)
+            | BodyState::Blocked
+            | BodyState::Serves(_, _, _) => return Err(self.state()),
         };
         if room.place() != self.place {
             return Ok(None);
@@ -56,13 +56,13 @@ impl<N: Name> Stepper<N> {
         ensures room { room.new.place ≡ room.old.place }
         ensures same { SameThread self.old self.new }
     {
-        if let Standing::Given(_, _) = &self.standing {
+        if let BodyState::Given(_, _) = &self.body_state {
             return;
         }
-        let body = self.standing.take_body();
-        self.standing = match room.give(body) {
-            Ok(receipt) => Standing::Given(back, receipt),
-            Err(body) => Standing::AtPoll(back, body),
+        let body = self.body_state.take_body();
+        self.body_state = match room.give(body) {
+            Ok(receipt) => BodyState::Given(back, receipt),
+            Err(body) => BodyState::AtPoll(back, body),
         };
     }
 
@@ -82,11 +82,11 @@ impl<N: Name> Stepper<N> {
         ensures again { IfNone result (self.new.state ≡ self.old.state) }
         ensures same { SameThread self.old self.new }
     {
-        let given = self.standing.take_given()?;
+        let given = self.body_state.take_given()?;
         let (outgoing, told, outing) = match room.serve(given) {
             Ok(served) => served,
             Err(given) => {
-                self.standing = Standing::Given(back, given);
+                self.body_state = BodyState::Given(back, given);
                 return None;
             }
         };
@@ -97,12 +97,12 @@ impl<N: Name> Stepper<N> {
             Some(job) => {
                 let number = job.number();
                 let done = job.run_on(&body).to_record(&OwnRecorder);
-                self.standing = Standing::Serves(back, body, done);
+                self.body_state = BodyState::Serves(back, body, done);
                 Some(number)
             }
             None => {
                 let found = body.poll(row);
-                self.standing = after_poll(back, body, found);
+                self.body_state = after_poll(back, body, found);
                 if found == 0 { Some(0) } else { None }
             }
         }
@@ -122,7 +122,7 @@ impl<N: Name> Stepper<N> {
         ensures same { SameThread self.old self.new }
         ensures err { IfErr result (λ s. (s ≡ self.old.state) × (self.new ≡ self.old) × (desk.new ≡ desk.old)) }
     {
-        let Some((back, mut body, done)) = self.standing.take_answered() else {
+        let Some((back, mut body, done)) = self.body_state.take_answered() else {
             return Err(self.state());
         };
         let op = done.op();
@@ -130,11 +130,11 @@ impl<N: Name> Stepper<N> {
             Ok(finished) => {
                 body.clear(row, op);
                 let found = body.poll(row);
-                self.standing = after_poll(back, body, found);
+                self.body_state = after_poll(back, body, found);
                 Ok(Some((poll_of(found), finished)))
             }
             Err(done) => {
-                self.standing = Standing::Serves(back, body, done);
+                self.body_state = BodyState::Serves(back, body, done);
                 Ok(None)
             }
         }

@@ -12,7 +12,7 @@ use thread_list::{Mutator, ReturnFault};
 use thread_state::State;
 
 /// A thread that stopped at its last poll serves what it was told, and goes on where that poll leads. Any other is as before.
-pub fn settle<N: Name, J: Errand, R: Wait>(rt: &R, thread: &mut Mutator<'_, N, J>)
+pub fn serve_stop<N: Name, J: Errand, R: Wait>(rt: &R, thread: &mut Mutator<'_, N, J>)
     ensures settled { Settles thread.old thread.new }
     ensures state { thread.new.state ≡ goes_on thread.old.state }
     ensures same { SameThread thread.old thread.new }
@@ -36,7 +36,7 @@ pub fn leave<N: Name, J: Errand, R: Wait>(
     ensures err { IfErr result (λ e. (thread.new ≡ thread.old) × return_refused thread.old e) }
 {
     thread.ret()?;
-    settle(rt, thread);
+    serve_stop(rt, thread);
     Ok(())
 }
 
@@ -48,7 +48,7 @@ pub fn unwind<N: Name, J: Errand, R: Wait>(rt: &R, thread: &mut Mutator<'_, N, J
     ensures same { SameThread thread.old thread.new }
 {
     for _ in rt.forever() {
-        if let Err(ReturnFault::EmptyStack) = leave(rt, thread) {
+        if let Err(ReturnFault::EmptyStack) = return_from(rt, thread) {
             return;
         }
     }
@@ -65,7 +65,7 @@ pub fn turn<N: Name, J: Errand, R: Wait>(rt: &R, thread: &mut Mutator<'_, N, J>)
     let Ok(_) = thread.back_edge() else {
         unreachable!()
     };
-    settle(rt, thread);
+    serve_stop(rt, thread);
 }
 
 /// Into native code and back.
@@ -81,7 +81,7 @@ pub fn go_native<N: Name, J: Errand, R: Wait>(rt: &R, thread: &mut Mutator<'_, N
     let Ok(_) = thread.from_native(rt) else {
         unreachable!()
     };
-    settle(rt, thread);
+    serve_stop(rt, thread);
 }
 
 /// Into the VM and back.
@@ -113,7 +113,7 @@ pub fn block<N: Name, J: Errand, R: Wait>(rt: &R, thread: &mut Mutator<'_, N, J>
     let Ok(_) = thread.unblock(rt) else {
         unreachable!()
     };
-    settle(rt, thread);
+    serve_stop(rt, thread);
     come_from_vm(rt, thread);
 }
 
@@ -127,5 +127,5 @@ fn come_from_vm<N: Name, J: Errand, R: Wait>(rt: &R, thread: &mut Mutator<'_, N,
     let Ok(_) = thread.from_vm() else {
         unreachable!()
     };
-    settle(rt, thread);
+    serve_stop(rt, thread);
 }

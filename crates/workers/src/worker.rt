@@ -5,7 +5,7 @@ ghost use Rattle.thread_list.specs.Moves.{Running, SameThread};
 ghost use Rattle.desk.specs.declared.entries.Entry.{Entry};
 ghost use Rattle.workers.specs.Marks.{Does, IsRefused, Enters, enter_refused, is_compiled};
 
-use crate::crossings::{block, go_native, go_vm, leave, turn, unwind};
+use crate::crossings::{block, go_native, go_vm, return_from, turn, unwind};
 use crate::gate::Gate;
 use bodies::{Called, Name};
 use desk::Receipt;
@@ -22,7 +22,7 @@ pub enum Refused {
     Return(ReturnFault),
 }
 
-/// A thread with what its marks need besides: the leave to wait, what threads share, and the gate of its ticks. Contracts see the
+/// A thread with what its marks need besides: the permission to wait, what threads share, and the gate of its ticks. Contracts see the
 /// thread, and whether some frame so far was compiled. Between two marks the thread is in Java.
 #[derive(Drop)]
 pub struct Worker<'a, N: Name, J: Errand, R, G> {
@@ -133,7 +133,7 @@ impl<'a, N: Name, J: Errand, R: Wait, G: Gate> Steps for Worker<'a, N, J, R, G> 
                 Ok(()) => {}
                 Err(fault) => return Err(Refused::Call(fault)),
             },
-            Mark::Out(_) => match leave(self.rt, &mut self.thread) {
+            Mark::Out(_) => match return_from(self.rt, &mut self.thread) {
                 Ok(()) => {}
                 Err(fault) => return Err(Refused::Return(fault)),
             },

@@ -9,8 +9,8 @@ pub returns-in-Ok-clause-vacated : goal.returns-in-Ok-clause-vacated
 returns-in-Ok-clause-vacated g c =
     let i = c.runner.inside in let body = c.take_body-body.result in
     let mine : IsOf i.name i.place (Some body) = subst (IsOf i.name i.place) c.take_body-body.ensures c.runner.invariant.own in
-    vacated_of c.args.self.place c.args.self.name body.seat.place body.name c.leave.result.vacated c.in-Ok.vacated
-    (mine.1 ∙ ap (λ (v : Running). v.place) (c.runner.view_is ∙ c.self.view_is)) (mine.0 ∙ ap (λ (v : Running). v.name) (c.runner.view_is ∙ c.self.view_is)) c.leave.ensures.vacated.0 c.in-Ok.ensures.vacated
+    vacated_of c.args.self.place c.args.self.name body.seat.place body.name c.take_off.result.vacated c.in-Ok.vacated
+    (mine.1 ∙ ap (λ (v : Running). v.place) (c.runner.view_is ∙ c.self.view_is)) (mine.0 ∙ ap (λ (v : Running). v.name) (c.runner.view_is ∙ c.self.view_is)) c.take_off.ensures.vacated.0 c.in-Ok.ensures.vacated
 
 pub returns-in-Ok-clause-exited : goal.returns-in-Ok-clause-exited
 returns-in-Ok-clause-exited g c =
@@ -19,7 +19,7 @@ returns-in-Ok-clause-exited g c =
     let zero : c.depth.result ≡ 0 = search rules in
     let here : c.args.self.body ≡ Some body = sym (ap (λ (v : Running). v.body) (c.runner.view_is ∙ c.self.view_is)) ∙ c.take_body-body.ensures in
     let bare : HasNoFrame c.args.self.body = no_frame c.args.self.body body c.depth.result here (c.depth.ensures.deep body here) zero in
-    (c.leave.ensures.exit ∙ ap Exit (c.in-Ok.ensures.vacated.0.1 ∙ mine.0 ∙ ap (λ (v : Running). v.name) (c.runner.view_is ∙ c.self.view_is)), search rules, bare)
+    (c.take_off.ensures.exit ∙ ap Exit (c.in-Ok.ensures.vacated.0.1 ∙ mine.0 ∙ ap (λ (v : Running). v.name) (c.runner.view_is ∙ c.self.view_is)), search rules, bare)
 
 pub returns-clause-refused : goal.returns-clause-refused
 returns-clause-refused g c =

@@ -1,5 +1,5 @@
 use Rattle.std.proofs.Common.{◌∙◌, ap, sym, rules}
-use Rattle.thread_steps.specs.Standings.{last_of, given_in}
+use Rattle.thread_steps.specs.BodyStates.{last_of, given_in}
 use Rattle.thread_steps.proofs.Answering.{ready_of, answer_of, entry_of, restored}
 use Rattle.desk.specs.Machine.{Stands}
 use Rattle.desk.specs.declared.entries.Entry.{Entry}
@@ -19,7 +19,7 @@ finish-requires-clause-reply g c = let s = c.in-Some.ensures.some in (answer_of 
 pub returns-in-Ok-clause-ends : goal.returns-in-Ok-clause-ends
 returns-in-Ok-clause-ends g c =
     let s = c.in-Some.ensures.some in let i = c.self.invariant in
-    let crossed = last_of (given_in c.self.inside.standing) c.self.inside.crossed in
+    let crossed = last_of (given_in c.self.inside.body_state) c.self.inside.crossed in
     let is = answer_of _ crossed _ c.in-Some.body c.in-Some.done i.answered s.1 s.2 in
     let entered = entry_of c.self.inside.name c.self.inside.place _ c.in-Some.body crossed c.in-Some.done _ i.own s.1 is (ap (λ (r : Stands). r.entry) c.in-Ok.ensures.ok.receipt_is) in (
       c.in-Some.back,

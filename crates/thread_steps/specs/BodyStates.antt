@@ -1,4 +1,4 @@
--- What a thread's standing tells: its state, and its body where it has that in hand.
+-- What the state of a thread with its body tells: its state, and its body where it has that in hand.
 use Rattle.std.specs.Prelude.{◌≡◌, ◌<◌, Option, Some, None, Bool, true, false}
 use Rattle.thread_state.specs.declared.State.{State}
 use Rattle.thread_state.specs.declared.State.TheVariants as state
@@ -8,10 +8,10 @@ use Rattle.operations.specs.Asks.{reply}
 use Rattle.operations.specs.Jobs.{DoneView}
 use Rattle.berths.specs.Berths.{Moved}
 use Rattle.berths.specs.declared.room.BodyAct.TheVariants.{Served}
-use Rattle.thread_steps.specs.declared.standing.Standing.{Standing}
-use Rattle.thread_steps.specs.declared.standing.Standing.TheVariants.{InJava, InVm, AtPoll, InNative, Blocked, Given, Serves}
+use Rattle.thread_steps.specs.declared.body_state.BodyState.{BodyState}
+use Rattle.thread_steps.specs.declared.body_state.BodyState.TheVariants.{InJava, InVm, AtPoll, InNative, Blocked, Given, Serves}
 
-abbrev pub state_in : {N : Type 0} → Standing N → State
+abbrev pub state_in : {N : Type 0} → BodyState N → State
 state_in (InJava body) = state.InJava
 state_in (InVm body) = state.InVm
 state_in (AtPoll back body) = state.AtPoll back
@@ -20,7 +20,7 @@ state_in Blocked = state.Blocked
 state_in (Given back receipt) = state.AtPoll back
 state_in (Serves back body done) = state.Serving back
 
-abbrev pub body_in : {N : Type 0} → Standing N → Option BodyView
+abbrev pub body_in : {N : Type 0} → BodyState N → Option BodyView
 body_in (InJava body) = Some body
 body_in (InVm body) = Some body
 body_in (AtPoll back body) = Some body
@@ -34,7 +34,7 @@ has_body None = false
 has_body (Some body) = true
 
 -- The receipt that the body of a thread that has stopped is in its berth.
-abbrev pub given_in : {N : Type 0} → Standing N → Option Moved
+abbrev pub given_in : {N : Type 0} → BodyState N → Option Moved
 given_in (InJava body) = None
 given_in (InVm body) = None
 given_in (AtPoll back body) = None
@@ -54,7 +54,7 @@ IsAnswer body crossed done
     = (body.name ≡ done.target) × (0 < done.op) × (done.reply ≡ reply done.ask body.image.frames) × (crossed.act ≡ Served (Some (record { number = done.op; ask = done.ask })))
 
 -- What its job answered, where that has still to be entered.
-abbrev pub answer_in : {N : Type 0} → Standing N → Option DoneView
+abbrev pub answer_in : {N : Type 0} → BodyState N → Option DoneView
 answer_in (InJava body) = None
 answer_in (InVm body) = None
 answer_in (AtPoll back body) = None

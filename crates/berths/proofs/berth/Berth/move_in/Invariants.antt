@@ -1,5 +1,5 @@
 use Rattle.std.proofs.Common.{◌≡◌}
-use Rattle.berths.proofs.berth.Berth.settle.Given as goal
+use Rattle.berths.proofs.berth.Berth.move_in.Given as goal
 
 abbrev pub invariant-loop : goal.invariant-loop
 invariant-loop g l =

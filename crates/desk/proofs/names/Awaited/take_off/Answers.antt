@@ -5,7 +5,7 @@ use Rattle.operations.specs.Names.{is_distinct}
 use Rattle.desk.specs.Machine.{others}
 use Rattle.desk.specs.Names.{NamesSeen}
 use Rattle.desk.proofs.Distinct.{one_off}
-use Rattle.desk.proofs.names.Due.take_off.Goals as goal
+use Rattle.desk.proofs.names.Awaited.take_off.Goals as goal
 
 -- Where the name is the first, those behind it are the others.
 pub returns-in-Some : goal.returns-in-Some

@@ -1,7 +1,7 @@
 //! Where a thread stands, with its body where it has that in hand.
 ghost use Rattle.std.specs.Prelude.{◌≡◌, true, Some, None, IfSome, IfNone};
 ghost use Rattle.thread_state.specs.declared.State.TheVariants.{Serving as IsServing};
-ghost use Rattle.thread_steps.specs.Standings.{has_body, state_in, body_in, answer_in, given_in};
+ghost use Rattle.thread_steps.specs.BodyStates.{has_body, state_in, body_in, answer_in, given_in};
 
 use berths::{BodyReceipt, Hand, Recorder};
 use bodies::{Body, Name};
@@ -24,7 +24,7 @@ impl Recorder for OwnRecorder {}
 /// The state of a thread between its calls. The body is part of it, so that a call which tests the state needs no other test whether
 /// the body is there.
 #[derive(Drop)]
-pub(crate) enum Standing<N: Name> {
+pub(crate) enum BodyState<N: Name> {
     InJava(Body<N>),
     InVm(Body<N>),
     AtPoll(Back, Body<N>),
@@ -37,18 +37,18 @@ pub(crate) enum Standing<N: Name> {
     Serves(Back, Body<N>, Done),
 }
 
-impl<N: Name> Standing<N> {
+impl<N: Name> BodyState<N> {
     pub(crate) fn state(&self) -> State
         ensures { result ≡ state_in self.now }
     {
         match self {
-            Standing::InJava(_) => State::InJava,
-            Standing::InVm(_) => State::InVm,
-            Standing::AtPoll(back, _) => State::AtPoll(*back),
-            Standing::InNative(back) => State::InNative(*back),
-            Standing::Blocked => State::Blocked,
-            Standing::Given(back, _) => State::AtPoll(*back),
-            Standing::Serves(back, _, _) => State::Serving(*back),
+            BodyState::InJava(_) => State::InJava,
+            BodyState::InVm(_) => State::InVm,
+            BodyState::AtPoll(back, _) => State::AtPoll(*back),
+            BodyState::InNative(back) => State::InNative(*back),
+            BodyState::Blocked => State::Blocked,
+            BodyState::Given(back, _) => State::AtPoll(*back),
+            BodyState::Serves(back, _, _) => State::Serving(*back),
         }
     }
 
@@ -58,12 +58,12 @@ impl<N: Name> Standing<N> {
         requires { has_body (body_in self.old) ≡ true }
         ensures { body_in self.old ≡ Some result }
     {
-        match mem::replace(self, Standing::Blocked) {
-            Standing::InJava(body) => body,
-            Standing::InVm(body) => body,
-            Standing::AtPoll(_, body) => body,
-            Standing::Serves(_, body, _) => body,
-            Standing::InNative(_) | Standing::Blocked | Standing::Given(_, _) => unreachable!(),
+        match mem::replace(self, BodyState::Blocked) {
+            BodyState::InJava(body) => body,
+            BodyState::InVm(body) => body,
+            BodyState::AtPoll(_, body) => body,
+            BodyState::Serves(_, body, _) => body,
+            BodyState::InNative(_) | BodyState::Blocked | BodyState::Given(_, _) => unreachable!(),
         }
     }
 
@@ -72,17 +72,17 @@ impl<N: Name> Standing<N> {
         ensures some { IfSome result (λ r. (given_in self.old ≡ Some r) × (body_in self.old ≡ None)) }
         ensures none { IfNone result (self.new ≡ self.old) }
     {
-        let Standing::Given(_, _) = self else {
+        let BodyState::Given(_, _) = self else {
             return None;
         };
-        match mem::replace(self, Standing::Blocked) {
-            Standing::Given(_, given) => Some(given),
-            Standing::InJava(_)
-            | Standing::InVm(_)
-            | Standing::AtPoll(_, _)
-            | Standing::InNative(_)
-            | Standing::Blocked
-            | Standing::Serves(_, _, _) => unreachable!(),
+        match mem::replace(self, BodyState::Blocked) {
+            BodyState::Given(_, given) => Some(given),
+            BodyState::InJava(_)
+            | BodyState::InVm(_)
+            | BodyState::AtPoll(_, _)
+            | BodyState::InNative(_)
+            | BodyState::Blocked
+            | BodyState::Serves(_, _, _) => unreachable!(),
         }
     }
 
@@ -91,17 +91,17 @@ impl<N: Name> Standing<N> {
         ensures some { IfSome result (λ r. (state_in self.old ≡ IsServing r.0) × (body_in self.old ≡ Some r.1) × (answer_in self.old ≡ Some r.2) × (given_in self.old ≡ None)) }
         ensures none { IfNone result (self.new ≡ self.old) }
     {
-        let Standing::Serves(_, _, _) = self else {
+        let BodyState::Serves(_, _, _) = self else {
             return None;
         };
-        match mem::replace(self, Standing::Blocked) {
-            Standing::Serves(back, body, done) => Some((back, body, done)),
-            Standing::InJava(_)
-            | Standing::InVm(_)
-            | Standing::AtPoll(_, _)
-            | Standing::InNative(_)
-            | Standing::Blocked
-            | Standing::Given(_, _) => unreachable!(),
+        match mem::replace(self, BodyState::Blocked) {
+            BodyState::Serves(back, body, done) => Some((back, body, done)),
+            BodyState::InJava(_)
+            | BodyState::InVm(_)
+            | BodyState::AtPoll(_, _)
+            | BodyState::InNative(_)
+            | BodyState::Blocked
+            | BodyState::Given(_, _) => unreachable!(),
         }
     }
 }

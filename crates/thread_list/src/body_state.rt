@@ -1,7 +1,7 @@
 //! Where a thread stands, with its body where it has that in hand.
 ghost use Rattle.std.specs.Prelude.{◌≡◌, ◌≢◌, true, Some, None};
 ghost use Rattle.thread_list.specs.Moves.{owns};
-ghost use Rattle.thread_list.specs.Standings.{state_in, body_in};
+ghost use Rattle.thread_list.specs.BodyStates.{state_in, body_in};
 
 use berths::Hand;
 use bodies::{Body, Name};
@@ -17,7 +17,7 @@ impl Hand for OwnHand {}
 /// The state of a thread between its calls. The body is part of it, so that a call which tests the state needs no other test whether
 /// the body is there.
 #[derive(Drop)]
-pub(crate) enum Standing<N: Name> {
+pub(crate) enum BodyState<N: Name> {
     InJava(Body<N>),
     InVm(Body<N>),
     AtPoll(Back, Body<N>),
@@ -26,16 +26,16 @@ pub(crate) enum Standing<N: Name> {
     Blocked,
 }
 
-impl<N: Name> Standing<N> {
+impl<N: Name> BodyState<N> {
     pub(crate) fn state(&self) -> State
         ensures { result ≡ state_in self.now }
     {
         match self {
-            Standing::InJava(_) => State::InJava,
-            Standing::InVm(_) => State::InVm,
-            Standing::AtPoll(back, _) => State::AtPoll(*back),
-            Standing::InNative(back) => State::InNative(*back),
-            Standing::Blocked => State::Blocked,
+            BodyState::InJava(_) => State::InJava,
+            BodyState::InVm(_) => State::InVm,
+            BodyState::AtPoll(back, _) => State::AtPoll(*back),
+            BodyState::InNative(back) => State::InNative(*back),
+            BodyState::Blocked => State::Blocked,
         }
     }
 
@@ -45,11 +45,11 @@ impl<N: Name> Standing<N> {
         requires { owns (state_in self.old) ≡ true }
         ensures { body_in self.old ≡ Some result }
     {
-        match mem::replace(self, Standing::Blocked) {
-            Standing::InJava(body) => body,
-            Standing::InVm(body) => body,
-            Standing::AtPoll(_, body) => body,
-            Standing::InNative(_) | Standing::Blocked => unreachable!(),
+        match mem::replace(self, BodyState::Blocked) {
+            BodyState::InJava(body) => body,
+            BodyState::InVm(body) => body,
+            BodyState::AtPoll(_, body) => body,
+            BodyState::InNative(_) | BodyState::Blocked => unreachable!(),
         }
     }
 }
