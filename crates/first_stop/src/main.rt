@@ -95,19 +95,29 @@ fn live<N: Name, J: Errand, R: Wait>(
     signals: &Signals,
 ) -> Option<()> {
     let (mut thread, _start) = shared.start(rt, alloc).ok()?;
+    run_code(rt, shared, signals, &mut thread)?;
+    thread.exit(rt).ok()?;
+    Some(())
+}
+
+// Loops in the code until it is asked to end.
+fn run_code<N: Name, J: Errand, R: Wait>(
+    rt: &R,
+    shared: &Shared<N, J>,
+    signals: &Signals,
+    thread: &mut Mutator<'_, N, J>,
+) -> Option<()> {
     thread.call(0, shared.hint(0)).ok()?;
     signals.is_there.store(true, Ordering::SeqCst);
     for _ in rt.forever() {
         let poll = thread.back_edge().ok()?;
-        heed(rt, &mut thread, poll)?;
+        heed(rt, thread, poll)?;
         if signals.is_asked.load(Ordering::SeqCst) {
             break;
         }
     }
     let poll = thread.ret().ok()?;
-    heed(rt, &mut thread, poll)?;
-    thread.exit(rt).ok()?;
-    Some(())
+    heed(rt, thread, poll)
 }
 
 // Stops where the poll says so: the thread serves what it was told.
