@@ -4,26 +4,26 @@ use Rattle.interp.specs.declared.mark.Mark.{Mark}
 use Rattle.interp.specs.declared.frame.Ahead.{Ahead}
 use Rattle.interp.specs.declared.frame.Ahead.TheVariants as ahead
 use Rattle.interp.specs.declared.frame.Move.{Move}
-use Rattle.interp.specs.declared.runner.ScriptRun.{ScriptRun}
+use Rattle.interp.specs.declared.runner.Runner.{Runner}
 use Rattle.interp.specs.Trace.{Trace, finished, overflowed, made, after}
 use Rattle.interp.specs.Chain.{Chain}
 use Rattle.interp.specs.Left.{Left, made_by}
 use Rattle.interp.specs.Moves.{Moved, ahead_of}
 use Rattle.interp.proofs.Goes.{GoesOn, goes_on}
 
-went : (r : ScriptRun) (w : Trace) (h : Left r w) (a : Ahead) → a ≡ ahead_of r.code.now r.phase r.frame r.callers.items → GoesOn h.0 r.phase r.frame r.callers.items w a
+went : (r : Runner) (w : Trace) (h : Left r w) (a : Ahead) → a ≡ ahead_of r.code.now r.phase r.frame r.callers.items → GoesOn h.0 r.phase r.frame r.callers.items w a
 went r w h a e = subst (GoesOn h.0 r.phase r.frame r.callers.items w) (sym e) (goes_on r.code.now h.0 r.phase r.frame r.callers.items w h.1 h.2 h.3)
 
-pub finishes : (r : ScriptRun) (w : Trace) (a : Ahead) → Left r w → a ≡ ahead_of r.code.now r.phase r.frame r.callers.items → a ≡ ahead.Finished → w ≡ finished
+pub finishes : (r : Runner) (w : Trace) (a : Ahead) → Left r w → a ≡ ahead_of r.code.now r.phase r.frame r.callers.items → a ≡ ahead.Finished → w ≡ finished
 finishes r w a h e f = went r w h ahead.Finished (sym f ∙ e)
 
-pub overflows : (r : ScriptRun) (w : Trace) (a : Ahead) → Left r w → a ≡ ahead_of r.code.now r.phase r.frame r.callers.items → a ≡ ahead.Overflow → w ≡ overflowed
+pub overflows : (r : Runner) (w : Trace) (a : Ahead) → Left r w → a ≡ ahead_of r.code.now r.phase r.frame r.callers.items → a ≡ ahead.Overflow → w ≡ overflowed
 overflows r w a h e f = went r w h ahead.Overflow (sym f ∙ e)
 
-pub marks : (r : ScriptRun) (w : Trace) (a : Ahead) (m : Mark) (v : Move) → Left r w → a ≡ ahead_of r.code.now r.phase r.frame r.callers.items → a ≡ ahead.Made m v → (u : Trace) × (w ≡ made m u)
+pub marks : (r : Runner) (w : Trace) (a : Ahead) (m : Mark) (v : Move) → Left r w → a ≡ ahead_of r.code.now r.phase r.frame r.callers.items → a ≡ ahead.Made m v → (u : Trace) × (w ≡ made m u)
 marks r w a m v h e f = let g = went r w h (ahead.Made m v) (sym f ∙ e) in (g.0, g.1)
 
-pub moves : (r q : ScriptRun) (w : Trace) (a : Ahead) (m : Mark) (v : Move) → Left r w → a ≡ ahead_of r.code.now r.phase r.frame r.callers.items → a ≡ ahead.Made m v
+pub moves : (r q : Runner) (w : Trace) (a : Ahead) (m : Mark) (v : Move) → Left r w → a ≡ ahead_of r.code.now r.phase r.frame r.callers.items → a ≡ ahead.Made m v
     → q.code ≡ r.code → Moved v r.phase r.frame r.callers.items q.phase q.frame q.callers.items
     → (u : Trace) × (w ≡ made m u) × Left q u
 moves r q w a m v h e f same moved =
@@ -39,10 +39,10 @@ after-push [] m u = refl
 after-push (n ∷ ms) m u = ap (made n) (after-push ms m u)
 
 -- a run that goes on, with so much fuel left
-pub record RanSoFar {S : Type 0} (marked : S → Mark → S → Type 0) (r : ScriptRun) (s : S) (fuel : ℕ) (q : ScriptRun) (t : S) (left : ℕ) : Type 0 where
+pub record RanSoFar {S : Type 0} (marked : S → Mark → S → Type 0) (r : Runner) (s : S) (fuel : ℕ) (q : Runner) (t : S) (left : ℕ) : Type 0 where
   pub told : (w : Trace) → Left r w → (ms : List Mark) × (u : Trace) × (w ≡ after ms u) × Left q u × (made_by q ≡ min (made_by r + length ms) (2 ^ 64 - 1)) × Chain marked s ms t × (length ms + left ≡ fuel)
 
-pub ran_start : {S : Type 0} (marked : S → Mark → S → Type 0) (r : ScriptRun) (s : S) (fuel : ℕ) → RanSoFar marked r s fuel r s fuel
+pub ran_start : {S : Type 0} (marked : S → Mark → S → Type 0) (r : Runner) (s : S) (fuel : ℕ) → RanSoFar marked r s fuel r s fuel
 ran_start marked r s fuel = record {
   told = λ w h.
       let counted : made_by r ≡ min (made_by r + 0) (2 ^ 64 - 1) = omega (arith, r.counted) in
@@ -50,8 +50,8 @@ ran_start marked r s fuel = record {
       ([], w, refl, h, counted, refl, all);
 }
 
-pub ran_next : {S : Type 0} (marked : S → Mark → S → Type 0) (r : ScriptRun) (s : S) (fuel : ℕ) (q : ScriptRun) (t : S) (left : ℕ) → RanSoFar marked r s fuel q t left
-    → (p : ScriptRun) (v : S) (rest : ℕ) (a : Ahead) (m : Mark) (step : Move)
+pub ran_next : {S : Type 0} (marked : S → Mark → S → Type 0) (r : Runner) (s : S) (fuel : ℕ) (q : Runner) (t : S) (left : ℕ) → RanSoFar marked r s fuel q t left
+    → (p : Runner) (v : S) (rest : ℕ) (a : Ahead) (m : Mark) (step : Move)
     → a ≡ ahead_of q.code.now q.phase q.frame q.callers.items → a ≡ ahead.Made m step
     → p.code ≡ q.code → Moved step q.phase q.frame q.callers.items p.phase p.frame p.callers.items → made_by p ≡ min (made_by q + 1) (2 ^ 64 - 1)
     → marked t m v → rest + 1 ≡ left

@@ -7,7 +7,7 @@ use Rattle.interp.specs.declared.mark.Mark.TheVariants as mark
 use Rattle.interp.specs.declared.frame.Frame.{Frame}
 use Rattle.interp.specs.declared.frame.Phase.{Phase}
 use Rattle.interp.specs.declared.frame.Phase.TheVariants as phase
-use Rattle.interp.specs.declared.runner.ScriptRun.{ScriptRun}
+use Rattle.interp.specs.declared.runner.Runner.{Runner}
 use Rattle.interp.specs.Moves.{fresh}
 use Rattle.interp.specs.Trace.{Trace, finished, made, followed, times, action_trace, body_trace, body_of, method_trace, trace}
 
@@ -54,9 +54,9 @@ LeftIn bs phase.Running f callers t =
 LeftIn bs phase.Finished f callers t = t ≡ finished
 
 -- The runner, of the code of a checked script, has this left of its trace.
-abbrev pub Left : ScriptRun → Trace → Type 0
+abbrev pub Left : Runner → Trace → Type 0
 Left r t = (bs : List Body) × (r.code.now ≡ map routine bs) × AreChecked bs × LeftIn bs r.phase r.frame r.callers.items t
 
 -- How many marks the runner made.
-abbrev pub made_by : ScriptRun → ℕ
+abbrev pub made_by : Runner → ℕ
 made_by r = r.made

@@ -3,7 +3,7 @@ use Rattle.std.specs.Prelude.{◌≡◌, ℕ, ◌+◌, ◌-◌, ◌^◌, ◌<◌
 use Rattle.interp.specs.declared.mark.Mark.{Mark}
 use Rattle.interp.specs.declared.runner.Outcome.{Outcome}
 use Rattle.interp.specs.declared.runner.Outcome.TheVariants.{Finished, Overflow, OutOfFuel, Refused}
-use Rattle.interp.specs.declared.runner.ScriptRun.{ScriptRun}
+use Rattle.interp.specs.declared.runner.Runner.{Runner}
 use Rattle.interp.specs.Trace.{Trace, finished, overflowed, made, after}
 use Rattle.interp.specs.Chain.{Chain}
 use Rattle.interp.specs.Left.{Left, made_by}
@@ -15,7 +15,7 @@ IsEnd overflowed = ⊤
 IsEnd (made m t) = ⊥
 
 -- What a step answers: true once the first mark that is left is made, false where none is left, and what refused that mark. In the last two cases the runner is as before.
-abbrev pub Stepped : {S E : Type 0} → (S → Mark → S → Type 0) → (S → Mark → E → S → Type 0) → ScriptRun → S → Result Bool E → ScriptRun → S → Type 0
+abbrev pub Stepped : {S E : Type 0} → (S → Mark → S → Type 0) → (S → Mark → E → S → Type 0) → Runner → S → Result Bool E → Runner → S → Type 0
 Stepped marked refused r s (Ok true) q t = (w : Trace) → Left r w → (m : Mark) × (u : Trace) × (w ≡ made m u) × marked s m t × Left q u
 Stepped marked refused r s (Ok false) q t = (q ≡ r) × (t ≡ s) × ((w : Trace) → Left r w → IsEnd w)
 Stepped marked refused r s (Err e) q t = (q ≡ r) × ((w : Trace) → Left r w → (m : Mark) × (u : Trace) × (w ≡ made m u) × refused s m e t)
@@ -29,6 +29,6 @@ EndsSo {S} marked refused s ms u fuel (Refused e) t =
     (mid : S) × Chain marked s ms mid × (length ms < fuel) × ((m : Mark) × (v : Trace) × (u ≡ made m v) × refused mid m e t)
 
 -- What a run with so much fuel answers: it made some first marks of what was left, one unit of fuel each, and stopped for the reason that it gives. Where nothing is left it is finished or overflowed, whatever the fuel.
-abbrev pub Ran : {S E : Type 0} → (S → Mark → S → Type 0) → (S → Mark → E → S → Type 0) → ScriptRun → S → ℕ → Outcome E → ScriptRun → S → Type 0
+abbrev pub Ran : {S E : Type 0} → (S → Mark → S → Type 0) → (S → Mark → E → S → Type 0) → Runner → S → ℕ → Outcome E → Runner → S → Type 0
 Ran marked refused r s fuel o q t = (w : Trace) → Left r w →
     (ms : List Mark) × (u : Trace) × (w ≡ after ms u) × Left q u × (made_by q ≡ min (made_by r + length ms) (2 ^ 64 - 1)) × EndsSo marked refused s ms u fuel o t

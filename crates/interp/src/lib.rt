@@ -8,4 +8,4 @@ mod mark;
 mod runner;
 
 pub use mark::{Mark, Steps, Tape};
-pub use runner::{MAX_DEPTH, Outcome, ScriptRun};
+pub use runner::{MAX_DEPTH, Outcome, Runner};

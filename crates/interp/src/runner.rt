@@ -24,7 +24,7 @@ pub enum Outcome<E> {
 
 /// Runs checked code, one mark at a time.
 #[derive(Drop)]
-pub struct ScriptRun<'c> {
+pub struct Runner<'c> {
     code: &'c Code,
     phase: Phase,
     frame: Frame,
@@ -34,7 +34,7 @@ pub struct ScriptRun<'c> {
     ghost counted: { made < 2 ^ 64 },
 }
 
-impl<'c> ScriptRun<'c> {
+impl<'c> Runner<'c> {
     ghost use Rattle.interp.specs.Moves.{ahead_of, Fits, MoveFits, Moved};
     ghost use Rattle.std.specs.Prelude.{IfOk, map, List, if◌then◌else◌};
     ghost use Rattle.script.specs.Body.{Body};
@@ -46,11 +46,11 @@ impl<'c> ScriptRun<'c> {
 
     /// A runner that has the whole trace of a checked script left, whose code this is. All memory that it
     /// ever needs is taken here.
-    pub fn new(alloc: Global, code: &'c Code) -> Result<ScriptRun<'c>, AllocError>
+    pub fn new(alloc: Global, code: &'c Code) -> Result<Runner<'c>, AllocError>
         ensures left { IfOk result (λ r. (bs : List Body) → code.now ≡ map routine bs → AreChecked bs → Left r (trace bs)) }
         ensures made { IfOk result (λ r. made_by r ≡ 0) }
     {
-        Ok(ScriptRun {
+        Ok(Runner {
             code,
             phase: Phase::Fresh,
             frame: Frame::new(0),

@@ -7,7 +7,7 @@ use Rattle.std.proofs.Crossing.{crosses}
 use Rattle.bodies.specs.declared.name.Name as name
 use Rattle.operations.specs.declared.job.errands.Errand as errand
 use Rattle.bodies.proofs.body.Body.TheSendSync as body
-use Rattle.interp.proofs.runner.ScriptRun.TheSendSync as runner
+use Rattle.interp.proofs.runner.Runner.TheSendSync as runner
 use Rattle.thread_list.proofs.Crosses.{shared_crosses}
 use Rattle.thread_list.specs.contracts.mutator.Mutator as Mutator
 use Rattle.thread_list.specs.contracts.runner.Runner as ThreadRunner

@@ -5,7 +5,7 @@ use Rattle.script.specs.Body.{Body}
 use Rattle.script.specs.Checked.{AreChecked}
 use Rattle.script.specs.Layout.{routine}
 use Rattle.interp.specs.declared.mark.Mark.{Mark}
-use Rattle.interp.specs.declared.runner.ScriptRun.{ScriptRun}
+use Rattle.interp.specs.declared.runner.Runner.{Runner}
 use Rattle.interp.specs.declared.runner.Outcome.{Outcome}
 use Rattle.interp.specs.declared.runner.Outcome.TheVariants as outcome
 use Rattle.interp.specs.Trace.{Trace, finished, overflowed, made, after, method_trace, trace}
@@ -77,7 +77,7 @@ no_end overflowed (m, t, e) end = absurd (cc e)
 no_end (made m t) first end = end
 
 -- the first step makes the first mark
-first_step : (r q : ScriptRun) (s t : Working) (b : Bool) (w : Trace)
+first_step : (r q : Runner) (s t : Working) (b : Bool) (w : Trace)
     → HasFirst w → Left r w → Stepped Does Refuses r s (Ok b) q t → made_by r ≡ 0 → made_by q ≡ cond b (min (made_by r + 1) (2 ^ 64 - 1)) (made_by r)
     → (m : Mark) × (u : Trace) × (w ≡ made m u) × Does s m t × Left q u × (made_by q ≡ 1)
 first_step r q s t false w first left step none count = absurd (no_end w first (step.2 w left))
@@ -85,7 +85,7 @@ first_step r q s t true w first left step none count =
     let (m, u, is, does, rest) = step w left in
     (m, u, is, does, rest, count ∙ ap (λ (n : ℕ). min (n + 1) (2 ^ 64 - 1)) none)
 
-pub begun : (code : List (List Op)) (r q : ScriptRun) (s t : Working) (b : Bool)
+pub begun : (code : List (List Op)) (r q : Runner) (s t : Working) (b : Bool)
     → ((bs : List Body) → code ≡ map routine bs → AreChecked bs → Left r (trace bs)) → made_by r ≡ 0
     → Stepped Does Refuses r s (Ok b) q t → made_by q ≡ cond b (min (made_by r + 1) (2 ^ 64 - 1)) (made_by r) → s.compiled ≡ false
     → IsBegun code s.thread.name t q
@@ -100,7 +100,7 @@ one_before fuel m u (Ok ending) n e = ap one_more e
 one_before fuel m u (Err refused) n e = tt
 
 -- the other marks, from the first on
-pub reported : (code : List (List Op)) (name : ℕ) (r q : ScriptRun) (s t : Working) (o : Outcome Refused) (report : Reported)
+pub reported : (code : List (List Op)) (name : ℕ) (r q : Runner) (s t : Working) (o : Outcome Refused) (report : Reported)
     → IsBegun code name s r → Ran Does Refuses r s 999999 o q t
     → report.exited ≡ Exit t.thread.name → report.name ≡ name → report.ending ≡ ending_of o → report.made ≡ made_by q → report.compiled ≡ t.compiled → IsReport code report
 reported code name r q s t o report begins ran exited named ending made_all compiled = λ bs is checked.

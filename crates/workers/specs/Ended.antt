@@ -5,7 +5,7 @@ use Rattle.script.specs.Body.{Body}
 use Rattle.script.specs.Checked.{AreChecked}
 use Rattle.script.specs.Layout.{routine}
 use Rattle.interp.specs.declared.mark.Mark.{Mark}
-use Rattle.interp.specs.declared.runner.ScriptRun.{ScriptRun}
+use Rattle.interp.specs.declared.runner.Runner.{Runner}
 use Rattle.interp.specs.declared.runner.Outcome.{Outcome}
 use Rattle.interp.specs.declared.runner.Outcome.TheVariants as outcome
 use Rattle.interp.specs.Trace.{Trace, finished, overflowed, made, after, trace}
@@ -82,7 +82,7 @@ abbrev pub IsFirst : Mark → Working → Type 0
 IsFirst m w = (s : Working) × (s.compiled ≡ false) × Does s m w
 
 -- Where that is the code of a checked script, the worker, of the thread of that name, has made the first mark, and the runner has the others left.
-abbrev pub IsBegun : List (List Op) → ℕ → Working → ScriptRun → Type 0
+abbrev pub IsBegun : List (List Op) → ℕ → Working → Runner → Type 0
 IsBegun code name w r = (bs : List Body) → code ≡ map routine bs → AreChecked bs
     → (m : Mark) × (t : Trace) × (trace bs ≡ made m t) × (w.thread.name ≡ name) × Left r t × (made_by r ≡ 1) × IsFirst m w
 

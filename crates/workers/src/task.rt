@@ -7,7 +7,7 @@ use crate::gate::Gate;
 use crate::report::{Ending, Report};
 use crate::worker::{Refused, Worker};
 use bodies::Name;
-use interp::{Outcome, ScriptRun};
+use interp::{Outcome, Runner};
 use operations::job::Errand;
 use script::Code;
 use std::alloc::Global;
@@ -22,7 +22,7 @@ pub const FUEL: u64 = 1_000_000;
 pub struct Task<'a, N: Name, J: Errand, R, G> {
     code: &'a Code,
     name: u64,
-    runner: ScriptRun<'a>,
+    runner: Runner<'a>,
     worker: Worker<'a, N, J, R, G>,
 }
 
@@ -56,7 +56,7 @@ impl<'a, N: Name, J: Errand, R: Wait, G: Gate> Task<'a, N, J, R, G> {
     {
         let name = worker.name();
         let mut worker = worker;
-        let Ok(mut runner) = ScriptRun::new(alloc, code) else {
+        let Ok(mut runner) = Runner::new(alloc, code) else {
             return Err(BeginFault::NoMemory);
         };
         match runner.step(&mut worker) {

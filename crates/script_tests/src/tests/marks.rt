@@ -1,6 +1,6 @@
 // What no clause says of runs: that calls succeed, and that the trace's definition is the one that is meant.
 use super::{code_of, expect, text_of};
-use interp::{Mark, Outcome, ScriptRun, Steps, Tape};
+use interp::{Mark, Outcome, Runner, Steps, Tape};
 use script::Code;
 use std::alloc::Global;
 use std::process::Abort;
@@ -13,8 +13,8 @@ fn runnable(rt: &impl Abort, alloc: Global, text: &[u8]) -> Code {
     code
 }
 
-fn runner_of<'c>(rt: &impl Abort, alloc: Global, code: &'c Code) -> ScriptRun<'c> {
-    let Ok(runner) = ScriptRun::new(alloc, code) else {
+fn runner_of<'c>(rt: &impl Abort, alloc: Global, code: &'c Code) -> Runner<'c> {
+    let Ok(runner) = Runner::new(alloc, code) else {
         panic!(rt; "no runner");
     };
     runner
@@ -64,7 +64,7 @@ fn stepped(rt: &impl Abort, alloc: Global, code: &Code, marks: u64) -> String {
 fn endings(
     rt: &impl Abort,
     alloc: Global,
-    runner: &mut ScriptRun<'_>,
+    runner: &mut Runner<'_>,
     tape: &mut Tape,
     fuels: &str,
 ) -> String {
@@ -180,7 +180,7 @@ fn a_million_turns_take_a_million_fuel(rt: HostRuntime) -> Result<(), Fail> {
 }
 
 // After two marks the third is refused by a run, and by a step.
-fn refuse_third(rt: &impl Abort, runner: &mut ScriptRun<'_>) {
+fn refuse_third(rt: &impl Abort, runner: &mut Runner<'_>) {
     let mut steps = Patience { left: 2 };
     assert!(rt; matches!(runner.run(&mut steps, 9), Outcome::Refused(7)));
     assert!(rt; matches!(runner.step(&mut steps), Err(7)));

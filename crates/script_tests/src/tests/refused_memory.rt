@@ -2,7 +2,7 @@
 // run has made a beginning of its marks, and makes the others once memory is there again.
 use super::scripts::line_of;
 use super::{LOOP_OF_CALLS, code_of, expect};
-use interp::{Mark, Outcome, ScriptRun, Tape};
+use interp::{Mark, Outcome, Runner, Tape};
 use std::alloc::Global;
 use std::process::Abort;
 use std::test::Fail;
@@ -52,7 +52,7 @@ const MARKS_OF_TWO_TURNS: [Mark; 10] = [
 ];
 
 // How many marks were made where memory was refused; none where it wasn't, or before the run.
-fn refused_after(rt: &impl Abort, runner: &mut ScriptRun<'_>, tape: &mut Tape) -> Option<u64> {
+fn refused_after(rt: &impl Abort, runner: &mut Runner<'_>, tape: &mut Tape) -> Option<u64> {
     let refused = match runner.run(tape, 100) {
         Outcome::Finished => None,
         Outcome::Refused(_) => Some(runner.made()),
@@ -64,7 +64,7 @@ fn refused_after(rt: &impl Abort, runner: &mut ScriptRun<'_>, tape: &mut Tape) -
 }
 
 // What that came to. Once memory is there again, the run makes all of its marks.
-fn refused_and_finished(rt: &impl Abort, alloc: Global, runner: &mut ScriptRun<'_>) -> Option<u64> {
+fn refused_and_finished(rt: &impl Abort, alloc: Global, runner: &mut Runner<'_>) -> Option<u64> {
     let mut tape = Tape::new(alloc);
     let refused = refused_after(rt, runner, &mut tape);
     assert!(rt; matches!(runner.run(&mut tape, 100), Outcome::Finished));
@@ -75,7 +75,7 @@ fn refused_and_finished(rt: &impl Abort, alloc: Global, runner: &mut ScriptRun<'
 // None where memory was refused before the run.
 fn run_two_turns(rt: &impl Abort, alloc: Global) -> Option<Option<u64>> {
     let code = code_of(alloc, TWO_TURNS.as_bytes()).ok()?;
-    let mut runner = ScriptRun::new(alloc, &code).ok()?;
+    let mut runner = Runner::new(alloc, &code).ok()?;
     Some(refused_and_finished(rt, alloc, &mut runner))
 }
 

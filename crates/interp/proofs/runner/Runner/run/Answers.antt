@@ -1,6 +1,6 @@
 use Rattle.std.proofs.Common.{◌≡◌, ◌+◌, ◌-◌, ◌<◌, ◌≤◌, length, arith}
 use Rattle.interp.proofs.Goings.{finishes, overflows, marks, ran_next}
-use Rattle.interp.proofs.runner.ScriptRun.run.Goals as goal
+use Rattle.interp.proofs.runner.Runner.run.Goals as goal
 
 pub returns-in-Finished : goal.returns-in-Finished
 returns-in-Finished g c = λ w h.

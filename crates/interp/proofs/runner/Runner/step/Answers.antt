@@ -1,7 +1,7 @@
 use Rattle.std.proofs.Common.{refl, sym, subst}
 use Rattle.interp.specs.Stepped.{IsEnd}
 use Rattle.interp.proofs.Goings.{finishes, overflows, marks, moves}
-use Rattle.interp.proofs.runner.ScriptRun.step.Goals as goal
+use Rattle.interp.proofs.runner.Runner.step.Goals as goal
 
 pub returns-in-Finished-clause-stepped : goal.returns-in-Finished-clause-stepped
 returns-in-Finished-clause-stepped g c = (refl, refl, λ w h. subst IsEnd (sym (finishes c.args.self.now w c.ahead.result h c.ahead.ensures.value c.in-Finished.is)) tt)
