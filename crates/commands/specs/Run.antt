@@ -1,8 +1,7 @@
 -- What running a script comes to.
-use Rattle.std.specs.Prelude.{◌≡◌, ◌*◌, ◌-◌, ◌^◌, ℕ, min, List, Option, Result, Ok, Err, ⊤}
+use Rattle.std.specs.Prelude.{◌≡◌, ℕ, List, Option, Result, Ok, Err, ⊤}
 use Rattle.std.specs.Io.KnownBytes.{Appends}
 use Rattle.replay.specs.Known.{AppendsPart}
-use Rattle.thread_list.specs.Sized.{PartsSeen}
 use Rattle.script.specs.declared.code.Op.{Op}
 use Rattle.workers.specs.Summaries.{Summed, IsSummary, summary_text}
 use Rattle.commands.specs.declared.fault.Fault.{Fault}
@@ -18,10 +17,6 @@ IsNotRun WriteFailed = ⊥
 IsNotRun NoMemory = ⊤
 IsNotRun NoThread = ⊤
 IsNotRun Refused = ⊤
-
--- The parts of a run have a place for each thread, and two slots a method.
-abbrev pub HasSize : ℕ → ℕ → PartsSeen → Type 0
-HasSize threads methods p = (p.board.places ≡ threads) × (p.board.slots ≡ min (methods * 2) (2 ^ 64 - 1)) × (p.methods ≡ methods)
 
 -- The text of what a run of that code by so many threads came to.
 abbrev pub IsText : List (List Op) → ℕ → List ℕ → Type 0

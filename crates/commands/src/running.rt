@@ -3,7 +3,8 @@ ghost use Rattle.std.specs.Prelude.{◌≡◌, ◌≤◌, ◌<◌, All, length, 
 ghost use Rattle.operations.specs.Asks.{reply};
 ghost use Rattle.workers.specs.Jobs.{AreForEach};
 ghost use Rattle.workers.specs.Summaries.{summary_text};
-ghost use Rattle.commands.specs.Run.{IsNotRun, HasSize, IsText, Printed, FailedWrites};
+ghost use Rattle.workers.specs.Sizes.{HasSize};
+ghost use Rattle.commands.specs.Run.{IsNotRun, IsText, Printed, FailedWrites};
 
 use crate::fault::Fault;
 use bodies::Name;

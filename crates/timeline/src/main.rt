@@ -6,6 +6,7 @@
 use replay::device::{FromReader, IntoWriter};
 use run_picture::{Fault, draw_run, read_words};
 use std::env;
+use std::io::ErrorKind;
 use std::process::ExitCode;
 
 /// `timeline [--html] [--from N] [--to M]` reads lines on standard input, as `monitor replay` does, and writes an SVG picture of the
@@ -32,8 +33,10 @@ fn draw(rt: &HostRuntime) -> Result<(), Fault> {
 
 // The words behind the program's name.
 fn words(rt: &HostRuntime) -> Result<Vec<String>, Fault> {
-    let Ok(words) = env::args(rt) else {
-        return Err(Fault::BadWords);
+    let words = match env::args(rt) {
+        Ok(words) => words,
+        Err(error) if error.kind() == ErrorKind::OutOfMemory => return Err(Fault::NoMemory),
+        Err(_) => return Err(Fault::BadWords),
     };
     match words.skip(1).collect(rt.alloc()) {
         Ok(words) => Ok(words),

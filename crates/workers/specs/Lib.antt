@@ -3,3 +3,4 @@ pub mod Ended
 pub mod Summaries
 pub mod Replacing
 pub mod Jobs
+pub mod Sizes

@@ -3,6 +3,7 @@ ghost use Rattle.std.specs.Prelude.{◌≡◌, ◌≤◌, All, IfOk, length, vec
 ghost use Rattle.poll.specs.Rows.{full_armer};
 ghost use Rattle.workers.specs.Replacing.{InstallsEach};
 ghost use Rattle.workers.specs.Jobs.{AreForEach};
+ghost use Rattle.workers.specs.Sizes.{HasSize};
 ghost use Rattle.workers.specs.Summaries.{IsSummary};
 
 use crate::fault::RunFault;
@@ -22,7 +23,7 @@ use std::sync::Wait;
 use std::thread::{self, Scope, Threads};
 use thread_list::{Parts, Shared};
 
-/// Runs a script on so many threads of a system that is made of the parts, and meanwhile replaces the code of each method and tries
+/// Runs a script on so many threads of a system that is made of the parts: a place for each, and two slots a method. Meanwhile it replaces the code of each method and tries
 /// to reclaim the old one, with those jobs of one list a method that are for live threads: each list has a job for each thread by its
 /// name, from 1 on, that asks for its depth. No thread runs any more when it returns, also where it is refused.
 pub fn run<N: Name + Send, J: Errand + Send, R: Threads + Wait + Sync, G: Gate + Sync>(
@@ -35,6 +36,7 @@ pub fn run<N: Name + Send, J: Errand + Send, R: Threads + Wait + Sync, G: Gate +
     jobs: Vec<Vec<J>>,
 ) -> Result<Summary<N>, RunFault>
     requires tables { (parts.board ≡ N.board) × (parts.row ≡ N.poll_row) }
+    requires sizes { HasSize threads (length code.now) parts }
     requires jobs { length jobs.items ≡ length code.now }
     requires each { All (λ js. AreForEach J.whom J.asks threads js.items) jobs.items }
     ensures { IfOk result (IsSummary code.now threads) }

@@ -287,3 +287,33 @@ fn the_oldest_is_closed_past_a_later_one(rt: HostRuntime) -> Result<(), Fail> {
     play(&rt, rt.alloc(), 2, 4, 2, OLDEST)?;
     Ok(())
 }
+
+// What was opened, told and held by hand is driven to its end, and the held threads go on.
+const HELD_AND_DRIVEN: &str = "
+    start = 1
+    start = 2
+    to_native 1, to_native 2 = ok
+    submit depth of 1 2 = 1
+    open = 1
+    tell 1 = told
+    hold 0 = ok
+    drive = handshake 1
+    replies 1 = [(1, 0), (2, 0)]
+    release 0 = NotHeld
+
+    submit census = 2
+    open = 2
+    tell 1, tell 2 = told
+    hold 1 = ok
+    drive = (2, [])
+    release 1 = NotHeld
+
+    from_native 1, from_native 2 = go
+    exit 1, exit 2 = exited
+";
+
+#[test]
+fn a_drive_goes_on_with_what_is_held(rt: HostRuntime) -> Result<(), Fail> {
+    play(&rt, rt.alloc(), 2, 1, 1, HELD_AND_DRIVEN)?;
+    Ok(())
+}

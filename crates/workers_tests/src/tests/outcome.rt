@@ -2,6 +2,7 @@
 ghost use Rattle.std.specs.Prelude.{◌≡◌, All, length};
 ghost use Rattle.operations.specs.Asks.{reply};
 ghost use Rattle.workers.specs.Jobs.{AreForEach};
+ghost use Rattle.workers.specs.Sizes.{HasSize};
 
 use crate::tests::watch::Watch;
 use bodies::Name;
@@ -27,6 +28,7 @@ fn told<N: Name + Send, J: Errand + Send, R: Threads + Wait + Sync>(
     jobs: Vec<Vec<J>>,
 ) -> Result<String, Fail>
     requires tables { (parts.board ≡ N.board) × (parts.row ≡ N.poll_row) }
+    requires sizes { HasSize threads (length code.now) parts }
     requires jobs { length jobs.items ≡ length code.now }
     requires each { All (λ js. AreForEach J.whom J.asks threads js.items) jobs.items }
 {
