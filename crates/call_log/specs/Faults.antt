@@ -1,6 +1,5 @@
 -- What is wrong with a line.
-use Rattle.std.specs.Prelude.{ℕ, ◌+◌, ◌-◌, ◌%◌, ◌==◌, nat_lt, nat_le, Bool, true, false, not, ◌&&◌, ◌||◌, is_some, bytes_eq, length, drop, slice_index_or, List, [], ◌∷◌, Option, Some, None, if◌then◌else◌}
-use Rattle.call_log.specs.declared.word.Word.{Word}
+use Rattle.std.specs.Prelude.{ℕ, ◌+◌, ◌-◌, ◌%◌, ◌==◌, nat_lt, Bool, true, false, not, ◌&&◌, ◌||◌, is_some, length, drop, slice_index_or, List, Option, Some, None, if◌then◌else◌}
 use Rattle.call_log.specs.declared.word.Word.TheVariants as word
 use Rattle.call_log.specs.declared.tokens.Token.{Token}
 use Rattle.call_log.specs.declared.tokens.Token.TheVariants as token

@@ -1,6 +1,7 @@
 -- What is read of a text.
-use Rattle.std.specs.Prelude.{◌≡◌, ℕ, ◌+◌, ◌^◌, ◌<◌, ◌≤◌, ◌==◌, nat_lt, Bool, true, false, ◌&&◌, ◌||◌, bytes_eq, codes, length, take, drop, List, [], ◌∷◌, ◌++◌, Option, Some, None, if◌then◌else◌}
+use Rattle.std.specs.Prelude.{◌≡◌, ℕ, ◌+◌, ◌^◌, ◌<◌, ◌≤◌, nat_lt, Bool, true, false, ◌&&◌, ◌||◌, bytes_eq, codes, length, take, drop, List, ◌++◌, Option, Some, None, if◌then◌else◌}
 use Rattle.std.specs.Borrow.{Bor}
+use Rattle.std.specs.List.{All}
 use Rattle.call_log.specs.declared.tokens.Token.{Token}
 use Rattle.call_log.specs.declared.entry.Entry.{Entry}
 use Rattle.call_log.specs.declared.faults.Fault.{Fault}
@@ -27,6 +28,10 @@ abbrev pub IsFaultOf : List ℕ → LineFault → Type 0
 IsFaultOf line (of_line.Bad f) = fault_of line ≡ Some f
 IsFaultOf line of_line.NoMemory = Unit {0}
 
+-- A line that has no fault spells the call.
+abbrev pub IsCall : Entry → Type 0
+IsCall call = fault_of (line_text call) ≡ None
+
 -- The first line, and what stands behind its newline.
 abbrev pub cut : List ℕ → Option (List ℕ × List ℕ)
 cut bytes = if nat_lt (end_of bytes) (length bytes) then Some (take (end_of bytes) bytes, drop (end_of bytes + 1) bytes) else None
@@ -39,9 +44,10 @@ abbrev pub first_fault : Option (List ℕ × List ℕ) → Option Fault
 first_fault None = Some fault.Cut
 first_fault (Some parts) = fault_of parts.0
 
--- Calls stand before the line of this number, and the line has the fault.
+-- Lines of calls without a fault stand before the line of this number, and the line has the fault.
 pub record FaultAt (text : List ℕ) (number : ℕ) (wrong : Fault) : Type 0 where
   pub calls : List Entry
+  pub are_calls : All IsCall calls
   pub rest : List ℕ
   pub text_is : text ≡ calls_text calls ++ rest
   pub number_is : number ≡ length calls + 3
@@ -49,6 +55,7 @@ pub record FaultAt (text : List ℕ) (number : ℕ) (wrong : Fault) : Type 0 whe
 
 pub record HasTooMany (text : List ℕ) : Type 0 where
   pub calls : List Entry
+  pub are_calls : All IsCall calls
   pub rest : List ℕ
   pub text_is : text ≡ calls_text calls ++ rest
   pub many : 2 ^ 20 ≤ length calls

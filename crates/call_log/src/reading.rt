@@ -1,9 +1,10 @@
 //! How a log is read.
-ghost use Rattle.std.specs.Prelude.{◌≡◌, ◌++◌, ◌∷◌, false, IfOk, IfErr, IfSome, MatchOption};
+ghost use Rattle.std.specs.List.{All};
+ghost use Rattle.std.specs.Prelude.{◌≡◌, ◌++◌, ◌∷◌, false, None, IfOk, IfErr, IfSome, OnOk, MatchOption};
 ghost use Rattle.call_log.specs.Spelled.{line_text, calls_text};
 ghost use Rattle.call_log.specs.Entries.{entry_of};
 ghost use Rattle.call_log.specs.Tokens.{tokens_of};
-ghost use Rattle.call_log.specs.Reading.{IsFaultOf, cut, cut_seen, number_at, is_header, IsHeader, StandsIn, log_text, IsReadFault};
+ghost use Rattle.call_log.specs.Reading.{IsCall, fault_of, IsFaultOf, cut, cut_seen, number_at, is_header, IsHeader, StandsIn, log_text, IsReadFault};
 
 use crate::entry::{Entry, entry_of};
 use crate::faults::{Fault, line_fault};
@@ -42,6 +43,7 @@ enum LineFault {
 fn read_line(alloc: Global, line: &[u8]) -> Result<Entry, LineFault>
     ensures entry { IfOk result (λ entry. entry ≡ entry_of (tokens_of line.now)) }
     ensures spelled { IfOk result (λ entry. line.now ≡ line_text entry) }
+    ensures clean { OnOk result (fault_of line.now ≡ None) }
     ensures bad { IfErr result (IsFaultOf line.now) }
 {
     if line.len() > LONGEST {
@@ -84,6 +86,7 @@ fn cut(text: &[u8]) -> Option<(&[u8], &[u8])>
 /// The calls that the lines of the text spell, which begin with the third line.
 fn read_calls(alloc: Global, text: &[u8]) -> Result<Vec<Entry>, ReadFault>
     ensures calls { IfOk result (λ calls. text.now ≡ calls_text calls.items) }
+    ensures clean { IfOk result (λ calls. All IsCall calls.items) }
     ensures fault { IfErr result (StandsIn text.now) }
 {
     let mut calls = Vec::new(alloc);
@@ -154,9 +157,10 @@ fn read_header(alloc: Global, first: &[u8], second: &[u8]) -> Result<Option<Head
 }
 
 /// Reads a log: a header of two lines, and a line for each call, each with its newline. What is read is all that the text says: it is
-/// the text of the log.
+/// the text of the log, and no line of a call has a fault.
 pub fn read(alloc: Global, text: &[u8]) -> Result<Log, ReadFault>
     ensures log { IfOk result (λ log. text.now ≡ log_text log) }
+    ensures clean { IfOk result (λ log. All IsCall log.calls.items) }
     ensures fault { IfErr result (IsReadFault text.now) }
 {
     let Some((first, behind)) = cut(text) else {
