@@ -22,13 +22,13 @@ KINDS = {
 }
 REST = "all_else"
 # A crate whose checks take fewer minutes has no row.
-SHOWN = 3.0
+SHOWN = 4.0
 PAGE = pathlib.Path(__file__).resolve().parent.parent / "docs" / "project" / "MINUTES.md"
 HEAD = """# Where the minutes go
 
 This page says how long the checks of each crate take, in minutes of a processor. `tests/minutes.py table LOG .. > docs/project/MINUTES.md`
 makes it of logs that `make test` leaves in `out/minutes.log`. Each figure is the greatest of these: a run takes a check from an earlier one
-where it is kept. Crates below three minutes aren't shown. `make build` reads it to say how long it may still take.
+where it is kept. Crates below four minutes aren't shown. `make build` reads it to say how long it may still take.
 """
 
 

@@ -25,3 +25,4 @@ pub use poll::Armer;
 
 // What the calls of a system answer, and what shows that an entry of the history was made.
 pub use desk::{AskFault, CloseFault, CodeFault, NotLive, OpenFault, Receipt, Refused, StartFault};
+pub use method_table::table::{InstallFault, InvalidateFault};
