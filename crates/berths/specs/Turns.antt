@@ -19,7 +19,7 @@ pub record ComesOut {N J : Type 0} (number whom : J → ℕ) (asks : J → Ask) 
 
 -- A try of a turn with this body: it came out, or went in and is kept there, or didn't go in.
 abbrev pub TriesTurn : {N J : Type 0} → (J → ℕ) → (J → ℕ) → (J → Ask) → BodyView → Tried N J → Type 0
-TriesTurn number whom asks body (tried.CameOut out)
-    = (out.outing.given ≡ moved body Given) × ComesOut number whom asks body.name body.seat.place out
-TriesTurn number whom asks body (tried.Kept given) = given ≡ moved body Given
+TriesTurn number whom asks body (tried.CameOut out waiters)
+    = (out.outing.given ≡ moved body Given) × ComesOut number whom asks body.name body.seat.place out × (waiters.place ≡ body.seat.place)
+TriesTurn number whom asks body (tried.Kept given waiters) = (given ≡ moved body Given) × (waiters.place ≡ body.seat.place)
 TriesTurn number whom asks body (tried.Refused back) = back ≡ body

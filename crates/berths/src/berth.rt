@@ -1,5 +1,5 @@
 //! A berth: where a thread's body is while the thread doesn't own itself.
-ghost use Rattle.std.specs.Prelude.{◌≡◌, ◌≢◌, ◌⊎◌, ◌<◌, ◌^◌, [], false, OnOk, IfOk, IfErr, IfSome};
+ghost use Rattle.std.specs.Prelude.{◌≡◌, ◌≢◌, ◌⊎◌, ◌<◌, ◌^◌, ◌||◌, [], false, Ok, Some, OnOk, IfOk, IfErr, IfSome};
 ghost use Rattle.frames.specs.ImageView.{IsCounted};
 ghost use Rattle.berths.specs.Berths.{acted, moved};
 ghost use Rattle.berths.specs.Turns.{ComesOut, TriesTurn};
@@ -7,7 +7,10 @@ ghost use Rattle.berths.specs.Turns.{ComesOut, TriesTurn};
 use crate::due::Due;
 use crate::locking::locked;
 use crate::outgoing::{Outgoing, OutgoingSeat};
-use crate::room::{BerthAct, BerthReceipt, BodyAct, BodyReceipt, Outing, Room, SeatReceipt};
+use crate::room::{
+    BerthAct, BerthReceipt, BodyAct, BodyReceipt, CountsSleepers, Outing, Room, SeatReceipt,
+};
+use crate::waiters::Waiters;
 use board::Board;
 use bodies::{Body, Name};
 use operations::job::Errand;
@@ -23,8 +26,8 @@ const YIELDS: u32 = 32;
 // and the place of the next berth: more than a line of the cache before the room of that one.
 const APART: usize = 4;
 
-/// A room under a lock, and a bell that rings for those that wait for a change of it. Each call but `wake` takes this lock, and none
-/// another, and answers the receipt of what it did there, or what came out. Contracts see the place that it was made for.
+/// A room under a lock, and a bell that rings for those that wait for a change of it. Each call takes this lock, and none another, and
+/// answers the receipt of what it did there, or what came out. Contracts see the place that it was made for.
 ///
 /// `give`, `turn`, `release_quietly`, `bring` and `resume` try once in line, and only their further tries are a call: the first nearly
 /// always succeeds, and what a call of the loop answers would go through memory.
@@ -58,11 +61,83 @@ pub struct CameOut<N: Name, J: Errand> {
 
 // What one try of a turn comes to.
 enum Tried<N: Name, J: Errand> {
-    CameOut(CameOut<N, J>),
+    CameOut(CameOut<N, J>, Waiters<N>),
     // The body went in, and a census keeps it.
-    Kept(BodyReceipt<N>),
+    Kept(BodyReceipt<N>, Waiters<N>),
     // It didn't go in.
     Refused(Body<N>),
+}
+
+// The body that its thread gave comes out of the room of this place to serve, where it is there and no census keeps it.
+#[inline(always)]
+fn come_out<N: Name, J: Errand>(
+    room: &mut Room<N, J>,
+    place: usize,
+    given: BodyReceipt<N>,
+) -> Result<(CameOut<N, J>, Waiters<N>), BodyReceipt<N>>
+    requires { room.old.place ≡ place }
+    ensures given { IfOk result (λ r. r.0.outing.given ≡ given) }
+    ensures out { IfOk result (λ r. ComesOut J.number J.whom J.asks given.body.name place r.0) }
+    ensures waiters { IfOk result (λ r. r.1.place ≡ place) }
+    ensures err { IfErr result (λ g. g ≡ given) }
+    ensures same { room.new.place ≡ place }
+{
+    let (body, told, outing) = room.serve(given)?;
+    let out = CameOut {
+        body,
+        told,
+        outing,
+        changed: false,
+    };
+    Ok((out, room.waiters()))
+}
+
+// Tries further, after a try that failed: other threads run before each.
+#[inline(never)]
+fn tried_further<R: Wait, B, T, F: Fn(B) -> Result<T, B>>(rt: &R, back: B, attempt: F) -> T
+    requires callable { F.pre attempt back }
+    requires same { (r : _) → F.post attempt back r → IfErr r (λ b. b ≡ back) }
+    ensures { F.post attempt back (Ok result) }
+{
+    let mut back = back;
+    for _ in rt.forever() {
+        thread::yield_now();
+        match attempt(back) {
+            Ok(done) => return done,
+            Err(again) => back = again,
+        }
+    }
+    unreachable!()
+}
+
+// Sleeps until the bell rings. It notes itself under the lock that it gives up, so no ring from then on is missed.
+fn sleep<R: Wait, V: CountsSleepers>(rt: &R, bell: &Condvar, value: MutexGuard<'_, V>) {
+    let mut value = value;
+    value.note_sleeper(true);
+    let mut value = bell.wait(rt, value);
+    value.note_sleeper(false);
+}
+
+// Looks under the lock until the look finds something, and sleeps before each further one. It looks under the lock under which it
+// notes itself, so no change is missed.
+#[inline(never)]
+fn awaited<R: Wait, V: CountsSleepers, T, F: Fn(&mut V) -> Option<T>>(
+    rt: &R,
+    mutex: &Mutex<V>,
+    bell: &Condvar,
+    look: F,
+) -> T
+    requires { F.IsAlwaysCallable look }
+    ensures { (before : _) × (after : _) × F.post look before (Some result) after }
+{
+    for _ in rt.forever() {
+        let mut value = mutex.lock(rt);
+        if let Some(found) = look(&mut value) {
+            return found;
+        }
+        sleep(rt, bell, value);
+    }
+    unreachable!()
 }
 
 impl<N: Name, J: Errand> Berth<N, J> {
@@ -84,34 +159,32 @@ impl<N: Name, J: Errand> Berth<N, J> {
         &self.room
     }
 
-    // Wakes those that wait for a change, where there are any.
+    // Wakes those that wait for a change, where there are any, and answers whether there are.
     #[inline(always)]
-    fn ring(&self, wanted: bool) {
+    pub(crate) fn ring(&self, waiters: Waiters<N>) -> bool
+        ensures { result ≡ waiters.waits }
+    {
+        let wanted = waiters.told();
         if wanted {
             self.bell.notify_all();
         }
-    }
-
-    // Sleeps until the bell rings. It notes itself under the lock that it gives up, so no ring from then on is missed.
-    fn sleep<R: Wait>(&self, rt: &R, room: MutexGuard<'_, Room<N, J>>) {
-        let mut room = room;
-        room.note_sleeper(true);
-        let mut room = self.bell.wait(rt, room);
-        room.note_sleeper(false);
+        wanted
     }
 
     #[inline(always)]
-    fn try_give<R: Wait>(&self, rt: &R, body: Body<N>) -> Result<BodyReceipt<N>, Body<N>>
+    fn try_give<R: Wait>(
+        &self,
+        rt: &R,
+        body: Body<N>,
+    ) -> Result<(BodyReceipt<N>, Waiters<N>), Body<N>>
         requires body { (body.seat.stored ≢ 0) × (0 < body.name) }
-        ensures ok { IfOk result (λ r. r ≡ moved body BodyAct.Given) }
+        ensures ok { IfOk result (λ r. r.0 ≡ moved body BodyAct.Given) }
+        ensures waiters { IfOk result (λ r. r.1.place ≡ body.seat.place) }
         ensures err { IfErr result (λ b. b ≡ body) }
     {
         let mut room = locked(&self.room, rt);
         let receipt = room.give(body)?;
-        let wanted = room.has_sleepers();
-        drop(room);
-        self.ring(wanted);
-        Ok(receipt)
+        Ok((receipt, room.waiters()))
     }
 
     /// The body goes in.
@@ -120,40 +193,27 @@ impl<N: Name, J: Errand> Berth<N, J> {
         requires body { (body.seat.stored ≢ 0) × (0 < body.name) }
         ensures { result ≡ moved body BodyAct.Given }
     {
-        match self.try_give(rt, body) {
-            Ok(receipt) => receipt,
-            Err(back) => self.give_again(rt, back),
-        }
+        let (receipt, waiters) = match self.try_give(rt, body) {
+            Ok(given) => given,
+            Err(back) => tried_further(rt, back, |body| self.try_give(rt, body)),
+        };
+        self.ring(waiters);
+        receipt
     }
 
-    // Tries further, after a try that failed: other threads run before each.
-    #[inline(never)]
-    fn give_again<R: Wait>(&self, rt: &R, body: Body<N>) -> BodyReceipt<N>
+    fn try_move_in<R: Wait>(
+        &self,
+        rt: &R,
+        body: Body<N>,
+    ) -> Result<(BodyReceipt<N>, Waiters<N>), Body<N>>
         requires body { (body.seat.stored ≢ 0) × (0 < body.name) }
-        ensures { result ≡ moved body BodyAct.Given }
-    {
-        let mut body = body;
-        for _ in rt.forever() {
-            thread::yield_now();
-            match self.try_give(rt, body) {
-                Ok(receipt) => return receipt,
-                Err(back) => body = back,
-            }
-        }
-        unreachable!()
-    }
-
-    fn try_move_in<R: Wait>(&self, rt: &R, body: Body<N>) -> Result<BodyReceipt<N>, Body<N>>
-        requires body { (body.seat.stored ≢ 0) × (0 < body.name) }
-        ensures ok { IfOk result (λ r. r ≡ moved body BodyAct.MovedIn) }
+        ensures ok { IfOk result (λ r. r.0 ≡ moved body BodyAct.MovedIn) }
+        ensures waiters { IfOk result (λ r. r.1.place ≡ body.seat.place) }
         ensures err { IfErr result (λ b. b ≡ body) }
     {
         let mut room = self.room.lock(rt);
         let receipt = room.move_in(body)?;
-        let wanted = room.has_sleepers();
-        drop(room);
-        self.ring(wanted);
-        Ok(receipt)
+        Ok((receipt, room.waiters()))
     }
 
     /// Name and body of a thread that starts go in.
@@ -161,15 +221,12 @@ impl<N: Name, J: Errand> Berth<N, J> {
         requires body { (body.seat.stored ≢ 0) × (0 < body.name) }
         ensures { result ≡ moved body BodyAct.MovedIn }
     {
-        let mut body = body;
-        for _ in rt.forever() {
-            match self.try_move_in(rt, body) {
-                Ok(receipt) => return receipt,
-                Err(back) => body = back,
-            }
-            thread::yield_now();
-        }
-        unreachable!()
+        let (receipt, waiters) = match self.try_move_in(rt, body) {
+            Ok(moved_in) => moved_in,
+            Err(back) => tried_further(rt, back, |body| self.try_move_in(rt, body)),
+        };
+        self.ring(waiters);
+        receipt
     }
 
     #[inline(always)]
@@ -178,15 +235,15 @@ impl<N: Name, J: Errand> Berth<N, J> {
         rt: &R,
         body: Body<N>,
         operated: bool,
-    ) -> Result<(BodyReceipt<N>, bool), Body<N>>
+    ) -> Result<(BodyReceipt<N>, Waiters<N>), Body<N>>
         requires body { (body.seat.stored ≢ 0) × (0 < body.name) }
         ensures ok { IfOk result (λ r. r.0 ≡ moved body (BodyAct.Released operated)) }
+        ensures waiters { IfOk result (λ r. r.1.place ≡ body.seat.place) }
         ensures err { IfErr result (λ b. b ≡ body) }
     {
         let mut room = locked(&self.room, rt);
         let receipt = room.release(body, operated)?;
-        let wanted = room.has_sleepers();
-        Ok((receipt, wanted))
+        Ok((receipt, room.waiters()))
     }
 
     /// A held body goes back. Where a census was operated over it, nothing keeps the thread any more.
@@ -195,53 +252,27 @@ impl<N: Name, J: Errand> Berth<N, J> {
         requires body { (body.seat.stored ≢ 0) × (0 < body.name) }
         ensures { result ≡ moved body (BodyAct.Released operated) }
     {
-        let (receipt, wanted) = self.release_quietly(rt, body, operated);
-        self.ring(wanted);
+        let (receipt, waiters) = self.release_quietly(rt, body, operated);
+        self.ring(waiters);
         receipt
     }
 
-    /// A held body goes back, and nobody is woken. Answers also whether one waits, whom [`wake`](Berth::wake) wakes then.
+    /// A held body goes back, and nobody is woken. Answers also those that wait, who are woken later ([`Unwoken`](crate::Unwoken)).
     #[inline(always)]
     pub fn release_quietly<R: Wait>(
         &self,
         rt: &R,
         body: Body<N>,
         operated: bool,
-    ) -> (BodyReceipt<N>, bool)
+    ) -> (BodyReceipt<N>, Waiters<N>)
         requires body { (body.seat.stored ≢ 0) × (0 < body.name) }
-        ensures { result.0 ≡ moved body (BodyAct.Released operated) }
+        ensures released { result.0 ≡ moved body (BodyAct.Released operated) }
+        ensures waiters { result.1.place ≡ body.seat.place }
     {
         match self.try_release(rt, body, operated) {
             Ok(released) => released,
-            Err(back) => self.release_again(rt, back, operated),
+            Err(back) => tried_further(rt, back, |body| self.try_release(rt, body, operated)),
         }
-    }
-
-    // Tries further, after a try that failed: other threads run before each.
-    #[inline(never)]
-    fn release_again<R: Wait>(
-        &self,
-        rt: &R,
-        body: Body<N>,
-        operated: bool,
-    ) -> (BodyReceipt<N>, bool)
-        requires body { (body.seat.stored ≢ 0) × (0 < body.name) }
-        ensures { result.0 ≡ moved body (BodyAct.Released operated) }
-    {
-        let mut body = body;
-        for _ in rt.forever() {
-            thread::yield_now();
-            match self.try_release(rt, body, operated) {
-                Ok(released) => return released,
-                Err(back) => body = back,
-            }
-        }
-        unreachable!()
-    }
-
-    /// Wakes those that wait for a change.
-    pub fn wake(&self) {
-        self.bell.notify_all();
     }
 
     // The error of a try is the body alone, where the berth doesn't take it.
@@ -250,10 +281,11 @@ impl<N: Name, J: Errand> Berth<N, J> {
         &self,
         rt: &R,
         body: Body<N>,
-    ) -> Result<Result<BodyReceipt<N>, (Outgoing<N>, Due<J>)>, Body<N>>
+    ) -> Result<Result<(BodyReceipt<N>, Waiters<N>), (Outgoing<N>, Due<J>)>, Body<N>>
         requires body { (body.seat.stored ≢ 0) × (0 < body.name) }
-        ensures ok { IfOk result (λ r. IfOk r (λ back. back
+        ensures ok { IfOk result (λ r. IfOk r (λ back. back.0
             ≡ moved body (BodyAct.Released false))) }
+        ensures waiters { IfOk result (λ r. IfOk r (λ back. back.1.place ≡ body.seat.place)) }
         ensures told { IfOk result (λ r. IfErr r (λ t. (t.0 ≡ body) × (J.whom t.1 ≡ body.name)
             × (0 < J.number t.1))) }
         ensures err { IfErr result (λ b. b ≡ body) }
@@ -263,10 +295,7 @@ impl<N: Name, J: Errand> Berth<N, J> {
             return Ok(Err((Outgoing::of(body), job)));
         }
         let receipt = room.release(body, false)?;
-        let wanted = room.has_sleepers();
-        drop(room);
-        self.ring(wanted);
-        Ok(Ok(receipt))
+        Ok(Ok((receipt, room.waiters())))
     }
 
     /// A body that was taken out to serve goes back. Where its thread was told more meanwhile it doesn't, and comes back with the oldest
@@ -282,33 +311,13 @@ impl<N: Name, J: Errand> Berth<N, J> {
         ensures told { IfErr result (λ r. (r.0 ≡ body) × (J.whom r.1 ≡ body.name)
             × (0 < J.number r.1)) }
     {
-        match self.try_bring(rt, body) {
+        let brought = match self.try_bring(rt, body) {
             Ok(brought) => brought,
-            Err(back) => self.bring_again(rt, back),
-        }
-    }
-
-    // Tries further, after a try that failed: other threads run before each.
-    #[inline(never)]
-    fn bring_again<R: Wait>(
-        &self,
-        rt: &R,
-        body: Body<N>,
-    ) -> Result<BodyReceipt<N>, (Outgoing<N>, Due<J>)>
-        requires body { (body.seat.stored ≢ 0) × (0 < body.name) }
-        ensures ok { IfOk result (λ r. r ≡ moved body (BodyAct.Released false)) }
-        ensures told { IfErr result (λ r. (r.0 ≡ body) × (J.whom r.1 ≡ body.name)
-            × (0 < J.number r.1)) }
-    {
-        let mut body = body;
-        for _ in rt.forever() {
-            thread::yield_now();
-            match self.try_bring(rt, body) {
-                Ok(brought) => return brought,
-                Err(back) => body = back,
-            }
-        }
-        unreachable!()
+            Err(back) => tried_further(rt, back, |body| self.try_bring(rt, body)),
+        };
+        let (receipt, waiters) = brought?;
+        self.ring(waiters);
+        Ok(receipt)
     }
 
     /// The seat and the poller come out for a thread that starts in this place, once no thread has them.
@@ -371,14 +380,12 @@ impl<N: Name, J: Errand> Berth<N, J> {
             × (result.0.seat.stored ≢ 0) }
         ensures held { result.1 ≡ moved result.0 BodyAct.Held }
     {
-        for _ in rt.forever() {
-            let mut room = self.room.lock(rt);
-            if let Ok(held) = room.take(name, place) {
-                return held;
-            }
-            self.sleep(rt, room);
-        }
-        unreachable!()
+        awaited(
+            rt,
+            &self.room,
+            &self.bell,
+            |room| room.take(name, place).ok(),
+        )
     }
 
     #[inline(always)]
@@ -404,31 +411,8 @@ impl<N: Name, J: Errand> Berth<N, J> {
     {
         match self.try_resume(rt, name, place) {
             Some(resumed) => resumed,
-            None => self.await_resume(rt, name, place),
+            None => awaited(rt, &self.room, &self.bell, |room| room.resume(name, place)),
         }
-    }
-
-    // Sleeps until the bell rings, after a try that failed. It looks once more under the lock under which it notes itself, so that a
-    // change since that try isn't missed.
-    #[inline(never)]
-    fn await_resume<R: Wait>(
-        &self,
-        rt: &R,
-        name: u64,
-        place: usize,
-    ) -> (Outgoing<N>, BodyReceipt<N>)
-        ensures body { (result.0.name ≡ name) × (0 < result.0.name) × (result.0.seat.place ≡ place)
-            × (result.0.seat.stored ≢ 0) }
-        ensures resumed { result.1 ≡ moved result.0 BodyAct.Resumed }
-    {
-        for _ in rt.forever() {
-            let mut room = self.room.lock(rt);
-            if let Some(resumed) = room.resume(name, place) {
-                return resumed;
-            }
-            self.sleep(rt, room);
-        }
-        unreachable!()
     }
 
     // One try: it goes in and comes out under one hold of the lock, where no census keeps it.
@@ -437,26 +421,15 @@ impl<N: Name, J: Errand> Berth<N, J> {
         requires body { (body.seat.stored ≢ 0) × (0 < body.name) }
         ensures { TriesTurn J.number J.whom J.asks body result }
     {
+        let place = body.place();
         let mut room = locked(&self.room, rt);
-        if room.place() != body.place() {
-            return Tried::Refused(body);
-        }
         let given = match room.give(body) {
             Ok(given) => given,
             Err(back) => return Tried::Refused(back),
         };
-        let served = room.serve(given);
-        let changed = room.has_sleepers();
-        drop(room);
-        self.ring(changed);
-        match served {
-            Ok((body, told, outing)) => Tried::CameOut(CameOut {
-                body,
-                told,
-                outing,
-                changed,
-            }),
-            Err(given) => Tried::Kept(given),
+        match come_out(&mut room, place, given) {
+            Ok((out, waiters)) => Tried::CameOut(out, waiters),
+            Err(given) => Tried::Kept(given, room.waiters()),
         }
     }
 
@@ -470,13 +443,28 @@ impl<N: Name, J: Errand> Berth<N, J> {
     {
         let place = body.place();
         match self.try_turn(rt, body) {
-            Tried::CameOut(out) => out,
-            Tried::Kept(given) => self.serve(rt, place, given),
+            Tried::CameOut(out, waiters) => self.tell_out(out, waiters),
+            Tried::Kept(given, waiters) => {
+                self.ring(waiters);
+                self.serve(rt, place, given)
+            }
             Tried::Refused(back) => {
-                let given = self.give_again(rt, back);
+                let given = self.give(rt, back);
                 self.serve(rt, place, given)
             }
         }
+    }
+
+    // Wakes those that wait where a body came out.
+    #[inline(always)]
+    fn tell_out(&self, out: CameOut<N, J>, waiters: Waiters<N>) -> CameOut<N, J>
+        ensures { result ≡ record out { changed = out.changed || waiters.waits } }
+    {
+        let mut out = out;
+        if self.ring(waiters) {
+            out.changed = true;
+        }
+        out
     }
 
     // Takes the body that its thread gave out again, once it is here and no census keeps it, with its oldest job: yields between its first
@@ -492,17 +480,11 @@ impl<N: Name, J: Errand> Berth<N, J> {
         for _ in rt.forever() {
             let mut room = locked(&self.room, rt);
             if room.place() == place {
-                match room.serve(given) {
-                    Ok((body, told, outing)) => {
-                        let wanted = room.has_sleepers();
+                match come_out(&mut room, place, given) {
+                    Ok((mut out, waiters)) => {
                         drop(room);
-                        self.ring(wanted);
-                        return CameOut {
-                            body,
-                            told,
-                            outing,
-                            changed: slept || wanted,
-                        };
+                        out.changed = slept;
+                        return self.tell_out(out, waiters);
                     }
                     Err(back) => given = back,
                 }
@@ -513,23 +495,24 @@ impl<N: Name, J: Errand> Berth<N, J> {
                 thread::yield_now();
                 continue;
             }
-            self.sleep(rt, room);
+            sleep(rt, &self.bell, room);
             slept = true;
         }
         unreachable!()
     }
 
-    /// Waits until the thread of the name has brought its body, or has come for what it was told up to the number. Answers whether its
-    /// body is here.
-    pub fn wait_for<R: Wait>(&self, rt: &R, name: u64, number: u64) -> bool {
-        for _ in rt.forever() {
-            let room = self.room.lock(rt);
-            if !room.awaits(name, number) {
-                return room.has_body(name);
-            }
-            self.sleep(rt, room);
-        }
-        unreachable!()
+    /// Waits until the thread of the name has brought its body, or has come for what it was told up to the number. Answers the receipt
+    /// that its body is here, or that it isn't and none of these jobs waits for it.
+    pub fn wait_for<R: Wait>(&self, rt: &R, name: u64, place: usize, number: u64) -> BerthReceipt<N>
+        ensures { (result ≡ acted place name BerthAct.Here)
+            ⊎ (result ≡ acted place name (BerthAct.DoneUpTo number)) }
+    {
+        awaited(
+            rt,
+            &self.room,
+            &self.bell,
+            |room| room.came(name, place, number),
+        )
     }
 
     /// The oldest job that was told to a thread whose body is out; the error is the receipt that there was none.
@@ -538,6 +521,23 @@ impl<N: Name, J: Errand> Berth<N, J> {
         ensures no_job { IfErr result (λ r. (r.name ≡ name) × (r.act ≡ BerthAct.NoJob)) }
     {
         self.room.lock(rt).job(name)
+    }
+
+    fn try_exit<R: Wait>(
+        &self,
+        rt: &R,
+        body: Body<N>,
+        board: &Board,
+    ) -> Result<(BodyReceipt<N>, Waiters<N>), Body<N>>
+        requires board { board.now ≡ N.board }
+        requires empty { (body.image.frames ≡ []) × IsCounted body.image }
+        ensures ok { IfOk result (λ r. r.0 ≡ moved body BodyAct.Vacated) }
+        ensures waiters { IfOk result (λ r. r.1.place ≡ body.seat.place) }
+        ensures err { IfErr result (λ b. b ≡ body) }
+    {
+        let mut room = self.room.lock(rt);
+        let receipt = room.exit(body, board)?;
+        Ok((receipt, room.waiters()))
     }
 
     /// The name is taken off and the place is given up. The body comes back where something is told to it.
@@ -552,11 +552,8 @@ impl<N: Name, J: Errand> Berth<N, J> {
         ensures ok { IfOk result (λ r. r ≡ moved body BodyAct.Vacated) }
         ensures err { IfErr result (λ b. b ≡ body) }
     {
-        let mut room = self.room.lock(rt);
-        let receipt = room.exit(body, board)?;
-        let wanted = room.has_sleepers();
-        drop(room);
-        self.ring(wanted);
+        let (receipt, waiters) = self.try_exit(rt, body, board)?;
+        self.ring(waiters);
         Ok(receipt)
     }
 }

@@ -4,8 +4,9 @@
 //!
 //! A room takes a body, or gives it, by name and place alone, and answers each time with a receipt that only it can make. What was told
 //! to a thread leaves its room as a job that has to be run or handed on (`Due`), and what it answers has to be entered (`Answered`). A body
-//! comes out as one that has to be taken in hand (`Outgoing`), and a seat as one that has to get a body (`OutgoingSeat`). Each call of a
-//! `Berth` takes the lock of its room once in each try, and no other.
+//! comes out as one that has to be taken in hand (`Outgoing`), and a seat as one that has to get a body (`OutgoingSeat`). Whoever changes a
+//! berth gets those that wait there (`Waiters`), to wake them at once or later (`Unwoken`). Each call of a `Berth` takes the lock of its
+//! room once in each try, and no other.
 #![tactic(auto)]
 
 mod berth;
@@ -14,6 +15,7 @@ mod jobs;
 mod locking;
 mod outgoing;
 mod room;
+mod waiters;
 
 pub use berth::{Berth, CameOut};
 pub use due::{Answered, Due, Recorder};
@@ -22,3 +24,4 @@ pub use outgoing::{Hand, Outgoing, OutgoingSeat};
 pub use room::{
     BerthAct, BerthReceipt, BodyAct, BodyReceipt, Holder, JOBS, Outing, Room, SeatReceipt, ToldJob,
 };
+pub use waiters::{Unwoken, Waiters};
