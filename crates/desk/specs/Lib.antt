@@ -16,3 +16,5 @@ pub mod Forgotten
 pub mod Pending
 pub mod Finishing
 pub mod Weighings
+pub mod Closings
+pub mod Operatings

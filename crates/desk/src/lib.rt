@@ -7,6 +7,7 @@
 #![tactic(auto)]
 
 mod asking;
+mod closing;
 mod codes;
 mod desk;
 mod entries;
@@ -31,6 +32,7 @@ mod targets;
 mod threads;
 mod weighing;
 
+pub use closing::Closing;
 pub use desk::Desk;
 pub use entries::{Entry, Live, Progress, Standing, Target};
 pub use faults::{
@@ -40,4 +42,5 @@ pub use faults::{
 pub use finished::Finished;
 pub use law::{at_most_once, live_names_rise};
 pub use log::Receipt;
+pub use operating::Operating;
 pub use weighing::Weighing;

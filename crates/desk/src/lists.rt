@@ -5,8 +5,8 @@ ghost use Rattle.operations.specs.Names.{among, is_distinct};
 ghost use Rattle.operations.specs.Requests.{is_census, are_targets};
 ghost use Rattle.desk.specs.declared.entries.Opened.{Opened as OpenedOf};
 ghost use Rattle.desk.specs.declared.entries.Live.{Live as LiveOf};
-ghost use Rattle.desk.specs.Machine.{names_of, is_live, is_taken, without, has_census, awaits_census, may_open_more, may_close, finished, as_operated, is_due, is_least, steps_of};
-ghost use Rattle.desk.specs.Refusals.{has_body, are_all, chosen, holds_target};
+ghost use Rattle.desk.specs.Machine.{Current as CurrentOf, names_of, is_live, is_taken, without, has_census, awaits_census, may_open_more, may_close, finished, as_operated, is_due, is_least, steps_of};
+ghost use Rattle.desk.specs.Refusals.{has_body, are_all, chosen, oldest_of, holds_target};
 ghost use Rattle.desk.specs.Pending.{first_waiting, least_open};
 ghost use Rattle.desk.specs.JobsFit.{same_ask, asks_it, are_for, jobs_fit, request_of, without_first};
 ghost use Rattle.desk.specs.Fields.{asked_of, current_of, names_left, IsIndex};
@@ -236,6 +236,17 @@ pub fn place_chosen<J>(opened: &[Opened<J>], number: Option<u64>) -> Option<usiz
         None if opened.is_empty() => None,
         None => Some(0),
     }
+}
+
+/// The number of the oldest open request.
+#[inline(always)]
+pub fn number_of_oldest<J>(opened: &[Opened<J>]) -> u64
+    requires { 0 < length opened.now }
+    ensures { (c : CurrentOf)
+        × (oldest_of (map current_of opened.now) ≡ Some c)
+        × (result ≡ c.number) }
+{
+    opened[0].number
 }
 
 /// Whether a body is of a target of the request.

@@ -1,15 +1,19 @@
 //! Requests are opened and closed.
 ghost use Rattle.std.specs.Prelude.{◌≡◌, ◌+◌, length, false, Some, None, IfOk, IfErr, OnOk, map};
+ghost use Rattle.operations.specs.Requests.{kind_of};
 ghost use Rattle.desk.specs.Machine.{Current as CurrentOf, steps_of};
-ghost use Rattle.desk.specs.Refusals.{open_refused, close_refused, chosen, holds_target};
+ghost use Rattle.desk.specs.Refusals.{open_refused, close_refused, chosen, oldest_of, holds_target};
 ghost use Rattle.desk.specs.Fields.{at, Enters};
-ghost use Rattle.desk.specs.Targets.{open_kind};
+ghost use Rattle.desk.specs.Targets.{number_of, open_kind};
 ghost use Rattle.desk.specs.JobsFit.{left_of, jobs_closed, jobs_opened};
 
+use crate::closing::Closing;
 use crate::desk::Desk;
 use crate::entries::{Carried, Entry, Opened};
 use crate::faults::{CloseFault, OpenFault};
-use crate::lists::{holds_target, is_census, may_close, may_open_more, place_chosen, steps_of};
+use crate::lists::{
+    holds_target, is_census, may_close, may_open_more, number_of_oldest, place_chosen, steps_of,
+};
 use crate::log::Receipt;
 use crate::names::Awaited;
 use bodies::{Body, Name};
@@ -55,19 +59,24 @@ impl<N: Name, J: Errand> Desk<N, J> {
     }
 
     /// Closes the open request of the number, or without one the oldest, and gives back its jobs that were not taken. The bodies are
-    /// those that are held.
+    /// those that are held. The receipt shows the kind of the request, and the number of the oldest that was open.
     pub fn close(
         &mut self,
         number: Option<u64>,
         held: &[Body<N>],
-    ) -> Result<(u64, Vec<J>, Receipt<N>), CloseFault>
-        ensures ok { IfOk result (λ r. Enters self.old self.new (Entry.Close r.0) r.2) }
+    ) -> Result<(u64, Vec<J>, Closing<N>), CloseFault>
+        ensures ok { IfOk result (λ r. Enters self.old self.new (Entry.Close r.0) r.2.stands) }
         ensures chosen { IfOk result (λ r.
             (c : CurrentOf)
             × (chosen number (at self.old).opened ≡ Some c)
             × (r.0 ≡ c.number)
+            × (r.2.kind ≡ kind_of c.request)
             × (holds_target c.request held.now ≡ false)
             × (self.new.book.reserved + (1 + c.left) ≡ self.old.book.reserved)) }
+        ensures oldest { IfOk result (λ r.
+            (c : CurrentOf)
+            × (oldest_of (at self.old).opened ≡ Some c)
+            × (r.2.oldest ≡ c.number)) }
         ensures keeper { OnOk result (self.new.keeper ≡ self.old.keeper) }
         ensures handed_back { IfOk result (λ r. map J.whom r.1.items ≡ left_of r.0 self.old.jobs) }
         ensures jobs { IfOk result (λ r. self.new.jobs ≡ jobs_closed r.0 self.old.jobs) }
@@ -86,9 +95,10 @@ impl<N: Name, J: Errand> Desk<N, J> {
         if !may_close(&self.opened[place], self.live.as_slice()) {
             return Err(CloseFault::NotDone);
         }
+        let oldest = number_of_oldest(self.opened.as_slice());
         let Opened {
             number,
-            request: _,
+            request,
             before: _,
             left,
             due,
@@ -100,7 +110,7 @@ impl<N: Name, J: Errand> Desk<N, J> {
         Ok((
             number,
             Vec::from(jobs),
-            self.log.enter(Entry::Close(number)),
+            Closing::of(self.log.enter(Entry::Close(number)), request.kind(), oldest),
         ))
     }
 
@@ -121,5 +131,16 @@ impl<N: Name, J: Errand> Desk<N, J> {
         ensures { result ≡ length (at self.now).opened }
     {
         self.opened.len()
+    }
+
+    /// The number of the oldest open request; None where nothing is open.
+    #[inline(always)]
+    pub fn open_number(&self) -> Option<u64>
+        ensures { result ≡ number_of (oldest_of (at self.now).opened) }
+    {
+        if self.opened.is_empty() {
+            return None;
+        }
+        Some(self.opened[0].number)
     }
 }

@@ -1,5 +1,6 @@
-//! The open census is operated.
+//! The open census is operated, and what is known of an Operate where it is entered.
 ghost use Rattle.std.specs.Prelude.{◌≡◌, ◌+◌, true, Some, None, IfOk, IfErr, OnOk};
+ghost use Rattle.bodies.specs.Census.{IsCensus};
 ghost use Rattle.desk.specs.Refusals.{operate_refused, AreSettled, are_all, MayOperate, operate_said};
 ghost use Rattle.desk.specs.Fields.{at, Enters};
 
@@ -10,12 +11,55 @@ use crate::lists::{are_all, is_census, operate_at};
 use crate::log::Receipt;
 use bodies::{Body, Name};
 use operations::job::Errand;
+use std::marker::Model;
+use std::snapshot::Snapshot;
+
+/// That an Operate stands in the history of the desk of N, with the census of the bodies over which it was entered. Only a desk makes
+/// one, where it enters the Operate, and it can't be copied.
+#[derive(Drop)]
+pub struct Operating<N: Name> {
+    receipt: Receipt<N>,
+    list: Snapshot<Vec<(u64, u32)>>,
+}
+
+impl<N: Name> Model for Operating<N> {
+    ghost use Rattle.desk.specs.Operatings.{OperatingSeen};
+
+    ghost Value = { OperatingSeen };
+
+    ghost view = { λ o. record { stands = o.receipt; list = o.list.value.items } };
+}
+
+impl<N: Name> Operating<N> {
+    pub(crate) fn of(receipt: Receipt<N>, list: &Vec<(u64, u32)>) -> Operating<N>
+        ensures { result ≡ record { stands = receipt; list = list.now.items } }
+    {
+        Operating {
+            receipt,
+            list: Snapshot::of(list),
+        }
+    }
+
+    /// The receipt of the entry.
+    pub fn receipt(self) -> Receipt<N>
+        ensures { result ≡ self.stands }
+    {
+        self.receipt
+    }
+}
 
 impl<N: Name, J: Errand> Desk<N, J> {
-    /// Enters that the open census is operated over these bodies, which are settled and those of all live names.
-    pub fn operate(&mut self, bodies: &[Body<N>]) -> Result<(u64, Receipt<N>), OperateFault>
+    /// Enters that the open census is operated over these bodies, which are settled and those of all live names. The list is the census
+    /// of their stacks, which the receipt shows.
+    pub fn operate(
+        &mut self,
+        bodies: &[Body<N>],
+        list: &Vec<(u64, u32)>,
+    ) -> Result<(u64, Operating<N>), OperateFault>
         requires settled { AreSettled bodies.now }
-        ensures ok { IfOk result (λ r. Enters self.old self.new (Entry.Operate r.0) r.1) }
+        requires counted { IsCensus bodies.now list.now.items }
+        ensures ok { IfOk result (λ r. Enters self.old self.new (Entry.Operate r.0) r.1.stands) }
+        ensures seen { IfOk result (λ r. r.1.list ≡ list.now.items) }
         ensures accepted { OnOk result (MayOperate (at self.old) bodies.now) }
         ensures all { OnOk result (are_all (at self.old).live bodies.now ≡ true) }
         ensures reserved { OnOk result
@@ -30,7 +74,10 @@ impl<N: Name, J: Errand> Desk<N, J> {
         }
         let number = self.opened[0].number;
         operate_at(&mut self.opened, 0);
-        Ok((number, self.log.enter(Entry::Operate(number))))
+        Ok((
+            number,
+            Operating::of(self.log.enter(Entry::Operate(number)), list),
+        ))
     }
 
     /// Why `operate` is refused over these bodies; None where it isn't.

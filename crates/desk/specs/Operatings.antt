@@ -1,0 +1,8 @@
+-- What contracts see of an Operate that was entered.
+use Rattle.std.specs.Prelude.{ℕ, List}
+use Rattle.desk.specs.Machine.{Stands}
+
+-- the entry where it stands, and the census of the bodies
+pub record OperatingSeen : Type 0 where
+  pub stands : Stands
+  pub list : List (ℕ × ℕ)
