@@ -12,6 +12,7 @@ use crate::coordinator::Coordinator;
 use crate::faults::{DriveFault, Driven};
 use crate::kinds::open_kind;
 use crate::listing::Listed;
+use berths::Unwoken;
 use bodies::Name;
 use desk::{Desk, Receipt};
 use held_threads::Held;
@@ -104,42 +105,26 @@ impl<'a, N: Name, J: Errand> Coordinator<'a, N, J> {
     pub(crate) fn release_all<R: Wait>(&mut self, rt: &R)
         ensures { self.new ≡ record self.old { held = [] } }
     {
-        let wanted = put_back(rt, self.shared, &mut self.bodies, self.operated);
-        self.wake(wanted);
-    }
-
-    // Wakes those that wait at the berths of these places, the last first: the next stop comes to the first of them first, and where it
-    // hasn't woken yet finds its body at once.
-    pub(crate) fn wake(&self, wanted: u64) {
-        if wanted == 0 {
-            return;
-        }
-        for behind in 0..self.places {
-            let place = self.places - 1 - behind;
-            if (wanted >> place) & 1 == 1 {
-                self.shared.berth(place).wake();
-            }
-        }
+        let unwoken = put_back(rt, self.shared, &mut self.bodies, self.operated);
+        self.shared.wake(unwoken);
     }
 }
 
-/// Brings the bodies back into their berths, and wakes nobody yet: who is woken may take this very processor. Answers the places at whose
-/// berths some wait, as bits.
+/// Brings the bodies back into their berths, and wakes nobody yet: who is woken may take this very processor. Answers those that wait
+/// there.
 pub fn put_back<N: Name, J: Errand, R: Wait>(
     rt: &R,
     shared: &Shared<N, J>,
     bodies: &mut Held<N>,
     operated: bool,
-) -> u64
+) -> Unwoken<N>
     ensures { bodies.new ≡ [] }
 {
-    let mut wanted: u64 = 0;
+    let mut unwoken = Unwoken::nobody();
     while let Some(body) = bodies.take_last() {
         let place = body.place();
-        let (_receipt, waits) = body.back_quietly(rt, shared, operated);
-        if waits {
-            wanted |= 1 << (place % 64);
-        }
+        let (_receipt, waiters) = body.back_quietly(rt, shared, operated);
+        unwoken.add(place, waiters);
     }
-    wanted
+    unwoken
 }

@@ -13,6 +13,7 @@ use crate::coordinator::Coordinator;
 use crate::driving::put_back;
 use crate::faults::{DriveFault, Driven};
 use crate::looks::Looks;
+use berths::Unwoken;
 use bodies::{Name, census_of};
 use desk::{Live, Receipt};
 use held_threads::OperateFault;
@@ -61,13 +62,13 @@ impl<'a, N: Name, J: Errand> Coordinator<'a, N, J> {
         let Some(list) = self.counted(rt) else {
             return Err(DriveFault::NoMemory);
         };
-        let wanted = put_back(rt, self.shared, &mut self.bodies, self.operated);
-        let closed = self.close_census(rt, wanted);
+        let unwoken = put_back(rt, self.shared, &mut self.bodies, self.operated);
+        let closed = self.close_census(rt, unwoken);
         Ok(closed.driven(Some(list)))
     }
 
-    // Closes the open census, and wakes those that wait at the berths of these places.
-    fn close_census<R: Wait>(&mut self, rt: &R, wanted: u64) -> Closed<N>
+    // Closes the open census, and wakes those that wait at berths.
+    fn close_census<R: Wait>(&mut self, rt: &R, unwoken: Unwoken<N>) -> Closed<N>
         requires free { self.old.held ≡ [] }
         ensures closed { (result.done.entry ≡ Entry.Close result.number)
             × WasOldest kind.Census result.number × (result.kind ≡ kind.Census) }
@@ -75,7 +76,7 @@ impl<'a, N: Name, J: Errand> Coordinator<'a, N, J> {
         ensures armer { self.new.armer ≡ self.old.armer }
     {
         let closed = self.close_kind(rt, Kind::Census);
-        self.wake(wanted);
+        self.shared.wake(unwoken);
         match closed {
             Some(closed) => closed,
             None => self.close_again(rt),

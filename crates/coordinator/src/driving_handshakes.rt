@@ -144,7 +144,11 @@ impl<'a, N: Name, J: Errand> Coordinator<'a, N, J> {
         let Some(number) = self.awaited(rt, who.name) else {
             return;
         };
-        if self.shared.berth(who.place).wait_for(rt, who.name, number) {
+        let came = self
+            .shared
+            .berth(who.place)
+            .wait_for(rt, who.name, who.place, number);
+        if came.act() == BerthAct::Here {
             let _ = self.attend(rt, &passes.told, who);
         } else if !passes.is_first {
             self.shared.wait_finished(rt, who.name);

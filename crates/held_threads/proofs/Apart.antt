@@ -137,9 +137,9 @@ removed n (b ∷ bs) zero h = h.4
 removed n (b ∷ bs) (suc i) h = (h.0, h.1, h.2, held_removed b.seat.place bs i h.3, removed n bs i h.4)
 
 -- What is known of each.
-pub known : (n : ℕ) (bs : List BodyView) (i : ℕ) (b : BodyView) → AreHeld n bs → slice_get bs i ≡ Some b → (0 < b.name) × (b.seat.stored ≢ 0)
+pub known : (n : ℕ) (bs : List BodyView) (i : ℕ) (b : BodyView) → AreHeld n bs → slice_get bs i ≡ Some b → (0 < b.name) × (b.seat.stored ≢ 0) × (b.seat.place < n)
 known n [] i b h e = absurd (let k : None ≡ Some b = e in cc)
-known n (c ∷ bs) zero b h e = let k : c ≡ b = cc in subst (λ (x : BodyView). (0 < x.name) × (x.seat.stored ≢ 0)) k (h.1, h.2)
+known n (c ∷ bs) zero b h e = let k : c ≡ b = cc in subst (λ (x : BodyView). (0 < x.name) × (x.seat.stored ≢ 0) × (x.seat.place < n)) k (h.1, h.2, h.0)
 known n (c ∷ bs) (suc i) b h e = known n bs i b h.4 e
 
 held_set : (place : ℕ) (bs : List BodyView) (i : ℕ) (a b : BodyView) → slice_get bs i ≡ Some a → b.seat.place ≡ a.seat.place → is_held place (slice_set bs i b) ≡ is_held place bs
@@ -185,6 +185,6 @@ among_front bits xs ys a place few clear = held_front place xs ys (a place few c
 pub among_none : (bits : ℕ) (xs : List BodyView) → xs ≡ [] → AreAmong bits xs
 among_none bits xs e place few clear = ap (is_held place) e
 
-pub last : (n : ℕ) (xs : List BodyView) (b : BodyView) → AreHeld n (xs ++ b ∷ []) → (0 < b.name) × (b.seat.stored ≢ 0)
-last n [] b h = (h.1, h.2)
+pub last : (n : ℕ) (xs : List BodyView) (b : BodyView) → AreHeld n (xs ++ b ∷ []) → (0 < b.name) × (b.seat.stored ≢ 0) × (b.seat.place < n)
+last n [] b h = (h.1, h.2, h.0)
 last n (c ∷ xs) b h = last n xs b h.4

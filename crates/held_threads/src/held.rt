@@ -12,7 +12,7 @@ ghost use Rattle.held_threads.specs.Serves.{IsServe};
 
 use crate::serving::{Unserved, serve_body, serve_lent, told_job};
 use crate::teller::Teller;
-use berths::{BerthAct, BerthReceipt, BodyAct, BodyReceipt, Hand, Room};
+use berths::{BerthAct, BerthReceipt, BodyAct, BodyReceipt, Hand, Room, Waiters};
 use board::Board;
 use bodies::{Body, Name};
 use desk::{Desk, Finished, Receipt};
@@ -65,7 +65,8 @@ impl<N: Name> Model for Returning<N> {
 
     ghost view = { λ l. l.body };
 
-    ghost invariant = { λ l. (0 < l.body.name) × (l.body.seat.stored ≢ 0) };
+    ghost invariant = { λ l. (0 < l.body.name) × (l.body.seat.stored ≢ 0)
+        × (l.body.seat.place < 64) };
 }
 
 impl<N: Name> Returning<N> {
@@ -82,14 +83,15 @@ impl<N: Name> Returning<N> {
         shared.berth_of(&body).release(rt, body, operated)
     }
 
-    /// The same without waking those that wait at the berth. Answers also whether any does.
+    /// The same without waking those that wait at the berth. Answers also those, who are woken later.
     pub fn back_quietly<J: Errand, R: Wait>(
         self,
         rt: &R,
         shared: &Shared<N, J>,
         operated: bool,
-    ) -> (BodyReceipt<N>, bool)
-        ensures { result.0 ≡ moved self (BodyAct.Released operated) }
+    ) -> (BodyReceipt<N>, Waiters<N>)
+        ensures released { result.0 ≡ moved self (BodyAct.Released operated) }
+        ensures waiters { result.1.place ≡ self.seat.place }
     {
         let Returning { body } = self;
         shared.berth_of(&body).release_quietly(rt, body, operated)
@@ -97,7 +99,8 @@ impl<N: Name> Returning<N> {
 
     /// The place of its thread.
     pub fn place(&self) -> usize
-        ensures { result ≡ self.now.seat.place }
+        ensures place { result ≡ self.now.seat.place }
+        ensures few { result < 64 }
     {
         self.body.place()
     }

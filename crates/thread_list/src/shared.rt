@@ -16,7 +16,7 @@ ghost use Rattle.desk.specs.Refusals.{ask_refused, install_refused};
 use crate::forgotten::Forgotten;
 use crate::hints::Hints;
 use crate::turns::Turn;
-use berths::{Berth, BodyAct, BodyReceipt, Guarded, Laid};
+use berths::{Berth, BodyAct, BodyReceipt, Guarded, Laid, Unwoken};
 use board::Board;
 use bodies::{Body, Name};
 use desk::{CodeFault, Desk, Finished, NotLive, Receipt, Refused, live_names_rise};
@@ -115,6 +115,11 @@ impl<N: Name, J: Errand> Shared<N, J> {
         ensures { result.now ≡ body.now.seat.place }
     {
         &self.berths[body.place()]
+    }
+
+    /// Wakes those that wait at berths, at the last berth first.
+    pub fn wake(&self, unwoken: Unwoken<N>) {
+        unwoken.wake(self.berths.as_slice());
     }
 
     /// The code that a call of the method tries first: what was installed for it last, None without such a method or code. It is

@@ -1,4 +1,4 @@
-use Rattle.std.proofs.Common.{◌≡◌, ◌<◌, Some, List, refl, sym, subst, rules, length}
+use Rattle.std.proofs.Common.{◌≡◌, ◌<◌, Some, List, refl, sym, subst, rules, length, arith}
 use Rattle.std.specs.Prelude.{slice_get}
 use Rattle.std.proofs.lemmas.Option.{slice_get_read}
 use Rattle.bodies.specs.Bodies.{BodyView}
@@ -17,7 +17,9 @@ invariant_of-result g c =
     let i = c.self.inside in let bs = i.bodies.items in
     let low : c.args.index < length bs = subst (λ (xs : List BodyView). c.args.index < length xs) (sym c.self.view_is) c.requires.index in
     let here : slice_get bs c.args.index ≡ Some c.remove-body.result = slice_get_read bs _ c.args.index c.remove-body.result refl low c.remove-body.ensures.value in
-    known i.places bs c.args.index c.remove-body.result c.self.invariant.3 here
+    let k = known i.places bs c.args.index c.remove-body.result c.self.invariant.3 here in
+    let most = c.self.invariant.1 in let low = k.2 in
+    (k.0, k.1, omega (arith, most, low))
 
 pub returns-clause-body : goal.returns-clause-body
 returns-clause-body g c =

@@ -1,4 +1,4 @@
-use Rattle.std.proofs.Common.{◌≡◌, ◌++◌, ◌∷◌, [], subst, rules}
+use Rattle.std.proofs.Common.{◌≡◌, ◌++◌, ◌∷◌, [], subst, rules, arith}
 use Rattle.held_threads.specs.Held.{AreHeld, AreAmong}
 use Rattle.held_threads.proofs.Apart.{front, last, among_front}
 use Rattle.held_threads.proofs.held.Held.take_last.Goals as goal
@@ -7,7 +7,9 @@ pub invariant_of-result : goal.invariant_of-result
 invariant_of-result g c =
     let i = c.self.inside in
     let whole : i.bodies.items ≡ c.pop.new.self.items ++ c.in_ok-body.body ∷ [] = search rules in
-    last _ _ _ (subst (AreHeld i.places) whole c.self.invariant.3)
+    let k = last _ _ _ (subst (AreHeld i.places) whole c.self.invariant.3) in
+    let most = c.self.invariant.1 in let low = k.2 in
+    (k.0, k.1, omega (arith, most, low))
 
 pub invariant_of-self-else-is_empty : goal.invariant_of-self-else-is_empty
 invariant_of-self-else-is_empty g c =
