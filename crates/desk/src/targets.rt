@@ -8,7 +8,7 @@ ghost use Rattle.desk.specs.Targets.{is_asked, is_owed, is_target_of, standing_t
 ghost use Rattle.desk.specs.Fields.{current_of};
 
 use crate::entries::{Live, Opened, Progress, Standing, Target};
-use crate::lists::{found_at, is_census, is_census_open};
+use crate::lists::{found_at, is_census, kind_among};
 use crate::names::is_among;
 use operations::Request;
 
@@ -146,7 +146,7 @@ pub fn standing_to<J>(opened: &[Opened<J>], next: u64, live: &[Live], name: u64)
     }
     Standing::Asked(Target {
         place,
-        is_census: is_census_open(opened),
+        kind: kind_among(opened),
     })
 }
 
