@@ -83,11 +83,6 @@ progress s name last = progress_in s.next_name name last s.opened
 abbrev pub is_due_target : Live → Current → Bool
 is_due_target l c = nat_lt l.name c.before && is_owed l.name c
 
--- the first live thread with a greater name that is due for one of the requests
-abbrev pub due_after : ℕ → List Current → List Live → Option Live
-due_after name cs [] = None
-due_after name cs (l ∷ ls) = if nat_lt name l.name && list_any (is_due_target l) cs then Some l else due_after name cs ls
-
 -- the live threads that are due for one of the requests
 abbrev pub due_of : List Current → List Live → List Live
 due_of cs ls = filter (λ l. list_any (is_due_target l) cs) ls
@@ -101,9 +96,13 @@ abbrev pub of_which : Bool → List Current → List Current
 of_which true cs = oldest cs
 of_which false cs = cs
 
+-- whether the thread of the name is one of the live threads that are due for one of the requests
+abbrev pub is_due_name : ℕ → List Current → List Live → Bool
+is_due_name name cs ls = list_any (λ l. l.name == name && list_any (is_due_target l) cs) ls
+
 -- for the oldest open request
-abbrev pub next_awaited : State → ℕ → Option Live
-next_awaited s name = due_after name (oldest s.opened) s.live
+abbrev pub is_awaited : State → ℕ → Bool
+is_awaited s name = is_due_name name (oldest s.opened) s.live
 
 -- the name that is live at a place
 abbrev pub name_at : ℕ → List Live → Option ℕ

@@ -1,11 +1,13 @@
 //! How names stand to the open requests.
 ghost use Rattle.std.specs.Prelude.{◌≡◌, ◌-◌, ◌<◌, ◌++◌, take, IfSome, vec_len, vec_capacity};
 ghost use Rattle.desk.specs.Fields.{at};
-ghost use Rattle.desk.specs.Targets.{standing, untold, progress, due_of, of_which, next_awaited};
+ghost use Rattle.desk.specs.Targets.{standing, untold, progress, due_of, of_which, is_awaited};
 
 use crate::desk::Desk;
 use crate::entries::{Live, Progress, Standing};
-use crate::targets::{due_after, list_due, of_which, oldest, progress_in, standing_to, untold_in};
+use crate::targets::{
+    is_due_name, list_due, of_which, oldest, progress_in, standing_to, untold_in,
+};
 use bodies::Name;
 use operations::job::Errand;
 
@@ -52,11 +54,12 @@ impl<N: Name, J: Errand> Desk<N, J> {
         list_due(opened, self.live.as_slice(), list);
     }
 
-    /// The least name above this one, with its place, whose thread is due for the oldest open request.
+    /// Whether the thread of the name is due for the oldest open request: it is live, was so at the Open, and has no Finish for it, or
+    /// the census isn't operated.
     #[inline(always)]
-    pub fn next_awaited(&self, name: u64) -> Option<Live>
-        ensures { result ≡ next_awaited (at self.now) name }
+    pub fn is_awaited(&self, name: u64) -> bool
+        ensures { result ≡ is_awaited (at self.now) name }
     {
-        due_after(oldest(self.opened.as_slice()), self.live.as_slice(), name)
+        is_due_name(oldest(self.opened.as_slice()), self.live.as_slice(), name)
     }
 }
