@@ -1,10 +1,12 @@
 //! How names stand to the open requests.
 ghost use Rattle.std.specs.Prelude.{◌≡◌, ◌-◌, ◌<◌, ◌++◌, take, IfSome, vec_len, vec_capacity};
 ghost use Rattle.desk.specs.Fields.{at};
+ghost use Rattle.desk.specs.Pending.{least_pending};
 ghost use Rattle.desk.specs.Targets.{standing, untold, progress, due_of, of_which, is_awaited};
 
 use crate::desk::Desk;
 use crate::entries::{Live, Progress, Standing};
+use crate::lists::least_pending;
 use crate::targets::{
     is_due_name, list_due, of_which, oldest, progress_in, standing_to, untold_in,
 };
@@ -32,6 +34,13 @@ impl<N: Name, J: Errand> Desk<N, J> {
         ensures later { IfSome result (λ number. last < number) }
     {
         untold_in(self.opened.as_slice(), self.next_name, name, last)
+    }
+
+    /// The least number of a request that is open or waits, and where there is none the number that is given out next.
+    pub fn least_pending(&self) -> u64
+        ensures { result ≡ least_pending (at self.now) }
+    {
+        least_pending(&self.queue, self.opened.as_slice(), self.next_number)
     }
 
     /// How far a live thread is with the open requests that it was told, where `last` is the last number that it was told.
