@@ -126,8 +126,11 @@ impl<N: Name, J: Errand> Shared<N, J> {
         self.hints.of(method)
     }
 
-    // The first place from this one on where something is armed, or past the last. Nothing is promised of it.
-    pub(crate) fn next_armed(&self, from: usize) -> usize {
+    // The first place from this one on where something is armed, or past the last. What is armed there by then isn't promised.
+    pub(crate) fn next_armed(&self, from: usize) -> usize
+        ensures behind { from ≤ N.board.places → from ≤ result }
+        ensures most { result ≤ N.board.places }
+    {
         for place in from..self.berths.len() {
             if self.row.peek(place) != 0 {
                 return place;
