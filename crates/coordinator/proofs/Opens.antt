@@ -7,8 +7,8 @@ use Rattle.desk.specs.declared.entries.Entry.{Entry}
 use Rattle.desk.specs.declared.entries.Entry.TheVariants.{Open}
 use Rattle.desk.specs.Machine.{State, Asked, Current, Stands, step, is_first, may_open_more, open_next}
 use Rattle.desk.specs.Fields.{DeskSeen, Enters, at}
+use Rattle.desk.specs.Targets.{kind_of_oldest, open_kind}
 use Rattle.desk.proofs.Keeping.{after-push}
-use Rattle.coordinator.specs.Driving.{kind_of_oldest, open_kind}
 
 -- the state behind an entry
 entered : (old new : DeskSeen) (e : Entry) (r : Stands) → Enters old new e r → at new ≡ step (at old) e

@@ -4,12 +4,13 @@ use Rattle.std.specs.Prelude.{nat_lt, find}
 use Rattle.std.specs.List.{cons_option}
 use Rattle.thread_state.specs.declared.poll_rule.Arming.{Arming}
 use Rattle.desk.specs.declared.entries.Live.{Live}
-use Rattle.operations.specs.Requests.{is_census}
+use Rattle.operations.specs.declared.Kind.{Kind}
+use Rattle.operations.specs.Requests.{kind_of}
 use Rattle.desk.specs.Fields.{DeskSeen, at}
 use Rattle.desk.specs.Machine.{State, Current, Book, after}
-use Rattle.desk.specs.Targets.{is_target_of, is_untold, untold, untold_in, number_of, due_of, front_kind, open_kind}
+use Rattle.desk.specs.Targets.{is_target_of, is_untold, untold, untold_in, number_of, due_of, kind_of_oldest, open_kind}
 use Rattle.held_threads.specs.Holding.{ArmsOn}
-use Rattle.coordinator.specs.Telling.{telling_by, telling_of, tellings, is_there, more_behind, any_more, AreArmed, due_in, opens_census_in}
+use Rattle.coordinator.specs.Telling.{telling_by, telling_of, tellings, is_there, more_behind, any_more, AreArmed, due_in}
 use Rattle.coordinator.specs.declared.listing.Telling.{Telling}
 
 and_false : (a b : Bool) → b ≡ false → (a && b) ≡ false
@@ -50,19 +51,19 @@ told_still next name m k (c ∷ cs) low h = by (is_untold next name m c) refl h 
         ap (λ t. number_of (cond t (Some c) (find (is_untold next name k) cs))) (less_of (is_target_of next name c) m k c.number low e) ∙ again none
 
 -- The first of them has nothing to be told, or something.
-pub none_first : (s : State) (kind : Bool) (armer : Arming) (l : Live) (ls : List Live) → telling_of s kind armer l ≡ None
+pub none_first : (s : State) (kind : Kind) (armer : Arming) (l : Live) (ls : List Live) → telling_of s kind armer l ≡ None
     → tellings s kind armer (l ∷ ls) ≡ tellings s kind armer ls
 none_first s kind armer l ls e = ap (λ o. cons_option o (tellings s kind armer ls)) e
 
-pub some_first : (s : State) (kind : Bool) (armer : Arming) (l : Live) (ls : List Live) (t : Telling) → telling_of s kind armer l ≡ Some t
+pub some_first : (s : State) (kind : Kind) (armer : Arming) (l : Live) (ls : List Live) (t : Telling) → telling_of s kind armer l ≡ Some t
     → tellings s kind armer (l ∷ ls) ≡ t ∷ tellings s kind armer ls
 some_first s kind armer l ls t e = ap (λ o. cons_option o (tellings s kind armer ls)) e
 
-pub none_more : (s : State) (kind : Bool) (armer : Arming) (l : Live) (ls : List Live) → telling_of s kind armer l ≡ None
+pub none_more : (s : State) (kind : Kind) (armer : Arming) (l : Live) (ls : List Live) → telling_of s kind armer l ≡ None
     → any_more s kind armer (l ∷ ls) ≡ any_more s kind armer ls
 none_more s kind armer l ls e = ap (λ o. more_behind s o || any_more s kind armer ls) e
 
-pub some_more : (s : State) (kind : Bool) (armer : Arming) (l : Live) (ls : List Live) (t : Telling) → telling_of s kind armer l ≡ Some t
+pub some_more : (s : State) (kind : Kind) (armer : Arming) (l : Live) (ls : List Live) (t : Telling) → telling_of s kind armer l ≡ Some t
     → any_more s kind armer (l ∷ ls) ≡ (is_there (untold s t.name t.number) || any_more s kind armer ls)
 some_more s kind armer l ls t e = ap (λ o. more_behind s o || any_more s kind armer ls) e
 
@@ -78,18 +79,18 @@ not_there : (o : Option ℕ) → is_there o ≡ false → o ≡ None
 not_there None e = refl
 not_there (Some n) e = absurd (let k : true ≡ false = e in cc)
 
-inside : (kind : Bool) (l : Live) (b : Bool) (o : Option ℕ) → o ≡ None → cond b (telling_by kind l o) None ≡ None
+inside : (kind : Kind) (l : Live) (b : Bool) (o : Option ℕ) → o ≡ None → cond b (telling_by kind l o) None ≡ None
 inside kind l true o e = ap (telling_by kind l) e
 inside kind l false o e = refl
 
 -- One that was told up to a number that is armed has nothing more to be told.
-still : (s : State) (kind : Bool) (armer : Arming) (l : Live) (m : ℕ) → m ≤ slice_index armer.armed l.place → untold s l.name m ≡ None → telling_of s kind armer l ≡ None
+still : (s : State) (kind : Kind) (armer : Arming) (l : Live) (m : ℕ) → m ≤ slice_index armer.armed l.place → untold s l.name m ≡ None → telling_of s kind armer l ≡ None
 still s kind armer l m low none =
     inside kind l (nat_lt l.place (length armer.armed)) (untold s l.name (slice_index armer.armed l.place))
     (told_still s.next_name l.name m (slice_index armer.armed l.place) s.opened low none)
 
 -- The first of them is told what was listed for it, and then the others.
-first_told : (s : State) (kind : Bool) (old new : Arming) (l : Live) (ls : List Live) → length new.armed ≡ length old.armed → ArmsOn old new
+first_told : (s : State) (kind : Kind) (old new : Arming) (l : Live) (ls : List Live) → length new.armed ≡ length old.armed → ArmsOn old new
     → (any_more s kind old ls ≡ false → AreArmed new (tellings s kind old ls) → tellings s kind new ls ≡ [])
     → (b : Bool) (o : Option ℕ) → nat_lt l.place (length old.armed) ≡ b → untold s l.name (slice_index old.armed l.place) ≡ o
     → (more_behind s (cond b (telling_by kind l o) None) || any_more s kind old ls) ≡ false
@@ -106,7 +107,7 @@ first_told s kind old new l ls long arms again true (Some n) within is more arme
     ∙ again (or_right (is_there (untold s l.name n)) (any_more s kind old ls) more) armed.1
 
 -- Once each of them is told what was listed for it, and no more was behind that, none of them is to be told anything.
-pub all_told : (s : State) (kind : Bool) (old new : Arming) (ls : List Live) → length new.armed ≡ length old.armed → ArmsOn old new
+pub all_told : (s : State) (kind : Kind) (old new : Arming) (ls : List Live) → length new.armed ≡ length old.armed → ArmsOn old new
     → any_more s kind old ls ≡ false → AreArmed new (tellings s kind old ls) → tellings s kind new ls ≡ []
 all_told s kind old new [] long arms more armed = refl
 all_told s kind old new (l ∷ ls) long arms more armed =
@@ -137,17 +138,12 @@ nothing_due : (ls : List Live) → due_of [] ls ≡ []
 nothing_due [] = refl
 nothing_due (l ∷ ls) = nothing_due ls
 
-nothing_open : (cs : List Current) → front_kind cs ≡ None → cs ≡ []
+nothing_open : (cs : List Current) → kind_of_oldest cs ≡ None → cs ≡ []
 nothing_open [] e = refl
-nothing_open (c ∷ cs) e = absurd (let k : Some (is_census c.request) ≡ None = e in cc)
+nothing_open (c ∷ cs) e = absurd (let k : Some (kind_of c.request) ≡ None = e in cc)
 
 pub none_due : (s : State) → open_kind s ≡ None → due_in s ≡ []
 none_due s e = ap (λ cs. due_of cs s.live) (nothing_open s.opened e) ∙ nothing_due s.live
-
--- The kind of the oldest is that of the first.
-pub front_census : (cs : List Current) (b : Bool) → front_kind cs ≡ Some b → opens_census_in cs ≡ b
-front_census [] b e = absurd (let k : None ≡ Some b = e in cc)
-front_census (c ∷ cs) b e = cc
 
 pub armed_more : (armer : Arming) (ts : List Telling) (t : Telling) → AreArmed armer ts → t.number ≤ slice_index armer.armed t.target.place → AreArmed armer (ts ++ t ∷ [])
 armed_more armer [] t are low = (low, tt)

@@ -1,25 +1,16 @@
 -- Which targets a drive waits for, and what comes of one whose body is there.
-use Rattle.std.specs.Prelude.{◌≡◌, ◌==◌, ◌-◌, ◌^◌, ℕ, Bool, true, false, Option, Some, None}
+use Rattle.std.specs.Prelude.{◌≡◌, ◌-◌, ◌^◌, ℕ, Bool, true, false, Option, Some, None}
 use Rattle.frames.specs.ImageView.{ImageView}
 use Rattle.operations.specs.declared.Ask.{Ask}
-use Rattle.desk.specs.declared.entries.Live.{Live}
 use Rattle.desk.specs.declared.entries.Progress.{Progress}
 use Rattle.desk.specs.declared.entries.Progress.TheVariants.{NotTold, Done, Undone}
 use Rattle.desk.specs.Machine.{State}
-use Rattle.desk.specs.Targets.{next_awaited, progress}
+use Rattle.desk.specs.Targets.{is_awaited, progress}
 use Rattle.berths.specs.Berths.{acted}
 use Rattle.berths.specs.declared.room.BerthAct.TheVariants.{NoJob}
 use Rattle.held_threads.specs.Brought.{IsAttended}
 use Rattle.coordinator.specs.declared.driving_handshakes.Attended.{Attended}
 use Rattle.coordinator.specs.declared.driving_handshakes.Attended.TheVariants.{Served, Idle}
-
-abbrev pub is_named : ℕ → Option Live → Bool
-is_named name None = false
-is_named name (Some l) = l.name == name
-
--- The thread of the name is due for the oldest open request.
-abbrev pub is_awaited : State → ℕ → Bool
-is_awaited s name = is_named name (next_awaited s (name - 1))
 
 abbrev pub undone_where : Bool → Progress → Option ℕ
 undone_where true (Undone number) = Some number

@@ -4,9 +4,10 @@ use Rattle.bodies.specs.Bodies.{BodyView}
 use Rattle.bodies.specs.Census.{IsCensus}
 use Rattle.operations.specs.declared.Kind.{Kind}
 use Rattle.operations.specs.declared.Kind.TheVariants as kind
-use Rattle.operations.specs.Requests.{is_census, kind_of}
+use Rattle.operations.specs.Requests.{is_census}
 use Rattle.desk.specs.Machine.{State, Current, Stands}
 use Rattle.desk.specs.Refusals.{oldest_of, front_is, MayOperate}
+use Rattle.desk.specs.Targets.{open_kind}
 use Rattle.coordinator.specs.declared.faults.Driven.{Driven}
 use Rattle.coordinator.specs.declared.faults.Driven.TheVariants.{Handshake, Census}
 use Rattle.coordinator.specs.declared.faults.DriveFault.{DriveFault}
@@ -23,15 +24,6 @@ pub record Closing : Type 0 where
   pub number : ℕ
   pub kind : Kind
   pub done : Stands
-
--- Of which kind the oldest of these requests is.
-abbrev pub kind_of_oldest : List Current → Option Kind
-kind_of_oldest [] = None
-kind_of_oldest (c ∷ cs) = Some (kind_of c.request)
-
--- Of which kind the oldest open request is.
-abbrev pub open_kind : State → Option Kind
-open_kind s = kind_of_oldest s.opened
 
 -- A census has a list, a handshake none.
 abbrev pub kind_by : {L : Type 0} → Option L → Kind

@@ -2,7 +2,9 @@
 use Rattle.std.specs.Prelude.{◌≡◌, ◌≤◌, ℕ, Bool, true, false, List, [], ◌∷◌, Option, Some, None, if◌then◌else◌, nat_lt, length, slice_index, filter_map}
 use Rattle.std.specs.List.{list_any}
 use Rattle.thread_state.specs.declared.poll_rule.Arming.{Arming}
-use Rattle.operations.specs.Requests.{is_census}
+use Rattle.operations.specs.declared.Kind.{Kind}
+use Rattle.operations.specs.declared.Kind.TheVariants as kind
+use Rattle.operations.specs.Requests.{kind_of}
 use Rattle.desk.specs.declared.entries.Live.{Live}
 use Rattle.desk.specs.Fields.{DeskSeen, at}
 use Rattle.desk.specs.Machine.{State, Current}
@@ -10,27 +12,27 @@ use Rattle.desk.specs.Targets.{untold, due_of}
 use Rattle.coordinator.specs.declared.listing.Telling.{Telling}
 
 -- A request of this kind, of this number, is to be told to the thread, where there is one.
-abbrev pub telling_by : Bool → Live → Option ℕ → Option Telling
-telling_by is_census l None = None
-telling_by is_census l (Some n) = Some record { name = l.name; target = record { place = l.place; is_census = is_census }; number = n }
+abbrev pub telling_by : Kind → Live → Option ℕ → Option Telling
+telling_by k l None = None
+telling_by k l (Some n) = Some record { name = l.name; target = record { place = l.place; kind = k }; number = n }
 
--- Whether the oldest open request is a census.
-abbrev pub opens_census_in : List Current → Bool
-opens_census_in [] = false
-opens_census_in (c ∷ cs) = is_census c.request
+-- As which kind of request the open ones are told: as that of the oldest. Where nothing is open there is nothing to tell.
+abbrev pub kind_told_in : List Current → Kind
+kind_told_in [] = kind.Handshake
+kind_told_in (c ∷ cs) = kind_of c.request
 
-abbrev pub opens_census : State → Bool
-opens_census s = opens_census_in s.opened
+abbrev pub kind_told : State → Kind
+kind_told s = kind_told_in s.opened
 
 -- What a live thread is to be told next: the oldest open request that is of it and wasn't told to it, by the number that its place was
 -- armed with last. Nothing where there is no such place.
-abbrev pub telling_of : State → Bool → Arming → Live → Option Telling
-telling_of s is_census armer l =
-    if nat_lt l.place (length armer.armed) then telling_by is_census l (untold s l.name (slice_index armer.armed l.place)) else None
+abbrev pub telling_of : State → Kind → Arming → Live → Option Telling
+telling_of s k armer l =
+    if nat_lt l.place (length armer.armed) then telling_by k l (untold s l.name (slice_index armer.armed l.place)) else None
 
 -- The same of each of these, in their order.
-abbrev pub tellings : State → Bool → Arming → List Live → List Telling
-tellings s is_census armer ls = filter_map (telling_of s is_census armer) ls
+abbrev pub tellings : State → Kind → Arming → List Live → List Telling
+tellings s k armer ls = filter_map (telling_of s k armer) ls
 
 abbrev pub is_there : Option ℕ → Bool
 is_there None = false
@@ -42,8 +44,8 @@ more_behind s None = false
 more_behind s (Some t) = is_there (untold s t.name t.number)
 
 -- Whether any of these is.
-abbrev pub any_more : State → Bool → Arming → List Live → Bool
-any_more s is_census armer ls = list_any (λ l. more_behind s (telling_of s is_census armer l)) ls
+abbrev pub any_more : State → Kind → Arming → List Live → Bool
+any_more s k armer ls = list_any (λ l. more_behind s (telling_of s k armer l)) ls
 
 -- The live threads that are due for an open request.
 abbrev pub due_in : State → List Live
@@ -58,8 +60,8 @@ pub record Listing : Type 0 where
 -- Where there is no more, all that any thread that is due is to be told is listed.
 abbrev pub IsListing : Arming → Listing → Type 0
 IsListing armer l =
-    l.has_more ≡ false → (is_census : Bool) × (l.list ≡ tellings (at l.seen) is_census armer (due_in (at l.seen)))
-    × (any_more (at l.seen) is_census armer (due_in (at l.seen)) ≡ false)
+    l.has_more ≡ false → (k : Kind) × (l.list ≡ tellings (at l.seen) k armer (due_in (at l.seen)))
+    × (any_more (at l.seen) k armer (due_in (at l.seen)) ≡ false)
 
 -- Each of these is armed, or a greater number is.
 abbrev pub AreArmed : Arming → List Telling → Type 0
@@ -68,4 +70,4 @@ AreArmed armer (t ∷ ts) = (t.number ≤ slice_index armer.armed t.target.place
 
 -- No thread that is due is to be told anything.
 abbrev pub IsAllTold : State → Arming → Type 0
-IsAllTold s armer = (is_census : Bool) × (tellings s is_census armer (due_in s) ≡ [])
+IsAllTold s armer = (k : Kind) × (tellings s k armer (due_in s) ≡ [])

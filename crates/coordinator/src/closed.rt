@@ -4,10 +4,10 @@ ghost use Rattle.desk.specs.declared.entries.Entry.{Entry};
 ghost use Rattle.desk.specs.Machine.{Current};
 ghost use Rattle.desk.specs.Fields.{Enters, at};
 ghost use Rattle.desk.specs.Refusals.{oldest_of, holds_target};
-ghost use Rattle.coordinator.specs.Driving.{number_of, kind_by, open_kind, WasOldest, IsWorked, IsListed, IsCounted};
+ghost use Rattle.desk.specs.Targets.{open_kind};
+ghost use Rattle.coordinator.specs.Driving.{number_of, kind_by, WasOldest, IsWorked, IsListed, IsCounted};
 
 use crate::faults::Driven;
-use crate::kinds::open_kind;
 use bodies::{Body, Name};
 use desk::{Desk, Receipt};
 use operations::Kind;
@@ -44,7 +44,7 @@ impl<N: Name> Closed<N> {
             × (holds_target o.request held.now ≡ false)) }
         ensures kind { IfSome result (λ r. r.0.kind ≡ kind) }
     {
-        let open = open_kind(desk)?;
+        let open = desk.open_kind()?;
         if open != kind {
             return None;
         }

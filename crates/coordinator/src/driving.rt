@@ -3,14 +3,14 @@ ghost use Rattle.std.specs.Prelude.{◌≡◌, ◌⊎◌, [], ℕ, Some, IfOk, O
 ghost use Rattle.desk.specs.declared.entries.Entry.{Entry};
 ghost use Rattle.desk.specs.Machine.{State as DeskState, Stands};
 ghost use Rattle.desk.specs.Fields.{Enters, at};
+ghost use Rattle.desk.specs.Targets.{open_kind};
 ghost use Rattle.held_threads.specs.Holding.{ArmsOn};
-ghost use Rattle.coordinator.specs.Driving.{number_of, open_kind, IsWorked, IsListed, drive_refused};
+ghost use Rattle.coordinator.specs.Driving.{number_of, IsWorked, IsListed, drive_refused};
 ghost use Rattle.coordinator.specs.Telling.{IsListing};
 
 use crate::all_told::AllTold;
 use crate::coordinator::Coordinator;
 use crate::faults::{DriveFault, Driven};
-use crate::kinds::open_kind;
 use crate::listing::Listed;
 use berths::Unwoken;
 use bodies::Name;
@@ -30,12 +30,12 @@ fn open_or_go_on<N: Name, J: Errand>(desk: &mut Desk<N, J>) -> Option<Kind>
     ensures empty { IfNone result ((desk.new ≡ desk.old) × ((at desk.old).opened ≡ [])
         × ((at desk.old).waiting ≡ [])) }
 {
-    let open = open_kind(desk);
+    let open = desk.open_kind();
     if open.is_some() {
         return open;
     }
     match desk.open() {
-        Ok(_) => open_kind(desk),
+        Ok(_) => desk.open_kind(),
         Err(_) => None,
     }
 }

@@ -4,7 +4,7 @@ ghost use Rattle.desk.specs.declared.entries.Entry.{Entry};
 ghost use Rattle.desk.specs.Machine.{State as DeskState};
 ghost use Rattle.desk.specs.Fields.{at};
 ghost use Rattle.coordinator.specs.Driving.{number_of, IsWorked, IsListed};
-ghost use Rattle.coordinator.specs.Awaited.{awaited, is_awaited, WasThere};
+ghost use Rattle.coordinator.specs.Awaited.{awaited, WasThere};
 ghost use Rattle.held_threads.specs.Brought.{IsAttended};
 ghost use Rattle.berths.specs.Berths.{acted};
 
@@ -58,22 +58,12 @@ pub enum Attended<N: Name> {
 fn awaited_of<N: Name, J: Errand>(desk: &Desk<N, J>, name: u64) -> Option<u64>
     ensures { result ≡ awaited (at desk.now) name }
 {
-    if !is_awaited(desk, name) {
+    if !desk.is_awaited(name) {
         return None;
     }
     match desk.progress(name, u64::MAX) {
         Progress::Undone(number) => Some(number),
         Progress::Done | Progress::NotTold => None,
-    }
-}
-
-// Whether the thread of the name is due for the oldest open request.
-fn is_awaited<N: Name, J: Errand>(desk: &Desk<N, J>, name: u64) -> bool
-    ensures { result ≡ is_awaited (at desk.now) name }
-{
-    match desk.next_awaited(name.saturating_sub(1)) {
-        Some(first) => first.name == name,
-        None => false,
     }
 }
 

@@ -18,7 +18,6 @@ mod fault_texts;
 mod faults;
 mod four;
 mod holding;
-mod kinds;
 mod listing;
 mod looks;
 mod reclaiming;

@@ -3,11 +3,12 @@
 ghost use Rattle.std.specs.Prelude.{◌≡◌, ◌≤◌, ◌<◌, ◌-◌, ◌⊎◌, ◌++◌, ℕ, true, false, Some, None, [], All, IfSome, length, map, take, vec_len, vec_capacity};
 ghost use Rattle.desk.specs.Fields.{at};
 ghost use Rattle.desk.specs.Targets.{untold};
-ghost use Rattle.coordinator.specs.Telling.{telling_of, tellings, opens_census, is_there, any_more, due_in, IsListing};
+ghost use Rattle.coordinator.specs.Telling.{telling_of, tellings, kind_told, is_there, any_more, due_in, IsListing};
 
 use bodies::Name;
 use desk::{Desk, Live, Target};
 use held_threads::Teller;
+use operations::Kind;
 use operations::job::Errand;
 use std::marker::Model;
 use std::snapshot::Snapshot;
@@ -123,11 +124,11 @@ fn telling_of<N: Name, J: Errand>(
     desk: &Desk<N, J>,
     armer: &Teller,
     places: usize,
-    is_census: bool,
+    kind: Kind,
     who: Live,
 ) -> Option<Telling>
     requires places { places ≡ length armer.now.seen.armed }
-    ensures { result ≡ telling_of (at desk.now) is_census armer.now.seen who }
+    ensures { result ≡ telling_of (at desk.now) kind armer.now.seen who }
 {
     if who.place >= places {
         return None;
@@ -140,7 +141,7 @@ fn telling_of<N: Name, J: Errand>(
         name: who.name,
         target: Target {
             place: who.place,
-            is_census,
+            kind,
         },
         number,
     })
@@ -163,7 +164,12 @@ fn with_job<N: Name, J: Errand>(desk: &mut Desk<N, J>, what: Telling) -> Untold<
     ensures same { (desk.new.book ≡ desk.old.book) × (desk.new.keeper ≡ desk.old.keeper) }
     ensures sizes { (desk.new.slots ≡ desk.old.slots) × (desk.new.methods ≡ desk.old.methods) }
 {
-    let job = job_of(desk, what.number, what.name, !what.target.is_census);
+    let job = job_of(
+        desk,
+        what.number,
+        what.name,
+        what.target.kind == Kind::Handshake,
+    );
     Untold { what, job }
 }
 
@@ -172,27 +178,27 @@ fn list_each<N: Name, J: Errand>(
     desk: &mut Desk<N, J>,
     armer: &Teller,
     places: usize,
-    is_census: bool,
+    kind: Kind,
     due: &[Live],
     list: &mut Vec<Untold<J>>,
 ) -> bool
     requires places { places ≡ length armer.now.seen.armed }
     ensures items { map (λ u. u.what) list.new.items
         ≡ map (λ u. u.what) list.old.items ++ take (vec_capacity list.old - vec_len list.old)
-        (tellings (at desk.old) is_census armer.now.seen due.now) }
-    ensures all { result ≡ false → (any_more (at desk.old) is_census armer.now.seen due.now ≡ false)
-        × (length (tellings (at desk.old) is_census armer.now.seen due.now)
+        (tellings (at desk.old) kind armer.now.seen due.now) }
+    ensures all { result ≡ false → (any_more (at desk.old) kind armer.now.seen due.now ≡ false)
+        × (length (tellings (at desk.old) kind armer.now.seen due.now)
         ≤ vec_capacity list.old - vec_len list.old) }
-    ensures more { result ≡ true → (any_more (at desk.old) is_census armer.now.seen due.now ≡ true)
+    ensures more { result ≡ true → (any_more (at desk.old) kind armer.now.seen due.now ≡ true)
         ⊎ (vec_capacity list.old - vec_len list.old
-        < length (tellings (at desk.old) is_census armer.now.seen due.now)) }
+        < length (tellings (at desk.old) kind armer.now.seen due.now)) }
     ensures same { (desk.new.book ≡ desk.old.book) × (desk.new.keeper ≡ desk.old.keeper) }
     ensures sizes { (desk.new.slots ≡ desk.old.slots) × (desk.new.methods ≡ desk.old.methods) }
 {
     let mut more = false;
     let mut rest = due;
     while let Some((who, others)) = rest.split_first() {
-        if let Some(what) = telling_of(desk, armer, places, is_census, *who) {
+        if let Some(what) = telling_of(desk, armer, places, kind, *who) {
             if list.len() >= list.capacity() {
                 return true;
             }
@@ -216,23 +222,23 @@ fn list_untold<N: Name, J: Errand>(
     requires places { places ≡ length armer.now.seen.armed }
     ensures due { due.new.items ≡ take (vec_capacity due.old) (due_in (at desk.old)) }
     ensures list { map (λ u. u.what) list.new.items ≡ take (vec_capacity list.old)
-        (tellings (at desk.old) (opens_census (at desk.old)) armer.now.seen due.new.items) }
+        (tellings (at desk.old) (kind_told (at desk.old)) armer.now.seen due.new.items) }
     ensures all { result ≡ false → (due.new.items ≡ due_in (at desk.old))
         × (map (λ u. u.what) list.new.items
-        ≡ tellings (at desk.old) (opens_census (at desk.old)) armer.now.seen due.new.items)
-        × (any_more (at desk.old) (opens_census (at desk.old)) armer.now.seen due.new.items ≡ false) }
+        ≡ tellings (at desk.old) (kind_told (at desk.old)) armer.now.seen due.new.items)
+        × (any_more (at desk.old) (kind_told (at desk.old)) armer.now.seen due.new.items ≡ false) }
     ensures more { result ≡ true → (vec_capacity due.old ≤ length (due_in (at desk.old)))
-        ⊎ ((any_more (at desk.old) (opens_census (at desk.old)) armer.now.seen due.new.items ≡ true)
+        ⊎ ((any_more (at desk.old) (kind_told (at desk.old)) armer.now.seen due.new.items ≡ true)
         ⊎ (vec_capacity list.old < length
-        (tellings (at desk.old) (opens_census (at desk.old)) armer.now.seen due.new.items))) }
+        (tellings (at desk.old) (kind_told (at desk.old)) armer.now.seen due.new.items))) }
     ensures same { (desk.new.book ≡ desk.old.book) × (desk.new.keeper ≡ desk.old.keeper) }
 {
     due.clear();
     list.clear();
-    let Some(is_census) = desk.open_kind() else {
+    let Some(kind) = desk.open_kind() else {
         return false;
     };
     desk.list_due(false, due);
-    let more = list_each(desk, armer, places, is_census, due.as_slice(), list);
+    let more = list_each(desk, armer, places, kind, due.as_slice(), list);
     more || due.len() >= due.capacity()
 }

@@ -13,6 +13,7 @@ use berths::{BerthReceipt, locked};
 use bodies::Name;
 use desk::{Desk, Target};
 use held_threads::{Found, TellFault, Told, look_up};
+use operations::Kind;
 use operations::job::Errand;
 use std::sync::Wait;
 use std::{mem, thread};
@@ -68,7 +69,12 @@ impl<'a, N: Name, J: Errand> Coordinator<'a, N, J> {
             Found::NoPlace => return None,
             Found::Said(said) => return Some(said),
         };
-        let job = job_of(&mut desk, number, name, hand.is_none() && !target.is_census);
+        let job = job_of(
+            &mut desk,
+            number,
+            name,
+            hand.is_none() && target.kind == Kind::Handshake,
+        );
         drop(desk);
         if job.is_some() {
             *hand = job;
@@ -196,7 +202,7 @@ impl<'a, N: Name, J: Errand> Coordinator<'a, N, J> {
         ensures armed { OnSome result
             (self.new.armer ≡ armed_with self.old.armer target.place number) }
         ensures receipt { IfSome result (λ r.
-            r ≡ acted target.place name (told_act target.is_census number)) }
+            r ≡ acted target.place name (told_act target.kind number)) }
         ensures refused { IfNone result (self.new.armer ≡ self.old.armer) }
         ensures held { (self.new.held ≡ self.old.held) × (self.new.operated ≡ self.old.operated) }
         ensures arms { ArmsOn self.old.armer self.new.armer }
@@ -208,10 +214,10 @@ impl<'a, N: Name, J: Errand> Coordinator<'a, N, J> {
         }
         let is_out = !room.has_body(name) && !self.bodies.has(target.place);
         self.note_out(target.place, is_out);
-        if target.is_census {
-            return self.armer.mark(&mut room, shared.row(), name, number);
-        }
-        let job = hand.take()?;
+        let job = match target.kind {
+            Kind::Census => return self.armer.mark(&mut room, shared.row(), name, number),
+            Kind::Handshake => hand.take()?,
+        };
         if job.op_of() != number || job.target_of() != name {
             return None;
         }

@@ -10,6 +10,7 @@ use berths::{BerthReceipt, Room};
 use bodies::Name;
 use desk::{Desk, Target};
 use held_threads::{Found, TellFault, Told, look_up};
+use operations::Kind;
 use operations::job::Errand;
 use poll::PollRow;
 
@@ -79,7 +80,7 @@ impl<N: Name> Steps<N> {
         requires place { untold.now.target.place < N.board.places }
         requires later { slice_index self.old.armer.armed untold.now.target.place < untold.now.number }
         ensures armed { OnSome result (self.new.armer ≡ armed_with self.old.armer untold.now.target.place untold.now.number) }
-        ensures receipt { IfSome result (λ r. r ≡ acted untold.now.target.place untold.now.name (told_act untold.now.target.is_census untold.now.number)) }
+        ensures receipt { IfSome result (λ r. r ≡ acted untold.now.target.place untold.now.name (told_act untold.now.target.kind untold.now.number)) }
         ensures refused { IfNone result (self.new ≡ self.old) }
         ensures held { (self.new.held ≡ self.old.held) × (self.new.operated ≡ self.old.operated) }
         ensures book { (desk.new.book ≡ desk.old.book) × (desk.new.keeper ≡ desk.old.keeper) }
@@ -88,10 +89,10 @@ impl<N: Name> Steps<N> {
         if room.place() != place || untold.number >= 1 << 40 || room.name() != untold.name {
             return None;
         }
-        if untold.target.is_census {
-            return self.armer.mark(room, row, untold.name, untold.number);
-        }
-        let job = job_in(desk, untold, hand)?;
+        let job = match untold.target.kind {
+            Kind::Census => return self.armer.mark(room, row, untold.name, untold.number),
+            Kind::Handshake => job_in(desk, untold, hand)?,
+        };
         match self.armer.tell(room, row, job) {
             Ok(receipt) => Some(receipt),
             Err(back) => {

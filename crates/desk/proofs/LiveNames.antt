@@ -1,5 +1,5 @@
 -- Looking for a live name by halves, where live names rise.
-use Rattle.std.proofs.Common.{◌≡◌, ℕ, zero, suc, ◌+◌, ◌≤◌, List, [], ◌∷◌, true, cond, Some, sym, ap, ◌∙◌, subst, arith}
+use Rattle.std.proofs.Common.{◌≡◌, ℕ, zero, suc, ◌+◌, ◌<◌, ◌≤◌, List, [], ◌∷◌, Bool, true, false, cond, Some, refl, sym, ap, ◌∙◌, subst, arith}
 use Rattle.std.specs.Prelude.{◌&&◌, ◌||◌, ◌==◌, slice_get, slice_index_or, drop}
 use Rattle.std.specs.List.{list_any}
 use Rattle.std.proofs.lemmas.Bool.{eq-eqb, ne_eqb, le-ltb, or_right}
@@ -7,7 +7,7 @@ use Rattle.desk.specs.declared.entries.Live.{Live}
 use Rattle.desk.specs.Machine.{State, Current, names_of, is_live, place_of}
 use Rattle.desk.specs.Fields.{Fields, IsKept}
 use Rattle.desk.specs.Rising.{AreRising}
-use Rattle.desk.specs.Targets.{is_due_target, due_after, live_after}
+use Rattle.desk.specs.Targets.{is_due_target, is_due_name, live_after}
 use Rattle.desk.proofs.Rising.{live_names_rise}
 
 -- a name of the list is no less than the least
@@ -37,24 +37,32 @@ place_there least name (suc i) (x ∷ ls) l d r here is =
     place_there (x.name + 1) name i ls l d r.1 here is
     ∙ sym (ap (λ b. cond b (Some x.place) (place_of name ls)) (ne_eqb x.name name (λ e. absurd (omega arith))))
 
-none_until : (least name i : ℕ) (cs : List Current) (ls : List Live) (l : Live) → AreRising least (names_of ls) → slice_get ls i ≡ Some l → l.name ≡ name
-    → due_after name cs (drop (suc i) ls) ≡ due_after name cs ls
-none_until least name i cs [] l r here is = cc
-none_until least name zero cs (x ∷ ls) l r here is =
+or_false : (b : Bool) → (b || false) ≡ b
+or_false true = refl
+or_false false = refl
+
+-- a name below the least is not due
+below_due : (least name : ℕ) (cs : List Current) (ls : List Live) → AreRising least (names_of ls) → name < least → is_due_name name cs ls ≡ false
+below_due least name cs [] r low = refl
+below_due least name cs (x ∷ ls) r low =
+    let k = r.0 in
+    ap (λ b. (b && list_any (is_due_target x) cs) || is_due_name name cs ls) (ne_eqb x.name name (λ e. absurd (omega arith)))
+    ∙ below_due (x.name + 1) name cs ls r.1 (omega arith)
+
+-- it is due where the thread there is
+pub due_there : (least name i : ℕ) (cs : List Current) (ls : List Live) (l d : Live) → AreRising least (names_of ls) → slice_get ls i ≡ Some l → l.name ≡ name
+    → list_any (is_due_target (slice_index_or ls i d)) cs ≡ is_due_name name cs ls
+due_there least name i cs [] l d r here is = cc
+due_there least name zero cs (x ∷ ls) l d r here is =
     let same : x ≡ l = cc in
     let low : x.name ≡ name = ap (λ (y : Live). y.name) same ∙ is in
-    sym (ap (λ b. cond (b && list_any (is_due_target x) cs) (Some x) (due_after name cs ls)) (le-ltb name x.name (omega arith)))
-none_until least name (suc i) cs (x ∷ ls) l r here is =
+    sym (ap (λ b. (b && list_any (is_due_target x) cs) || is_due_name name cs ls) (eq-eqb x.name name low)
+        ∙ ap (λ b. list_any (is_due_target x) cs || b) (below_due (x.name + 1) name cs ls r.1 (omega arith))
+        ∙ or_false (list_any (is_due_target x) cs))
+due_there least name (suc i) cs (x ∷ ls) l d r here is =
     let k = no_less (x.name + 1) i ls l r.1 here in
-    none_until (x.name + 1) name i cs ls l r.1 here is
-    ∙ sym (ap (λ b. cond (b && list_any (is_due_target x) cs) (Some x) (due_after name cs ls)) (le-ltb name x.name (omega arith)))
-
--- no greater name stands before it
-pub none_before : (least name i : ℕ) (cs : List Current) (ls : List Live) (l : Live) → AreRising least (names_of ls) → slice_get ls i ≡ Some l → l.name ≡ name
-    → due_after name cs (drop (i + 1) ls) ≡ due_after name cs ls
-none_before least name i cs ls l r here is =
-    let next : i + 1 ≡ suc i = omega arith in
-    ap (λ k. due_after name cs (drop k ls)) next ∙ none_until least name i cs ls l r here is
+    due_there (x.name + 1) name i cs ls l d r.1 here is
+    ∙ sym (ap (λ b. (b && list_any (is_due_target x) cs) || is_due_name name cs ls) (ne_eqb x.name name (λ e. absurd (omega arith))))
 
 above_until : (least name i : ℕ) (ls : List Live) (l : Live) → AreRising least (names_of ls) → slice_get ls i ≡ Some l → l.name ≡ name
     → live_after name (drop (suc i) ls) ≡ live_after name ls

@@ -4,7 +4,9 @@ use Rattle.operations.specs.declared.Request.{Request}
 use Rattle.operations.specs.declared.Request.TheVariants.{Handshake, Census}
 use Rattle.std.specs.List.{list_any}
 use Rattle.operations.specs.Names.{among, is_empty}
-use Rattle.operations.specs.Requests.{is_census}
+use Rattle.operations.specs.declared.Kind.{Kind}
+use Rattle.operations.specs.declared.Kind.TheVariants as kind
+use Rattle.operations.specs.Requests.{is_census, kind_of}
 use Rattle.desk.specs.declared.entries.Live.{Live}
 use Rattle.desk.specs.declared.entries.Standing.{Standing}
 use Rattle.desk.specs.declared.entries.Standing.TheVariants.{NothingOpen, NotOf, Gone, Asked}
@@ -25,16 +27,20 @@ is_owed name c = if is_census c.request then not c.operated else among name c.du
 abbrev pub is_target_of : ℕ → ℕ → Current → Bool
 is_target_of next name c = is_asked next name c.request && nat_lt name c.before
 
+-- of which kind the open requests are: a census is open alone
+abbrev pub kind_among : List Current → Kind
+kind_among cs = if has_census cs then kind.Census else kind.Handshake
+
 -- the same of a name by its place, where it is live
-abbrev pub standing_at : Option ℕ → Bool → Bool → Standing
-standing_at None has is_census = Gone
-standing_at (Some place) has is_census = if has then Asked record { place = place; is_census = is_census } else Gone
+abbrev pub standing_at : Option ℕ → Bool → Kind → Standing
+standing_at None has k = Gone
+standing_at (Some place) has k = if has then Asked record { place = place; kind = k } else Gone
 
 -- how a name stands to the open requests
 abbrev pub standing_to : ℕ → List Live → ℕ → List Current → Standing
 standing_to next ls name cs =
     if is_empty cs then NothingOpen else if list_any (λ c. is_asked next name c.request) cs
-    then standing_at (place_of name ls) (list_any (is_target_of next name) cs) (has_census cs) else NotOf
+    then standing_at (place_of name ls) (list_any (is_target_of next name) cs) (kind_among cs) else NotOf
 
 abbrev pub standing : State → ℕ → Standing
 standing s name = standing_to s.next_name s.live name s.opened
@@ -77,11 +83,6 @@ progress s name last = progress_in s.next_name name last s.opened
 abbrev pub is_due_target : Live → Current → Bool
 is_due_target l c = nat_lt l.name c.before && is_owed l.name c
 
--- the first live thread with a greater name that is due for one of the requests
-abbrev pub due_after : ℕ → List Current → List Live → Option Live
-due_after name cs [] = None
-due_after name cs (l ∷ ls) = if nat_lt name l.name && list_any (is_due_target l) cs then Some l else due_after name cs ls
-
 -- the live threads that are due for one of the requests
 abbrev pub due_of : List Current → List Live → List Live
 due_of cs ls = filter (λ l. list_any (is_due_target l) cs) ls
@@ -95,9 +96,13 @@ abbrev pub of_which : Bool → List Current → List Current
 of_which true cs = oldest cs
 of_which false cs = cs
 
+-- whether the thread of the name is one of the live threads that are due for one of the requests
+abbrev pub is_due_name : ℕ → List Current → List Live → Bool
+is_due_name name cs ls = list_any (λ l. l.name == name && list_any (is_due_target l) cs) ls
+
 -- for the oldest open request
-abbrev pub next_awaited : State → ℕ → Option Live
-next_awaited s name = due_after name (oldest s.opened) s.live
+abbrev pub is_awaited : State → ℕ → Bool
+is_awaited s name = is_due_name name (oldest s.opened) s.live
 
 -- the name that is live at a place
 abbrev pub name_at : ℕ → List Live → Option ℕ
@@ -109,10 +114,11 @@ abbrev pub live_after : ℕ → List Live → Option ℕ
 live_after name [] = None
 live_after name (l ∷ ls) = if nat_lt name l.name then Some l.name else live_after name ls
 
-abbrev pub front_kind : List Current → Option Bool
-front_kind [] = None
-front_kind (c ∷ cs) = Some (is_census c.request)
+-- of which kind the oldest of these requests is
+abbrev pub kind_of_oldest : List Current → Option Kind
+kind_of_oldest [] = None
+kind_of_oldest (c ∷ cs) = Some (kind_of c.request)
 
--- whether the oldest open request is a census; None where nothing is open
-abbrev pub open_kind : State → Option Bool
-open_kind s = front_kind s.opened
+-- of which kind the oldest open request is; None where nothing is open
+abbrev pub open_kind : State → Option Kind
+open_kind s = kind_of_oldest s.opened

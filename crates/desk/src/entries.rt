@@ -1,7 +1,7 @@
 //! Entries of the history, and what the desk keeps of them.
 use crate::names::{Awaited, Names};
 use frames::CodeId;
-use operations::Request;
+use operations::{Kind, Request};
 use std::collections::VecDeque;
 
 /// A live name with its place.
@@ -29,8 +29,8 @@ pub enum Standing {
 pub struct Target {
     /// The thread's place.
     pub place: usize,
-    /// Whether the request is a census, which is open alone.
-    pub is_census: bool,
+    /// Of which kind the request is. A census is open alone.
+    pub kind: Kind,
 }
 
 /// How far a live thread is with what it was told of the open requests.

@@ -6,7 +6,6 @@ ghost use Rattle.desk.specs.Replies.{replies_kept};
 ghost use Rattle.desk.specs.Pending.{least_pending, is_pending};
 
 use crate::desk::Desk;
-use crate::lists::least_pending;
 use bodies::Name;
 use operations::job::Errand;
 use std::alloc::AllocError;
@@ -46,7 +45,7 @@ impl<N: Name, J: Errand> Desk<N, J> {
             × (self.new.keeper ≡ self.old.keeper)
             × (self.new.jobs ≡ self.old.jobs) }
     {
-        let least = least_pending(&self.queue, self.opened.as_slice(), self.next_number);
+        let least = self.least_pending();
         self.log.forget(least.saturating_sub(1));
     }
 

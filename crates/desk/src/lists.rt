@@ -8,6 +8,7 @@ ghost use Rattle.desk.specs.declared.entries.Live.{Live as LiveOf};
 ghost use Rattle.desk.specs.Machine.{Current as CurrentOf, names_of, is_live, is_taken, without, has_census, awaits_census, may_open_more, may_close, finished, as_operated, is_due, is_least, steps_of};
 ghost use Rattle.desk.specs.Refusals.{has_body, are_all, chosen, oldest_of, holds_target};
 ghost use Rattle.desk.specs.Pending.{first_waiting, least_open};
+ghost use Rattle.desk.specs.Targets.{kind_among};
 ghost use Rattle.desk.specs.JobsFit.{same_ask, asks_it, are_for, jobs_fit, request_of, without_first};
 ghost use Rattle.desk.specs.Fields.{asked_of, current_of, names_left, IsIndex};
 
@@ -16,7 +17,7 @@ use bodies::{Body, Name};
 use operations::job::Errand;
 use operations::queue::Queue;
 use operations::requests::TARGETS;
-use operations::{Ask, Request};
+use operations::{Ask, Kind, Request};
 use std::alloc::{AllocError, Global};
 use std::collections::VecDeque;
 
@@ -124,6 +125,17 @@ pub fn is_census_open<J>(opened: &[Opened<J>]) -> bool
         rest = others;
     }
     false
+}
+
+/// Of which kind the open requests are. A census is open alone.
+pub fn kind_among<J>(opened: &[Opened<J>]) -> Kind
+    ensures { result ≡ kind_among (map current_of opened.now) }
+{
+    if is_census_open(opened) {
+        Kind::Census
+    } else {
+        Kind::Handshake
+    }
 }
 
 /// Whether the oldest request that waits is a census.

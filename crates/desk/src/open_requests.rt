@@ -1,11 +1,15 @@
 //! How names stand to the open requests.
 ghost use Rattle.std.specs.Prelude.{◌≡◌, ◌-◌, ◌<◌, ◌++◌, take, IfSome, vec_len, vec_capacity};
 ghost use Rattle.desk.specs.Fields.{at};
-ghost use Rattle.desk.specs.Targets.{standing, untold, progress, due_of, of_which, next_awaited};
+ghost use Rattle.desk.specs.Pending.{least_pending};
+ghost use Rattle.desk.specs.Targets.{standing, untold, progress, due_of, of_which, is_awaited};
 
 use crate::desk::Desk;
 use crate::entries::{Live, Progress, Standing};
-use crate::targets::{due_after, list_due, of_which, oldest, progress_in, standing_to, untold_in};
+use crate::lists::least_pending;
+use crate::targets::{
+    is_due_name, list_due, of_which, oldest, progress_in, standing_to, untold_in,
+};
 use bodies::Name;
 use operations::job::Errand;
 
@@ -32,6 +36,13 @@ impl<N: Name, J: Errand> Desk<N, J> {
         untold_in(self.opened.as_slice(), self.next_name, name, last)
     }
 
+    /// The least number of a request that is open or waits, and where there is none the number that is given out next.
+    pub fn least_pending(&self) -> u64
+        ensures { result ≡ least_pending (at self.now) }
+    {
+        least_pending(&self.queue, self.opened.as_slice(), self.next_number)
+    }
+
     /// How far a live thread is with the open requests that it was told, where `last` is the last number that it was told.
     pub fn progress(&self, name: u64, last: u64) -> Progress
         ensures { result ≡ progress (at self.now) name last }
@@ -52,11 +63,12 @@ impl<N: Name, J: Errand> Desk<N, J> {
         list_due(opened, self.live.as_slice(), list);
     }
 
-    /// The least name above this one, with its place, whose thread is due for the oldest open request.
+    /// Whether the thread of the name is due for the oldest open request: it is live, was so at the Open, and has no Finish for it, or
+    /// the census isn't operated.
     #[inline(always)]
-    pub fn next_awaited(&self, name: u64) -> Option<Live>
-        ensures { result ≡ next_awaited (at self.now) name }
+    pub fn is_awaited(&self, name: u64) -> bool
+        ensures { result ≡ is_awaited (at self.now) name }
     {
-        due_after(oldest(self.opened.as_slice()), self.live.as_slice(), name)
+        is_due_name(oldest(self.opened.as_slice()), self.live.as_slice(), name)
     }
 }

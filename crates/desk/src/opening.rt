@@ -12,11 +12,12 @@ use crate::desk::Desk;
 use crate::entries::{Carried, Entry, Opened};
 use crate::faults::{CloseFault, OpenFault};
 use crate::lists::{
-    holds_target, is_census, may_close, may_open_more, number_of_oldest, place_chosen, steps_of,
+    holds_target, may_close, may_open_more, number_of_oldest, place_chosen, steps_of,
 };
 use crate::log::Receipt;
 use crate::names::Awaited;
 use bodies::{Body, Name};
+use operations::Kind;
 use operations::job::Errand;
 use operations::queue::Waiting;
 use std::collections::VecDeque;
@@ -114,15 +115,15 @@ impl<N: Name, J: Errand> Desk<N, J> {
         ))
     }
 
-    /// Whether the oldest open request is a census; None where nothing is open.
+    /// Of which kind the oldest open request is; None where nothing is open.
     #[inline(always)]
-    pub fn open_kind(&self) -> Option<bool>
+    pub fn open_kind(&self) -> Option<Kind>
         ensures { result ≡ open_kind (at self.now) }
     {
         if self.opened.is_empty() {
             return None;
         }
-        Some(is_census(&self.opened[0].request))
+        Some(self.opened[0].request.kind())
     }
 
     /// How many requests are open.

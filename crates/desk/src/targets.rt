@@ -1,14 +1,14 @@
 // How names stand to the open requests.
-ghost use Rattle.std.specs.Prelude.{◌≡◌, ◌&&◌, ◌<◌, ◌++◌, ◌-◌, List, map, take, vec_capacity, vec_len, IfSome};
+ghost use Rattle.std.specs.Prelude.{◌≡◌, ◌&&◌, ◌<◌, ◌++◌, ◌-◌, map, take, vec_capacity, vec_len, IfSome};
 ghost use Rattle.std.specs.List.{list_any};
 ghost use Rattle.operations.specs.Requests.{is_census};
-ghost use Rattle.desk.specs.Machine.{Current, names_of, place_of};
+ghost use Rattle.desk.specs.Machine.{names_of, place_of};
 ghost use Rattle.desk.specs.Rising.{AreRising};
-ghost use Rattle.desk.specs.Targets.{is_asked, is_owed, is_target_of, standing_to, is_untold, is_told, is_undone, untold_in, progress_in, is_due_target, due_after, due_of, of_which, oldest, name_at, live_after};
+ghost use Rattle.desk.specs.Targets.{is_asked, is_owed, is_target_of, standing_to, is_untold, is_told, is_undone, untold_in, progress_in, is_due_target, is_due_name, due_of, of_which, oldest, name_at, live_after};
 ghost use Rattle.desk.specs.Fields.{current_of};
 
 use crate::entries::{Live, Opened, Progress, Standing, Target};
-use crate::lists::{found_at, is_census, is_census_open};
+use crate::lists::{found_at, is_census, kind_among};
 use crate::names::is_among;
 use operations::Request;
 
@@ -34,8 +34,7 @@ pub fn place_of(live: &[Live], name: u64) -> Option<usize>
 #[inline(always)]
 fn behind(live: &[Live], name: u64) -> &[Live]
     requires rising { AreRising 0 (names_of live.now) }
-    ensures due { (cs : List Current) → due_after name cs result.now ≡ due_after name cs live.now }
-    ensures above { live_after name result.now ≡ live_after name live.now }
+    ensures { live_after name result.now ≡ live_after name live.now }
 {
     match found_at(live, name) {
         Some(index) => &live[index + 1..],
@@ -146,7 +145,7 @@ pub fn standing_to<J>(opened: &[Opened<J>], next: u64, live: &[Live], name: u64)
     }
     Standing::Asked(Target {
         place,
-        is_census: is_census_open(opened),
+        kind: kind_among(opened),
     })
 }
 
@@ -238,19 +237,22 @@ fn is_due<J>(thread: Live, opened: &[Opened<J>]) -> bool
     false
 }
 
-/// The first live thread with a greater name that is due for one of the requests.
-pub fn due_after<J>(opened: &[Opened<J>], live: &[Live], name: u64) -> Option<Live>
+/// Whether the thread of the name is live and due for one of the requests.
+pub fn is_due_name<J>(opened: &[Opened<J>], live: &[Live], name: u64) -> bool
     requires rising { AreRising 0 (names_of live.now) }
-    ensures { result ≡ due_after name (map current_of opened.now) live.now }
+    ensures { result ≡ is_due_name name (map current_of opened.now) live.now }
 {
-    let mut rest = behind(live, name);
+    if let Some(index) = found_at(live, name) {
+        return is_due(live[index], opened);
+    }
+    let mut rest = live;
     while let Some((one, others)) = rest.split_first() {
-        if name < one.name && is_due(*one, opened) {
-            return Some(*one);
+        if one.name == name && is_due(*one, opened) {
+            return true;
         }
         rest = others;
     }
-    None
+    false
 }
 
 /// Lists the live threads that are due for one of the requests, in their order, as far as the list has room.

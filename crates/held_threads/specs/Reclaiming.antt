@@ -32,3 +32,7 @@ pub record IsReclaimed {N : Type 0} (places serial : ℕ) (said : Reclaimed N) :
   pub after : DeskSeen
   pub looks : LooksAtAll serial places before looked
   pub frees : Frees places serial looked after said
+
+-- The same from this desk.
+abbrev pub IsReclaimedFrom : {N : Type 0} → DeskSeen → ℕ → ℕ → Reclaimed N → Type 0
+IsReclaimedFrom desk places serial said = (r : IsReclaimed places serial said) × (r.before ≡ desk)

@@ -3,6 +3,8 @@ use Rattle.std.specs.Prelude.{◌≡◌, ◌⊎◌, ◌<◌, ◌≤◌, ◌++◌
 use Rattle.thread_state.specs.declared.poll_rule.Arming.{Arming}
 use Rattle.thread_state.specs.PollRule.{armed_with}
 use Rattle.bodies.specs.Bodies.{BodyView}
+use Rattle.operations.specs.declared.Kind.{Kind}
+use Rattle.operations.specs.declared.Kind.TheVariants as kind
 use Rattle.desk.specs.declared.entries.Target.{Target}
 use Rattle.desk.specs.declared.entries.Standing.{Standing}
 use Rattle.desk.specs.declared.entries.Standing.TheVariants as stand
@@ -47,14 +49,14 @@ abbrev pub WasTold : State → ℕ → Arming → Target → Type 0
 WasTold s name armer t = IsAsked s name t × (untold s name (slice_index armer.armed t.place) ≡ None)
 
 -- What goes into the berth of a target: the mark of a census, or its job.
-abbrev pub told_act : Bool → ℕ → BerthAct
-told_act true number = berth.Marked number
-told_act false number = berth.Told number
+abbrev pub told_act : Kind → ℕ → BerthAct
+told_act kind.Census number = berth.Marked number
+told_act kind.Handshake number = berth.Told number
 
 -- Telling puts the oldest request that a target wasn't told into its berth, arms its place with that number, and no other place.
 abbrev pub tells : {N : Type 0} → State → ℕ → Arming → Arming → Told N → Type 0
 tells s name old new (told.Told r)
-    = (t : Target) × (number : ℕ) × IsUntold s name old t number × (new ≡ armed_with old t.place number) × (r ≡ acted t.place name (told_act t.is_census number))
+    = (t : Target) × (number : ℕ) × IsUntold s name old t number × (new ≡ armed_with old t.place number) × (r ≡ acted t.place name (told_act t.kind number))
 tells s name old new told.Gone = (standing s name ≡ stand.Gone) × (new ≡ old)
 
 abbrev pub tell_refused : State → ℕ → Arming → TellFault → Type 0
@@ -126,12 +128,17 @@ serve_fault_at is.NotTold = Some serve.NotTold
 serve_fault_at is.Done = Some serve.AlreadyDone
 serve_fault_at (is.Undone number) = None
 
+-- In a census none is served.
+abbrev pub serve_fault_in : Kind → Progress → Option ServeFault
+serve_fault_in kind.Census p = Some serve.NotOf
+serve_fault_in kind.Handshake p = serve_fault_at p
+
 -- Why a held thread that stands to the open requests like this, and is so far with what it was told, isn't served.
 abbrev pub serve_fault : Standing → Progress → Option ServeFault
 serve_fault stand.NothingOpen p = Some serve.NothingOpen
 serve_fault stand.NotOf p = Some serve.NotOf
 serve_fault stand.Gone p = Some serve.NotTold
-serve_fault (stand.Asked t) p = if t.is_census then Some serve.NotOf else serve_fault_at p
+serve_fault (stand.Asked t) p = serve_fault_in t.kind p
 
 -- What the desk says of the held thread at the index.
 abbrev pub IsServeFault : Holding → ℕ → ℕ → Option ServeFault → Type 0

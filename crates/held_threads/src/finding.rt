@@ -2,12 +2,13 @@
 ghost use Rattle.std.specs.Prelude.{◌≡◌, None, Some, length, IfNone, IfSome};
 ghost use Rattle.desk.specs.Targets.{standing, progress, name_at};
 ghost use Rattle.desk.specs.Fields.{at};
-ghost use Rattle.held_threads.specs.Refused.{IsFound, hold_fault, serve_fault, unserved};
+ghost use Rattle.held_threads.specs.Refused.{IsFound, hold_fault, serve_fault, serve_fault_in, unserved};
 
 use crate::faults::{HoldFault, ReleaseFault, ServeFault, TellFault, Told};
 use crate::teller::Teller;
 use bodies::Name;
 use desk::{Desk, Progress, Standing, Target};
+use operations::Kind;
 use operations::job::Errand;
 
 /// What a look at the desk finds for a name that is to be told.
@@ -78,23 +79,29 @@ pub fn hold_fault_at<N: Name, J: Errand>(
     ))
 }
 
+// Why a held target of a request of this kind, which is so far with what it was told, isn't served.
+fn serve_fault_in(kind: Kind, progress: Progress) -> Option<ServeFault>
+    ensures { result ≡ serve_fault_in kind progress }
+{
+    match kind {
+        Kind::Census => Some(ServeFault::NotOf),
+        Kind::Handshake => match progress {
+            Progress::NotTold => Some(ServeFault::NotTold),
+            Progress::Done => Some(ServeFault::AlreadyDone),
+            Progress::Undone(_) => None,
+        },
+    }
+}
+
 // Why a held thread that stands to the open requests like this, and is so far with what it was told, isn't served.
 fn serve_fault(said: Standing, progress: Progress) -> Option<ServeFault>
     ensures { result ≡ serve_fault said progress }
 {
-    let target = match said {
-        Standing::NothingOpen => return Some(ServeFault::NothingOpen),
-        Standing::NotOf => return Some(ServeFault::NotOf),
-        Standing::Gone => return Some(ServeFault::NotTold),
-        Standing::Asked(target) => target,
-    };
-    if target.is_census {
-        return Some(ServeFault::NotOf);
-    }
-    match progress {
-        Progress::NotTold => Some(ServeFault::NotTold),
-        Progress::Done => Some(ServeFault::AlreadyDone),
-        Progress::Undone(_) => None,
+    match said {
+        Standing::NothingOpen => Some(ServeFault::NothingOpen),
+        Standing::NotOf => Some(ServeFault::NotOf),
+        Standing::Gone => Some(ServeFault::NotTold),
+        Standing::Asked(target) => serve_fault_in(target.kind, progress),
     }
 }
 

@@ -1,6 +1,6 @@
 //! Weighing a code that isn't entrant, and freeing it where no activation stands.
 ghost use Rattle.std.specs.Prelude.{◌≡◌, IfSome};
-ghost use Rattle.held_threads.specs.Reclaiming.{IsReclaimed, Frees};
+ghost use Rattle.held_threads.specs.Reclaiming.{IsReclaimed, IsReclaimedFrom, Frees};
 
 use crate::faults::Reclaimed;
 use board::{Board, Weighed};
@@ -39,7 +39,8 @@ pub fn weigh<N: Name, J: Errand>(
 ) -> Option<Reclaimed<N>>
     requires board { board.now ≡ N.board }
     requires places { places ≡ N.board.places }
-    ensures { IfSome result (IsReclaimed N.board.places serial) }
+    ensures reclaimed { IfSome result (IsReclaimed N.board.places serial) }
+    ensures from { IfSome result (IsReclaimedFrom desk.old N.board.places serial) }
 {
     let Ok(()) = desk.look_at_all(board, serial, places) else {
         return None;

@@ -131,8 +131,11 @@ impl<N: Name, J: Errand> Shared<N, J> {
         self.hints.of(method)
     }
 
-    // The first place from this one on where something is armed, or past the last. Nothing is promised of it.
-    pub(crate) fn next_armed(&self, from: usize) -> usize {
+    // The first place from this one on where something is armed, or past the last. What is armed there by then isn't promised.
+    pub(crate) fn next_armed(&self, from: usize) -> usize
+        ensures behind { from ≤ N.board.places → from ≤ result }
+        ensures most { result ≤ N.board.places }
+    {
         for place in from..self.berths.len() {
             if self.row.peek(place) != 0 {
                 return place;
@@ -334,20 +337,12 @@ impl<N: Name, J: Errand> Shared<N, J> {
     pub fn wait_finished<R: Wait>(&self, rt: &R, name: u64) {
         for _ in rt.forever() {
             let desk = self.desk.lock(rt);
-            if !is_due(&desk, name) {
+            if !desk.is_awaited(name) {
                 return;
             }
             self.waiters.fetch_add(1, Ordering::SeqCst);
             let _desk = self.finished.wait(rt, desk);
             self.waiters.fetch_sub(1, Ordering::SeqCst);
         }
-    }
-}
-
-// Whether the thread of the name has still to be answered for in the oldest open request.
-fn is_due<N: Name, J: Errand>(desk: &Desk<N, J>, name: u64) -> bool {
-    match desk.next_awaited(name.saturating_sub(1)) {
-        Some(due) => due.name == name,
-        None => false,
     }
 }

@@ -37,8 +37,8 @@ use Rattle.desk.specs.declared.entries.Live.{Live}
 use Rattle.desk.specs.declared.entries.Entry.TheVariants.{Finish}
 use Rattle.desk.specs.declared.entries.Standing.{Standing}
 use Rattle.desk.specs.declared.entries.Standing.TheVariants.{NothingOpen, NotOf, Gone}
-use Rattle.desk.specs.Machine.{Current, is_live, place_of, has_census, open_of, passes, is_due, is_least, lawful}
-use Rattle.desk.specs.Targets.{is_asked, is_target_of, standing_at, standing}
+use Rattle.desk.specs.Machine.{Current, is_live, place_of, open_of, passes, is_due, is_least, lawful}
+use Rattle.desk.specs.Targets.{is_asked, is_target_of, kind_among, standing_at, standing}
 use Rattle.method_table.specs.declared.Code.{Code}
 use Rattle.method_table.specs.Entries.{newest_in}
 use Rattle.tie.specs.BoardOf.{slot_by}
@@ -306,7 +306,7 @@ tells_say w name h = test Q (not (is_empty w.requests.opened)) refusal.NothingOp
     Q v = TellSays w name (answer_of v)
 
     rest : Bool → Standing
-    rest b = cond b (standing_at (place_of name (live_to (names_given w.log) w.places)) (list_any (is_target_of (names_given w.log + 1) name) (map (current_of w.requests.done w.log) w.requests.opened)) (has_census (map (current_of w.requests.done w.log) w.requests.opened))) NotOf
+    rest b = cond b (standing_at (place_of name (live_to (names_given w.log) w.places)) (list_any (is_target_of (names_given w.log + 1) name) (map (current_of w.requests.done w.log) w.requests.opened)) (kind_among (map (current_of w.requests.done w.log) w.requests.opened))) NotOf
 
     empties : is_empty (map (current_of w.requests.done w.log) w.requests.opened) ≡ is_empty w.requests.opened
     empties = empty_is (current_of w.requests.done w.log) w.requests.opened
@@ -328,17 +328,17 @@ tells_say w name h = test Q (not (is_empty w.requests.opened)) refusal.NothingOp
     gone s e = s ∙ by (lives w name) refl
       where
         by : (b : Bool) → lives w name ≡ b → rest true ≡ Gone
-        by true live = (λ j. standing_at (at live j) ((has_is live ∙ none_left (λ o. is_live_target w o name) w.requests.opened e) j) (has_census (map (current_of w.requests.done w.log) w.requests.opened)))
+        by true live = (λ j. standing_at (at live j) ((has_is live ∙ none_left (λ o. is_live_target w o name) w.requests.opened e) j) (kind_among (map (current_of w.requests.done w.log) w.requests.opened)))
         by false dead = (λ j. standing_at (place_none name (live_to (names_given w.log) w.places) (false_from_ne_true _ (λ l. false≢true (sym dead ∙ lives_here w name h.ordered.kept l))) j)
-            (list_any (is_target_of (names_given w.log + 1) name) (map (current_of w.requests.done w.log) w.requests.opened)) (has_census (map (current_of w.requests.done w.log) w.requests.opened)))
+            (list_any (is_target_of (names_given w.log + 1) name) (map (current_of w.requests.done w.log) w.requests.opened)) (kind_among (map (current_of w.requests.done w.log) w.requests.opened)))
 
     asked_ : standing (desk_of w) name ≡ rest true → (x : Opened) (xs : List Opened) → filter (λ o. is_live_target w o name) w.requests.opened ≡ x ∷ xs → IsAsked w name
     asked_ s x xs e =
         let f = filter_at (λ o. is_live_target w o name) w.requests.opened 0 x (ap (λ (ys : List Opened). slice_get ys 0) e) in
         let live : lives w name ≡ true = (and_parts (among name x.live) (lives w name) f.passes).1 in
         record {
-          target = record { place = (seat live).0; is_census = has_census (map (current_of w.requests.done w.log) w.requests.opened) };
-          standing_is = s ∙ (λ j. standing_at (at live j) ((has_is live ∙ some_left (λ o. is_live_target w o name) w.requests.opened x xs e) j) (has_census (map (current_of w.requests.done w.log) w.requests.opened)));
+          target = record { place = (seat live).0; kind = kind_among (map (current_of w.requests.done w.log) w.requests.opened) };
+          standing_is = s ∙ (λ j. standing_at (at live j) ((has_is live ∙ some_left (λ o. is_live_target w o name) w.requests.opened x xs e) j) (kind_among (map (current_of w.requests.done w.log) w.requests.opened)));
           place_is = (seat live).1;
         }
 

@@ -12,7 +12,7 @@ use Rattle.coordinator.proofs.listing.list_each.Goals.{then-has_more, else-has_m
 pub loop-who-preserved-after-has_more : goal.loop-who-preserved-after-has_more
 loop-who-preserved-after-has_more g c =
     let l = c.loop-who in let p = c.push_reserved in let s = at c.args.desk.now in
-    let kind = c.args.is_census in let armer = c.args.armer.now.seen in
+    let kind = c.args.kind in let armer = c.args.armer.now.seen in
     let who = c.in-Some.who.now in let others = c.in-Some.others.now in let what = c.in-Some-telling_of.what in
     let rest = tellings s kind armer others in
     let f : Untold g.row.J.Denot → Telling = λ u. u.what in

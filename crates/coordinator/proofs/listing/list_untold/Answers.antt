@@ -2,7 +2,7 @@ use Rattle.std.proofs.Common.{rules, ◌≡◌, None, map, take, vec_capacity, s
 use Rattle.std.proofs.Math.Seq.{take-nil}
 use Rattle.desk.specs.Fields.{at}
 use Rattle.desk.specs.Targets.{open_kind}
-use Rattle.coordinator.specs.Telling.{tellings, opens_census, any_more}
+use Rattle.coordinator.specs.Telling.{tellings, kind_told, any_more}
 use Rattle.coordinator.specs.declared.listing.Telling.{Telling}
 use Rattle.coordinator.specs.declared.listing.Untold.{Untold}
 use Rattle.coordinator.proofs.Tellings.{none_due}
@@ -21,6 +21,6 @@ returns-in_default-clause-all g c =
     let f : Untold g.row.J.Denot → Telling = λ u. u.what in
     λ _. (
       c.clear.ensures.items ∙ sym (none_due s none),
-      ap (map f) c.clear-2.ensures.items ∙ sym (ap (tellings s (opens_census s) armer) c.clear.ensures.items),
-      ap (any_more s (opens_census s) armer) c.clear.ensures.items,
+      ap (map f) c.clear-2.ensures.items ∙ sym (ap (tellings s (kind_told s) armer) c.clear.ensures.items),
+      ap (any_more s (kind_told s) armer) c.clear.ensures.items,
     )

@@ -1,5 +1,4 @@
-use Rattle.std.proofs.Common.{◌≡◌, ◌+◌, ◌-◌, ◌∙◌, map, List, sym, ap, rules, arith, subst}
-use Rattle.desk.specs.declared.entries.Opened.{Opened}
+use Rattle.std.proofs.Common.{◌≡◌, ◌+◌, ◌-◌, ◌∙◌, map, sym, ap, rules, arith, subst}
 use Rattle.desk.specs.Machine.{Gone}
 use Rattle.desk.specs.Fields.{DeskSeen, at, current_of, asked_of}
 use Rattle.desk.specs.Pending.{first_waiting, least_open, least_pending}
@@ -9,7 +8,7 @@ use Rattle.desk.proofs.desk.Desk.forget.Goals as goal
 pub forget-requires : goal.forget-requires
 forget-requires g c =
     let i = c.self.inside in let m = c.self.invariant in
-    let least = c.least_pending-least.ensures ∙ ap (λ (os : List (Opened g.row.J.Denot)). least_open (first_waiting i.next_number (map asked_of i.queue)) (map current_of os)) c.as_slice.ensures.value in
+    let least = c.least_pending-least.ensures ∙ (ap (λ (d : DeskSeen). least_pending (at d)) (sym c.self.view_is) ∙ ap least_pending m.kept.state) in
     let last = c.saturating_sub.ensures ∙ ap (λ n. n - 1) least in
     let later = m.pending in
     record { later = omega arith; given = given_out c.saturating_sub.result i.log.lists m.kept m.replies last }
@@ -17,7 +16,7 @@ forget-requires g c =
 pub invariant_of-self : goal.invariant_of-self
 invariant_of-self g c =
     let i = c.self.inside in let m = c.self.invariant in
-    let least = c.least_pending-least.ensures ∙ ap (λ (os : List (Opened g.row.J.Denot)). least_open (first_waiting i.next_number (map asked_of i.queue)) (map current_of os)) c.as_slice.ensures.value in
+    let least = c.least_pending-least.ensures ∙ (ap (λ (d : DeskSeen). least_pending (at d)) (sym c.self.view_is) ∙ ap least_pending m.kept.state) in
     let gone = ap (λ (x : Gone). x.operations) c.forget.ensures.gone in
     let last = c.saturating_sub.ensures ∙ ap (λ n. n - 1) least in
     let later = m.pending in
@@ -35,7 +34,7 @@ invariant_of-self g c =
 pub returns-clause-operations : goal.returns-clause-operations
 returns-clause-operations g c =
     let i = c.self.inside in let m = c.self.invariant in
-    let least = c.least_pending-least.ensures ∙ ap (λ (os : List (Opened g.row.J.Denot)). least_open (first_waiting i.next_number (map asked_of i.queue)) (map current_of os)) c.as_slice.ensures.value in
+    let least = c.least_pending-least.ensures ∙ (ap (λ (d : DeskSeen). least_pending (at d)) (sym c.self.view_is) ∙ ap least_pending m.kept.state) in
     let gone = ap (λ (x : Gone). x.operations) c.forget.ensures.gone in
     let last = c.saturating_sub.ensures ∙ ap (λ n. n - 1) least in
     let later = m.pending in

@@ -1,9 +1,0 @@
-use Rattle.std.proofs.Common.{List, sym, subst}
-use Rattle.desk.specs.declared.entries.Live.{Live}
-use Rattle.desk.specs.Machine.{names_of}
-use Rattle.desk.specs.Rising.{AreRising}
-use Rattle.desk.proofs.LiveNames.{kept_rise}
-use Rattle.desk.proofs.desk.Desk.next_awaited.Goals as goal
-
-pub due_after-requires : goal.due_after-requires
-due_after-requires g c = record { rising = subst (λ (ls : List Live). AreRising 0 (names_of ls)) (sym c.as_slice-2.ensures.value) (kept_rise c.self.invariant.kept) }
