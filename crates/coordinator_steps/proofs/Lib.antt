@@ -1,1 +1,2 @@
+pub mod Owing
 pub mod Served

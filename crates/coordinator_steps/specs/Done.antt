@@ -1,23 +1,40 @@
 -- What serving and releasing do over what is lent, beside what `held_threads` says of both coordinators.
-use Rattle.std.specs.Prelude.{◌≡◌, ℕ, None, slice_set}
+use Rattle.std.specs.Prelude.{◌≡◌, ◌≢◌, ℕ, None, slice_set}
 use Rattle.std.specs.List.{remove}
 use Rattle.bodies.specs.Bodies.{BodyView}
 use Rattle.operations.specs.Asks.{reply}
 use Rattle.desk.specs.declared.entries.Entry.TheVariants.{Finish}
 use Rattle.desk.specs.Finishing.{FinishSeen}
-use Rattle.berths.specs.Berths.{Moved, moved}
+use Rattle.desk.specs.Machine.{State}
+use Rattle.berths.specs.Berths.{Berthing, Moved, moved}
 use Rattle.berths.specs.declared.room.BodyAct.TheVariants as body_act
+use Rattle.berths.specs.declared.room.Holder.TheVariants.{Out}
 use Rattle.thread_list.specs.Moves.{IsOperated}
 use Rattle.held_threads.specs.Held.{StandsAt}
 use Rattle.held_threads.specs.Holding.{Holding}
-use Rattle.held_threads.specs.Refused.{IsServeFault}
+use Rattle.held_threads.specs.Refused.{In, InSome, IsServeFaultBy}
+use Rattle.held_threads.specs.Serves.{not_served}
+use Rattle.held_threads.specs.declared.serving.Unserved.{Unserved}
 
 -- Serving the body at the index publishes it, and enters what its job of that number answered, by the ask on its frames; the others stay.
-abbrev pub Serves : (old new : Holding) → (place number : ℕ) → FinishSeen → Type 0
-Serves old new place number finish
-    = (index : ℕ) × (body : BodyView) × (after : BodyView) × StandsAt old.held index place body × IsServeFault old index place None
+abbrev pub ServesBy : ((State → Type 0) → Type 0) → (old new : Holding) → (place number : ℕ) → FinishSeen → Type 0
+ServesBy by old new place number finish
+    = (index : ℕ) × (body : BodyView) × (after : BodyView) × StandsAt old.held index place body × IsServeFaultBy by old index place None
     × (new ≡ record old { held = slice_set old.held index after }) × IsOperated number body after
     × (finish.stands.entry ≡ Finish number body.name (reply finish.ask body.image.frames))
+
+abbrev pub Serves : (old new : Holding) → (place number : ℕ) → FinishSeen → Type 0
+Serves old new place number finish = ServesBy InSome old new place number finish
+
+-- The held body of the place may be served as far as the desk in this state goes, and isn't for this reason.
+abbrev pub IsUnserved : {N : Type 0} → State → Holding → ℕ → Berthing N → Unserved → Type 0
+IsUnserved s old place room why
+    = (index : ℕ) × (body : BodyView) × StandsAt old.held index place body × IsServeFaultBy (In s) old index place None × not_served room s body.name why
+
+-- The held body of the place didn't come out of the room.
+abbrev pub IsElsewhere : {N : Type 0} → Holding → ℕ → Berthing N → Type 0
+IsElsewhere old place room
+    = (index : ℕ) × (body : BodyView) × StandsAt old.held index place body × (room.holder ≡ Out body.name → room.place ≢ body.seat.place)
 
 -- The body of the place is held no more, and by the receipt it went into its berth as it was.
 abbrev pub Releases : Holding → Holding → ℕ → Moved → Type 0

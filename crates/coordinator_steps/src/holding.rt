@@ -1,8 +1,13 @@
 //! Holding a thread, serving it, and letting it go.
-ghost use Rattle.std.specs.Prelude.{◌≡◌, ◌<◌, ◌++◌, ◌∷◌, [], false, None, Some, length, IfSome, IfNone, IfOk, IfErr};
-ghost use Rattle.held_threads.specs.Held.{is_held};
-ghost use Rattle.held_threads.specs.Refused.{Holds, MayHold, hold_refused, HasNoHeld, IsServeFault, serve_refused};
-ghost use Rattle.coordinator_steps.specs.Done.{Releases, Serves};
+ghost use Rattle.std.specs.Prelude.{◌≡◌, ◌≢◌, ◌<◌, ◌++◌, ◌∷◌, [], false, None, Some, length, slice_index, IfSome, IfNone, IfOk, IfErr, ℕ};
+ghost use Rattle.bodies.specs.Bodies.{BodyView};
+ghost use Rattle.berths.specs.declared.room.Holder.TheVariants.{Out as IsOut};
+ghost use Rattle.desk.specs.Fields.{at};
+ghost use Rattle.desk.specs.Targets.{progress};
+ghost use Rattle.desk.specs.declared.entries.Progress.TheVariants.{Undone as IsUndone};
+ghost use Rattle.held_threads.specs.Held.{is_held, StandsAt};
+ghost use Rattle.held_threads.specs.Refused.{In, HoldsBy, MayHoldBy, hold_refused_by, Withholds, HasNoHeldBy, IsServeFaultBy, serve_refused_by};
+ghost use Rattle.coordinator_steps.specs.Done.{Releases, IsElsewhere, ServesBy, IsUnserved};
 
 use crate::steps::Steps;
 use berths::{BodyReceipt, Room};
@@ -16,7 +21,9 @@ use operations::job::Errand;
 use poll::PollRow;
 
 // The number of the oldest request that a thread owes, 0 for none.
-fn number_in(progress: Progress) -> u64 {
+fn number_in(progress: Progress) -> u64
+    ensures { (n : ℕ) → progress ≡ IsUndone n → result ≡ n }
+{
     match progress {
         Progress::Undone(number) => number,
         Progress::Done | Progress::NotTold => 0,
@@ -32,8 +39,10 @@ impl<N: Name> Steps<N> {
         room: &mut Room<N, J>,
         place: usize,
     ) -> Result<(u64, BodyReceipt<N>), HoldFault>
-        ensures held { IfOk result (λ r. Holds self.old self.new place r.1) }
-        ensures refused { IfErr result (λ e. hold_refused self.old N.board.places place e × (self.new ≡ self.old)) }
+        ensures held { IfOk result (λ r. HoldsBy (In (at desk.now)) self.old self.new place r.1) }
+        ensures number { IfOk result (λ r. progress (at desk.now) r.1.body.name (slice_index self.old.armer.armed place) ≡ IsUndone r.0) }
+        ensures refused { IfErr result (λ e. hold_refused_by (In (at desk.now)) self.old N.board.places place e × (self.new ≡ self.old)) }
+        ensures withheld { IfErr result (λ e. e ≡ HoldFault.NotSafe → (name : ℕ) × MayHoldBy (In (at desk.now)) self.old place name × Withholds room.old name place) }
         ensures same { IfErr result (λ e. room.new ≡ room.old) }
     {
         let (name, number) = match self.holdable(desk, place) {
@@ -49,8 +58,9 @@ impl<N: Name> Steps<N> {
     // The name of the thread of a place that may be held as far as the desk goes and isn't held, with the number of the oldest operation
     // that it owes; or why there is none.
     fn holdable<J: Errand>(&self, desk: &Desk<N, J>, place: usize) -> Result<(u64, u64), HoldFault>
-        ensures may { IfOk result (λ r. (place < N.board.places) × MayHold self.now place r.0) }
-        ensures refused { IfErr result (λ e. hold_refused self.now N.board.places place e) }
+        ensures may { IfOk result (λ r. (place < N.board.places) × MayHoldBy (In (at desk.now)) self.now place r.0) }
+        ensures number { IfOk result (λ r. progress (at desk.now) r.0 (slice_index self.now.armer.armed place) ≡ IsUndone r.1) }
+        ensures refused { IfErr result (λ e. hold_refused_by (In (at desk.now)) self.now N.board.places place e × (e ≢ HoldFault.NotSafe)) }
     {
         if place >= self.places {
             return Err(HoldFault::NoSuchPlace);
@@ -70,7 +80,7 @@ impl<N: Name> Steps<N> {
 
     /// Why a place has no held thread: there is no such place, no live thread has it, or its thread isn't held.
     pub fn unheld<J: Errand>(&self, desk: &Desk<N, J>, place: usize) -> ReleaseFault
-        ensures { HasNoHeld N.board.places place result }
+        ensures { HasNoHeldBy (In (at desk.now)) N.board.places place result }
     {
         if place >= self.places {
             return ReleaseFault::NoSuchPlace;
@@ -81,8 +91,8 @@ impl<N: Name> Steps<N> {
         }
     }
 
-    /// The held body of a place goes back into its room: the receipt of that. None where its room isn't the one that is lent, and nothing
-    /// is done.
+    /// The held body of a place goes back into its room: the receipt of that. None where it didn't come out of the room that is lent, and
+    /// nothing is done.
     pub fn release<J: Errand>(
         &mut self,
         desk: &Desk<N, J>,
@@ -90,8 +100,9 @@ impl<N: Name> Steps<N> {
         place: usize,
     ) -> Result<Option<BodyReceipt<N>>, ReleaseFault>
         ensures released { IfOk result (λ o. IfSome o (Releases self.old self.new place)) }
-        ensures again { IfOk result (λ o. IfNone o (self.new ≡ self.old)) }
-        ensures refused { IfErr result (λ e. (is_held place self.old.held ≡ false) × HasNoHeld N.board.places place e × (self.new ≡ self.old)) }
+        ensures again { IfOk result (λ o. IfNone o ((self.new ≡ self.old) × (room.new ≡ room.old))) }
+        ensures elsewhere { IfOk result (λ o. IfNone o (IsElsewhere self.old place room.old)) }
+        ensures refused { IfErr result (λ e. (is_held place self.old.held ≡ false) × HasNoHeldBy (In (at desk.now)) N.board.places place e × (self.new ≡ self.old) × (room.new ≡ room.old)) }
     {
         let Some(index) = self.bodies.index_of(place) else {
             return Err(self.unheld(desk, place));
@@ -112,8 +123,9 @@ impl<N: Name> Steps<N> {
     ) -> Result<Result<(u64, Finished<N>), Unserved>, ServeFault>
         requires board { board.now ≡ N.board }
         requires row { row.now ≡ N.poll_row }
-        ensures served { IfOk result (λ r. IfOk r (λ f. Serves self.old self.new place f.0 f.1)) }
-        ensures refused { IfErr result (λ e. serve_refused self.old N.board.places place e × (self.new ≡ self.old) × (desk.new ≡ desk.old)) }
+        ensures served { IfOk result (λ r. IfOk r (λ f. ServesBy (In (at desk.old)) self.old self.new place f.0 f.1)) }
+        ensures unserved { IfOk result (λ r. IfErr r (λ e. IsUnserved (at desk.old) self.old place room.old e × (desk.new ≡ desk.old))) }
+        ensures refused { IfErr result (λ e. serve_refused_by (In (at desk.old)) self.old N.board.places place e × (self.new ≡ self.old) × (desk.new ≡ desk.old)) }
         ensures others { (self.new.armer ≡ self.old.armer) × (self.new.operated ≡ self.old.operated) }
     {
         let Some(index) = self.bodies.index_of(place) else {
@@ -134,7 +146,7 @@ impl<N: Name> Steps<N> {
     ) -> Option<ServeFault>
         requires index { index < length self.now.held }
         requires place { place < N.board.places }
-        ensures { IsServeFault self.now index place result }
+        ensures { IsServeFaultBy (In (at desk.now)) self.now index place result }
     {
         let name = self.bodies.as_slice()[index].name();
         let last = self.armer.last(place);

@@ -2,9 +2,10 @@
 ghost use Rattle.std.specs.Prelude.{◌≡◌, false, IfOk, IfErr, OnOk};
 ghost use Rattle.poll.specs.Rows.{full_armer};
 ghost use Rattle.desk.specs.declared.entries.Entry.{Entry};
-ghost use Rattle.desk.specs.Fields.{Enters};
+ghost use Rattle.desk.specs.Fields.{Enters, at};
+ghost use Rattle.desk.specs.Refusals.{close_refused};
 ghost use Rattle.held_threads.specs.Holding.{held_nothing};
-ghost use Rattle.held_threads.specs.Refused.{MayClose, not_closed};
+ghost use Rattle.held_threads.specs.Refused.{MayCloseIn};
 
 use bodies::Name;
 use desk::{CloseFault, Desk, Receipt};
@@ -68,9 +69,9 @@ impl<N: Name> Steps<N> {
         desk: &mut Desk<N, J>,
         number: Option<u64>,
     ) -> Result<(u64, Receipt<N>), CloseFault>
-        ensures closed { IfOk result (λ r. Enters desk.old desk.new (Entry.Close r.0) r.1 × MayClose self.old number r.0) }
+        ensures closed { IfOk result (λ r. Enters desk.old desk.new (Entry.Close r.0) r.1 × MayCloseIn (at desk.old) self.old number r.0) }
         ensures same { OnOk result (self.new ≡ record self.old { operated = false }) }
-        ensures refused { IfErr result (λ e. not_closed self.old number e × (desk.new ≡ desk.old) × (self.new ≡ self.old)) }
+        ensures refused { IfErr result (λ e. close_refused (at desk.old) number self.old.held e × (desk.new ≡ desk.old) × (self.new ≡ self.old)) }
     {
         match desk.close(number, self.bodies.as_slice()) {
             Ok((op, jobs, receipt)) => {

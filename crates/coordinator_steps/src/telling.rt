@@ -1,9 +1,11 @@
 //! Telling a name: its job, or the mark of a census, goes into the room of its thread, and the thread's place is armed.
-ghost use Rattle.std.specs.Prelude.{◌≡◌, ◌<◌, slice_index, IfSome, IfNone, IfOk, IfErr, OnSome};
+ghost use Rattle.std.specs.Prelude.{◌≡◌, ◌<◌, ◌≤◌, None, slice_index, IfSome, IfNone, IfOk, IfErr, OnSome};
 ghost use Rattle.thread_state.specs.PollRule.{armed_with};
 ghost use Rattle.berths.specs.Berths.{acted};
+ghost use Rattle.desk.specs.declared.entries.Target.{Target as TargetOf};
 ghost use Rattle.desk.specs.Fields.{at};
-ghost use Rattle.held_threads.specs.Refused.{IsUntold, tell_stays, told_act};
+ghost use Rattle.held_threads.specs.Refused.{IsAsked, IsUntold, tell_stays, told_act};
+ghost use Rattle.coordinator_steps.specs.Putting.{at_hand, CameFrom, HasNoJob, IsPut, IsNotPut};
 
 use crate::steps::Steps;
 use berths::{BerthReceipt, Room};
@@ -29,6 +31,9 @@ fn job_in<N: Name, J: Errand>(
     hand: &mut Option<J>,
 ) -> Option<J>
     ensures job { IfSome result (λ j. (J.whom j ≡ untold.now.name) × (J.number j ≡ untold.now.number)) }
+    ensures from { IfSome result (λ j. CameFrom untold.now.number untold.now.name (at_hand desk.old hand.old) desk.new j) }
+    ensures gone { OnSome result (hand.new ≡ None) }
+    ensures none { IfNone result (HasNoJob J.number J.whom untold.now.number untold.now.name (at_hand desk.old hand.old) (at_hand desk.new hand.new)) }
     ensures same { (desk.new.book ≡ desk.old.book) × (desk.new.keeper ≡ desk.old.keeper) }
 {
     match hand.take() {
@@ -44,7 +49,8 @@ fn job_in<N: Name, J: Errand>(
 }
 
 impl<N: Name> Steps<N> {
-    /// What the thread of the name is to be told next; or what telling the name comes to without. None where it isn't there yet.
+    /// What the thread of the name is to be told next; or what telling the name comes to without. None where the desk names a place that
+    /// there isn't.
     pub fn look_up<J: Errand>(
         &self,
         desk: &Desk<N, J>,
@@ -53,6 +59,7 @@ impl<N: Name> Steps<N> {
         ensures said { IfErr result (tell_stays (at desk.now) name self.now.armer) }
         ensures untold { IfOk result (λ o. IfSome o (λ t. (t.name ≡ name) × IsUntold (at desk.now) name self.now.armer t.target t.number)) }
         ensures bounds { IfOk result (λ o. IfSome o (λ t. (t.target.place < N.board.places) × (slice_index self.now.armer.armed t.target.place < t.number))) }
+        ensures no_place { IfOk result (λ o. IfNone o ((t : TargetOf) × IsAsked (at desk.now) name t × (N.board.places ≤ t.place))) }
     {
         match look_up(desk, &self.armer, self.places, name) {
             Found::Untold(target, number) => Ok(Some(Untold {
@@ -81,7 +88,9 @@ impl<N: Name> Steps<N> {
         requires later { slice_index self.old.armer.armed untold.now.target.place < untold.now.number }
         ensures armed { OnSome result (self.new.armer ≡ armed_with self.old.armer untold.now.target.place untold.now.number) }
         ensures receipt { IfSome result (λ r. r ≡ acted untold.now.target.place untold.now.name (told_act untold.now.target.kind untold.now.number)) }
-        ensures refused { IfNone result (self.new ≡ self.old) }
+        ensures refused { IfNone result ((self.new ≡ self.old) × (room.new ≡ room.old)) }
+        ensures why { IfNone result (IsNotPut J.number J.whom untold.now.target.kind untold.now.number untold.now.name untold.now.target.place room.old (at_hand desk.old hand.old) (at_hand desk.new hand.new)) }
+        ensures hand { OnSome result (IsPut J.number J.whom untold.now.target.kind untold.now.number untold.now.name (at_hand desk.old hand.old) (at_hand desk.new hand.new)) }
         ensures held { (self.new.held ≡ self.old.held) × (self.new.operated ≡ self.old.operated) }
         ensures book { (desk.new.book ≡ desk.old.book) × (desk.new.keeper ≡ desk.old.keeper) }
     {

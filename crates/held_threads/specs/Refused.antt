@@ -30,7 +30,7 @@ use Rattle.held_threads.specs.declared.faults.OperateFault.{OperateFault}
 use Rattle.held_threads.specs.declared.faults.OperateFault.TheVariants as operate
 use Rattle.held_threads.specs.Held.{is_held, StandsAt}
 use Rattle.held_threads.specs.Holding.{Holding}
-use Rattle.berths.specs.Berths.{Moved, Went, acted}
+use Rattle.berths.specs.Berths.{Moved, Went, acted, Berthing, IsAbsent, is_told}
 use Rattle.berths.specs.declared.room.BodyAct.TheVariants as body_act
 use Rattle.berths.specs.declared.room.BerthAct.{BerthAct}
 use Rattle.berths.specs.declared.room.BerthAct.TheVariants as berth
@@ -91,36 +91,58 @@ hold_fault (stand.Asked t) is.NotTold = Some hold.NotTold
 hold_fault (stand.Asked t) is.Done = Some hold.AlreadyDone
 hold_fault (stand.Asked t) (is.Undone number) = None
 
--- The thread that is live at the place may be held, or not for this reason, as far as the open requests go.
-abbrev pub IsFaultOf : Holding → ℕ → Option HoldFault → Type 0
-IsFaultOf c place fault = (s : State) × (name : ℕ) × (name_at place s.live ≡ Some name) × (hold_fault (standing s name) (progress s name (slice_index c.armer.armed place)) ≡ fault)
+-- What is said of a desk holds in this state of it.
+abbrev pub In : State → (State → Type 0) → Type 0
+In s P = P s
+
+-- It holds in some state of the desk: nobody can tell which, since the desk was behind a lock.
+abbrev pub InSome : (State → Type 0) → Type 0
+InSome P = (s : State) × P s
+
+-- The thread of the name is live at the place, and may be held, or not for this reason, as far as the open requests go.
+abbrev pub IsFaultOf : State → Holding → ℕ → ℕ → Option HoldFault → Type 0
+IsFaultOf s c place name fault = (name_at place s.live ≡ Some name) × (hold_fault (standing s name) (progress s name (slice_index c.armer.armed place)) ≡ fault)
 
 -- The thread of the name is live at the place, was told an open request that it isn't done with, and isn't held.
+abbrev pub MayHoldBy : ((State → Type 0) → Type 0) → Holding → ℕ → ℕ → Type 0
+MayHoldBy by c place name = (is_held place c.held ≡ false) × by (λ s. IsFaultOf s c place name None)
+
 abbrev pub MayHold : Holding → ℕ → ℕ → Type 0
-MayHold c place name
-    = (is_held place c.held ≡ false)
-    × ((s : State) × (name_at place s.live ≡ Some name) × (hold_fault (standing s name) (progress s name (slice_index c.armer.armed place)) ≡ None))
+MayHold c place name = MayHoldBy InSome c place name
+
+abbrev pub hold_refused_by : ((State → Type 0) → Type 0) → Holding → ℕ → ℕ → HoldFault → Type 0
+hold_refused_by by c places place hold.NoSuchPlace = places ≤ place
+hold_refused_by by c places place hold.Vacant = (place < places) × by (λ s. name_at place s.live ≡ None)
+hold_refused_by by c places place hold.NothingOpen = (place < places) × by (λ s. (name : ℕ) × IsFaultOf s c place name (Some hold.NothingOpen))
+hold_refused_by by c places place hold.NotOf = (place < places) × by (λ s. (name : ℕ) × IsFaultOf s c place name (Some hold.NotOf))
+hold_refused_by by c places place hold.NotTold = (place < places) × by (λ s. (name : ℕ) × IsFaultOf s c place name (Some hold.NotTold))
+hold_refused_by by c places place hold.AlreadyDone = (place < places) × by (λ s. (name : ℕ) × IsFaultOf s c place name (Some hold.AlreadyDone))
+hold_refused_by by c places place hold.Held = (place < places) × by (λ s. (name : ℕ) × IsFaultOf s c place name None) × (is_held place c.held ≡ true)
+hold_refused_by by c places place hold.NotSafe = (place < places) × ((name : ℕ) × MayHoldBy by c place name)
 
 abbrev pub hold_refused : Holding → ℕ → ℕ → HoldFault → Type 0
-hold_refused c places place hold.NoSuchPlace = places ≤ place
-hold_refused c places place hold.Vacant = (place < places) × ((s : State) × (name_at place s.live ≡ None))
-hold_refused c places place hold.NothingOpen = (place < places) × IsFaultOf c place (Some hold.NothingOpen)
-hold_refused c places place hold.NotOf = (place < places) × IsFaultOf c place (Some hold.NotOf)
-hold_refused c places place hold.NotTold = (place < places) × IsFaultOf c place (Some hold.NotTold)
-hold_refused c places place hold.AlreadyDone = (place < places) × IsFaultOf c place (Some hold.AlreadyDone)
-hold_refused c places place hold.Held = (place < places) × IsFaultOf c place None × (is_held place c.held ≡ true)
-hold_refused c places place hold.NotSafe = (place < places) × ((name : ℕ) × MayHold c place name)
+hold_refused c places place fault = hold_refused_by InSome c places place fault
+
+-- A room doesn't give the body of the name to who would hold it: the body isn't there, or nothing is told to its thread.
+abbrev pub Withholds : {N : Type 0} → Berthing N → ℕ → ℕ → Type 0
+Withholds room name place = IsAbsent room name place ⊎ (is_told room.jobs room.mark ≡ false)
 
 -- Why a place has no held thread: there is no such place, no live thread has it, or its thread isn't held.
+abbrev pub HasNoHeldBy : ((State → Type 0) → Type 0) → ℕ → ℕ → ReleaseFault → Type 0
+HasNoHeldBy by places place release.NoSuchPlace = places ≤ place
+HasNoHeldBy by places place release.Vacant = (place < places) × by (λ s. name_at place s.live ≡ None)
+HasNoHeldBy by places place release.NotHeld = (place < places) × by (λ s. (name : ℕ) × (name_at place s.live ≡ Some name))
+
 abbrev pub HasNoHeld : ℕ → ℕ → ReleaseFault → Type 0
-HasNoHeld places place release.NoSuchPlace = places ≤ place
-HasNoHeld places place release.Vacant = (place < places) × ((s : State) × (name_at place s.live ≡ None))
-HasNoHeld places place release.NotHeld = (place < places) × ((s : State) × (name : ℕ) × (name_at place s.live ≡ Some name))
+HasNoHeld places place fault = HasNoHeldBy InSome places place fault
 
 -- Holding takes the body of the place as it was in its berth, by the receipt, behind those that are held.
+abbrev pub HoldsBy : ((State → Type 0) → Type 0) → Holding → Holding → ℕ → Moved → Type 0
+HoldsBy by old new place receipt
+    = (name : ℕ) × MayHoldBy by old place name × Went place name body_act.Held receipt × (new ≡ record old { held = old.held ++ receipt.body ∷ [] })
+
 abbrev pub Holds : Holding → Holding → ℕ → Moved → Type 0
-Holds old new place receipt
-    = (name : ℕ) × MayHold old place name × Went place name body_act.Held receipt × (new ≡ record old { held = old.held ++ receipt.body ∷ [] })
+Holds old new place receipt = HoldsBy InSome old new place receipt
 
 -- How far a held thread is with what it was told says why it isn't served.
 abbrev pub serve_fault_at : Progress → Option ServeFault
@@ -141,9 +163,13 @@ serve_fault stand.Gone p = Some serve.NotTold
 serve_fault (stand.Asked t) p = serve_fault_in t.kind p
 
 -- What the desk says of the held thread at the index.
+abbrev pub IsServeFaultBy : ((State → Type 0) → Type 0) → Holding → ℕ → ℕ → Option ServeFault → Type 0
+IsServeFaultBy by c index place fault
+    = (body : BodyView) × (slice_get c.held index ≡ Some body)
+    × by (λ s. serve_fault (standing s body.name) (progress s body.name (slice_index c.armer.armed place)) ≡ fault)
+
 abbrev pub IsServeFault : Holding → ℕ → ℕ → Option ServeFault → Type 0
-IsServeFault c index place fault
-    = (s : State) × (body : BodyView) × (slice_get c.held index ≡ Some body) × (serve_fault (standing s body.name) (progress s body.name (slice_index c.armer.armed place)) ≡ fault)
+IsServeFault c index place fault = IsServeFaultBy InSome c index place fault
 
 -- Why the thread of a place that has no held one isn't served.
 abbrev pub unserved : ReleaseFault → ServeFault
@@ -152,9 +178,13 @@ unserved release.Vacant = serve.Vacant
 unserved release.NotHeld = serve.NotHeld
 
 -- Why the thread of a place isn't served: the place has no held one, or else the desk says so.
+abbrev pub serve_refused_by : ((State → Type 0) → Type 0) → Holding → ℕ → ℕ → ServeFault → Type 0
+serve_refused_by by c places place fault
+    = ((is_held place c.held ≡ false) × ((why : ReleaseFault) × HasNoHeldBy by places place why × (fault ≡ unserved why)))
+    ⊎ ((index : ℕ) × (body : BodyView) × StandsAt c.held index place body × IsServeFaultBy by c index place (Some fault))
+
 abbrev pub serve_refused : Holding → ℕ → ℕ → ServeFault → Type 0
-serve_refused c places place fault
-    = ((is_held place c.held ≡ false) × ((why : ReleaseFault) × HasNoHeld places place why × (fault ≡ unserved why))) ⊎ ((index : ℕ) × (body : BodyView) × StandsAt c.held index place body × IsServeFault c index place (Some fault))
+serve_refused c places place fault = serve_refused_by InSome c places place fault
 
 -- Why a census isn't operated: the desk refuses it, or else there was no memory.
 abbrev pub census_refused : State → List BodyView → OperateFault → Type 0
@@ -162,8 +192,11 @@ census_refused s bs (operate.Refused fault) = operate_refused s bs fault
 census_refused s bs operate.NoMemory = MayOperate s bs
 
 -- The open request of the number, or without one the oldest, had this number, and no held thread is its target.
+abbrev pub MayCloseIn : State → Holding → Option ℕ → ℕ → Type 0
+MayCloseIn s c number closed = (o : Current) × (chosen number s.opened ≡ Some o) × (closed ≡ o.number) × (holds_target o.request c.held ≡ false)
+
 abbrev pub MayClose : Holding → Option ℕ → ℕ → Type 0
-MayClose c number closed = (s : State) × (o : Current) × (chosen number s.opened ≡ Some o) × (closed ≡ o.number) × (holds_target o.request c.held ≡ false)
+MayClose c number closed = (s : State) × MayCloseIn s c number closed
 
 -- Why it isn't closed.
 abbrev pub not_closed : Holding → Option ℕ → CloseFault → Type 0

@@ -1,13 +1,17 @@
 -- What serving a body does.
-use Rattle.std.specs.Prelude.{◌≡◌, ◌<◌, ℕ, List, [], ◌∷◌, Option, Some, None}
+use Rattle.std.specs.Prelude.{◌≡◌, ◌⊎◌, ◌<◌, ℕ, false, List, [], ◌∷◌, Option, Some, None}
 use Rattle.frames.specs.ImageView.{ImageView}
 use Rattle.bodies.specs.Bodies.{BodyView, IsPublished}
 use Rattle.operations.specs.declared.Ask.{Ask}
 use Rattle.operations.specs.Asks.{reply}
 use Rattle.desk.specs.declared.entries.Entry.TheVariants.{Finish}
-use Rattle.desk.specs.Machine.{Stands}
-use Rattle.berths.specs.Berths.{Moved}
+use Rattle.desk.specs.Machine.{State, Stands, lawful}
+use Rattle.desk.specs.JobsFit.{is_asked_by}
+use Rattle.berths.specs.Berths.{Berthing, Moved}
+use Rattle.berths.specs.declared.room.Holder.TheVariants.{Out}
 use Rattle.thread_list.specs.Moves.{IsCleared}
+use Rattle.held_threads.specs.declared.serving.Unserved.{Unserved}
+use Rattle.held_threads.specs.declared.serving.Unserved.TheVariants.{NoJob, NotEntered}
 
 -- The body is published, the job of its thread is called on it and answers by its ask, that is entered, and the job's operation is
 -- cleared for the body.
@@ -15,6 +19,11 @@ abbrev pub IsServe : {J : Type 0} → (J → ℕ) → (J → ℕ) → (J → Ask
 IsServe number whom asks may_answer job old new done
     = (whom job ≡ old.name) × (0 < number job) × (done.entry ≡ Finish (number job) old.name (reply (asks job) old.image.frames))
     × ((published : BodyView) × IsPublished old published × may_answer job published.image (reply (asks job) published.image.frames) × IsCleared (number job) published new)
+
+-- Why a body of the name isn't served: its room has no job for it, or the desk in this state doesn't enter what the job answered.
+abbrev pub not_served : {N : Type 0} → Berthing N → State → ℕ → Unserved → Type 0
+not_served room s name NoJob = room.holder ≡ Out name → room.jobs ≡ []
+not_served room s name (NotEntered done) = (lawful s (Finish done.op done.target done.reply) ≡ false) ⊎ (is_asked_by done.op done.ask s.opened ≡ false)
 
 -- A serve: its job, the body before it, and what it entered.
 pub record Serve (J : Type 0) : Type 0 where

@@ -4,11 +4,13 @@ ghost use Rattle.std.specs.List.{remove};
 ghost use Rattle.bodies.specs.Bodies.{BodyView, IsPublished};
 ghost use Rattle.operations.specs.Asks.{reply};
 ghost use Rattle.desk.specs.declared.entries.Entry.{Entry};
-ghost use Rattle.desk.specs.Fields.{Enters};
-ghost use Rattle.berths.specs.Berths.{moved, acted, Went};
+ghost use Rattle.desk.specs.Fields.{Enters, at};
+ghost use Rattle.berths.specs.Berths.{moved, acted, Went, IsLeft};
+ghost use Rattle.berths.specs.declared.room.Holder.TheVariants.{Out as IsOut};
 ghost use Rattle.thread_list.specs.Moves.{IsCleared, IsOperated};
 ghost use Rattle.held_threads.specs.Held.{AreEach, StandsAt, is_held};
-ghost use Rattle.held_threads.specs.Serves.{IsServe};
+ghost use Rattle.held_threads.specs.Refused.{Withholds};
+ghost use Rattle.held_threads.specs.Serves.{IsServe, not_served};
 
 use crate::serving::{Unserved, serve_body, serve_lent, told_job};
 use crate::teller::Teller;
@@ -328,8 +330,8 @@ impl<N: Name> Held<N> {
         requires apart { is_held place self.old ≡ false }
         ensures held { IfOk result (λ r. Went place name BodyAct.Held r
             × (self.new ≡ self.old ++ r.body ∷ [])) }
-        ensures left { IfErr result (λ r. (r ≡ acted place name BerthAct.Absent)
-            ⊎ (r ≡ acted place name BerthAct.NothingTold)) }
+        ensures left { IfErr result (λ r. IsLeft room.old name place BerthAct.NothingTold r) }
+        ensures withheld { OnErr result (Withholds room.old name place) }
         ensures same { OnErr result ((self.new ≡ self.old) × (room.new ≡ room.old)) }
     {
         let (outgoing, taken) = room.take(name, place)?;
@@ -350,6 +352,9 @@ impl<N: Name> Held<N> {
             × (slice_get self.old index ≡ Some body)
             × (r ≡ moved body (BodyAct.Released operated)) × (self.new ≡ remove self.old index)) }
         ensures again { IfNone result ((self.new ≡ self.old) × (room.new ≡ room.old)) }
+        ensures elsewhere { IfNone result ((body : BodyView)
+            × (slice_get self.old index ≡ Some body)
+            × (room.old.holder ≡ IsOut body.name → room.old.place ≢ body.seat.place)) }
     {
         let body = &self.bodies[index];
         if !room.is_out(body.name()) || room.place() != body.place() {
@@ -381,6 +386,8 @@ impl<N: Name> Held<N> {
             × Enters desk.old desk.new
             (Entry.Finish r.0 body.name (reply r.1.ask body.image.frames)) r.1.stands) }
         ensures refused { OnErr result (desk.new ≡ desk.old) }
+        ensures why { IfErr result (λ e. (body : BodyView) × (slice_get self.old index ≡ Some body)
+            × not_served room.old (at desk.old) body.name e) }
     {
         serve_lent(&mut self.bodies[index], room, desk, board, row)
     }

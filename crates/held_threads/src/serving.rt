@@ -1,10 +1,10 @@
 //! Serving a body: a job that was told to its thread runs on it.
-ghost use Rattle.std.specs.Prelude.{◌≡◌, ◌≢◌, ◌<◌, IfOk, OnErr};
+ghost use Rattle.std.specs.Prelude.{◌≡◌, ◌≢◌, ◌<◌, IfOk, IfErr, OnErr};
 ghost use Rattle.operations.specs.Asks.{reply};
 ghost use Rattle.desk.specs.declared.entries.Entry.{Entry};
-ghost use Rattle.desk.specs.Fields.{Enters};
+ghost use Rattle.desk.specs.Fields.{Enters, at};
 ghost use Rattle.thread_list.specs.Moves.{IsOperated};
-ghost use Rattle.held_threads.specs.Serves.{IsServe};
+ghost use Rattle.held_threads.specs.Serves.{IsServe, not_served};
 
 use berths::{Due, Recorder, Room};
 use board::Board;
@@ -78,6 +78,7 @@ pub fn serve_lent<N: Name, J: Errand>(
     ensures entered { IfOk result (λ r. Enters desk.old desk.new
         (Entry.Finish r.0 body.old.name (reply r.1.ask body.old.image.frames)) r.1.stands) }
     ensures refused { OnErr result (desk.new ≡ desk.old) }
+    ensures why { IfErr result (not_served room.old (at desk.old) body.old.name) }
     ensures same { (body.new.name ≡ body.old.name) × (body.new.seat.place ≡ body.old.seat.place) }
     ensures stored { body.old.seat.stored ≢ 0 → body.new.seat.stored ≢ 0 }
 {

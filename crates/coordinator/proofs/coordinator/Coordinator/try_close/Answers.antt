@@ -16,4 +16,4 @@ returns-clause-closed g c =
     let held = c.as_slice.ensures.value ∙ ap (λ (v : Holding). v.held) c.self.view_is in
     let e = c.in-Ok.ensures in
     let picked = e.chosen in
-    (ap (λ (r : Stands). r.entry) e.ok.receipt_is, (at c.deref_mut.result.now, picked.0, picked.1, picked.2, subst (λ bs. holds_target picked.0.request bs ≡ false) held picked.3))
+    (ap (λ (r : Stands). r.entry) e.ok.receipt_is, (at c.deref_mut.result.now, (picked.0, picked.1, picked.2, subst (λ bs. holds_target picked.0.request bs ≡ false) held picked.3)))

@@ -8,4 +8,4 @@ pub returns-in-Err-clause-refused : goal.returns-in-Err-clause-refused
 returns-in-Err-clause-refused g c =
     let s = at c.args.desk.now in let err = c.in-Err.ensures.err in
     let held = c.as_slice.ensures.value ∙ ap (λ (v : Holding). v.held) c.self.view_is in
-    ((s, subst (λ bs. close_refused s c.args.number bs c.in-Err.fault) held err.1), err.0, refl)
+    (subst (λ bs. close_refused s c.args.number bs c.in-Err.fault) held err.1, err.0, refl)

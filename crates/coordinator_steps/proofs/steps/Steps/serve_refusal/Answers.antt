@@ -16,4 +16,4 @@ returns g c =
     let here : slice_get bs c.args.index ≡ Some body = slice_get_read bs _ c.args.index body refl low c.index-as_slice-index.is in
     let held : slice_get c.args.self.now.held c.args.index ≡ Some body = subst (λ (xs : List BodyView). slice_get xs c.args.index ≡ Some body) same here in
     let last : c.last-last.result ≡ slice_index c.args.self.now.armer.armed c.args.place = c.last-last.ensures ∙ ap (λ (v : Holding). slice_index v.armer.armed c.args.place) c.self.view_is in
-    (s, body, held, sym (c.serve_fault_of.ensures ∙ (λ k. serve_fault (standing s (c.name-name.ensures k)) (progress s (c.name-name.ensures k) (last k)))))
+    (body, held, sym (c.serve_fault_of.ensures ∙ (λ k. serve_fault (standing s (c.name-name.ensures k)) (progress s (c.name-name.ensures k) (last k)))))
