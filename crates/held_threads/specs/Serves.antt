@@ -6,8 +6,10 @@ use Rattle.operations.specs.declared.Ask.{Ask}
 use Rattle.operations.specs.Asks.{reply}
 use Rattle.desk.specs.declared.entries.Entry.TheVariants.{Finish}
 use Rattle.desk.specs.Machine.{Stands}
-use Rattle.berths.specs.Berths.{Moved}
+use Rattle.berths.specs.Berths.{Berthing, Moved, told_of}
 use Rattle.thread_list.specs.Moves.{IsCleared}
+use Rattle.held_threads.specs.declared.serving.Unserved.{Unserved}
+use Rattle.held_threads.specs.declared.serving.Unserved.TheVariants.{NoJob, NotEntered}
 
 -- The body is published, the job of its thread is called on it and answers by its ask, that is entered, and the job's operation is
 -- cleared for the body.
@@ -15,6 +17,20 @@ abbrev pub IsServe : {J : Type 0} → (J → ℕ) → (J → ℕ) → (J → Ask
 IsServe number whom asks may_answer job old new done
     = (whom job ≡ old.name) × (0 < number job) × (done.entry ≡ Finish (number job) old.name (reply (asks job) old.image.frames))
     × ((published : BodyView) × IsPublished old published × may_answer job published.image (reply (asks job) published.image.frames) × IsCleared (number job) published new)
+
+-- The oldest job of a room comes out of it. It is for the thread of the body, has the number and asks this. It is called on the body, and
+-- answers by its ask.
+abbrev pub Runs : {J N : Type 0} → (J → ℕ) → (J → ℕ) → (J → Ask) → (J → ImageView → ℕ → Type 0) → ℕ → Ask → BodyView → Berthing N → Berthing N → Type 0
+Runs number whom asks may_answer n ask body room left
+    = (job : _) × (number job ≡ n) × (0 < n) × (whom job ≡ body.name) × (asks job ≡ ask) × may_answer job body.image (reply ask body.image.frames)
+    × (room.jobs ≡ told_of number whom job ∷ left.jobs) × (left ≡ record room { jobs = left.jobs })
+
+-- A body that isn't served. Without a job all stays as it is. Where the desk doesn't enter what the job answered, that comes back: the body
+-- is published, and its job is gone.
+abbrev pub IsLeftUnserved : {J N : Type 0} → (J → ℕ) → (J → ℕ) → (J → Ask) → (J → ImageView → ℕ → Type 0) → BodyView → Berthing N → Unserved → BodyView → Berthing N → Type 0
+IsLeftUnserved number whom asks may_answer old room NoJob new left = (new ≡ old) × (left ≡ room)
+IsLeftUnserved number whom asks may_answer old room (NotEntered done) new left
+    = IsPublished old new × (done.target ≡ old.name) × (done.reply ≡ reply done.ask new.image.frames) × Runs number whom asks may_answer done.op done.ask new room left
 
 -- A serve: its job, the body before it, and what it entered.
 pub record Serve (J : Type 0) : Type 0 where
