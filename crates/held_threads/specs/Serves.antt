@@ -7,7 +7,7 @@ use Rattle.operations.specs.Asks.{reply}
 use Rattle.desk.specs.declared.entries.Entry.TheVariants.{Finish}
 use Rattle.desk.specs.Machine.{State, Stands, lawful}
 use Rattle.desk.specs.JobsFit.{is_asked_by}
-use Rattle.berths.specs.Berths.{Berthing, Moved}
+use Rattle.berths.specs.Berths.{Berthing, Moved, told_of}
 use Rattle.berths.specs.declared.room.Holder.TheVariants.{Out}
 use Rattle.thread_list.specs.Moves.{IsCleared}
 use Rattle.held_threads.specs.declared.serving.Unserved.{Unserved}
@@ -24,6 +24,20 @@ IsServe number whom asks may_answer job old new done
 abbrev pub not_served : {N : Type 0} → Berthing N → State → ℕ → Unserved → Type 0
 not_served room s name NoJob = room.holder ≡ Out name → room.jobs ≡ []
 not_served room s name (NotEntered done) = (lawful s (Finish done.op done.target done.reply) ≡ false) ⊎ (is_asked_by done.op done.ask s.opened ≡ false)
+
+-- The oldest job of a room comes out of it. It is for the thread of the body, has the number and asks this. It is called on the body, and
+-- answers by its ask.
+abbrev pub Runs : {J N : Type 0} → (J → ℕ) → (J → ℕ) → (J → Ask) → (J → ImageView → ℕ → Type 0) → ℕ → Ask → BodyView → Berthing N → Berthing N → Type 0
+Runs number whom asks may_answer n ask body room left
+    = (job : _) × (number job ≡ n) × (0 < n) × (whom job ≡ body.name) × (asks job ≡ ask) × may_answer job body.image (reply ask body.image.frames)
+    × (room.jobs ≡ told_of number whom job ∷ left.jobs) × (left ≡ record room { jobs = left.jobs })
+
+-- A body that isn't served. Without a job all stays as it is. Where the desk doesn't enter what the job answered, that comes back: the body
+-- is published, and its job is gone.
+abbrev pub IsLeftUnserved : {J N : Type 0} → (J → ℕ) → (J → ℕ) → (J → Ask) → (J → ImageView → ℕ → Type 0) → BodyView → Berthing N → Unserved → BodyView → Berthing N → Type 0
+IsLeftUnserved number whom asks may_answer old room NoJob new left = (new ≡ old) × (left ≡ room)
+IsLeftUnserved number whom asks may_answer old room (NotEntered done) new left
+    = IsPublished old new × (done.target ≡ old.name) × (done.reply ≡ reply done.ask new.image.frames) × Runs number whom asks may_answer done.op done.ask new room left
 
 -- A serve: its job, the body before it, and what it entered.
 pub record Serve (J : Type 0) : Type 0 where

@@ -7,10 +7,10 @@ ghost use Rattle.desk.specs.declared.entries.Entry.{Entry};
 ghost use Rattle.desk.specs.Fields.{Enters, at};
 ghost use Rattle.berths.specs.Berths.{moved, acted, Went, IsLeft};
 ghost use Rattle.berths.specs.declared.room.Holder.TheVariants.{Out as IsOut};
-ghost use Rattle.thread_list.specs.Moves.{IsCleared, IsOperated};
+ghost use Rattle.thread_list.specs.Moves.{IsCleared, IsAnswered};
 ghost use Rattle.held_threads.specs.Held.{AreEach, StandsAt, is_held};
 ghost use Rattle.held_threads.specs.Refused.{Withholds};
-ghost use Rattle.held_threads.specs.Serves.{IsServe, not_served};
+ghost use Rattle.held_threads.specs.Serves.{IsServe, Runs, IsLeftUnserved, not_served};
 
 use crate::serving::{Unserved, serve_body, serve_lent, told_job};
 use crate::teller::Teller;
@@ -380,11 +380,16 @@ impl<N: Name> Held<N> {
         requires index { index < length self.old }
         requires board { board.now ≡ N.board }
         requires row { row.now ≡ N.poll_row }
+        ensures ran { IfOk result (λ r. Runs J.number J.whom J.asks J.may_answer r.0 r.1.ask r.1.body
+            room.old room.new) }
         ensures served { IfOk result (λ r. (body : BodyView) × (after : BodyView)
             × (slice_get self.old index ≡ Some body) × (self.new ≡ slice_set self.old index after)
-            × IsOperated r.0 body after
+            × IsAnswered r.0 body r.1 after
             × Enters desk.old desk.new
             (Entry.Finish r.0 body.name (reply r.1.ask body.image.frames)) r.1.stands) }
+        ensures left { IfErr result (λ e. (body : BodyView) × (after : BodyView)
+            × (slice_get self.old index ≡ Some body) × (self.new ≡ slice_set self.old index after)
+            × IsLeftUnserved J.number J.whom J.asks J.may_answer body room.old e after room.new) }
         ensures refused { OnErr result (desk.new ≡ desk.old) }
         ensures why { IfErr result (λ e. (body : BodyView) × (slice_get self.old index ≡ Some body)
             × not_served room.old (at desk.old) body.name e) }

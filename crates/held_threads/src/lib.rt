@@ -23,7 +23,7 @@ pub use faults::{HoldFault, OperateFault, Reclaimed, ReleaseFault, ServeFault, T
 pub use finding::{Found, hold_fault_at, look_up, serve_fault_of, unserved};
 pub use held::{Held, Returning};
 pub use operating::operate_over;
-pub use served::{Brought, Served};
+pub use served::{Brought, ServeKey, Served};
 pub use serving::Unserved;
 pub use teller::Teller;
 pub use weighing::weigh;

@@ -19,6 +19,10 @@ struct ServerHand;
 
 impl Hand for ServerHand {}
 
+/// Who may serve a thread in its place has a value of such a type. The layer of the coordinator says so of one that it makes only once
+/// telling is done, so that it serves nobody before. No type of this crate is one.
+pub trait ServeKey {}
+
 /// A body that came out of its berth and was served, with the receipts that it came out and of what its first serve and its last one
 /// entered. It isn't `Drop`: it goes back into its berth, or is served again. Contracts see the receipts and the body.
 pub struct Served<N: Name, J: Errand> {
@@ -81,12 +85,13 @@ impl<N: Name> Model for Brought<N> {
 }
 
 impl<N: Name, J: Errand> Served<N, J> {
-    /// Takes the body of the name out of its berth with its oldest job, where both are there, and serves it; the error is the receipt that
-    /// the body isn't there, or has no job.
+    /// Takes the body of the name out of its berth with its oldest job, where both are there, and serves it, by the key of who may; the
+    /// error is the receipt that the body isn't there, or has no job.
     #[inline(always)]
-    pub fn take<R: Wait>(
+    pub fn take<R: Wait, K: ServeKey>(
         rt: &R,
         shared: &Shared<N, J>,
+        _key: &K,
         name: u64,
         place: usize,
     ) -> Result<Served<N, J>, BerthReceipt<N>>

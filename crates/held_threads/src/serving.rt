@@ -3,8 +3,8 @@ ghost use Rattle.std.specs.Prelude.{◌≡◌, ◌≢◌, ◌<◌, IfOk, IfErr, 
 ghost use Rattle.operations.specs.Asks.{reply};
 ghost use Rattle.desk.specs.declared.entries.Entry.{Entry};
 ghost use Rattle.desk.specs.Fields.{Enters, at};
-ghost use Rattle.thread_list.specs.Moves.{IsOperated};
-ghost use Rattle.held_threads.specs.Serves.{IsServe, not_served};
+ghost use Rattle.thread_list.specs.Moves.{IsAnswered};
+ghost use Rattle.held_threads.specs.Serves.{IsServe, Runs, IsLeftUnserved, not_served};
 
 use berths::{Due, Recorder, Room};
 use board::Board;
@@ -74,9 +74,13 @@ pub fn serve_lent<N: Name, J: Errand>(
 ) -> Result<(u64, Finished<N>), Unserved>
     requires board { board.now ≡ N.board }
     requires row { row.now ≡ N.poll_row }
-    ensures served { IfOk result (λ r. IsOperated r.0 body.old body.new) }
+    ensures ran { IfOk result (λ r. Runs J.number J.whom J.asks J.may_answer r.0 r.1.ask r.1.body
+        room.old room.new) }
+    ensures answered { IfOk result (λ r. IsAnswered r.0 body.old r.1 body.new) }
     ensures entered { IfOk result (λ r. Enters desk.old desk.new
         (Entry.Finish r.0 body.old.name (reply r.1.ask body.old.image.frames)) r.1.stands) }
+    ensures left { IfErr result (λ e. IsLeftUnserved J.number J.whom J.asks J.may_answer body.old
+        room.old e body.new room.new) }
     ensures refused { OnErr result (desk.new ≡ desk.old) }
     ensures why { IfErr result (not_served room.old (at desk.old) body.old.name) }
     ensures same { (body.new.name ≡ body.old.name) × (body.new.seat.place ≡ body.old.seat.place) }
