@@ -12,20 +12,21 @@ use crate::faults::OperateFault;
 use crate::held::Held;
 use board::Board;
 use bodies::{Name, census_of};
-use desk::{Desk, Receipt};
+use desk::{Desk, Operating};
 use operations::job::Errand;
 use std::alloc::Global;
 
 /// Where the open census may be operated over the bodies and there is memory for its list: counts their frames, publishes each, and
-/// enters that the census is operated over them.
+/// enters that the census is operated over them, by a receipt that shows the list.
 pub fn operate_over<N: Name, J: Errand>(
     desk: &mut Desk<N, J>,
     bodies: &mut Held<N>,
     board: &Board,
     alloc: Global,
-) -> Result<(u64, Vec<(u64, u32)>, Receipt<N>), OperateFault>
+) -> Result<(u64, Vec<(u64, u32)>, Operating<N>), OperateFault>
     requires board { board.now ≡ N.board }
-    ensures entered { IfOk result (λ r. Enters desk.old desk.new (Entry.Operate r.0) r.2) }
+    ensures entered { IfOk result (λ r. Enters desk.old desk.new (Entry.Operate r.0) r.2.stands) }
+    ensures shown { IfOk result (λ r. r.2.list ≡ r.1.items) }
     ensures may { OnOk result (MayOperate (at desk.old) bodies.old) }
     ensures all { OnOk result (are_all (at desk.old).live bodies.new ≡ true) }
     ensures published { OnOk result (AreEach IsPublished bodies.old bodies.new) }
@@ -40,7 +41,7 @@ pub fn operate_over<N: Name, J: Errand>(
         return Err(OperateFault::NoMemory);
     };
     bodies.publish_all(board);
-    match desk.operate(bodies.as_slice()) {
+    match desk.operate(bodies.as_slice(), &list) {
         Ok((number, receipt)) => Ok((number, list, receipt)),
         Err(_) => unreachable!(),
     }

@@ -220,7 +220,8 @@ fn forget<N: Name, J: Errand>(desk: &mut Desk<N, J>) -> u64 {
 // The open census is operated over no body.
 fn operate<N: Name, J: Errand>(alloc: Global, desk: &mut Desk<N, J>) -> u64 {
     let none: Vec<Body<N>> = Vec::new(alloc);
-    match desk.operate(none.as_slice()) {
+    let list: Vec<(u64, u32)> = Vec::new(alloc);
+    match desk.operate(none.as_slice(), &list) {
         Ok((number, _)) => number,
         Err(_) => REFUSED,
     }

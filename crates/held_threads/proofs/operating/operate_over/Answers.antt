@@ -6,7 +6,10 @@ use Rattle.held_threads.proofs.Published.{published_settled, published_census, n
 use Rattle.held_threads.proofs.operating.operate_over.Goals as goal
 
 pub operate-requires : goal.operate-requires
-operate-requires g c = record { settled = subst AreSettled (sym c.as_slice-3.ensures.value) (published_settled _ _ c.publish_all.ensures) }
+operate-requires g c = record {
+  settled = subst AreSettled (sym c.as_slice-3.ensures.value) (published_settled _ _ c.publish_all.ensures);
+  counted = subst (λ bs. IsCensus bs c.in-Ok.list.items) (sym c.as_slice-3.ensures.value) (published_census _ _ c.in-Ok.list.items c.publish_all.ensures (subst (λ bs. IsCensus bs c.in-Ok.list.items) c.as_slice-2.ensures.value c.in-Ok.ensures));
+}
 
 pub unreachable-requires : goal.unreachable-requires
 unreachable-requires g c =
