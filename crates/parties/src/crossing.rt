@@ -181,7 +181,7 @@ pub(crate) fn vacate<N: Name>(
 }
 
 /// Whether the Exit of the name was entered.
-pub(crate) fn take_off<N: Name>(system: &SharedSystem<N>, name: u64) -> bool
+pub(crate) fn enter_exit<N: Name>(system: &SharedSystem<N>, name: u64) -> bool
     ensures { result ≡ true → WasEntered (Entry.Exit name) }
 {
     let Some(mut desk) = system.try_desk() else {

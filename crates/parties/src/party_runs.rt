@@ -265,7 +265,7 @@ impl<N: Name> Party<N> {
                 return Ok(said);
             }
         }
-        self.take_off()
+        self.enter_exit()
     }
 
     fn vacate(&mut self) -> Result<u64, Fault>
@@ -289,7 +289,7 @@ impl<N: Name> Party<N> {
         }
     }
 
-    fn take_off(&mut self) -> Result<u64, Fault>
+    fn enter_exit(&mut self) -> Result<u64, Fault>
         ensures { Acts N.board.places self.old Act.Exit result self.new }
     {
         let name = match &self.role {
@@ -298,7 +298,7 @@ impl<N: Name> Party<N> {
                 return Err(Fault::NotThis);
             }
         };
-        if !crossing::take_off(&self.system, name) {
+        if !crossing::enter_exit(&self.system, name) {
             return Err(Fault::Again);
         }
         self.role = Role::Gone;

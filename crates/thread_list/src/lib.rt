@@ -7,7 +7,7 @@
 //! itself its body is in its berth (`berths`), where another may take it, step for it and bring it back.
 //!
 //! There is one lock for the desk and one for each berth. `Shared::submit`, `install`, `invalidate`, `live`, `replies`, `finish` and
-//! `take_off` take the desk's, once in each try. `Mutator::to_native`, `from_native`, `block` and `unblock` take the lock of the
+//! `enter_exit` take the desk's, once in each try. `Mutator::to_native`, `from_native`, `block` and `unblock` take the lock of the
 //! thread's berth. `Shared::start`, `Mutator::stop` and `exit` take both, one after the other. `Shared::hint` and `peek_counts` read
 //! words and take none. No call holds two locks.
 #![tactic(auto)]
@@ -16,9 +16,9 @@ mod body_state;
 mod forgotten;
 mod hints;
 mod mutator;
+mod own_part;
 mod parts;
 mod polls;
-mod runner;
 mod serving;
 mod shared;
 mod starts;
@@ -29,9 +29,9 @@ mod waits;
 pub use forgotten::Forgotten;
 pub use hints::Hints;
 pub use mutator::{CallFault, Mutator, ReturnFault};
+pub use own_part::OwnPart;
 pub use parts::{MOST_METHODS, MOST_PLACES, MOST_SLOTS, Parts, PartsFault, Pieces};
 pub use polls::{Poll, poll_of};
-pub use runner::Runner;
 pub use serving::serve;
 pub use shared::{Exited, Shared};
 pub use turns::Turn;

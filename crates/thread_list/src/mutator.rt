@@ -5,8 +5,8 @@ ghost use Rattle.bodies.specs.Bodies.{BodyView, IsCalled, IsPublished};
 ghost use Rattle.thread_list.specs.Moves.{SameThread, Polls, Leaves, is_running};
 ghost use Rattle.thread_list.specs.Refused.{call_accepted, call_refused, return_refused};
 
+use crate::own_part::OwnPart;
 use crate::polls::Poll;
-use crate::runner::Runner;
 use crate::shared::Shared;
 use bodies::{Called, Name};
 use frames::CodeId;
@@ -19,7 +19,7 @@ use thread_state::State;
 #[derive(Drop)]
 pub struct Mutator<'a, N: Name, J: Errand> {
     pub(crate) shared: &'a Shared<N, J>,
-    pub(crate) runner: Runner<N>,
+    pub(crate) own_part: OwnPart<N>,
 }
 
 impl<'a, N: Name, J: Errand> Model for Mutator<'a, N, J> {
@@ -28,9 +28,9 @@ impl<'a, N: Name, J: Errand> Model for Mutator<'a, N, J> {
 
     ghost Value = { Running };
 
-    ghost view = { λ m. m.runner };
+    ghost view = { λ m. m.own_part };
 
-    ghost invariant = { λ m. m.runner.methods ≡ m.shared.now.methods };
+    ghost invariant = { λ m. m.own_part.methods ≡ m.shared.now.methods };
 }
 
 /// Why a thread doesn't enter a method, in the order of the tests.
@@ -56,7 +56,7 @@ impl<'a, N: Name, J: Errand> Mutator<'a, N, J> {
     pub fn name(&self) -> u64
         ensures { result ≡ self.now.name }
     {
-        self.runner.name()
+        self.own_part.name()
     }
 
     /// The place whose words are the thread's.
@@ -64,14 +64,14 @@ impl<'a, N: Name, J: Errand> Mutator<'a, N, J> {
         ensures value { result ≡ self.now.place }
         ensures bound { result < N.board.places }
     {
-        self.runner.place()
+        self.own_part.place()
     }
 
     /// The thread's state.
     pub fn state(&self) -> State
         ensures { result ≡ self.now.state }
     {
-        self.runner.state()
+        self.own_part.state()
     }
 
     /// Enters a method: by the code of the hint where its entry is found in use, by one load, and otherwise, or without a
@@ -88,7 +88,7 @@ impl<'a, N: Name, J: Errand> Mutator<'a, N, J> {
         ensures same { SameThread self.old self.new }
         ensures err { IfErr result (λ e. (self.new ≡ self.old) × call_refused self.old method e) }
     {
-        self.runner.call(self.shared.board(), method, hint)
+        self.own_part.call(self.shared.board(), method, hint)
     }
 
     /// Returns from the method of the top frame, and polls: one load.
@@ -99,7 +99,7 @@ impl<'a, N: Name, J: Errand> Mutator<'a, N, J> {
         ensures same { SameThread self.old self.new }
         ensures err { IfErr result (λ e. (self.new ≡ self.old) × return_refused self.old e) }
     {
-        self.runner.ret(self.shared.row())
+        self.own_part.ret(self.shared.row())
     }
 
     /// A back edge of a loop: the thread polls, by one load. A thread that isn't in Java is refused with its state.
@@ -111,7 +111,7 @@ impl<'a, N: Name, J: Errand> Mutator<'a, N, J> {
         ensures err { IfErr result (λ s. (s ≡ self.old.state) × (s ≢ IsInJava)
             × (self.new ≡ self.old)) }
     {
-        self.runner.back_edge(self.shared.row())
+        self.own_part.back_edge(self.shared.row())
     }
 
     /// Publishes the stack: one load of the moment, a step for each code whose counts differ, and a store of the moment that was
@@ -126,7 +126,7 @@ impl<'a, N: Name, J: Errand> Mutator<'a, N, J> {
         ensures err { IfErr result (λ s. (s ≡ self.old.state) × (is_running s ≡ false)
             × (self.new ≡ self.old)) }
     {
-        self.runner.publish(self.shared.board())
+        self.own_part.publish(self.shared.board())
     }
 
     /// From Java into the VM, without a poll. A thread that isn't in Java is refused with its state.
@@ -136,7 +136,7 @@ impl<'a, N: Name, J: Errand> Mutator<'a, N, J> {
         ensures err { IfErr result (λ s. (s ≡ self.old.state) × (s ≢ IsInJava)
             × (self.new ≡ self.old)) }
     {
-        self.runner.to_vm()
+        self.own_part.to_vm()
     }
 
     /// From the VM back into Java: the thread polls, by one load. A thread that isn't in the VM is refused with its state.
@@ -147,6 +147,6 @@ impl<'a, N: Name, J: Errand> Mutator<'a, N, J> {
         ensures err { IfErr result (λ s. (s ≡ self.old.state) × (s ≢ IsInVm)
             × (self.new ≡ self.old)) }
     {
-        self.runner.from_vm(self.shared.row())
+        self.own_part.from_vm(self.shared.row())
     }
 }

@@ -307,7 +307,7 @@ impl<N: Name, J: Errand> Shared<N, J> {
     }
 
     /// Enters that a thread exits whose berth gave its place up.
-    pub(crate) fn take_off<R: Wait>(
+    pub(crate) fn enter_exit<R: Wait>(
         &self,
         rt: &R,
         vacated: BodyReceipt<N>,

@@ -47,11 +47,11 @@ impl<N: Name> Model for Turned<N> {
 }
 
 /// A thread that has stopped, behind a turn whose poll stopped it again.
-pub struct Stopped<N: Name> {
+pub struct StoppedAgain<N: Name> {
     turned: Turned<N>,
 }
 
-impl<N: Name> Model for Stopped<N> {
+impl<N: Name> Model for StoppedAgain<N> {
     ghost use Rattle.thread_list.specs.Moves.{Stopping};
 
     ghost Value = { Stopping };
@@ -80,7 +80,7 @@ impl<N: Name> Turned<N> {
     }
 
     /// Polls: the thread goes on with its body and the receipts of its turns, or stops again.
-    pub fn poll(self, row: &PollRow) -> Result<(Body<N>, Turn<N>), Stopped<N>>
+    pub fn poll(self, row: &PollRow) -> Result<(Body<N>, Turn<N>), StoppedAgain<N>>
         requires row { row.now ≡ N.poll_row }
         ensures goes_on { IfOk result (λ r. r.0 ≡ as_polled self.body 0) }
         ensures receipts { IfOk result (λ r. (first_of r.1.first r.1.last ≡ self.first)
@@ -92,20 +92,20 @@ impl<N: Name> Turned<N> {
         if body.poll(row) == 0 {
             return Ok((body, turn));
         }
-        Err(Stopped {
+        Err(StoppedAgain {
             turned: Turned { body, turn },
         })
     }
 }
 
-impl<N: Name> Stopped<N> {
+impl<N: Name> StoppedAgain<N> {
     /// The next turn.
     pub fn again<J: Errand, R: Wait>(self, rt: &R, shared: &Shared<N, J>) -> Turned<N>
         ensures first { result.first ≡ self.first }
         ensures turn { TakesTurn self.body result }
         ensures same { SameBody self.body result.body }
     {
-        let Stopped { turned } = self;
+        let StoppedAgain { turned } = self;
         let Turned { body, turn } = turned;
         let first = first_outing(turn);
         let (body, last, finish) = take_turn(rt, shared, body);

@@ -15,8 +15,8 @@ ghost use Rattle.thread_list.specs.Refused.{exit_refused, HasNoFrame};
 
 use crate::body_state::{BodyState, OwnHand};
 use crate::mutator::Mutator;
+use crate::own_part::{OwnPart, is_running};
 use crate::polls::{Poll, poll_of};
-use crate::runner::{Runner, is_running};
 use crate::serving::served;
 use crate::shared::{Exited, Shared};
 use crate::turns::Turn;
@@ -58,7 +58,7 @@ impl<'a, N: Name, J: Errand> Mutator<'a, N, J> {
         ensures err { IfErr result (λ s. (s ≡ self.old.state)
             × (table.step s movement.ToNative ≡ None) × (self.new ≡ self.old)) }
     {
-        let back = match &self.runner.body_state {
+        let back = match &self.own_part.body_state {
             BodyState::InJava(_) => Back::Java,
             BodyState::InVm(_) => Back::Vm,
             BodyState::AtPoll(_, _) | BodyState::InNative(_) | BodyState::Blocked => {
@@ -80,7 +80,7 @@ impl<'a, N: Name, J: Errand> Mutator<'a, N, J> {
         ensures err { IfErr result (λ s. (s ≡ self.old.state) × ((back : WayBack)
             → s ≢ IsInNative back) × (self.new ≡ self.old)) }
     {
-        let BodyState::InNative(back) = &self.runner.body_state else {
+        let BodyState::InNative(back) = &self.own_part.body_state else {
             return Err(self.state());
         };
         let back = *back;
@@ -96,7 +96,7 @@ impl<'a, N: Name, J: Errand> Mutator<'a, N, J> {
         ensures err { IfErr result (λ s. (s ≡ self.old.state) × (s ≢ IsInVm)
             × (self.new ≡ self.old)) }
     {
-        let BodyState::InVm(_) = &self.runner.body_state else {
+        let BodyState::InVm(_) = &self.own_part.body_state else {
             return Err(self.state());
         };
         self.give(rt, BodyState::Blocked);
@@ -113,7 +113,7 @@ impl<'a, N: Name, J: Errand> Mutator<'a, N, J> {
         ensures err { IfErr result (λ s. (s ≡ self.old.state) × (s ≢ IsBlocked)
             × (self.new ≡ self.old)) }
     {
-        let BodyState::Blocked = &self.runner.body_state else {
+        let BodyState::Blocked = &self.own_part.body_state else {
             return Err(self.state());
         };
         Ok(self.come_back(rt, Back::Vm))
@@ -133,13 +133,13 @@ impl<'a, N: Name, J: Errand> Mutator<'a, N, J> {
         ensures err { IfErr result (λ s. (s ≡ self.old.state) × ((back : WayBack)
             → s ≢ IsAtPoll back) × (self.new ≡ self.old)) }
     {
-        let BodyState::AtPoll(back, _) = &self.runner.body_state else {
+        let BodyState::AtPoll(back, _) = &self.own_part.body_state else {
             return Err(self.state());
         };
         let back = *back;
-        let body = self.runner.body_state.take_body();
+        let body = self.own_part.body_state.take_body();
         let (body, turn) = served(rt, self.shared, body);
-        self.runner.body_state = going_on(back, body);
+        self.own_part.body_state = going_on(back, body);
         Ok(turn)
     }
 
@@ -153,10 +153,10 @@ impl<'a, N: Name, J: Errand> Mutator<'a, N, J> {
         ensures given { Gives self.old self.new }
         ensures same { SameThread self.old self.new }
     {
-        let body = self.runner.body_state.take_body();
-        self.runner.body_state = to;
+        let body = self.own_part.body_state.take_body();
+        self.own_part.body_state = to;
         let berth = self.shared.berth_of(&body);
-        self.runner.crossed = berth.give(rt, body);
+        self.own_part.crossed = berth.give(rt, body);
     }
 
     // The body comes out of its berth, and the thread polls: it goes on where the way back leads, or stops there.
@@ -166,12 +166,12 @@ impl<'a, N: Name, J: Errand> Mutator<'a, N, J> {
         ensures resumed { IsResumed self.new }
         ensures same { SameThread self.old self.new }
     {
-        let berth = self.shared.berth(self.runner.place);
-        let (outgoing, resumed) = berth.resume(rt, self.runner.name, self.runner.place);
+        let berth = self.shared.berth(self.own_part.place);
+        let (outgoing, resumed) = berth.resume(rt, self.own_part.name, self.own_part.place);
         let mut body = outgoing.in_hand(&OwnHand);
         let found = body.poll(self.shared.row());
-        self.runner.crossed = resumed;
-        self.runner.body_state = if found == 0 {
+        self.own_part.crossed = resumed;
+        self.own_part.body_state = if found == 0 {
             going_on(back, body)
         } else {
             BodyState::AtPoll(back, body)
@@ -205,8 +205,8 @@ impl<'a, N: Name, J: Errand> Mutator<'a, N, J> {
         if self.depth() != 0 {
             return Err((ExitFault::StackNotEmpty, self));
         }
-        let Mutator { shared, runner } = self;
-        let Runner {
+        let Mutator { shared, own_part } = self;
+        let OwnPart {
             name,
             place,
             methods,
@@ -214,12 +214,12 @@ impl<'a, N: Name, J: Errand> Mutator<'a, N, J> {
             seat,
             moved_in,
             crossed: _,
-        } = runner;
+        } = own_part;
         let body = body_state.take_body();
         match vacate(rt, shared, body) {
-            Ok((vacated, served)) => Ok(shared.take_off(rt, vacated, served)),
+            Ok((vacated, served)) => Ok(shared.enter_exit(rt, vacated, served)),
             Err((body, crossed)) => {
-                let runner = Runner {
+                let own_part = OwnPart {
                     name,
                     place,
                     methods,
@@ -228,7 +228,7 @@ impl<'a, N: Name, J: Errand> Mutator<'a, N, J> {
                     moved_in,
                     crossed,
                 };
-                let back = Mutator { shared, runner };
+                let back = Mutator { shared, own_part };
                 Err((ExitFault::StackNotEmpty, back))
             }
         }
@@ -238,7 +238,7 @@ impl<'a, N: Name, J: Errand> Mutator<'a, N, J> {
     fn depth(&self) -> usize
         ensures deep { (b : _) → self.now.body ≡ Some b → result ≡ length b.image.frames }
     {
-        match &self.runner.body_state {
+        match &self.own_part.body_state {
             BodyState::InJava(body) => body.depth(),
             BodyState::InVm(body) => body.depth(),
             BodyState::AtPoll(_, body) => body.depth(),

@@ -20,7 +20,7 @@ use thread_state::{Back, State};
 /// A running thread without what it shares with others: its name, its state and, while it owns itself, its body. One that is dropped
 /// leaves its place taken.
 #[derive(Drop)]
-pub struct Runner<N: Name> {
+pub struct OwnPart<N: Name> {
     pub(crate) name: u64,
     pub(crate) place: usize,
     pub(crate) methods: u32,
@@ -32,7 +32,7 @@ pub struct Runner<N: Name> {
     pub(crate) crossed: BodyReceipt<N>,
 }
 
-impl<N: Name> Model for Runner<N> {
+impl<N: Name> Model for OwnPart<N> {
     ghost use Rattle.thread_list.specs.Moves.{Running, IsRunning};
     ghost use Rattle.thread_list.specs.BodyStates.{state_in, body_in};
 
@@ -51,7 +51,7 @@ impl<N: Name> Model for Runner<N> {
         (body_in m.body_state) m.seat m.moved_in m.crossed };
 }
 
-impl<N: Name> Runner<N> {
+impl<N: Name> OwnPart<N> {
     /// The thread's name.
     pub fn name(&self) -> u64
         ensures { result ≡ self.now.name }
