@@ -1,10 +1,13 @@
--- The steps of a reclaiming before its weighing.
-use Rattle.std.specs.Prelude.{◌≡◌, ◌⊎◌, ℕ, true, false, Option, Some, None}
+-- The steps of a reclaiming.
+use Rattle.std.specs.Prelude.{◌≡◌, ◌⊎◌, ◌<◌, ℕ, true, false, Option, Some, None}
 use Rattle.frames.specs.BoardViews.{went_round}
 use Rattle.operations.specs.declared.Request.{Request}
 use Rattle.desk.specs.declared.entries.Entry.TheVariants.{Ask, Close}
-use Rattle.desk.specs.Fields.{DeskSeen}
+use Rattle.desk.specs.Fields.{DeskSeen, at}
 use Rattle.desk.specs.Machine.{Stands}
+use Rattle.desk.specs.Pending.{least_pending}
+use Rattle.held_threads.specs.declared.faults.Reclaimed.{Reclaimed}
+use Rattle.held_threads.specs.Reclaiming.{IsReclaimed}
 
 -- The request, where there is one, waits under the number.
 abbrev pub IsAskOf : Option Request → Option (ℕ × Stands) → Type 0
@@ -34,3 +37,12 @@ IsClosed asked closed
 
 abbrev pub Shakes : Option Request → Shaking → Type 0
 Shakes request s = Begins request s.begun × IsClosed s.begun.asked s.closed
+
+-- At this desk the handshake is closed: its number is below that of each request that is open or waits, and of the next.
+abbrev pub IsOver : Option (ℕ × Stands) → DeskSeen → Type 0
+IsOver None desk = Unit {0}
+IsOver (Some asked) desk = asked.0 < least_pending (at desk)
+
+-- The code was looked for and weighed at a desk where the handshake was closed.
+abbrev pub IsReclaimedBehind : {N : Type 0} → Option (ℕ × Stands) → ℕ → ℕ → Reclaimed N → Type 0
+IsReclaimedBehind asked places serial said = (r : IsReclaimed places serial said) × IsOver asked r.before

@@ -1,5 +1,5 @@
 //! Serving the targets of open handshakes, one at a time, until the oldest is closed.
-ghost use Rattle.std.specs.Prelude.{◌≡◌, ◌⊎◌, ◌<◌, [], false, IfOk, IfErr};
+ghost use Rattle.std.specs.Prelude.{◌≡◌, ◌⊎◌, ◌<◌, ◌≤◌, ◌-◌, ℕ, [], true, false, min, IfOk, IfErr};
 ghost use Rattle.desk.specs.declared.entries.Entry.{Entry};
 ghost use Rattle.desk.specs.Machine.{State as DeskState};
 ghost use Rattle.desk.specs.Fields.{at};
@@ -38,7 +38,12 @@ pub struct Passes<N: Name, J: Errand> {
 }
 
 impl<N: Name, J: Errand> Passes<N, J> {
-    pub fn new(told: AllTold<N, J>) -> Passes<N, J> {
+    /// No pass is made, and no look spent.
+    pub fn new(told: AllTold<N, J>) -> Passes<N, J>
+        ensures told { result.told ≡ told }
+        ensures looks { result.looks ≡ 500 }
+        ensures first { result.is_first ≡ true }
+    {
         Passes {
             told,
             looks: Looks::new(SPINS),
@@ -93,7 +98,10 @@ impl<'a, N: Name, J: Errand> Coordinator<'a, N, J> {
 
     // Makes a pass: serves each target that is due, in the order of their names.
     pub(crate) fn serve_pass<R: Wait>(&mut self, rt: &R, passes: &mut Passes<N, J>)
-        ensures { self.new ≡ self.old }
+        ensures same { self.new ≡ self.old }
+        ensures told { passes.new.told ≡ passes.old.told }
+        ensures looks { passes.new.looks ≤ passes.old.looks }
+        ensures further { passes.new.is_first ≡ false }
     {
         if !passes.is_first {
             self.list_due(rt, true);
@@ -102,7 +110,12 @@ impl<'a, N: Name, J: Errand> Coordinator<'a, N, J> {
         passes.is_first = false;
     }
 
-    fn serve_listed<R: Wait>(&self, rt: &R, passes: &mut Passes<N, J>) {
+    // Serves each that was listed, in the pass that is made: only looks are spent.
+    fn serve_listed<R: Wait>(&self, rt: &R, passes: &mut Passes<N, J>)
+        ensures pass { (passes.new.told ≡ passes.old.told)
+            × (passes.new.is_first ≡ passes.old.is_first) }
+        ensures looks { passes.new.looks ≤ passes.old.looks }
+    {
         for who in self.due.as_slice() {
             self.serve_due(rt, passes, *who);
         }
@@ -110,7 +123,11 @@ impl<'a, N: Name, J: Errand> Coordinator<'a, N, J> {
 
     // Serves a target at once where its body is in its berth, and else waits for it.
     #[inline(always)]
-    fn serve_due<R: Wait>(&self, rt: &R, passes: &mut Passes<N, J>, who: Live) {
+    fn serve_due<R: Wait>(&self, rt: &R, passes: &mut Passes<N, J>, who: Live)
+        ensures pass { (passes.new.told ≡ passes.old.told)
+            × (passes.new.is_first ≡ passes.old.is_first) }
+        ensures looks { passes.new.looks ≤ passes.old.looks }
+    {
         if who.place >= self.places {
             return;
         }
@@ -127,6 +144,9 @@ impl<'a, N: Name, J: Errand> Coordinator<'a, N, J> {
     #[inline(never)]
     fn serve_later<R: Wait>(&self, rt: &R, passes: &mut Passes<N, J>, who: Live)
         requires { who.place < N.board.places }
+        ensures pass { (passes.new.told ≡ passes.old.told)
+            × (passes.new.is_first ≡ passes.old.is_first) }
+        ensures looks { passes.new.looks ≤ passes.old.looks }
     {
         if self.comes(who.place, &mut passes.looks) || self.attend(rt, &passes.told, who).is_ok() {
             return;
@@ -147,7 +167,11 @@ impl<'a, N: Name, J: Errand> Coordinator<'a, N, J> {
 
     // Whether nothing is armed at the place any more: looks as often as patience and the looks that are left go, and uses up all where
     // something is armed still.
-    fn comes(&self, place: usize, looks: &mut Looks) -> bool {
+    fn comes(&self, place: usize, looks: &mut Looks) -> bool
+        ensures came { result ≡ true → (made : ℕ) × (made < min looks.old 250)
+            × (looks.new ≡ looks.old - made) }
+        ensures away { result ≡ false → looks.new ≡ 0 }
+    {
         for made in 0..looks.up_to(PATIENCE) {
             if self.shared.row().peek(place) == 0 {
                 looks.spend(made);

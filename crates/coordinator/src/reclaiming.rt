@@ -3,7 +3,7 @@ ghost use Rattle.std.specs.Prelude.{◌≡◌, ◌≢◌, ◌<◌, [], false, No
 ghost use Rattle.held_threads.specs.Holding.{ArmsOn};
 ghost use Rattle.held_threads.specs.Reclaiming.{IsReclaimed};
 ghost use Rattle.coordinator.specs.Refused.{not_reclaimed};
-ghost use Rattle.coordinator.specs.Rounds.{Shaking, Begins, Shakes, IsClosed};
+ghost use Rattle.coordinator.specs.Rounds.{Shaking, Begins, Shakes, IsClosed, IsReclaimedBehind};
 ghost use Rattle.desk.specs.Fields.{at};
 ghost use Rattle.desk.specs.JobsFit.{jobs_fit, request_of};
 ghost use Rattle.desk.specs.Refusals.{reclaim_refused};
@@ -64,7 +64,7 @@ fn fault_without_memory<N: Name, J: Errand>(
 
 impl<'a, N: Name, J: Errand> Coordinator<'a, N, J> {
     /// Reclaims a code that isn't entrant: makes a round and a handshake of the jobs' targets with the jobs, where there are any,
-    /// looks at each place, and weighs the code. Where no activation stands it is freed.
+    /// looks at each place once the handshake is closed, and weighs the code. Where no activation stands it is freed.
     ///
     /// It is refused in its first step alone, with the jobs handed back and nothing changed: by the first test in order that refuses it,
     /// also where memory is short, and for want of memory only where none does.
@@ -75,8 +75,9 @@ impl<'a, N: Name, J: Errand> Coordinator<'a, N, J> {
         jobs: Vec<J>,
     ) -> Result<Reclaimed<N>, NotReclaimed<J>>
         ensures reclaimed { IfOk result (IsReclaimed N.board.places serial) }
-        ensures behind { OnOk result ((s : Shaking)
-            × Shakes (request_of J.whom J.asks jobs.items) s) }
+        ensures behind { IfOk result (λ said. (s : Shaking)
+            × Shakes (request_of J.whom J.asks jobs.items) s
+            × IsReclaimedBehind s.begun.asked N.board.places serial said) }
         ensures shaken { OnOk result (0 < length jobs.items → (self.new.held ≡ [])
             × (self.new.operated ≡ false)) }
         ensures alone { OnOk result (length jobs.items ≡ 0 → self.new ≡ self.old) }
@@ -153,9 +154,9 @@ impl<'a, N: Name, J: Errand> Coordinator<'a, N, J> {
         unreachable!()
     }
 
-    // Looks at each place and weighs the code, again where it isn't as the first step found it.
+    // Looks at each place and weighs the code behind the handshake, again where it isn't as the first step found it.
     fn weigh<R: Wait>(&self, rt: &R, serial: u64, shaken: &Shaken<N, J>) -> Reclaimed<N>
-        ensures { IsReclaimed N.board.places serial result }
+        ensures { IsReclaimedBehind shaken.now.begun.asked N.board.places serial result }
     {
         for _ in rt.forever() {
             if let Some(said) = self.try_weigh(rt, serial, shaken) {
@@ -167,7 +168,8 @@ impl<'a, N: Name, J: Errand> Coordinator<'a, N, J> {
     }
 
     fn try_weigh<R: Wait>(&self, rt: &R, serial: u64, shaken: &Shaken<N, J>) -> Option<Reclaimed<N>>
-        ensures { IfSome result (IsReclaimed N.board.places serial) }
+        ensures { IfSome result
+            (IsReclaimedBehind shaken.now.begun.asked N.board.places serial) }
     {
         let mut desk = self.shared.desk().lock(rt);
         shaken.weigh(&mut desk, self.shared.board(), serial, self.places)

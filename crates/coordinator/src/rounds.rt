@@ -5,8 +5,7 @@ ghost use Rattle.desk.specs.declared.entries.Entry.{Entry};
 ghost use Rattle.desk.specs.Fields.{at};
 ghost use Rattle.desk.specs.JobsFit.{jobs_fit};
 ghost use Rattle.desk.specs.Refusals.{reclaim_refused};
-ghost use Rattle.held_threads.specs.Reclaiming.{IsReclaimed};
-ghost use Rattle.coordinator.specs.Rounds.{Begins, IsClosed};
+ghost use Rattle.coordinator.specs.Rounds.{Begins, IsClosed, IsOver, IsReclaimedBehind};
 
 use board::Board;
 use bodies::Name;
@@ -94,6 +93,16 @@ impl<N: Name, J: Errand> Begun<N, J> {
         }
     }
 
+    // Whether the handshake is closed at the desk, where there is one: nothing that was asked up to it is open or waits.
+    fn is_over(&self, desk: &Desk<N, J>) -> bool
+        ensures { result ≡ true → IsOver self.now.asked desk.now }
+    {
+        match &self.asked {
+            Some((asked, _)) => *asked < desk.least_pending(),
+            None => true,
+        }
+    }
+
     /// Whether there is no handshake.
     pub fn is_alone(&self) -> bool
         ensures yes { result ≡ true → self.now.asked ≡ None }
@@ -134,7 +143,8 @@ impl<N: Name, J: Errand> Begun<N, J> {
 }
 
 impl<N: Name, J: Errand> Shaken<N, J> {
-    /// Looks at each place and weighs the code, and where no activation stands frees it. None where it isn't a code that can be weighed.
+    /// Looks at each place and weighs the code, and where no activation stands frees it. None where it isn't a code that can be weighed,
+    /// or the handshake isn't closed at the desk.
     pub fn weigh(
         &self,
         desk: &mut Desk<N, J>,
@@ -144,8 +154,11 @@ impl<N: Name, J: Errand> Shaken<N, J> {
     ) -> Option<Reclaimed<N>>
         requires board { board.now ≡ N.board }
         requires places { places ≡ N.board.places }
-        ensures { IfSome result (IsReclaimed N.board.places serial) }
+        ensures { IfSome result (IsReclaimedBehind self.now.begun.asked N.board.places serial) }
     {
+        if !self.begun.is_over(desk) {
+            return None;
+        }
         weigh(desk, board, serial, places)
     }
 

@@ -1,6 +1,7 @@
 use Rattle.std.proofs.Common.{sym, subst}
 use Rattle.desk.specs.JobsFit.{request_of}
-use Rattle.coordinator.specs.Rounds.{Begins}
+use Rattle.held_threads.specs.Reclaiming.{IsReclaimed}
+use Rattle.coordinator.specs.Rounds.{Begins, IsReclaimedBehind}
 use Rattle.coordinator.proofs.Asked.{asked_some, asked_none}
 use Rattle.coordinator.proofs.coordinator.Coordinator.reclaim.Goals as goal
 
@@ -16,5 +17,11 @@ returns-clause-alone g c none =
 
 pub returns-clause-behind : goal.returns-clause-behind
 returns-clause-behind g c =
-    let e = g.J.Errand in let s = c.shake-shaken in
-    (s.result, (subst (Begins (request_of e.whom e.asks c.args.jobs.items)) (sym s.ensures.begun) c.in_ok-begun.ensures.begins, s.ensures.closed))
+    let e = g.J.Errand in let s = c.shake-shaken in (
+      s.result,
+      (subst (Begins (request_of e.whom e.asks c.args.jobs.items)) (sym s.ensures.begun) c.in_ok-begun.ensures.begins, s.ensures.closed),
+      subst (IsReclaimedBehind s.result.begun.asked g.N.Name.board.places c.args.serial) (sym c.end.ensures) c.weigh-said.ensures,
+    )
+
+pub returns-clause-reclaimed : goal.returns-clause-reclaimed
+returns-clause-reclaimed g c = subst (IsReclaimed g.N.Name.board.places c.args.serial) (sym c.end.ensures) c.weigh-said.ensures.0
