@@ -57,8 +57,8 @@ due_there least name zero cs (x ∷ ls) l d r here is =
     let same : x ≡ l = cc in
     let low : x.name ≡ name = ap (λ (y : Live). y.name) same ∙ is in
     sym (ap (λ b. (b && list_any (is_due_target x) cs) || is_due_name name cs ls) (eq-eqb x.name name low)
-        ∙ ap (λ b. list_any (is_due_target x) cs || b) (below_due (x.name + 1) name cs ls r.1 (omega arith))
-        ∙ or_false (list_any (is_due_target x) cs))
+    ∙ ap (λ b. list_any (is_due_target x) cs || b) (below_due (x.name + 1) name cs ls r.1 (omega arith))
+    ∙ or_false (list_any (is_due_target x) cs))
 due_there least name (suc i) cs (x ∷ ls) l d r here is =
     let k = no_less (x.name + 1) i ls l r.1 here in
     due_there (x.name + 1) name i cs ls l d r.1 here is
