@@ -3,7 +3,7 @@
 # that C links, and what is installed of them. The last line counts them all; the status is 0 where none failed. Right before it stand once
 # more, under `failed:`, the lines that say why something failed (tests/failures.py).
 # out/gate.log has what the gate said, out/parts.log what the others did, out/minutes.log what each of its checks took (tests/minutes.py makes
-# docs/project/MINUTES.md of both).
+# bench/MINUTES.md of both).
 set -uo pipefail
 cd "$(dirname "$0")/.."
 export PYTHONUNBUFFERED=1

@@ -3,7 +3,7 @@
 
 The crates below each are proved first, the lowest first, each by `rt lib`; a program is built by `rt run`, on the input that the gate runs it
 on. What an earlier run has proved of the present state isn't proved again. A line for each step says of how many crates it is, how many
-functions of that crate are checked, and how many minutes are left, reckoned from docs/project/MINUTES.md and from how long the crates before took.
+functions of that crate are checked, and how many minutes are left, reckoned from bench/MINUTES.md and from how long the crates before took.
 The status is 0 where all is proved and built; else the log of the crate that failed is shown.
 """
 import os

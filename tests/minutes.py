@@ -1,5 +1,5 @@
 #!/usr/bin/env python3
-"""Where the minutes of a processor go: minutes.py watch PID > LOG | minutes.py table LOG .. > docs/project/MINUTES.md
+"""Where the minutes of a processor go: minutes.py watch PID > LOG | minutes.py table LOG .. > bench/MINUTES.md
 
 `watch` looks each second at what the process and those that it started have running, until it is told to end, and then writes what each
 crate took, a line `CRATE KIND SECONDS` for each kind of check. `table` makes the page of such logs, of several the greatest figure of each
@@ -23,10 +23,10 @@ KINDS = {
 REST = "all_else"
 # A crate whose checks take fewer minutes has no row.
 SHOWN = 4.0
-PAGE = pathlib.Path(__file__).resolve().parent.parent / "docs" / "project" / "MINUTES.md"
+PAGE = pathlib.Path(__file__).resolve().parent.parent / "bench" / "MINUTES.md"
 HEAD = """# Where the minutes go
 
-This page says how long the checks of each crate take, in minutes of a processor. `tests/minutes.py table LOG .. > docs/project/MINUTES.md`
+This page says how long the checks of each crate take, in minutes of a processor. `tests/minutes.py table LOG .. > bench/MINUTES.md`
 makes it of logs that `make test` leaves in `out/minutes.log`. Each figure is the greatest of these: a run takes a check from an earlier one
 where it is kept. Crates below four minutes aren't shown. `make build` reads it to say how long it may still take.
 """
