@@ -1,26 +1,41 @@
--- A body that was served stands where the held thread of the place does.
-use Rattle.std.proofs.Common.{◌≡◌, ◌∙◌, ℕ, Some, None, sym, ap, subst}
-use Rattle.std.specs.Prelude.{Result, Ok, Err, IfOk, slice_get, slice_set}
+-- A body that was served, or wasn't, stands where the held thread of the place does.
+use Rattle.std.proofs.Common.{◌≡◌, ◌∙◌, ℕ, Some, None, sym, subst}
+use Rattle.std.specs.Prelude.{Result, Ok, Err, IfOk, IfErr, slice_get, slice_set}
+use Rattle.frames.specs.ImageView.{ImageView}
 use Rattle.bodies.specs.Bodies.{BodyView}
-use Rattle.operations.specs.Asks.{reply}
-use Rattle.desk.specs.declared.entries.Entry.TheVariants.{Finish}
-use Rattle.desk.specs.Fields.{DeskSeen, Enters}
+use Rattle.operations.specs.declared.Ask.{Ask}
 use Rattle.desk.specs.Finishing.{FinishSeen}
-use Rattle.desk.specs.Machine.{Stands}
-use Rattle.thread_list.specs.Moves.{IsOperated}
+use Rattle.berths.specs.Berths.{Berthing}
+use Rattle.thread_list.specs.Moves.{IsAnswered}
 use Rattle.held_threads.specs.Held.{StandsAt}
 use Rattle.held_threads.specs.Holding.{Holding}
 use Rattle.held_threads.specs.Refused.{IsServeFault}
-use Rattle.coordinator_steps.specs.Done.{Serves}
+use Rattle.held_threads.specs.Serves.{IsLeftUnserved}
+use Rattle.held_threads.specs.declared.serving.Unserved.{Unserved}
+use Rattle.coordinator_steps.specs.Done.{Serves, Leaves}
 use Rattle.held_threads.proofs.Each.{some_is}
 
-pub serves : (old new : Holding) (place index number : ℕ) (finish : FinishSeen) (before behind : DeskSeen) (stood body after : BodyView)
-    → StandsAt old.held index place stood → IsServeFault old index place None → slice_get old.held index ≡ Some body → new ≡ record old { held = slice_set old.held index after }
-    → IsOperated number body after → Enters before behind (Finish number body.name (reply finish.ask body.image.frames)) finish.stands → Serves old new place number finish
-serves old new place index number finish before behind stood body after stands fault here is operated entered =
+here_is : (c : Holding) (place index : ℕ) (stood body : BodyView) → StandsAt c.held index place stood → slice_get c.held index ≡ Some body → StandsAt c.held index place body
+here_is c place index stood body stands here =
     let same = some_is stood body (sym stands.0 ∙ here) in
-    (index, body, after, (here, subst (λ (b : BodyView). b.seat.place ≡ place) same stands.1), fault, is, operated, ap (λ (r : Stands). r.entry) entered.receipt_is)
+    (here, subst (λ (b : BodyView). b.seat.place ≡ place) same stands.1)
+
+pub serves : (old new : Holding) (place index number : ℕ) (finish : FinishSeen) (stood body after : BodyView)
+    → StandsAt old.held index place stood → IsServeFault old index place None → slice_get old.held index ≡ Some body → new ≡ record old { held = slice_set old.held index after }
+    → IsAnswered number body finish after → Serves old new place number finish
+serves old new place index number finish stood body after stands fault here is answered =
+    (index, body, after, here_is old place index stood body stands here, fault, is, answered)
+
+pub leaves : {J N : Type 0} (number whom : J → ℕ) (asks : J → Ask) (may_answer : J → ImageView → ℕ → Type 0) (old new : Holding) (place index : ℕ) (room left : Berthing N) (why : Unserved) (stood body after : BodyView)
+    → StandsAt old.held index place stood → slice_get old.held index ≡ Some body → new ≡ record old { held = slice_set old.held index after }
+    → IsLeftUnserved number whom asks may_answer body room why after left → Leaves number whom asks may_answer old new place room left why
+leaves number whom asks may_answer old new place index room left why stood body after stands here is unserved =
+    (index, body, after, here_is old place index stood body stands here, is, unserved)
 
 pub each_ok : {A E : Type 0} {P Q : A → Type 0} → ((a : A) → P a → Q a) → (r : Result A E) → IfOk r P → IfOk r Q
 each_ok f (Ok a) p = f a p
 each_ok f (Err e) p = p
+
+pub each_fault : {A E : Type 0} {P Q : E → Type 0} → ((e : E) → P e → Q e) → (r : Result A E) → IfErr r P → IfErr r Q
+each_fault f (Ok a) p = p
+each_fault f (Err e) p = f e p

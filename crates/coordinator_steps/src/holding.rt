@@ -2,7 +2,8 @@
 ghost use Rattle.std.specs.Prelude.{◌≡◌, ◌<◌, ◌++◌, ◌∷◌, [], false, None, Some, length, IfSome, IfNone, IfOk, IfErr};
 ghost use Rattle.held_threads.specs.Held.{is_held};
 ghost use Rattle.held_threads.specs.Refused.{Holds, MayHold, hold_refused, HasNoHeld, IsServeFault, serve_refused};
-ghost use Rattle.coordinator_steps.specs.Done.{Releases, Serves};
+ghost use Rattle.held_threads.specs.Serves.{Runs};
+ghost use Rattle.coordinator_steps.specs.Done.{Leaves, Releases, Serves};
 
 use crate::steps::Steps;
 use berths::{BodyReceipt, Room};
@@ -113,6 +114,8 @@ impl<N: Name> Steps<N> {
         requires board { board.now ≡ N.board }
         requires row { row.now ≡ N.poll_row }
         ensures served { IfOk result (λ r. IfOk r (λ f. Serves self.old self.new place f.0 f.1)) }
+        ensures ran { IfOk result (λ r. IfOk r (λ f. Runs J.number J.whom J.asks J.may_answer f.0 f.1.ask f.1.body room.old room.new)) }
+        ensures left { IfOk result (λ r. IfErr r (Leaves J.number J.whom J.asks J.may_answer self.old self.new place room.old room.new)) }
         ensures refused { IfErr result (λ e. serve_refused self.old N.board.places place e × (self.new ≡ self.old) × (desk.new ≡ desk.old)) }
         ensures others { (self.new.armer ≡ self.old.armer) × (self.new.operated ≡ self.old.operated) }
     {
