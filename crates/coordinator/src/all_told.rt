@@ -5,7 +5,7 @@ ghost use Rattle.coordinator.specs.Telling.{IsAllTold};
 
 use bodies::Name;
 use desk::Desk;
-use held_threads::Teller;
+use held_threads::{ServeKey, Teller};
 use operations::job::Errand;
 use std::marker::Model;
 use std::snapshot::Snapshot;
@@ -28,6 +28,8 @@ impl<N: Name, J: Errand> Model for AllTold<N, J> {
 
     ghost invariant = { λ a. IsAllTold (at a.seen.value) a.armer.value.seen };
 }
+
+impl<N: Name, J: Errand> ServeKey for AllTold<N, J> {}
 
 impl<N: Name, J: Errand> AllTold<N, J> {
     /// By the desk as it was looked at, and the armer now.

@@ -228,8 +228,7 @@ impl<'a, N: Name, J: Errand> Coordinator<'a, N, J> {
         ensures left { IfErr result (λ r. (r ≡ acted due.place due.name BerthAct.Absent)
             ⊎ (r ≡ acted due.place due.name BerthAct.NoJob)) }
     {
-        let _ = told;
-        let served = Served::take(rt, self.shared, due.name, due.place)?;
+        let served = Served::take(rt, self.shared, told, due.name, due.place)?;
         Ok(served.bring_back(rt, self.shared))
     }
 }

@@ -7,7 +7,8 @@ ghost use Rattle.desk.specs.Targets.{progress};
 ghost use Rattle.desk.specs.declared.entries.Progress.TheVariants.{Undone as IsUndone};
 ghost use Rattle.held_threads.specs.Held.{is_held, StandsAt};
 ghost use Rattle.held_threads.specs.Refused.{In, HoldsBy, MayHoldBy, hold_refused_by, Withholds, HasNoHeldBy, IsServeFaultBy, serve_refused_by};
-ghost use Rattle.coordinator_steps.specs.Done.{Releases, IsElsewhere, ServesBy, IsUnserved};
+ghost use Rattle.held_threads.specs.Serves.{Runs};
+ghost use Rattle.coordinator_steps.specs.Done.{Releases, IsElsewhere, Leaves, ServesBy, IsUnserved};
 
 use crate::steps::Steps;
 use berths::{BodyReceipt, Room};
@@ -124,6 +125,8 @@ impl<N: Name> Steps<N> {
         requires board { board.now ≡ N.board }
         requires row { row.now ≡ N.poll_row }
         ensures served { IfOk result (λ r. IfOk r (λ f. ServesBy (In (at desk.old)) self.old self.new place f.0 f.1)) }
+        ensures ran { IfOk result (λ r. IfOk r (λ f. Runs J.number J.whom J.asks J.may_answer f.0 f.1.ask f.1.body room.old room.new)) }
+        ensures left { IfOk result (λ r. IfErr r (Leaves J.number J.whom J.asks J.may_answer self.old self.new place room.old room.new)) }
         ensures unserved { IfOk result (λ r. IfErr r (λ e. IsUnserved (at desk.old) self.old place room.old e × (desk.new ≡ desk.old))) }
         ensures refused { IfErr result (λ e. serve_refused_by (In (at desk.old)) self.old N.board.places place e × (self.new ≡ self.old) × (desk.new ≡ desk.old)) }
         ensures others { (self.new.armer ≡ self.old.armer) × (self.new.operated ≡ self.old.operated) }
