@@ -4,4 +4,5 @@ mod Holdings
 mod OpenNumber
 mod Asked
 mod Opens
+mod Oldest
 mod Tellings

@@ -11,7 +11,7 @@ ghost use Rattle.held_threads.specs.Refused.{census_refused};
 
 use crate::coordinator::Coordinator;
 use bodies::Name;
-use desk::Receipt;
+use desk::Operating;
 use held_threads::{OperateFault, operate_over};
 use operations::job::Errand;
 use std::sync::Wait;
@@ -19,12 +19,13 @@ use std::sync::Wait;
 impl<'a, N: Name, J: Errand> Coordinator<'a, N, J> {
     /// Operates the open census over the held threads, which must be all that live: publishes the stack of each, counts the frames
     /// of each code over them, and clears the operation for each. Answers the number of the operation and the counts, a pair of
-    /// serial and frames for each code that has any, rising by serial; with the receipt of its Operate.
+    /// serial and frames for each code that has any, rising by serial; with the receipt of its Operate, which shows them.
     pub fn operate<R: Wait>(
         &mut self,
         rt: &R,
-    ) -> Result<(u64, Vec<(u64, u32)>, Receipt<N>), OperateFault>
-        ensures operated { IfOk result (λ r. r.2.entry ≡ Entry.Operate r.0) }
+    ) -> Result<(u64, Vec<(u64, u32)>, Operating<N>), OperateFault>
+        ensures operated { IfOk result (λ r. r.2.stands.entry ≡ Entry.Operate r.0) }
+        ensures shown { IfOk result (λ r. r.2.list ≡ r.1.items) }
         ensures all { OnOk result ((s : DeskState) × MayOperate s self.old.held) }
         ensures counted { IfOk result (λ r. IsCensus self.new.held r.1.items) }
         ensures before { IfOk result (λ r. IsCensus self.old.held r.1.items) }
@@ -43,8 +44,9 @@ impl<'a, N: Name, J: Errand> Coordinator<'a, N, J> {
     fn enter_operated<R: Wait>(
         &mut self,
         rt: &R,
-    ) -> Result<(u64, Vec<(u64, u32)>, Receipt<N>), OperateFault>
-        ensures operated { IfOk result (λ r. r.2.entry ≡ Entry.Operate r.0) }
+    ) -> Result<(u64, Vec<(u64, u32)>, Operating<N>), OperateFault>
+        ensures operated { IfOk result (λ r. r.2.stands.entry ≡ Entry.Operate r.0) }
+        ensures shown { IfOk result (λ r. r.2.list ≡ r.1.items) }
         ensures all { OnOk result ((s : DeskState) × MayOperate s self.old.held) }
         ensures counted { IfOk result (λ r. IsCensus self.new.held r.1.items) }
         ensures published { OnOk result (AreEach IsPublished self.old.held self.new.held) }

@@ -1,84 +1,135 @@
-//! A request that was closed at the end of a drive. It has a module of its own, so that what was closed is told as what it was.
-ghost use Rattle.std.specs.Prelude.{◌≡◌, false, Some, IfSome};
+//! What a request was, once it is closed.
+ghost use Rattle.std.specs.Prelude.{◌≡◌, false, Some, true, IfSome, IfNone};
+ghost use Rattle.operations.specs.declared.Kind.TheVariants as kind;
 ghost use Rattle.desk.specs.declared.entries.Entry.{Entry};
 ghost use Rattle.desk.specs.Machine.{Current};
 ghost use Rattle.desk.specs.Fields.{Enters, at};
+ghost use Rattle.desk.specs.Targets.{number_of as number_in};
 ghost use Rattle.desk.specs.Refusals.{oldest_of, holds_target};
-ghost use Rattle.desk.specs.Targets.{open_kind};
-ghost use Rattle.coordinator.specs.Driving.{number_of, kind_by, WasOldest, IsWorked, IsListed, IsCounted};
+ghost use Rattle.held_threads.specs.Holding.{Holding};
+ghost use Rattle.coordinator.specs.Driving.{number_of, WasOldest, IsWorked, IsListed, IsCounted};
 
+use crate::counted::Counted;
 use crate::faults::Driven;
 use bodies::{Body, Name};
-use desk::{Desk, Receipt};
+use desk::{Closing, Desk, Operating, Receipt};
 use operations::Kind;
 use operations::job::Errand;
 use std::marker::Model;
 
-/// The oldest open request was closed, a census or a handshake. It isn't `Drop`: whoever closes a request answers it.
+/// A request was closed. It isn't `Drop`: whoever closes a request answers it.
 pub struct Closed<N: Name> {
     number: u64,
-    kind: Kind,
-    receipt: Receipt<N>,
+    receipt: Closing<N>,
 }
 
 impl<N: Name> Model for Closed<N> {
-    ghost use Rattle.coordinator.specs.Driving.{Closing};
+    ghost use Rattle.coordinator.specs.Driving.{ClosedSeen};
 
-    ghost Value = { Closing };
+    ghost Value = { ClosedSeen };
 
-    ghost view = { λ c. record { number = c.number; kind = c.kind; done = c.receipt } };
+    ghost view = { λ c. record { number = c.number; shown = c.receipt } };
+}
+
+/// What shows that a request was worked on: the receipt of its Close, and for a census that was operated for it the number and the
+/// receipt of its Operate.
+#[derive(Drop)]
+pub struct Worked<N: Name> {
+    closing: Closing<N>,
+    operated: Option<(u64, Operating<N>)>,
+}
+
+impl<N: Name> Model for Worked<N> {
+    ghost use Rattle.coordinator.specs.Driving.{WorkedSeen};
+
+    ghost Value = { WorkedSeen };
+
+    ghost view = { λ w. record { closing = w.closing; operated = w.operated } };
+}
+
+impl<N: Name> Worked<N> {
+    /// The receipt of the Close.
+    pub fn receipt(self) -> Receipt<N>
+        ensures { result ≡ self.closing.stands }
+    {
+        let Worked {
+            closing,
+            operated: _,
+        } = self;
+        closing.receipt()
+    }
+}
+
+// Whether the oldest open request has this number, where one is given.
+fn has_number<N: Name, J: Errand>(desk: &Desk<N, J>, number: Option<u64>) -> bool
+    ensures { result ≡ true → IfSome number (λ n.
+        number_in (oldest_of (at desk.now).opened) ≡ Some n) }
+{
+    match (number, desk.open_number()) {
+        (None, _) => true,
+        (Some(number), Some(oldest)) => number == oldest,
+        (Some(_), None) => false,
+    }
 }
 
 impl<N: Name> Closed<N> {
-    /// Closes the oldest open request where it is of this kind, and gives back its jobs that were not taken.
+    /// Closes the oldest open request where it is of this kind, and of this number where one is given; and gives back its jobs that were
+    /// not taken.
     pub fn close<J: Errand>(
         desk: &mut Desk<N, J>,
         held: &[Body<N>],
         kind: Kind,
+        number: Option<u64>,
     ) -> Option<(Closed<N>, Vec<J>)>
         ensures entered { IfSome result (λ r.
-            Enters desk.old desk.new (Entry.Close r.0.number) r.0.done) }
-        ensures oldest { IfSome result (λ r. (o : Current)
+            Enters desk.old desk.new (Entry.Close r.0.number) r.0.shown.stands) }
+        ensures free { IfSome result (λ r. (o : Current)
             × (oldest_of (at desk.old).opened ≡ Some o) × (r.0.number ≡ o.number)
-            × (open_kind (at desk.old) ≡ Some r.0.kind)
             × (holds_target o.request held.now ≡ false)) }
-        ensures kind { IfSome result (λ r. r.0.kind ≡ kind) }
+        ensures oldest { IfSome result (λ r. WasOldest kind r.0.number r.0.shown) }
+        ensures numbered { IfSome result (λ r. IfSome number (λ n. r.0.number ≡ n)) }
     {
         let open = desk.open_kind()?;
-        if open != kind {
+        if open != kind || !has_number(desk, number) {
             return None;
         }
         match desk.close(None, held) {
-            Ok((number, jobs, receipt)) => Some((
-                Closed {
-                    number,
-                    kind: open,
-                    receipt,
-                },
-                jobs,
-            )),
+            Ok((number, jobs, receipt)) => Some((Closed { number, receipt }, jobs)),
             Err(_) => None,
         }
     }
 
-    /// What was closed, as what it was: a census with its list.
-    pub fn driven(self, list: Option<Vec<(u64, u32)>>) -> (Driven, Receipt<N>)
-        requires kind { self.kind ≡ kind_by list }
-        requires list { IfSome list (λ counts. IsCounted counts.items) }
+    /// A handshake.
+    pub fn handshake(self) -> (Driven, Worked<N>)
+        requires { WasOldest kind.Handshake self.number self.shown }
         ensures number { number_of result.0 ≡ self.number }
-        ensures worked { WasOldest self.kind self.number → IsWorked result.0 }
-        ensures listed { IsListed result.0 }
-        ensures closed { result.1 ≡ self.done }
+        ensures worked { IsWorked result.0 result.1.closing }
+        ensures listed { (old : Holding) → IsListed old result.0 result.1 }
+        ensures closed { result.1.closing ≡ self.shown }
     {
-        let Closed {
-            number,
-            kind: _,
-            receipt,
-        } = self;
-        let driven = match list {
-            None => Driven::Handshake(number),
-            Some(list) => Driven::Census(number, list),
+        let Closed { number, receipt } = self;
+        let worked = Worked {
+            closing: receipt,
+            operated: None,
         };
-        (driven, receipt)
+        (Driven::Handshake(number), worked)
+    }
+
+    /// A census, with what it counted.
+    pub fn census(self, counted: Counted<N>) -> (Driven, Worked<N>)
+        requires oldest { WasOldest kind.Census self.number self.shown }
+        requires numbered { IfSome counted.operated (λ o. o.0 ≡ self.number) }
+        ensures number { number_of result.0 ≡ self.number }
+        ensures worked { IsWorked result.0 result.1.closing }
+        ensures listed { (old : Holding) → IsCounted old counted → IsListed old result.0 result.1 }
+        ensures closed { result.1.closing ≡ self.shown }
+    {
+        let Closed { number, receipt } = self;
+        let Counted { list, operated } = counted;
+        let worked = Worked {
+            closing: receipt,
+            operated,
+        };
+        (Driven::Census(number, list), worked)
     }
 }

@@ -11,7 +11,7 @@ ghost use Rattle.held_threads.specs.Refused.{MayClose, not_closed};
 use crate::closed::Closed;
 use crate::listing::Untold;
 use bodies::Name;
-use desk::{CloseFault, Live, OpenFault, Receipt};
+use desk::{CloseFault, Closing, Live, OpenFault, Receipt};
 use held_threads::{Held, Teller};
 use operations::Kind;
 use operations::job::Errand;
@@ -98,10 +98,11 @@ impl<'a, N: Name, J: Errand> Coordinator<'a, N, J> {
     }
 
     /// Closes the oldest open request, and drops the jobs of targets that are gone. Answers the number of the operation, with the
-    /// receipt of its Close.
-    pub fn close<R: Wait>(&mut self, rt: &R) -> Result<(u64, Receipt<N>), CloseFault>
-        ensures closed { IfOk result (λ r. (r.1.entry ≡ Entry.Close r.0)
+    /// receipt of its Close, which shows that it was the oldest.
+    pub fn close<R: Wait>(&mut self, rt: &R) -> Result<(u64, Closing<N>), CloseFault>
+        ensures closed { IfOk result (λ r. (r.1.stands.entry ≡ Entry.Close r.0)
             × MayClose self.old None r.0) }
+        ensures oldest { IfOk result (λ r. r.1.oldest ≡ r.0) }
         ensures same { OnOk result (self.new ≡ record self.old { operated = false }) }
         ensures refused { IfErr result (λ e. not_closed self.old None e × (self.new ≡ self.old)) }
     {
@@ -109,8 +110,8 @@ impl<'a, N: Name, J: Errand> Coordinator<'a, N, J> {
     }
 
     /// The same of the open request of the number.
-    pub fn close_of<R: Wait>(&mut self, rt: &R, number: u64) -> Result<Receipt<N>, CloseFault>
-        ensures closed { IfOk result (λ r. (r.entry ≡ Entry.Close number)
+    pub fn close_of<R: Wait>(&mut self, rt: &R, number: u64) -> Result<Closing<N>, CloseFault>
+        ensures closed { IfOk result (λ r. (r.stands.entry ≡ Entry.Close number)
             × MayClose self.old (Some number) number) }
         ensures same { OnOk result (self.new ≡ record self.old { operated = false }) }
         ensures refused { IfErr result (λ e. not_closed self.old (Some number) e
@@ -125,9 +126,10 @@ impl<'a, N: Name, J: Errand> Coordinator<'a, N, J> {
         &mut self,
         rt: &R,
         number: Option<u64>,
-    ) -> Result<(u64, Receipt<N>), CloseFault>
-        ensures closed { IfOk result (λ r. (r.1.entry ≡ Entry.Close r.0)
+    ) -> Result<(u64, Closing<N>), CloseFault>
+        ensures closed { IfOk result (λ r. (r.1.stands.entry ≡ Entry.Close r.0)
             × MayClose self.old number r.0) }
+        ensures oldest { number ≡ None → IfOk result (λ r. r.1.oldest ≡ r.0) }
         ensures same { OnOk result (self.new ≡ record self.old { operated = false }) }
         ensures refused { IfErr result (λ e. not_closed self.old number e × (self.new ≡ self.old)) }
     {
@@ -140,9 +142,10 @@ impl<'a, N: Name, J: Errand> Coordinator<'a, N, J> {
         &self,
         rt: &R,
         number: Option<u64>,
-    ) -> Result<(u64, Receipt<N>), CloseFault>
-        ensures closed { IfOk result (λ r. (r.1.entry ≡ Entry.Close r.0)
+    ) -> Result<(u64, Closing<N>), CloseFault>
+        ensures closed { IfOk result (λ r. (r.1.stands.entry ≡ Entry.Close r.0)
             × MayClose self.now number r.0) }
+        ensures oldest { number ≡ None → IfOk result (λ r. r.1.oldest ≡ r.0) }
         ensures refused { IfErr result (not_closed self.now number) }
     {
         let mut desk = self.shared.desk().lock_in_line(rt);
@@ -156,24 +159,31 @@ impl<'a, N: Name, J: Errand> Coordinator<'a, N, J> {
         Ok((op, receipt))
     }
 
-    // Closes the oldest open request where it is of this kind.
-    pub(crate) fn close_kind<R: Wait>(&mut self, rt: &R, kind: Kind) -> Option<Closed<N>>
-        ensures closed { IfSome result (λ c. (c.done.entry ≡ Entry.Close c.number)
-            × WasOldest kind c.number × (c.kind ≡ kind)) }
+    // Closes the oldest open request where it is of this kind, and of this number where one is given.
+    pub(crate) fn close_kind<R: Wait>(
+        &mut self,
+        rt: &R,
+        kind: Kind,
+        number: Option<u64>,
+    ) -> Option<Closed<N>>
+        ensures closed { IfSome result (λ c. c.shown.stands.entry ≡ Entry.Close c.number) }
+        ensures oldest { IfSome result (λ c. WasOldest kind c.number c.shown) }
+        ensures numbered { IfSome result (λ c. IfSome number (λ n. c.number ≡ n)) }
         ensures same { OnSome result (self.new ≡ record self.old { operated = false }) }
         ensures open { IfNone result (self.new ≡ self.old) }
     {
-        let closed = self.try_close_kind(rt, kind)?;
+        let closed = self.try_close_kind(rt, kind, number)?;
         self.operated = false;
         Some(closed)
     }
 
-    fn try_close_kind<R: Wait>(&self, rt: &R, kind: Kind) -> Option<Closed<N>>
-        ensures { IfSome result (λ c. (c.done.entry ≡ Entry.Close c.number)
-            × WasOldest kind c.number × (c.kind ≡ kind)) }
+    fn try_close_kind<R: Wait>(&self, rt: &R, kind: Kind, number: Option<u64>) -> Option<Closed<N>>
+        ensures closed { IfSome result (λ c. c.shown.stands.entry ≡ Entry.Close c.number) }
+        ensures oldest { IfSome result (λ c. WasOldest kind c.number c.shown) }
+        ensures numbered { IfSome result (λ c. IfSome number (λ n. c.number ≡ n)) }
     {
         let mut desk = self.shared.desk().lock_in_line(rt);
-        let closed = match Closed::close(&mut desk, self.bodies.as_slice(), kind) {
+        let closed = match Closed::close(&mut desk, self.bodies.as_slice(), kind, number) {
             Some(closed) => closed,
             None => return None,
         };

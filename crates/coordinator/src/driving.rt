@@ -9,12 +9,13 @@ ghost use Rattle.coordinator.specs.Driving.{number_of, IsWorked, IsListed, drive
 ghost use Rattle.coordinator.specs.Telling.{IsListing};
 
 use crate::all_told::AllTold;
+use crate::closed::Worked;
 use crate::coordinator::Coordinator;
 use crate::faults::{DriveFault, Driven};
 use crate::listing::Listed;
 use berths::Unwoken;
 use bodies::Name;
-use desk::{Desk, Receipt};
+use desk::Desk;
 use held_threads::Held;
 use operations::Kind;
 use operations::job::Errand;
@@ -42,15 +43,17 @@ fn open_or_go_on<N: Name, J: Errand>(desk: &mut Desk<N, J>) -> Option<Kind>
 
 impl<'a, N: Name, J: Errand> Coordinator<'a, N, J> {
     /// Works the oldest open request, or where nothing is open the oldest that waits, to its Close: tells all targets before it serves
-    /// any, and of a handshake holds one thread at a time. Answers what it was, with the receipt of its Close; nothing is held then.
+    /// any, and of a handshake holds one thread at a time. Answers what it was, with the receipt of its Close and, of a census, that of
+    /// its Operate, which show it; nothing is held then.
     /// Where several are open, it tells all of them and closes the oldest alone. At no place does the number that was armed last fall.
     ///
     /// A census whose list finds no memory stays open, its threads told and held, and the next `drive` goes on with it. Where the
-    /// caller has operated the census, the list is over the threads that are still held.
-    pub fn drive<R: Wait>(&mut self, rt: &R) -> Result<(Driven, Receipt<N>), DriveFault>
-        ensures closed { IfOk result (λ r. r.1.entry ≡ Entry.Close (number_of r.0)) }
-        ensures worked { IfOk result (λ r. IsWorked r.0) }
-        ensures listed { IfOk result (λ r. IsListed r.0) }
+    /// caller has operated the census, the list is over the threads that are still held, and the caller has the receipt of the Operate.
+    pub fn drive<R: Wait>(&mut self, rt: &R) -> Result<(Driven, Worked<N>), DriveFault>
+        ensures closed { IfOk result (λ r.
+            r.1.closing.stands.entry ≡ Entry.Close (number_of r.0)) }
+        ensures worked { IfOk result (λ r. IsWorked r.0 r.1.closing) }
+        ensures listed { IfOk result (λ r. IsListed self.old r.0 r.1) }
         ensures free { OnOk result ((self.new.held ≡ []) × (self.new.operated ≡ false)) }
         ensures refused { IfErr result (drive_refused self.old self.new) }
         ensures arms { ArmsOn self.old.armer self.new.armer }

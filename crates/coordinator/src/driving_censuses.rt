@@ -1,5 +1,5 @@
 //! Holding all live threads, and operating and closing the open census over them.
-ghost use Rattle.std.specs.Prelude.{◌≡◌, ◌<◌, [], false, IfOk, IfErr, OnOk, OnErr, IfSome, IfNone};
+ghost use Rattle.std.specs.Prelude.{◌≡◌, ◌<◌, [], false, None, IfOk, IfErr, OnOk, OnErr, IfSome, IfNone};
 ghost use Rattle.bodies.specs.Census.{IsCensus};
 ghost use Rattle.operations.specs.declared.Kind.TheVariants as kind;
 ghost use Rattle.desk.specs.declared.entries.Entry.{Entry};
@@ -8,14 +8,15 @@ ghost use Rattle.held_threads.specs.Held.{is_held};
 ghost use Rattle.held_threads.specs.Holding.{ArmsOn};
 ghost use Rattle.coordinator.specs.Driving.{number_of, WasOldest, IsWorked, IsListed, IsCounted, HoldsOn, LacksList};
 
-use crate::closed::Closed;
+use crate::closed::{Closed, Worked};
 use crate::coordinator::Coordinator;
+use crate::counted::Counted;
 use crate::driving::put_back;
 use crate::faults::{DriveFault, Driven};
 use crate::looks::Looks;
 use berths::Unwoken;
 use bodies::{Name, census_of};
-use desk::{Live, Receipt};
+use desk::Live;
 use held_threads::OperateFault;
 use operations::Kind;
 use operations::job::Errand;
@@ -49,51 +50,60 @@ impl<'a, N: Name, J: Errand> Coordinator<'a, N, J> {
     pub(crate) fn drive_census<R: Wait>(
         &mut self,
         rt: &R,
-    ) -> Result<(Driven, Receipt<N>), DriveFault>
-        ensures closed { IfOk result (λ r. r.1.entry ≡ Entry.Close (number_of r.0)) }
-        ensures worked { IfOk result (λ r. IsWorked r.0) }
-        ensures listed { IfOk result (λ r. IsListed r.0) }
+    ) -> Result<(Driven, Worked<N>), DriveFault>
+        ensures closed { IfOk result (λ r.
+            r.1.closing.stands.entry ≡ Entry.Close (number_of r.0)) }
+        ensures worked { IfOk result (λ r. IsWorked r.0 r.1.closing) }
+        ensures listed { IfOk result (λ r. IsListed self.old r.0 r.1) }
         ensures free { OnOk result ((self.new.held ≡ []) × (self.new.operated ≡ false)) }
         ensures refused { IfErr result (λ e. e ≡ DriveFault.NoMemory) }
         ensures lacks { OnErr result ((s : DeskState) × LacksList s self.new.held) }
         ensures holds { OnErr result (HoldsOn self.old self.new) }
         ensures arms { ArmsOn self.old.armer self.new.armer }
     {
-        let Some(list) = self.counted(rt) else {
+        let Some(counted) = self.counted(rt) else {
             return Err(DriveFault::NoMemory);
         };
+        let number = counted.number();
         let unwoken = put_back(rt, self.shared, &mut self.bodies, self.operated);
-        let closed = self.close_census(rt, unwoken);
-        Ok(closed.driven(Some(list)))
+        let closed = self.close_census(rt, unwoken, number);
+        Ok(closed.census(counted))
     }
 
-    // Closes the open census, and wakes those that wait at berths.
-    fn close_census<R: Wait>(&mut self, rt: &R, unwoken: Unwoken<N>) -> Closed<N>
+    // Closes the open census, of this number where one is given, and wakes those that wait at berths.
+    fn close_census<R: Wait>(
+        &mut self,
+        rt: &R,
+        unwoken: Unwoken<N>,
+        number: Option<u64>,
+    ) -> Closed<N>
         requires free { self.old.held ≡ [] }
-        ensures closed { (result.done.entry ≡ Entry.Close result.number)
-            × WasOldest kind.Census result.number × (result.kind ≡ kind.Census) }
+        ensures closed { result.shown.stands.entry ≡ Entry.Close result.number }
+        ensures oldest { WasOldest kind.Census result.number result.shown }
+        ensures numbered { IfSome number (λ n. result.number ≡ n) }
         ensures free { (self.new.held ≡ []) × (self.new.operated ≡ false) }
         ensures armer { self.new.armer ≡ self.old.armer }
     {
-        let closed = self.close_kind(rt, Kind::Census);
+        let closed = self.close_kind(rt, Kind::Census, number);
         self.shared.wake(unwoken);
         match closed {
             Some(closed) => closed,
-            None => self.close_again(rt),
+            None => self.close_again(rt, number),
         }
     }
 
     // Closes the open census after a try that failed: other threads run before each further one.
-    fn close_again<R: Wait>(&mut self, rt: &R) -> Closed<N>
+    fn close_again<R: Wait>(&mut self, rt: &R, number: Option<u64>) -> Closed<N>
         requires free { self.old.held ≡ [] }
-        ensures closed { (result.done.entry ≡ Entry.Close result.number)
-            × WasOldest kind.Census result.number × (result.kind ≡ kind.Census) }
+        ensures closed { result.shown.stands.entry ≡ Entry.Close result.number }
+        ensures oldest { WasOldest kind.Census result.number result.shown }
+        ensures numbered { IfSome number (λ n. result.number ≡ n) }
         ensures free { (self.new.held ≡ []) × (self.new.operated ≡ false) }
         ensures armer { self.new.armer ≡ self.old.armer }
     {
         for _ in rt.forever() {
             thread::yield_now();
-            if let Some(closed) = self.close_kind(rt, Kind::Census) {
+            if let Some(closed) = self.close_kind(rt, Kind::Census, number) {
                 return closed;
             }
         }
@@ -101,9 +111,9 @@ impl<'a, N: Name, J: Errand> Coordinator<'a, N, J> {
     }
 
     // Holds all live threads and operates the open census over them: mostly they are those that telling listed. None where there is no
-    // memory for its list.
-    fn counted<R: Wait>(&mut self, rt: &R) -> Option<Vec<(u64, u32)>>
-        ensures counted { IfSome result (λ list. IsCounted list.items) }
+    // memory for its list. Nobody else operates a census: where the desk says that it is done, it was done by this coordinator.
+    fn counted<R: Wait>(&mut self, rt: &R) -> Option<Counted<N>>
+        ensures counted { IfSome result (IsCounted self.old) }
         ensures lacks { IfNone result ((s : DeskState) × LacksList s self.new.held) }
         ensures holds { IfNone result (HoldsOn self.old self.new) }
         ensures arms { ArmsOn self.old.armer self.new.armer }
@@ -111,9 +121,14 @@ impl<'a, N: Name, J: Errand> Coordinator<'a, N, J> {
         self.hold_listed(rt, CensusWait::Looking(Looks::new(LOOKS)));
         for _ in rt.forever() {
             match self.operate(rt) {
-                Ok((_, list, _)) => return Some(list),
+                Ok((number, list, receipt)) => {
+                    return Some(Counted {
+                        list,
+                        operated: Some((number, receipt)),
+                    });
+                }
                 Err(OperateFault::NoMemory) => return None,
-                Err(OperateFault::Refused(desk::OperateFault::AlreadyDone)) => {
+                Err(OperateFault::Refused(desk::OperateFault::AlreadyDone)) if self.operated => {
                     return self.list_again();
                 }
                 Err(OperateFault::Refused(_)) => self.hold_all(rt),
@@ -123,10 +138,16 @@ impl<'a, N: Name, J: Errand> Coordinator<'a, N, J> {
     }
 
     // The list of the operated census, over the threads that are still held.
-    fn list_again(&self) -> Option<Vec<(u64, u32)>>
-        ensures { IfSome result (λ list. IsCensus self.now.held list.items) }
+    fn list_again(&self) -> Option<Counted<N>>
+        ensures { IfSome result (λ c. IsCensus self.now.held c.list × (c.operated ≡ None)) }
     {
-        census_of(self.alloc, self.bodies.as_slice()).ok()
+        match census_of(self.alloc, self.bodies.as_slice()) {
+            Ok(list) => Some(Counted {
+                list,
+                operated: None,
+            }),
+            Err(_) => None,
+        }
     }
 
     // Holds each thread that is due.

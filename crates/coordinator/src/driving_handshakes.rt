@@ -6,15 +6,17 @@ ghost use Rattle.desk.specs.Fields.{at};
 ghost use Rattle.coordinator.specs.Driving.{number_of, IsWorked, IsListed};
 ghost use Rattle.coordinator.specs.Awaited.{awaited, WasThere};
 ghost use Rattle.held_threads.specs.Brought.{IsAttended};
+ghost use Rattle.held_threads.specs.Holding.{Holding};
 ghost use Rattle.berths.specs.Berths.{acted};
 
 use crate::all_told::AllTold;
+use crate::closed::Worked;
 use crate::coordinator::Coordinator;
 use crate::faults::Driven;
 use crate::looks::Looks;
 use berths::{BerthAct, BerthReceipt};
 use bodies::Name;
-use desk::{Desk, Live, Progress, Receipt};
+use desk::{Desk, Live, Progress};
 use held_threads::{Brought, Served};
 use operations::Kind;
 use operations::job::Errand;
@@ -78,10 +80,10 @@ impl<'a, N: Name, J: Errand> Coordinator<'a, N, J> {
         &mut self,
         rt: &R,
         told: AllTold<N, J>,
-    ) -> (Driven, Receipt<N>)
-        ensures closed { result.1.entry ≡ Entry.Close (number_of result.0) }
-        ensures worked { IsWorked result.0 }
-        ensures listed { IsListed result.0 }
+    ) -> (Driven, Worked<N>)
+        ensures closed { result.1.closing.stands.entry ≡ Entry.Close (number_of result.0) }
+        ensures worked { IsWorked result.0 result.1.closing }
+        ensures listed { (old : Holding) → IsListed old result.0 result.1 }
         ensures free { (self.new.held ≡ []) × (self.new.operated ≡ false) }
         ensures armer { self.new.armer ≡ self.old.armer }
     {
@@ -89,8 +91,8 @@ impl<'a, N: Name, J: Errand> Coordinator<'a, N, J> {
         let mut passes = Passes::new(told);
         for _ in rt.forever() {
             self.serve_pass(rt, &mut passes);
-            if let Some(closed) = self.close_kind(rt, Kind::Handshake) {
-                return closed.driven(None);
+            if let Some(closed) = self.close_kind(rt, Kind::Handshake, None) {
+                return closed.handshake();
             }
         }
         unreachable!()

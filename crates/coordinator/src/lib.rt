@@ -11,6 +11,7 @@ mod all_told;
 mod censuses;
 mod closed;
 mod coordinator;
+mod counted;
 mod driving;
 mod driving_censuses;
 mod driving_handshakes;
@@ -25,6 +26,7 @@ mod rounds;
 mod serving;
 mod telling;
 
+pub use closed::Worked;
 pub use coordinator::Coordinator;
 pub use desk::{NotReclaimed, ReclaimFault};
 pub use faults::{DriveFault, Driven};

@@ -142,11 +142,11 @@ impl<'a, N: Name, J: Errand> Coordinator<'a, N, J> {
     {
         let mut begun = begun;
         for _ in rt.forever() {
-            let Ok((driven, receipt)) = self.drive(rt) else {
+            let Ok((driven, worked)) = self.drive(rt) else {
                 thread::yield_now();
                 continue;
             };
-            match begun.shaken(driven.number(), receipt) {
+            match begun.shaken(driven.number(), worked.receipt()) {
                 Ok(shaken) => return shaken,
                 Err(back) => begun = back,
             }

@@ -11,7 +11,7 @@ ghost use Rattle.held_threads.specs.Refused.{census_refused};
 use crate::steps::Steps;
 use board::Board;
 use bodies::Name;
-use desk::{Desk, Receipt};
+use desk::{Desk, Operating};
 use held_threads::{OperateFault, operate_over};
 use operations::job::Errand;
 use poll::PollRow;
@@ -20,17 +20,18 @@ use std::alloc::Global;
 impl<N: Name> Steps<N> {
     /// Operates the open census over the held threads, which must be all that live: publishes the stack of each, counts the frames of each
     /// code over them, and clears the operation for each. Answers the number of the operation and the counts, a pair of serial and frames
-    /// for each code that has any, rising by serial; with the receipt of its Operate.
+    /// for each code that has any, rising by serial; with the receipt of its Operate, which shows them.
     pub fn operate<J: Errand>(
         &mut self,
         desk: &mut Desk<N, J>,
         board: &Board,
         row: &PollRow,
         alloc: Global,
-    ) -> Result<(u64, Vec<(u64, u32)>, Receipt<N>), OperateFault>
+    ) -> Result<(u64, Vec<(u64, u32)>, Operating<N>), OperateFault>
         requires board { board.now ≡ N.board }
         requires row { row.now ≡ N.poll_row }
-        ensures operated { IfOk result (λ r. Enters desk.old desk.new (Entry.Operate r.0) r.2) }
+        ensures operated { IfOk result (λ r. Enters desk.old desk.new (Entry.Operate r.0) r.2.stands) }
+        ensures shown { IfOk result (λ r. r.2.list ≡ r.1.items) }
         ensures all { OnOk result (MayOperate (at desk.old) self.old.held) }
         ensures counted { IfOk result (λ r. IsCensus self.new.held r.1.items) }
         ensures held { IfOk result (λ r. AreEach (IsOperated r.0) self.old.held self.new.held) }

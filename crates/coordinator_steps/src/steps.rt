@@ -8,7 +8,7 @@ ghost use Rattle.held_threads.specs.Holding.{held_nothing};
 ghost use Rattle.held_threads.specs.Refused.{MayCloseIn};
 
 use bodies::Name;
-use desk::{CloseFault, Desk, Receipt};
+use desk::{CloseFault, Closing, Desk};
 use held_threads::{Held, Teller};
 use operations::job::Errand;
 use poll::{Armer, PollRow};
@@ -68,8 +68,8 @@ impl<N: Name> Steps<N> {
         &mut self,
         desk: &mut Desk<N, J>,
         number: Option<u64>,
-    ) -> Result<(u64, Receipt<N>), CloseFault>
-        ensures closed { IfOk result (λ r. Enters desk.old desk.new (Entry.Close r.0) r.1 × MayCloseIn (at desk.old) self.old number r.0) }
+    ) -> Result<(u64, Closing<N>), CloseFault>
+        ensures closed { IfOk result (λ r. Enters desk.old desk.new (Entry.Close r.0) r.1.stands × MayCloseIn (at desk.old) self.old number r.0) }
         ensures same { OnOk result (self.new ≡ record self.old { operated = false }) }
         ensures refused { IfErr result (λ e. close_refused (at desk.old) number self.old.held e × (desk.new ≡ desk.old) × (self.new ≡ self.old)) }
     {

@@ -19,10 +19,13 @@ pub use operations::{Ask, Request, Targets};
 // Who works on requests, and what its calls answer.
 pub use coordinator::{
     Coordinator, DriveFault, Driven, HoldFault, NotReclaimed, OperateFault, ReclaimFault,
-    Reclaimed, ReleaseFault, ServeFault, TellFault, Told,
+    Reclaimed, ReleaseFault, ServeFault, TellFault, Told, Worked,
 };
 pub use poll::Armer;
 
 // What the calls of a system answer, and what shows that an entry of the history was made.
-pub use desk::{AskFault, CloseFault, CodeFault, NotLive, OpenFault, Receipt, Refused, StartFault};
+pub use desk::{
+    AskFault, CloseFault, Closing, CodeFault, NotLive, OpenFault, Operating, Receipt, Refused,
+    StartFault,
+};
 pub use method_table::table::{InstallFault, InvalidateFault};

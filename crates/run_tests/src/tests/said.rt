@@ -1,6 +1,4 @@
 //! What calls answer, as text.
-use bodies::Name;
-use desk::Receipt;
 use std::alloc::{AllocError, Global};
 use std::fmt::Debug;
 use thread_list::Poll;
@@ -39,10 +37,7 @@ pub fn polled<F: Debug + Drop>(alloc: Global, answer: Result<Poll, F>) -> Said {
 }
 
 /// Of a call that answers a number and the receipt of its entry.
-pub fn numbered<N: Name, F: Debug + Drop>(
-    alloc: Global,
-    answer: Result<(u64, Receipt<N>), F>,
-) -> Said {
+pub fn numbered<T: Drop, F: Debug + Drop>(alloc: Global, answer: Result<(u64, T), F>) -> Said {
     match answer {
         Ok((it, _receipt)) => number(alloc, it),
         Err(fault) => shown(alloc, fault),
