@@ -6,7 +6,7 @@ use Rattle.operations.specs.Requests.{kind_of}
 use Rattle.desk.specs.Machine.{Current}
 use Rattle.desk.specs.Targets.{number_of}
 use Rattle.desk.specs.Refusals.{oldest_of}
-use Rattle.coordinator.specs.Driving.{kind_of_oldest}
+use Rattle.desk.specs.Targets.{kind_of_oldest}
 
 pub same_number : (cs : List Current) (c d : Current) → oldest_of cs ≡ Some c → oldest_of cs ≡ Some d → c.number ≡ d.number
 same_number cs c d p q = let same : Some c ≡ Some d = sym p ∙ q in cc
