@@ -1,0 +1,117 @@
+"""The lives of threads: which calls a thread made from its start to its exit, and where holders had it."""
+from bisect import bisect_left
+
+from calls import LATEST
+
+# Calls of a thread, which name its place first.
+OF_THREAD = frozenset(("call", "ret", "edge", "tovm", "fromvm", "tonative", "fromnative", "block", "unblock", "publish", "stop", "exit"))
+POLLS = frozenset(("ret", "edge", "fromvm", "fromnative", "unblock"))
+# After these the thread is where a coordinator may hold it, where they answered so.
+GIVES = frozenset(("tonative", "block"))
+TAKES = frozenset(("fromnative", "unblock", "stop", "start", "exit"))
+# Turns are inside of these.
+TURNS = frozenset(("stop", "start", "exit"))
+
+
+class Life:
+    """A thread's calls in the order of its program; `at` counts those that are over."""
+    __slots__ = ("name", "place", "calls", "at", "jobs", "spans")
+
+    def __init__(self, name, place):
+        self.name, self.place, self.calls, self.at = name, place, [], 0
+        self.jobs, self.spans = {}, []
+
+
+class Span:
+    """A hold that was accepted, up to its release: of the stream, from its call `first` to its call `last`, or to the end of a job of a drive, the
+    `ran`-th of that call. It begins before one ticket, and ends `after` another. `ops` are the operations that were done meanwhile, `name` the thread's where a job tells it.
+    `ends` are the calls of the thread's life, rising, that may end the time in which it was held."""
+    __slots__ = ("stream", "first", "last", "ran", "place", "before", "after", "ops", "name", "life", "ends")
+
+    def __init__(self, stream, index, before, place):
+        self.stream, self.first, self.last, self.ran, self.place = stream, index, index, None, place
+        self.before, self.after, self.ops, self.name, self.life, self.ends = before, 0, [], None, None, ()
+
+    def reaches(self, call):
+        """The call was made while the thread was held."""
+        self.last, self.after = call.index, call.before
+        self.ops.extend(job.op for job in call.jobs)
+        for job in call.jobs:
+            self.name = job.name
+        if call.call == "operate" and call.word == "census":
+            self.ops.append(call.values[0])
+
+
+def lives_of(log):
+    """All lives by place, the oldest first; each call of a thread knows its own."""
+    found = {}
+    for call in log.calls:
+        call.life, call.at, call.spans = None, 0, ()
+        if call.call == "start" and call.word == "thread":
+            call.life = Life(*call.values)
+            found.setdefault(call.values[1], []).append((call.after, call.life))
+    for lives in found.values():
+        lives.sort(key=lambda it: it[0])
+    for call in log.calls:
+        if call.call in OF_THREAD:
+            lives = found.get(call.args[0], ())
+            # The latest that had started when the call began.
+            at = bisect_left(lives, call.before, key=lambda it: it[0]) - 1
+            call.life = lives[at][1] if at >= 0 else None
+        if call.life:
+            call.life.calls.append(call)
+    for lives in found.values():
+        for _, life in lives:
+            number_calls(life)
+    return {place: [life for _, life in lives] for place, lives in found.items()}
+
+
+def number_calls(life):
+    life.calls.sort(key=lambda call: call.before)
+    for at, call in enumerate(life.calls):
+        call.at = at
+        for job in call.jobs:
+            life.jobs[job.op] = at
+
+
+def least_poll(call):
+    """The number that the last poll of the call answered, 0 where it went on; above all where it has none."""
+    if call.call in POLLS and call.word in ("go", "stop"):
+        return call.values[0] if call.values else 0
+    return 0 if call.call in TURNS else LATEST
+
+
+def safe_ends(life):
+    """Each call at which a time ends in which the thread may be held, with the earliest ticket of its beginning and the latest of its end."""
+    calls = life.calls
+    for at, call in enumerate(calls):
+        if call.call in TURNS:
+            yield at, (calls[at - 1].before if at and call.call == "stop" else call.before), call.after
+        elif call.call in TAKES:
+            yield at, (calls[at - 1].before if at else call.before), call.after
+    last = calls[-1]
+    if last.call in GIVES or last.word == "stop":
+        yield len(calls), last.before, LATEST
+
+
+def may_end(span, life, at):
+    """Jobs of a thread run by rising number: whether this span may end at the call."""
+    if not span.ops:
+        return True
+    least, most = min(span.ops), max(span.ops)
+    if any(op < least and own > at or op > most and own < at for op, own in life.jobs.items()):
+        return False
+    call = life.calls[at] if at < len(life.calls) else None
+    return not call or call.call not in ("fromnative", "unblock") or least_poll(call) not in span.ops
+
+
+def put_span(span, lives):
+    """Notes the calls at which the span may end, in the life that has one."""
+    for life in lives:
+        if span.name is not None and life.name != span.name:
+            continue
+        ends = tuple(at for at, begins, ends in safe_ends(life) if begins < span.before and span.after < ends and may_end(span, life, at))
+        if ends:
+            span.life, span.ends = life, ends
+            life.spans.append(span)
+            return

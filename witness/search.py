@@ -1,0 +1,160 @@
+"""Looks for an order of events in which each call answers what it is recorded to answer.
+
+It makes at once what can come before all else, and chooses among the rest: first what has to be over first. Where nothing is left it goes back to
+its last choice. Some short tries, each with other choices, come before the whole search.
+"""
+import random
+import time
+
+from calls import LATEST
+from programs import Programs
+from run import CLOSED, DEAD, EAGER, POS, RAN, SERVED, STAGE
+
+FOUND, NONE, SPENT = "found", "none", "spent"
+TRIES, SHORT = 40, 60
+# Going back so often, a step of the search looks at the clock once.
+CLOCK = 64
+MOST_SEEN = 1 << 20
+
+
+class Stuck:
+    """The longest beginning that was found: how many of its calls are over, its events, where the streams are then, and why it ends."""
+
+    def __init__(self):
+        self.over, self.made, self.states, self.why = -1, [], [], None
+
+
+class Search(Programs):
+    def __init__(self, log, budget, seconds):
+        Programs.__init__(self, log)
+        self.left, self.ends = budget, time.monotonic() + seconds
+        self.total = sum(call.word is not None for call in log.calls)
+        self.stuck = Stuck()
+        self.steps = self.backs = 0
+        self.random, self.is_varied = random.Random(1), False
+
+    def run(self):
+        """FOUND, NONE where all was tried, or SPENT."""
+        for turn in range(TRIES):
+            self.is_varied = turn > 0
+            found = self.try_for(SHORT)
+            if found == FOUND or found == NONE and turn == 0 or self.is_spent():
+                return found
+            self.go_back((0, 0))
+        self.is_varied = False
+        return self.try_for(None)
+
+    def is_spent(self):
+        return self.left <= 0 or time.monotonic() > self.ends
+
+    # --- what may be next
+
+    def frontier(self):
+        """Calls that begin behind this ticket can't have begun: some call has to be over before."""
+        least = LATEST
+        for state, calls in zip(self.states, self.streams):
+            at = state[POS]
+            if at < len(calls) and calls[at].after < least:
+                least = calls[at].after
+        return least
+
+    def apply(self, stream, call, step):
+        self.steps += 1
+        self.left -= 1
+        step[0](stream, call, *step[1:])
+
+    def settle(self):
+        """Makes what can come before all else, until there is no such step. Answers why a call is dead, or None."""
+        states, streams = self.states, self.streams
+        is_on = True
+        while is_on:
+            is_on = False
+            least = self.frontier()
+            for stream, calls in enumerate(streams):
+                while True:
+                    at = states[stream][POS]
+                    if at >= len(calls) or calls[at].before >= least:
+                        break
+                    call = calls[at]
+                    verdict, steps = self.next_of(stream, call)
+                    if verdict == DEAD and call.word:
+                        return stream, steps
+                    if verdict != EAGER:
+                        break
+                    self.apply(stream, call, steps[0])
+                    is_on = True
+                    if states[stream][POS] != at:
+                        least = self.frontier()
+        return None
+
+    def choices(self):
+        """All steps that may be next, the first to be tried first."""
+        least, found = self.frontier(), []
+        for stream, calls in enumerate(self.streams):
+            at = self.states[stream][POS]
+            if at < len(calls) and calls[at].before < least:
+                call = calls[at]
+                for number, step in enumerate(self.next_of(stream, call)[1] if self.is_open(stream, call) else ()):
+                    found.append((self.rank(call), stream, number, step))
+        found.sort(key=lambda it: it[:3])
+        return [(stream, step) for _, stream, _, step in found]
+
+    def is_open(self, stream, call):
+        return self.next_of(stream, call)[0] != DEAD
+
+    def rank(self, call):
+        """What has to be over first comes first; a call that hadn't returned, as early as it may."""
+        if self.is_varied and self.random.random() < 0.2:
+            return self.random.randrange(LATEST)
+        return call.before if call.after == LATEST else call.after
+
+    # --- going on and back
+
+    def key(self):
+        """What tells one point of the search from another."""
+        world = self.world
+        threads = tuple((t.name, t.state, t.held, t.moment, t.begun, t.left, tuple(sorted(t.shown.items()))) if t else None for t in world.places)
+        codes = tuple((code.state, code.moment, code.looked) for code in world.codes.values() if code)
+        asked = tuple((it.number, it.live, it.told, it.done, it.cleared, it.operated) for it in world.opened)
+        replied = tuple(sorted((number, replies) for number, replies in self.replied.items() if replies))
+        return hash((tuple(map(tuple, self.states)), threads, codes, asked, world.moment, world.names, world.asked, world.serials, replied))
+
+    def try_for(self, most):
+        """One try, which goes back at most so often."""
+        points, seen, backs = [], set(), 0
+        while True:
+            why = self.settle()
+            if why is None and self.over() == self.total:
+                return FOUND
+            steps = self.choices() if why is None else []
+            if len(steps) > 1:
+                key = self.key()
+                steps = [] if key in seen else steps
+                if len(seen) < MOST_SEEN:
+                    seen.add(key)
+            if not steps:
+                self.note_stuck(why)
+                while points and not points[-1][1]:
+                    points.pop()
+                backs += 1
+                self.backs += 1
+                if not points:
+                    return NONE
+                if most is not None and backs > most or self.left <= 0 or backs % CLOCK == 0 and self.is_spent():
+                    return SPENT
+                mark, steps = points[-1]
+                self.go_back(mark)
+            else:
+                points.append((self.mark(), steps))
+            stream, step = steps.pop(0)
+            self.apply(stream, self.current(stream), step)
+
+    def over(self):
+        """How many calls are over, of those that returned: one that didn't is the last of its stream."""
+        return sum(state[POS] - (state[POS] == len(calls) and calls[-1].word is None) for state, calls in zip(self.states, self.streams))
+
+    def note_stuck(self, why):
+        over = self.over()
+        if over > self.stuck.over:
+            self.stuck.over, self.stuck.made, self.stuck.why = over, list(self.made), why
+            self.stuck.states = [list(state) for state in self.states]

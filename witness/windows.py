@@ -1,0 +1,198 @@
+"""What the answers of a log say of its calls before any search."""
+from bisect import bisect_left
+
+from calls import LATEST
+from lives import POLLS, Span, least_poll, lives_of, put_span
+from request_calls import request_of
+from spelled import REFUSALS
+
+HOLDS = ("hold", "drive", "drivefour", "operate")
+TELLS = ("tell", "drive", "drivefour")
+
+
+class Windows:
+    """Beside what it notes on the calls: `lives` by name; `told_behind`, by operation and name, the index of the last call of the thread that is
+    over before it is told; `refused_before`, calls (as stream and index) that were refused since an operation wasn't cleared for a name, and
+    `not_done`, the last Close of an operation that was; `last_entries` of a code; `live_lists` of a name; `listed` replies of an operation, and
+    `owed` operations of a name; `starts_to_come`, the names and places of all starts."""
+
+    def __init__(self, log):
+        self.log = log
+        self.by_place = lives_of(log)
+        self.lives = {life.name: life for lives in self.by_place.values() for life in lives}
+        self.last_entries, self.live_lists, self.listed, self.owed = {}, {}, {}, {}
+        self.starts_to_come = sorted(tuple(call.values) for call in log.calls if call.call == "start" and call.word == "thread")
+        self.told_behind, self.refused_before, self.not_done = {}, {}, {}
+        self.note_calls()
+        self.note_overlaps()
+        self.note_polls()
+        self.note_requests()
+        for calls in log.streams:
+            self.note_spans(calls)
+        self.note_told()
+
+    # --- single calls
+
+    def note_calls(self):
+        for call in self.log.calls:
+            call.is_refused = call.word in REFUSALS
+            call.span, call.drive_spans = None, ()
+            if call.word == "compiled":
+                self.note_last(self.last_entries, call.values[0], call)
+            elif call.call == "live":
+                for name in call.values:
+                    self.note_last(self.live_lists, name, call)
+            elif call.call == "replies":
+                replies = tuple(zip(call.values[::2], call.values[1::2]))
+                if len(replies) >= len(self.listed.get(call.args[0], ())):
+                    self.listed[call.args[0]] = replies
+        self.last_entries = {key: tuple(last.items()) for key, last in self.last_entries.items()}
+        self.live_lists = {key: tuple(last.items()) for key, last in self.live_lists.items()}
+        for number, replies in self.listed.items():
+            for name, _ in replies:
+                self.owed.setdefault(name, []).append(number)
+
+    @staticmethod
+    def note_last(noted, key, call):
+        """By key and stream, the last call."""
+        last = noted.setdefault(key, {})
+        last[call.stream] = max(call.index, last.get(call.stream, -1))
+
+    # --- calls that overlap others
+
+    def note_overlaps(self):
+        calls = self.log.calls
+        reclaims = [call for call in calls if call.call.startswith("reclaim") and not call.is_refused]
+        self.mark("is_watched", reclaims)
+        self.mark("is_held", [call for call in calls if call in reclaims or call.call in HOLDS and not call.is_refused])
+        self.mark("is_told", [call for call in calls if call in reclaims or call.call in TELLS and not call.is_refused])
+        self.mark("is_queue_seen", [call for call in calls if call.call == "open" and call.is_refused or call.call.startswith(("drive", "reclaim"))])
+        self.mark("is_list_seen", [call for call in calls if call.call in ("start", "exit", "drive", "drivefour")
+                                   or call.call.startswith(("submit", "reclaim")) and call.is_refused])
+
+    def mark(self, field, others):
+        """Whether a call overlaps one of the others, which is of another stream."""
+        begins = sorted((call.before, call.after, call.stream) for call in others)
+        befores = [before for before, _, _ in begins]
+        longest = max((after - before for before, after, _ in begins if after != LATEST), default=0)
+        endless = [begin for begin in begins if begin[1] == LATEST]
+        for call in self.log.calls:
+            near = begins[bisect_left(befores, call.before - longest):bisect_left(befores, call.after)]
+            setattr(call, field, any(stream != call.stream and before < call.after and after > call.before for before, after, stream in near + endless))
+
+    # --- polls of a thread
+
+    def note_polls(self):
+        """From each call of a thread on, what its next poll answers, and whether it rests before, so that others may clear what it is told."""
+        for life in self.lives.values():
+            poll, rests = None, False
+            for call in reversed(life.calls):
+                if call.call in POLLS and not call.is_refused:
+                    poll, rests = least_poll(call), call.call in ("fromnative", "unblock")
+                elif call.call in ("stop", "start", "exit"):
+                    rests = True
+                call.next_poll, call.may_rest = poll, rests
+
+    # --- requests, as each stream that works them has them
+
+    def note_requests(self):
+        """What is asked for by each number, and in which call each job ran: by operation and name."""
+        self.requests, self.jobs = {}, {}
+        for call in self.log.calls:
+            if call.call.startswith("submit") and call.word == "asked":
+                self.requests[call.values[0]] = request_of(call)
+            for job in call.jobs:
+                self.jobs[job.op, job.name] = call
+
+    def note_spans(self, calls):
+        """Goes through a stream: who is told what, held for what, and what was refused since it wasn't done."""
+        opened, told, held = [], {}, {}
+        for call in calls:
+            kind = call.call
+            if kind == "open" and call.word == "open":
+                opened.append(call.values[0])
+            elif kind == "tell" and call.word == "told":
+                self.note_tell(call.args[0], opened, told.setdefault(call.args[0], []))
+            elif kind == "hold":
+                self.note_hold(call, told, held)
+            elif kind == "close":
+                self.note_close(call, opened)
+            elif kind in ("serve", "release", "operate") and not call.is_refused:
+                self.note_held(call, held)
+            elif call.jobs and kind.startswith(("drive", "reclaim")):
+                self.note_drive(call)
+        for span in held.values():
+            self.put(span)
+
+    def note_tell(self, name, opened, told):
+        """The oldest open request that is new to the name is told, as far as the log shows which that is."""
+        for number in opened:
+            ask, names = self.requests.get(number, (None, ()))
+            is_of = ask is None or name in names and (not self.log.has_jobs or (number, name) in self.jobs)
+            if is_of and number not in told:
+                told.append(number)
+                return
+
+    def note_hold(self, call, told, held):
+        place = call.args[0]
+        if call.word == "ok":
+            call.span = held[place] = Span(call.stream, call.index, call.after, place)
+        elif call.word in ("NotSafe", "Held"):
+            for life in self.by_place.get(place, ()):
+                if told.get(life.name) and life.calls[0].before < call.after and call.before < life.calls[-1].after:
+                    self.refused_before.setdefault((told[life.name][-1], life.name), []).append((call.stream, call.index))
+
+    def note_close(self, call, opened):
+        number = call.args[0] if call.args else opened[0] if opened else None
+        if call.word == "NotDone" and number is not None:
+            self.not_done[number] = call.stream, call.index
+        if call.word == "closed" and call.values[0] in opened:
+            opened.remove(call.values[0])
+
+    def note_held(self, call, held):
+        """What is done for those that are held makes their time longer."""
+        of_all = call.call == "operate"
+        for place in list(held) if of_all else call.args:
+            if place in held:
+                held[place].reaches(call)
+        if call.call == "release" and call.args[0] in held:
+            self.put(held.pop(call.args[0]))
+
+    def note_drive(self, call):
+        """In a drive each job has a hold of its own, and runs at its ticket."""
+        call.drive_spans = []
+        for ran, job in enumerate(call.jobs):
+            life = self.lives.get(job.name)
+            span = Span(call.stream, call.index, job.ticket, life.place if life else None)
+            span.ran, span.after, span.ops, span.name = ran, job.ticket, [job.op], job.name
+            call.drive_spans.append(span)
+            self.put(span)
+
+    def put(self, span):
+        put_span(span, self.by_place.get(span.place, ()))
+        for at in span.ends:
+            if at < len(span.life.calls):
+                call = span.life.calls[at]
+                call.spans = (*call.spans, span)
+
+    # --- when a thread is told
+
+    def note_told(self):
+        """A job runs in a call of the thread, or where it is held: the polls before that which answer less come before it is told."""
+        if not self.log.has_jobs:
+            return
+        for (number, name), call in self.jobs.items():
+            if call.life and call.life.name == name:
+                self.told_behind[number, name] = last_before(call.life, call.at, number)
+        for life in self.lives.values():
+            for span in life.spans:
+                for number in span.ops if len(span.ends) == 1 else ():
+                    self.told_behind[number, life.name] = last_before(life, span.ends[0], number)
+
+
+def last_before(life, at, number):
+    """The last call before this one whose last poll answers less than the number; -1 where there is none."""
+    for index in range(at - 1, -1, -1):
+        if least_poll(life.calls[index]) < number:
+            return index
+    return -1
