@@ -12,6 +12,8 @@ class Programs(ThreadCalls, RequestCalls, Drives, Run):
         windows = Windows(log)
         self.lives, self.last_entries, self.live_lists = windows.lives, windows.last_entries, windows.live_lists
         self.listed, self.owed, self.starts_to_come = windows.listed, windows.owed, windows.starts_to_come
+        self.newest = windows.newest
+        self.jobs, self.ends_before = windows.jobs, windows.ends_before
         self.told_behind, self.refused_before, self.not_done = windows.told_behind, windows.refused_before, windows.not_done
         self.goes = {"ret": self.ret, "edge": self.edge, "fromvm": self.fromvm, "tovm": self.move, "tonative": self.move, "block": self.move,
                      "call": self.call, "publish": self.publishes, "fromnative": self.comes_back, "unblock": self.comes_back, "stop": self.stop,

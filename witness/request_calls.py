@@ -89,10 +89,12 @@ class RequestCalls:
         return (CHOICE if call.is_list_seen else EAGER), ((self.do_open,),)
 
     def may_open(self):
+        """The oldest request may be open, and the threads that were told it have started."""
         world = self.world
         if not world.waiting or world.census_is_open() or len(world.opened) >= 4:
             return False
-        return not (world.opened and world.waiting[0].ask is None)
+        oldest = world.waiting[0]
+        return not (world.opened and oldest.ask is None) and world.names >= self.newest.get(oldest.number, 0)
 
     def do_open(self, stream, call):
         self.world.open()
@@ -269,8 +271,17 @@ class RequestCalls:
         """What was refused because the name, or the last of all, wasn't cleared has been so."""
         if any(not self.is_past(stream, index) for stream, index in self.refused_before.get((request.number, name), ())):
             return False
-        at = self.not_done.get(request.number)
-        return at is None or self.is_past(*at) or not self.is_last(request, name)
+        close = self.not_done.get(request.number)
+        return close is None or self.is_past(close.stream, close.index) or self.has_other(request, name, close)
 
-    def is_last(self, request, name):
-        return all(other == name or other in request.cleared or not self.world.is_live(other) for other in request.live)
+    def has_other(self, request, name, close):
+        """Beside the name another one still keeps the operation from being over at that Close."""
+        return any(other != name and other not in request.cleared and self.world.is_live(other) and not self.is_before(request.number, other, close)
+                   for other in request.live)
+
+    def is_before(self, number, name, close):
+        """The name's job was done when the Close was refused."""
+        call = self.jobs.get((number, name))
+        if call is None:
+            return False
+        return call.stream == close.stream and call.index < close.index or self.ends_before[number, name] < close.before

@@ -94,19 +94,21 @@ class Search(Programs):
             at = self.states[stream][POS]
             if at < len(calls) and calls[at].before < least:
                 call = calls[at]
-                for number, step in enumerate(self.next_of(stream, call)[1] if self.is_open(stream, call) else ()):
+                verdict, steps = self.next_of(stream, call)
+                for number, step in enumerate(steps if verdict != DEAD else ()):
                     found.append((self.rank(call), stream, number, step))
         found.sort(key=lambda it: it[:3])
         return [(stream, step) for _, stream, _, step in found]
 
-    def is_open(self, stream, call):
-        return self.next_of(stream, call)[0] != DEAD
-
     def rank(self, call):
-        """What has to be over first comes first; a call that hadn't returned, as early as it may."""
+        """What has to be over first comes first. A call that hadn't returned comes as early as it may, and so does a reclaiming, which makes its
+        moment when it begins."""
         if self.is_varied and self.random.random() < 0.2:
             return self.random.randrange(LATEST)
-        return call.before if call.after == LATEST else call.after
+        return call.before if call.after == LATEST or self.is_reclaim_begun(call) else call.after
+
+    def is_reclaim_begun(self, call):
+        return call.call.startswith("reclaim") and self.states[call.stream][CLOSED] == 0
 
     # --- going on and back
 

@@ -13,7 +13,7 @@ TELLS = ("tell", "drive", "drivefour")
 class Windows:
     """Beside what it notes on the calls: `lives` by name; `told_behind`, by operation and name, the index of the last call of the thread that is
     over before it is told; `refused_before`, calls (as stream and index) that were refused since an operation wasn't cleared for a name, and
-    `not_done`, the last Close of an operation that was; `last_entries` of a code; `live_lists` of a name; `listed` replies of an operation, and
+    `not_done`, the last Close of an operation that was refused so; `newest`, the greatest name that an operation was told to; `last_entries` of a code; `live_lists` of a name; `listed` replies of an operation, and
     `owed` operations of a name; `starts_to_come`, the names and places of all starts."""
 
     def __init__(self, log):
@@ -22,7 +22,7 @@ class Windows:
         self.lives = {life.name: life for lives in self.by_place.values() for life in lives}
         self.last_entries, self.live_lists, self.listed, self.owed = {}, {}, {}, {}
         self.starts_to_come = sorted(tuple(call.values) for call in log.calls if call.call == "start" and call.word == "thread")
-        self.told_behind, self.refused_before, self.not_done = {}, {}, {}
+        self.told_behind, self.refused_before, self.not_done, self.newest = {}, {}, {}, {}
         self.note_calls()
         self.note_overlaps()
         self.note_polls()
@@ -96,13 +96,14 @@ class Windows:
     # --- requests, as each stream that works them has them
 
     def note_requests(self):
-        """What is asked for by each number, and in which call each job ran: by operation and name."""
-        self.requests, self.jobs = {}, {}
+        """What is asked for by each number; by operation and name, in which call the job ran, and the ticket before which it was done."""
+        self.requests, self.jobs, self.ends_before = {}, {}, {}
         for call in self.log.calls:
             if call.call.startswith("submit") and call.word == "asked":
                 self.requests[call.values[0]] = request_of(call)
-            for job in call.jobs:
+            for job, following in zip(call.jobs, [*(job.ticket for job in call.jobs[1:]), call.after]):
                 self.jobs[job.op, job.name] = call
+                self.ends_before[job.op, job.name] = following
 
     def note_spans(self, calls):
         """Goes through a stream: who is told what, held for what, and what was refused since it wasn't done."""
@@ -131,6 +132,7 @@ class Windows:
             is_of = ask is None or name in names and (not self.log.has_jobs or (number, name) in self.jobs)
             if is_of and number not in told:
                 told.append(number)
+                self.newest[number] = max(name, self.newest.get(number, 0))
                 return
 
     def note_hold(self, call, told, held):
@@ -145,7 +147,7 @@ class Windows:
     def note_close(self, call, opened):
         number = call.args[0] if call.args else opened[0] if opened else None
         if call.word == "NotDone" and number is not None:
-            self.not_done[number] = call.stream, call.index
+            self.not_done[number] = call
         if call.word == "closed" and call.values[0] in opened:
             opened.remove(call.values[0])
 
