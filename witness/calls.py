@@ -1,4 +1,6 @@
 """Reads a log of calls (crates/call_log has the form)."""
+import re
+
 from spelled import ANSWERS, CALLS, REFUSALS
 
 LATEST = 1 << 40
@@ -7,6 +9,9 @@ LONGEST = 65536
 STREAMS = 1024
 # The greatest places, slots and methods of a system.
 SIZES = (64, 1024, 256)
+NUMBER = re.compile("0|[1-9][0-9]{0,12}")
+N = f"(?:{NUMBER.pattern})"
+LINE = re.compile(f"({N}) ({N}) ({N}|-) (\\S+)((?: {N})*) : (\\S+)((?: {N})*)(?: ;((?: {N} {N} {N} {N})+))?")
 
 
 class BadLog(Exception):
@@ -43,17 +48,7 @@ class Log:
 
 def number_of(token):
     """The number that a token spells, or None."""
-    if token.isdigit() and token.isascii() and (token == "0" or token[0] != "0"):
-        number = int(token)
-        return number if number < LATEST else None
-    return None
-
-
-def numbers_of(tokens, line, what):
-    found = [number_of(token) for token in tokens]
-    if None in found:
-        raise BadLog(f"line {line}: {what}")
-    return found
+    return int(token) if NUMBER.fullmatch(token) and int(token) < LATEST else None
 
 
 def header_of(lines):
@@ -67,61 +62,41 @@ def header_of(lines):
 
 
 def is_within(numbers, bounds):
-    return bounds[0] <= len(numbers) <= bounds[1]
+    return bounds is not None and bounds[0] <= len(numbers) <= bounds[1]
 
 
-def put_tickets(call, tokens, line):
-    stream, before = number_of(tokens[0]), number_of(tokens[1])
-    if stream is None:
-        raise BadLog(f"line {line}: stream")
-    if before is None:
-        raise BadLog(f"line {line}: before")
-    after = LATEST if tokens[2] == "-" else number_of(tokens[2])
-    if after is None:
-        raise BadLog(f"line {line}: after")
-    call.stream, call.before, call.after = stream, before, after
-
-
-def put_answer(call, tokens, line):
-    """The answer's word and values, behind the colon."""
-    word = tokens[0] if tokens else ""
-    bounds = (0, 0) if word in REFUSALS or word == "?" else ANSWERS.get(word)
-    if bounds is None or (word == "?") != (call.after == LATEST):
-        raise BadLog(f"line {line}: answer")
-    call.word = None if word == "?" else word
-    call.values = numbers_of(tokens[1:], line, "values")
-    if not is_within(call.values, bounds):
-        raise BadLog(f"line {line}: values")
-
-
-def put_jobs(call, tokens, line):
-    numbers = numbers_of(tokens, line, "jobs")
-    if len(numbers) % 4:
-        raise BadLog(f"line {line}: jobs")
-    call.jobs = [Job(*numbers[at:at + 4]) for at in range(0, len(numbers), 4)]
+def fault_of(text):
+    """What is wrong with a line: its first part that is."""
+    front, colon, said = text.partition(" : ")
+    head, answer = front.split(" "), said.partition(" ;")[0].split(" ")
+    tokens = [*head, "", "", ""]
+    numbers, values = [number_of(token) for token in head[4:]], [number_of(token) for token in answer[1:]]
+    tests = (("too long", len(text) <= LONGEST), ("stream", number_of(tokens[0]) is not None), ("before", number_of(tokens[1]) is not None),
+             ("after", tokens[2] == "-" or number_of(tokens[2]) is not None), ("call", tokens[3] in CALLS),
+             ("arguments", None not in numbers and is_within(numbers, CALLS.get(tokens[3]))), ("colon", colon),
+             ("answer", answer[0] in ANSWERS and (answer[0] == "?") == (tokens[2] == "-")),
+             ("values", None not in values and is_within(values, ANSWERS.get(answer[0]))))
+    return next((what for what, is_right in tests if not is_right), "jobs")
 
 
 def call_of(number, text):
     """The call that a line spells; its number counts from 0."""
-    line = number + 3
-    if len(text) > LONGEST:
-        raise BadLog(f"line {line}: too long")
-    front, colon, said = text.partition(" : ")
-    tokens = front.split(" ")
-    if not colon or len(tokens) < 4:
-        raise BadLog(f"line {line}: colon")
+    found = LINE.fullmatch(text)
+    if found is None or len(text) > LONGEST:
+        raise BadLog(f"line {number + 3}: {fault_of(text)}")
+    stream, before, after, called, args, word, values, jobs = found.groups()
     call = Call(number, text)
-    put_tickets(call, tokens, line)
-    call.call = tokens[3]
-    if call.call not in CALLS:
-        raise BadLog(f"line {line}: call")
-    call.args = numbers_of(tokens[4:], line, "arguments")
-    if not is_within(call.args, CALLS[call.call]):
-        raise BadLog(f"line {line}: arguments")
-    answer, _, jobs = said.partition(" ; ")
-    put_answer(call, answer.split(" "), line)
-    put_jobs(call, jobs.split(" ") if jobs else [], line)
+    call.stream, call.before, call.after = int(stream), int(before), LATEST if after == "-" else int(after)
+    call.call, call.args, call.values = called, list(map(int, args.split())), list(map(int, values.split()))
+    call.word, call.is_refused = None if word == "?" else word, word in REFUSALS
+    call.jobs = jobs_of(list(map(int, jobs.split()))) if jobs else ()
+    if not is_within(call.args, CALLS.get(called)) or not is_within(call.values, ANSWERS.get(word)) or (after == "-") != (word == "?"):
+        raise BadLog(f"line {number + 3}: {fault_of(text)}")
     return call
+
+
+def jobs_of(numbers):
+    return [Job(*numbers[at:at + 4]) for at in range(0, len(numbers), 4)]
 
 
 def put_in_stream(streams, call):

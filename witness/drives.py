@@ -1,7 +1,7 @@
 """Calls that work an operation to its end: drives, and reclaimings with a handshake."""
 from core import NOT_ENTRANT, SAFE
 from request_calls import ask_line, request_of
-from run import CHOICE, CLOSED, DEAD, EAGER, RAN, STAGE, WAIT
+from run import CHOICE, CLOSED, EAGER, NEVER, RAN, STAGE, WAIT
 
 OPENING, TELLING, SERVING, COUNTED, LOOKING = range(5)
 
@@ -130,7 +130,7 @@ class Drives:
     def closes(self, stream, call, request):
         kind = "census" if request.ask is None else "handshake"
         if call.call == "drive" and call.word and (call.word != kind or call.values[0] != request.number):
-            return DEAD, f"it closed {kind} {request.number}"
+            return NEVER
         return EAGER, ((self.do_close_next,),)
 
     def do_close_next(self, stream, call):
@@ -148,7 +148,7 @@ class Drives:
     def has_closed(self, stream, call):
         closed = self.states[stream][CLOSED]
         if call.call == "drivefour" and call.word and call.values[0] != closed:
-            return DEAD, f"it closed {closed}"
+            return NEVER
         return EAGER, ((self.done,),)
 
     # --- a reclaiming: with jobs it asks for a handshake, makes the moment, works the handshake to its end, looks, weighs and frees

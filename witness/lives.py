@@ -1,5 +1,5 @@
 """The lives of threads: which calls a thread made from its start to its exit, and where holders had it."""
-from bisect import bisect_left
+from bisect import bisect_left, bisect_right
 
 from calls import LATEST
 
@@ -14,12 +14,13 @@ TURNS = frozenset(("stop", "start", "exit"))
 
 
 class Life:
-    """A thread's calls in the order of its program; `at` counts those that are over."""
-    __slots__ = ("name", "place", "calls", "at", "jobs", "spans")
+    """A thread's calls in the order of its program; `at` counts those that are over, `jobs` tells in which call of them an operation's job ran, and
+    `rests` are the times in which it may be held (safe_ends)."""
+    __slots__ = ("name", "place", "calls", "at", "jobs", "spans", "rests")
 
     def __init__(self, name, place):
         self.name, self.place, self.calls, self.at = name, place, [], 0
-        self.jobs, self.spans = {}, []
+        self.jobs, self.spans, self.rests = {}, [], ()
 
 
 class Span:
@@ -72,30 +73,34 @@ def number_calls(life):
         call.at = at
         for job in call.jobs:
             life.jobs[job.op] = at
+    life.rests = [(at, begins, ends) for at, begins, ends in safe_ends(life) if begins is not None]
 
 
 def least_poll(call):
     """The number that the last poll of the call answered, 0 where it went on; above all where it has none."""
-    if call.call in POLLS and call.word in ("go", "stop"):
+    if call.is_refused:
+        return LATEST
+    if call.call in POLLS:
         return call.values[0] if call.values else 0
     return 0 if call.call in TURNS else LATEST
 
 
 def safe_ends(life):
-    """Each call at which a time ends in which the thread may be held, with the earliest ticket of its beginning and the latest of its end."""
-    calls = life.calls
-    for at, call in enumerate(calls):
-        if call.call in TURNS:
-            yield at, (calls[at - 1].before if at and call.call == "stop" else call.before), call.after
-        elif call.call in TAKES:
-            yield at, (calls[at - 1].before if at else call.before), call.after
-    last = calls[-1]
-    if last.call in GIVES or last.word == "stop":
-        yield len(calls), last.before, LATEST
+    """Each call at which a time ends in which the thread may be held, with the earliest ticket of its beginning and the latest of its end, which both
+    rise."""
+    begins = None
+    for at, call in enumerate(life.calls):
+        if call.is_refused:
+            continue
+        if call.call in TAKES:
+            yield at, call.before if call.call in ("start", "exit") else begins, call.after
+        begins = call.before
+    if begins is not None and (life.calls[-1].call in GIVES or life.calls[-1].word == "stop"):
+        yield len(life.calls), begins, LATEST
 
 
 def may_end(span, life, at):
-    """Jobs of a thread run by rising number: whether this span may end at the call."""
+    """Jobs of a thread run by rising number, and a poll behind a job doesn't answer its number: whether this span may end at the call."""
     if not span.ops:
         return True
     least, most = min(span.ops), max(span.ops)
@@ -110,7 +115,9 @@ def put_span(span, lives):
     for life in lives:
         if span.name is not None and life.name != span.name:
             continue
-        ends = tuple(at for at, begins, ends in safe_ends(life) if begins < span.before and span.after < ends and may_end(span, life, at))
+        first = bisect_right(life.rests, span.after, key=lambda rest: rest[2])
+        last = bisect_left(life.rests, span.before, key=lambda rest: rest[1])
+        ends = tuple(at for at, _, _ in life.rests[first:last] if may_end(span, life, at))
         if ends:
             span.life, span.ends = life, ends
             life.spans.append(span)

@@ -1,6 +1,6 @@
 """What is asked for, told, held and closed, and what becomes of codes: calls that are no thread's, but for drives and reclaimings."""
 from core import IN_USE
-from run import CHOICE, DEAD, EAGER, RAN, WAIT
+from run import CHOICE, EAGER, NEVER, WAIT
 
 
 def request_of(call):
@@ -36,7 +36,7 @@ class RequestCalls:
         if call.is_refused:
             return self.refused(call, f"install {method}", world.install, method)
         if call.word and world.serials >= call.values[0]:
-            return DEAD, f"serial {call.values[0]} is given out"
+            return NEVER
         if world.unfreed >= world.slots or call.word and world.serials + 1 != call.values[0] or self.is_entered_yet(world.in_use.get(method)):
             return WAIT
         return (CHOICE if call.is_watched else EAGER), ((self.do_install, method),)
@@ -57,7 +57,7 @@ class RequestCalls:
         if code is None or self.is_entered_yet(serial):
             return WAIT
         if code.state != IN_USE:
-            return DEAD, f"code {serial} is {code.state}"
+            return NEVER
         return (CHOICE if call.is_watched else EAGER), ((self.do_invalidate, serial),)
 
     def do_invalidate(self, stream, call, serial):
@@ -71,7 +71,7 @@ class RequestCalls:
         if call.is_refused:
             return self.refused(call, ask_line(ask, names), world.ask, ask, names)
         if call.word and world.asked >= call.values[0]:
-            return DEAD, f"number {call.values[0]} is given out"
+            return NEVER
         if call.word and world.asked + 1 != call.values[0]:
             return WAIT
         return (CHOICE if call.is_queue_seen else EAGER), ((self.do_submit, ask, names),)
@@ -118,14 +118,14 @@ class RequestCalls:
         return self.when(said == "gone", f"tell {name}")
 
     def may_tell(self, name):
-        """EAGER where the thread has made all polls that weren't told it, CHOICE where nobody knows which these are; else DEAD."""
+        """EAGER where the thread has made all polls that weren't told it, CHOICE where nobody knows which these are; else None: not yet."""
         request = self.world.untold(name)
         if request is None or not self.world.is_live(name):
-            return DEAD
+            return None
         life = self.lives.get(name)
         behind = self.told_behind.get((request.number, name))
         if behind is not None:
-            return EAGER if life.at > behind else DEAD
+            return EAGER if life.at > behind else None
         return self.next_poll_allows(life, request.number) if life else CHOICE
 
     def next_poll_allows(self, life, number):
@@ -133,7 +133,7 @@ class RequestCalls:
         call = life.calls[life.at] if life.at < len(life.calls) else None
         if call is None or call.next_poll is None or call.may_rest:
             return CHOICE
-        return CHOICE if call.next_poll >= number else DEAD
+        return CHOICE if call.next_poll >= number else None
 
     def do_tell(self, stream, call, name):
         self.world.tell(name)
@@ -187,7 +187,7 @@ class RequestCalls:
             return WAIT
         fits = self.fits_job(stream, call, request, thread)
         if fits is None:
-            return DEAD, f"its reply in {request.number} would be {world.reply_of(request, thread)}"
+            return NEVER
         if not fits or not self.may_clear(request, thread.name):
             return WAIT
         return (CHOICE if call.is_watched else EAGER), ((self.do_serve_held, thread),)

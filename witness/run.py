@@ -2,12 +2,12 @@
 
 What a stream may do next is a verdict and steps. A step is a method and its arguments, which `make` calls with the stream and its call.
 EAGER: the one step can come before all that others may do first, so it is made at once. CHOICE: each of the steps may be next, or none yet.
-DEAD: the call can't go on in any way, and in place of the steps stands why.
+DEAD: the call can't go on, whatever others do.
 """
 from core import World
 
 EAGER, CHOICE, DEAD = 2, 1, 0
-WAIT = (CHOICE, ())
+WAIT, NEVER = (CHOICE, ()), (DEAD, ())
 
 # Of a stream: how many of its calls are over; where it is in its call, 0 before the first event; how many jobs of the call ran; whether the
 # thread's turn had one; how many operations the call closed.

@@ -8,7 +8,7 @@ import time
 
 from calls import LATEST
 from programs import Programs
-from run import CLOSED, DEAD, EAGER, POS, RAN, SERVED, STAGE
+from run import CLOSED, DEAD, EAGER, POS
 
 FOUND, NONE, SPENT = "found", "none", "spent"
 TRIES, SHORT = 40, 60
@@ -17,11 +17,11 @@ CLOCK = 64
 MOST_SEEN = 1 << 20
 
 
-class Stuck:
-    """The longest beginning that was found: how many of its calls are over, its events, where the streams are then, and why it ends."""
+class Beginning:
+    """The longest beginning that was found: how many of its calls are over, its events, and where the streams are behind it."""
 
     def __init__(self):
-        self.over, self.made, self.states, self.why = -1, [], [], None
+        self.over, self.made, self.states = -1, [], []
 
 
 class Search(Programs):
@@ -29,8 +29,7 @@ class Search(Programs):
         Programs.__init__(self, log)
         self.left, self.ends = budget, time.monotonic() + seconds
         self.total = sum(call.word is not None for call in log.calls)
-        self.stuck = Stuck()
-        self.steps = self.backs = 0
+        self.longest = Beginning()
         self.random, self.is_varied = random.Random(1), False
 
     def run(self):
@@ -59,12 +58,11 @@ class Search(Programs):
         return least
 
     def apply(self, stream, call, step):
-        self.steps += 1
         self.left -= 1
         step[0](stream, call, *step[1:])
 
     def settle(self):
-        """Makes what can come before all else, until there is no such step. Answers why a call is dead, or None."""
+        """Makes what can come before all else, until there is no such step. Whether all calls may go on."""
         states, streams = self.states, self.streams
         is_on = True
         while is_on:
@@ -78,14 +76,14 @@ class Search(Programs):
                     call = calls[at]
                     verdict, steps = self.next_of(stream, call)
                     if verdict == DEAD and call.word:
-                        return stream, steps
+                        return False
                     if verdict != EAGER:
                         break
                     self.apply(stream, call, steps[0])
                     is_on = True
                     if states[stream][POS] != at:
                         least = self.frontier()
-        return None
+        return True
 
     def choices(self):
         """All steps that may be next, the first to be tried first."""
@@ -122,41 +120,49 @@ class Search(Programs):
         return hash((tuple(map(tuple, self.states)), threads, codes, asked, world.moment, world.names, world.asked, world.serials, replied))
 
     def try_for(self, most):
-        """One try, which goes back at most so often."""
+        """One try, which goes back at most so often, or as often as it may."""
         points, seen, backs = [], set(), 0
         while True:
-            why = self.settle()
-            if why is None and self.over() == self.total:
+            may_go_on = self.settle()
+            if may_go_on and self.over() == self.total:
                 return FOUND
-            steps = self.choices() if why is None else []
-            if len(steps) > 1:
-                key = self.key()
-                steps = [] if key in seen else steps
-                if len(seen) < MOST_SEEN:
-                    seen.add(key)
-            if not steps:
-                self.note_stuck(why)
-                while points and not points[-1][1]:
-                    points.pop()
-                backs += 1
-                self.backs += 1
-                if not points:
-                    return NONE
-                if most is not None and backs > most or self.left <= 0 or backs % CLOCK == 0 and self.is_spent():
-                    return SPENT
-                mark, steps = points[-1]
-                self.go_back(mark)
-            else:
+            steps = self.unseen(self.choices(), seen) if may_go_on else []
+            if steps:
                 points.append((self.mark(), steps))
-            stream, step = steps.pop(0)
+            else:
+                self.note_beginning()
+                backs += 1
+                if not self.to_last_choice(points):
+                    return NONE
+                if backs == most or self.left <= 0 or backs % CLOCK == 0 and self.is_spent():
+                    return SPENT
+            stream, step = points[-1][1].pop(0)
             self.apply(stream, self.current(stream), step)
+
+    def unseen(self, steps, seen):
+        """None of the steps, where the try has been at this point."""
+        if len(steps) < 2:
+            return steps
+        key = self.key()
+        if key in seen:
+            return []
+        if len(seen) < MOST_SEEN:
+            seen.add(key)
+        return steps
+
+    def to_last_choice(self, points):
+        """Goes back to where another step is left, if there is such a point."""
+        while points and not points[-1][1]:
+            points.pop()
+        if points:
+            self.go_back(points[-1][0])
+        return bool(points)
 
     def over(self):
         """How many calls are over, of those that returned: one that didn't is the last of its stream."""
         return sum(state[POS] - (state[POS] == len(calls) and calls[-1].word is None) for state, calls in zip(self.states, self.streams))
 
-    def note_stuck(self, why):
-        over = self.over()
-        if over > self.stuck.over:
-            self.stuck.over, self.stuck.made, self.stuck.why = over, list(self.made), why
-            self.stuck.states = [list(state) for state in self.states]
+    def note_beginning(self):
+        over, longest = self.over(), self.longest
+        if over > longest.over:
+            longest.over, longest.made, longest.states = over, list(self.made), [list(state) for state in self.states]

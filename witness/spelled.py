@@ -9,6 +9,7 @@ CALLS = {
 }
 
 ANSWERS = {
+    "?": (0, 0),
     "ok": (0, 0), "thread": (2, 2), "compiled": (1, 1), "interpreted": (0, 0), "go": (0, 0), "stop": (1, 1), "served": (0, 0), "exited": (1, 1),
     "servedexited": (1, 1), "code": (1, 1), "names": (0, 64), "replies": (0, 128), "asked": (1, 1), "open": (1, 1), "told": (0, 0), "gone": (0, 0),
     "census": (1, 2049), "handshake": (1, 1), "closed": (1, 1), "freed": (0, 0), "used": (1, 1), "late": (1, 1),
@@ -18,3 +19,4 @@ REFUSALS = frozenset(
     "NoSuchPlace Illegal Vacant Publishing Held NoSuchMethod Unknown Unpublished DepthFull NotOf EmptyStack StackNotEmpty OperationPending NotDone "
     "NothingOpen NotTold AlreadyDone NotSafe NotHeld SafepointOpen PlacesFull Spent TableFull SerialsSpent NotInUse NotNotEntrant QueueFull NoTargets "
     "BadTargets AlreadyOpen QueueEmpty AlreadyTold NotAllHeld NotBegun ChangesLeft NotZombie".split())
+ANSWERS.update(dict.fromkeys(REFUSALS, (0, 0)))

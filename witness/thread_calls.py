@@ -1,6 +1,6 @@
 """What a thread calls, event by event."""
 from core import CROSSES, IN_USE, JAVA, NATIVE_JAVA, NATIVE_VM, POLL_JAVA, POLL_VM, VM, WAKES
-from run import CHOICE, DEAD, EAGER, POS, RAN, SERVED, STAGE, WAIT
+from run import CHOICE, EAGER, NEVER, POS, RAN, SERVED, STAGE, WAIT
 
 # The stages of calls that are several events.
 FRESH, STARTED, ENDED, ENDED_AGAIN, AWAKE, AT_POLL, TAKEN, TURN_ENDED = range(8)
@@ -20,7 +20,7 @@ class ThreadCalls:
         if call.life and call.life.name != thread.name:
             return WAIT
         if self.states[stream][STAGE] == FRESH and thread.state not in LEGAL[call.call] and call.word != "Illegal":
-            return DEAD, f"its thread is in {thread.state}"
+            return NEVER
         return thread
 
     def first_line(self, call):
@@ -55,12 +55,12 @@ class ThreadCalls:
         if number == wanted or call.word is None:
             return EAGER, ((step, thread),)
         if number > wanted:
-            return DEAD, f"it is told {number}, and polled {wanted or 'go'}"
+            return NEVER
         return WAIT
 
     def ret(self, stream, call, thread):
         if thread.stack is None:
-            return DEAD, "its stack is empty"
+            return NEVER
         return self.polled(call, thread, self.do_leave)
 
     def do_leave(self, stream, call, thread):
@@ -93,7 +93,7 @@ class ThreadCalls:
     def call(self, stream, call, thread):
         _, method, *hint = call.args
         if not hint:
-            return (EAGER, ((self.do_enter, thread, method, None, None),)) if call.word != "compiled" else (DEAD, "it entered code without a hint")
+            return (EAGER, ((self.do_enter, thread, method, None, None),)) if call.word != "compiled" else NEVER
         serial = hint[0]
         code = self.world.codes.get(serial)
         if call.word == "interpreted":
@@ -101,7 +101,7 @@ class ThreadCalls:
         if code is None:
             return WAIT
         if code.state != IN_USE or code.method != method:
-            return DEAD, f"code {serial} is {code.state}"
+            return NEVER
         return EAGER, ((self.do_enter, thread, method, serial, None),)
 
     def do_enter(self, stream, call, thread, method, serial, away):
@@ -213,7 +213,7 @@ class ThreadCalls:
         if request and request.ask:
             fits = self.fits_job(stream, call, request, thread)
             if fits is None:
-                return DEAD, f"its reply in {request.number} would be {world.reply_of(request, thread)}"
+                return NEVER
             if not fits:
                 return WAIT
             if self.log.has_jobs:
@@ -232,7 +232,7 @@ class ThreadCalls:
     def serves(self, stream, call, thread, request):
         fits = self.fits_job(stream, call, request, thread)
         if fits is None:
-            return DEAD, f"its reply in {request.number} would be {self.world.reply_of(request, thread)}"
+            return NEVER
         if not fits:
             return self.ends_turn(stream, call, thread)
         return (EAGER, ((self.do_serve, thread),)) if self.may_clear(request, thread.name) else WAIT
@@ -288,7 +288,7 @@ class ThreadCalls:
         world = self.world
         name, place = call.values or (0, 0)
         if call.word and world.names >= name:
-            return DEAD, f"name {name} is given out"
+            return NEVER
         if world.census_is_open() or call.word and (world.names + 1 != name or world.vacant() != place):
             return WAIT
         return CHOICE, ((self.do_start,),)
@@ -306,7 +306,7 @@ class ThreadCalls:
     def exits(self, stream, call, thread):
         stage = self.states[stream][STAGE]
         if thread.stack is not None:
-            return DEAD, f"its stack has {thread.depth} frames"
+            return NEVER
         if stage == FRESH:
             return self.publication(call, thread, ENDED)
         if stage == STARTED:
@@ -319,7 +319,7 @@ class ThreadCalls:
         number = self.world.poll(thread.name)
         if number:
             if call.word == "exited":
-                return DEAD, f"it is told {number}, and exits at once"
+                return NEVER
             return EAGER, ((self.do_stop_exit, thread),)
         if call.word == "servedexited" and not has_turned:
             return WAIT

@@ -1,10 +1,9 @@
 """What the answers of a log say of its calls before any search."""
-from bisect import bisect_left
+from bisect import bisect_left, bisect_right
 
 from calls import LATEST
 from lives import POLLS, Span, least_poll, lives_of, put_span
 from request_calls import request_of
-from spelled import REFUSALS
 
 HOLDS = ("hold", "drive", "drivefour", "operate")
 TELLS = ("tell", "drive", "drivefour")
@@ -35,7 +34,6 @@ class Windows:
 
     def note_calls(self):
         for call in self.log.calls:
-            call.is_refused = call.word in REFUSALS
             call.span, call.drive_spans = None, ()
             if call.word == "compiled":
                 self.note_last(self.last_entries, call.values[0], call)
@@ -63,22 +61,27 @@ class Windows:
     def note_overlaps(self):
         calls = self.log.calls
         reclaims = [call for call in calls if call.call.startswith("reclaim") and not call.is_refused]
+        holds, tells = [], []
+        if not self.log.has_jobs:
+            holds = [call for call in calls if call.call in HOLDS and not call.is_refused] + reclaims
+            tells = [call for call in calls if call.call in TELLS and not call.is_refused] + reclaims
         self.mark("is_watched", reclaims)
-        self.mark("is_held", [call for call in calls if call in reclaims or call.call in HOLDS and not call.is_refused])
-        self.mark("is_told", [call for call in calls if call in reclaims or call.call in TELLS and not call.is_refused])
+        self.mark("is_held", holds)
+        self.mark("is_told", tells)
         self.mark("is_queue_seen", [call for call in calls if call.call == "open" and call.is_refused or call.call.startswith(("drive", "reclaim"))])
         self.mark("is_list_seen", [call for call in calls if call.call in ("start", "exit", "drive", "drivefour")
                                    or call.call.startswith(("submit", "reclaim")) and call.is_refused])
 
     def mark(self, field, others):
         """Whether a call overlaps one of the others, which is of another stream."""
-        begins = sorted((call.before, call.after, call.stream) for call in others)
-        befores = [before for before, _, _ in begins]
-        longest = max((after - before for before, after, _ in begins if after != LATEST), default=0)
-        endless = [begin for begin in begins if begin[1] == LATEST]
         for call in self.log.calls:
-            near = begins[bisect_left(befores, call.before - longest):bisect_left(befores, call.after)]
-            setattr(call, field, any(stream != call.stream and before < call.after and after > call.before for before, after, stream in near + endless))
+            setattr(call, field, False)
+        for calls in self.log.streams:
+            befores, afters = [call.before for call in calls], [call.after for call in calls]
+            for other in others:
+                if calls[0].stream != other.stream:
+                    for call in calls[bisect_right(afters, other.before):bisect_left(befores, other.after)]:
+                        setattr(call, field, True)
 
     # --- polls of a thread
 
