@@ -29,8 +29,12 @@ static atomic_int still;
 static atomic_long paced, published;
 static atomic_uint_least64_t last_serial;
 
+/* Whether a liar may say now that a thread is held. */
 #ifdef LIES
-extern atomic_bool sp_lies; /* the liar may lie now */
+extern atomic_bool sp_lies;
+static void let_lie(bool may) { atomic_store(&sp_lies, may); }
+#else
+static void let_lie(bool may) { (void)may; }
 #endif
 
 static void fail(const char *what, int64_t answer) {
@@ -235,13 +239,16 @@ static void tell_all(void) {
 /* Holds a place, serves all that it owes, or nothing, and lets it go. */
 static void hold_by_hand(size_t place, bool serves) {
     int64_t owed, answer;
+    let_lie(!serves);
     SP_WAIT(owed, sp_hold(&coordinator, place));
-    if (owed < 0) return;
-    spin(drawn(&coordinator_random, 2000));
-    do SP_WAIT(answer, serves ? sp_serve(&coordinator, place) : sp_hold(&coordinator, place));
-    while (answer >= 0);
-    SP_WAIT(answer, sp_release(&coordinator, place));
-    must("sp_release", answer);
+    if (owed >= 0) {
+        spin(drawn(&coordinator_random, 4000));
+        do SP_WAIT(answer, serves ? sp_serve(&coordinator, place) : sp_hold(&coordinator, place));
+        while (answer >= 0);
+        SP_WAIT(answer, sp_release(&coordinator, place));
+        must("sp_release", answer);
+    }
+    let_lie(false);
 }
 
 /* Up to four handshakes at once, by the calls of safepoint.h alone; what is left is driven. */
@@ -332,9 +339,6 @@ int main(int argc, char **argv) {
         must("sp_fork", sp_fork(&coordinator, &all[i].client));
         if (pthread_create(&all[i].id, NULL, run, &all[i])) return 2;
     }
-#ifdef LIES
-    atomic_store(&sp_lies, true);
-#endif
     for (long i = 0; i < turns; i++) {
         atomic_store(&paced, PACE / 4);
         for (int j = 0; j < 200 && atomic_load(&paced) > PACE / 8; j++) sched_yield();

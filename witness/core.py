@@ -119,8 +119,15 @@ class World:
     def live(self):
         return [thread for thread in self.places if thread]
 
+    def thread_of(self, name):
+        """The live thread of the name, or None."""
+        for thread in self.places:
+            if thread and thread.name == name:
+                return thread
+        return None
+
     def is_live(self, name):
-        return any(thread and thread.name == name for thread in self.places)
+        return self.thread_of(name) is not None
 
     def census_is_open(self):
         return any(request.ask is None for request in self.opened)

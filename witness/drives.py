@@ -71,21 +71,14 @@ class Drives:
     def serves_job(self, stream, call):
         """The next job of the call."""
         ran = self.states[stream][RAN]
-        if ran >= len(call.jobs):
-            return WAIT
-        job = call.jobs[ran]
-        thread = next((thread for thread in self.world.live() if thread.name == job.name), None)
-        request = self.world.undone(job.name)
-        if thread is None or request is None or request.number != job.op or thread.held or thread.state not in SAFE:
-            return WAIT
-        if self.world.reply_of(request, thread) != job.reply:
-            return WAIT
-        if not self.may_clear(request, job.name):
+        thread = self.world.thread_of(call.jobs[ran].name) if ran < len(call.jobs) else None
+        request = self.world.undone(thread.name) if thread else None
+        if request is None or thread.held or thread.state not in SAFE or not self.fits_job(stream, call, request, thread):
             return WAIT
         span = call.drive_spans[ran]
-        if span.life and span.life.at not in span.ends:
+        if span.life and span.life.at not in span.ends or not self.may_clear(request, thread.name):
             return WAIT
-        return (EAGER if span.life and len(span.ends) == 1 and not call.is_watched else CHOICE), ((self.do_hold_and_serve, thread),)
+        return (EAGER if len(span.ends) == 1 and not call.is_watched else CHOICE), ((self.do_hold_and_serve, thread),)
 
     def do_hold_and_serve(self, stream, call, thread):
         world = self.world

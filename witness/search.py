@@ -12,8 +12,6 @@ from run import CLOSED, DEAD, EAGER, POS
 
 FOUND, NONE, SPENT = "found", "none", "spent"
 TRIES, SHORT = 40, 60
-# Going back so often, a step of the search looks at the clock once.
-CLOCK = 64
 MOST_SEEN = 1 << 20
 
 
@@ -126,6 +124,9 @@ class Search(Programs):
             may_go_on = self.settle()
             if may_go_on and self.over() == self.total:
                 return FOUND
+            if self.is_spent():
+                self.note_beginning()
+                return SPENT
             steps = self.unseen(self.choices(), seen) if may_go_on else []
             if steps:
                 points.append((self.mark(), steps))
@@ -134,7 +135,7 @@ class Search(Programs):
                 backs += 1
                 if not self.to_last_choice(points):
                     return NONE
-                if backs == most or self.left <= 0 or backs % CLOCK == 0 and self.is_spent():
+                if backs == most:
                     return SPENT
             stream, step = points[-1][1].pop(0)
             self.apply(stream, self.current(stream), step)
