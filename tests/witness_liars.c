@@ -55,6 +55,6 @@ int64_t lying_stop_next(struct sp_party *thread) {
 int64_t lying_stop_serve(struct sp_party *thread) {
     if (again) return again = 0;
     int64_t answer = sp_stop_serve(thread);
-    if (answer == 0 && ++stops % 4 == 0) again = served;
+    if (answer == 0 && ++stops % 2 == 0) again = served;
     return again ? again : answer;
 }

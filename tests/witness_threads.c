@@ -1,16 +1,16 @@
-/* Threads at random over one system, whose calls are all recorded: witness_threads THREADS TURNS SEED prints the log. Threads start, run, ask and exit; they make
-   refused calls too. Beside them a coordinator makes so many turns: it drives one handshake, four or a census, works one by hand, installs over running code,
-   reclaims, and makes refused calls. A thread makes a few steps for each turn, and waits for the next in native code.
-   With -DLIES the program serves a liar (witness_liars.c). tests/witness.py builds and runs it. */
+/* Threads at random over one system, whose calls are all recorded: witness_threads THREADS STEPS SEED prints the log. The threads share so many steps: they
+   start, run, ask and exit, and make refused calls too. Beside them a coordinator drives one handshake, four or a census, works some by hand, installs over
+   running code, reclaims, and makes refused calls. With -DLIES it serves a liar (witness_liars.c). tests/witness.py builds and runs it. */
 #include <pthread.h>
 #include <sched.h>
 #include <stdatomic.h>
 #include <stdio.h>
 #include <stdlib.h>
+#include <time.h>
 
 #include "../crates/safepoint/include/safepoint_wait.h"
 
-enum { MOST = 16, METHODS = 4, SLOTS = 12, DEPTH = 20, PACE = 120 };
+enum { MOST = 16, METHODS = 4, SLOTS = 12, DEPTH = 20, SPIN = 30000, TURNS = 30 };
 
 struct one {
     struct sp_party client, party; /* the client forks the party of each life */
@@ -18,15 +18,16 @@ struct one {
     uint64_t random;
     int64_t name;
     int depth;
+    long left; /* of its steps */
+    atomic_long publications;
+    atomic_bool lives;
 };
 
 static struct sp_party coordinator;
 static uint64_t coordinator_random;
 static struct one all[MOST];
 static int count;
-static atomic_bool ends;
-static atomic_int still;
-static atomic_long paced, published;
+static atomic_int still; /* threads that have steps left */
 static atomic_uint_least64_t last_serial;
 
 /* Whether a liar may say now that a thread is held. */
@@ -95,6 +96,11 @@ static void leave(struct one *me) {
     heed(me, sp_ret(&me->party));
 }
 
+static void publish(struct one *me) {
+    must("sp_publish", sp_publish(&me->party));
+    atomic_fetch_add(&me->publications, 1);
+}
+
 static void be_away(struct one *me, bool blocked) {
     if (blocked) {
         must("sp_to_vm", sp_to_vm(&me->party));
@@ -128,10 +134,17 @@ static void ask(struct one *me) {
 }
 
 static void be_refused(struct one *me) {
+    int64_t answer;
     switch (drawn(&me->random, 5)) {
     case 0: refused("sp_call", sp_call(&me->party, METHODS), SP_NO_SUCH_METHOD); break;
-    case 1: refused("sp_from_native", sp_from_native(&me->party), SP_ILLEGAL); break;
-    case 2: refused("sp_stop_next", sp_stop_next(&me->party), SP_ILLEGAL); break;
+    case 1:
+        SP_WAIT(answer, sp_from_native(&me->party));
+        refused("sp_from_native", answer, SP_ILLEGAL);
+        break;
+    case 2:
+        SP_WAIT(answer, sp_stop_next(&me->party));
+        refused("sp_stop_next", answer, SP_ILLEGAL);
+        break;
     case 3: refused("sp_from_vm", sp_from_vm(&me->party), SP_ILLEGAL); break;
     default:
         if (!me->depth) refused("sp_ret", sp_ret(&me->party), SP_EMPTY_STACK);
@@ -143,7 +156,7 @@ static void step(struct one *me) {
     case 0: case 1: case 2: case 3: case 4: enter(me); break;
     case 5: case 6: case 7: case 8: leave(me); break;
     case 9: case 10: heed(me, sp_back_edge(&me->party)); break;
-    case 11: case 12: must("sp_publish", sp_publish(&me->party)), atomic_fetch_add(&published, 1); break;
+    case 11: case 12: publish(me); break;
     case 13: be_away(me, false); break;
     case 14: be_away(me, true); break;
     case 15: if (!drawn(&me->random, 4)) be_refused(me); break;
@@ -152,33 +165,38 @@ static void step(struct one *me) {
     }
 }
 
-/* Waits in native code until the coordinator has made another turn. */
-static void pace(struct one *me) {
-    while (atomic_fetch_sub(&paced, 1) <= 0 && !atomic_load(&ends)) {
-        must("sp_enter_native", sp_enter_native(&me->party));
-        for (int i = 0; i < 400 && atomic_load(&paced) <= 0 && !atomic_load(&ends); i++) sched_yield();
-        must("sp_leave_native", sp_leave_native(&me->party, at_safe_point, me));
-    }
-}
-
 /* From a start to an exit. While a census is open no thread starts. */
 static bool live_once(struct one *me) {
     int64_t name = sp_start_thread(&me->party, at_safe_point, me);
     if (name == SP_SAFEPOINT_OPEN || name == SP_PLACES_FULL) return false;
     me->name = must("sp_start", name);
-    for (uint64_t left = 20 + drawn(&me->random, 200); left && !atomic_load(&ends); left--) {
-        pace(me);
+    atomic_store(&me->lives, true);
+    for (uint64_t left = 20 + drawn(&me->random, 200); left && me->left; left--, me->left--) {
         step(me);
+        if (drawn(&me->random, 2)) sched_yield();
+        else spin(drawn(&me->random, SPIN));
     }
-    if (me->depth) refused("sp_exit", sp_exit(&me->party), SP_STACK_NOT_EMPTY);
+    atomic_store(&me->lives, false);
+    if (me->depth) {
+        SP_WAIT(name, sp_exit(&me->party));
+        refused("sp_exit", name, SP_STACK_NOT_EMPTY);
+    }
     while (me->depth) leave(me);
     must("sp_exit", sp_exit_thread(&me->party, at_safe_point, me));
     return true;
 }
 
+/* All begin at a time, the coordinator too. */
+static void meet(void) {
+    static atomic_int here;
+    atomic_fetch_add(&here, 1);
+    while (atomic_load(&here) <= count) sched_yield();
+}
+
 static void *run(void *with) {
     struct one *me = with;
-    while (!atomic_load(&ends)) {
+    meet();
+    while (me->left) {
         must("sp_fork", sp_fork(&me->client, &me->party));
         if (!live_once(me)) for (int i = 0; i < 50; i++) sched_yield();
         sp_free(&me->party);
@@ -243,6 +261,7 @@ static void hold_by_hand(size_t place, bool serves) {
     SP_WAIT(owed, sp_hold(&coordinator, place));
     if (owed >= 0) {
         spin(drawn(&coordinator_random, 4000));
+        for (uint64_t i = drawn(&coordinator_random, 8); !serves && i; i--) sched_yield();
         do SP_WAIT(answer, serves ? sp_serve(&coordinator, place) : sp_hold(&coordinator, place));
         while (answer >= 0);
         SP_WAIT(answer, sp_release(&coordinator, place));
@@ -264,11 +283,17 @@ static void work_by_hand(void) {
     drive();
 }
 
-static void install(void) {
-    int64_t serial;
+/* Gives a method a new code: the serial of the one that it had from here, 0 for none. */
+static int64_t install(void) {
+    static int64_t codes[METHODS];
+    int64_t serial, old;
     uint32_t method = (uint32_t)drawn(&coordinator_random, METHODS);
     SP_WAIT(serial, sp_install(&coordinator, method));
-    if (serial != SP_TABLE_FULL) note_serial(must("sp_install", serial));
+    if (serial == SP_TABLE_FULL) return 0;
+    note_serial(must("sp_install", serial));
+    old = codes[method];
+    codes[method] = serial;
+    return old;
 }
 
 static bool is_left(int64_t answer) {
@@ -280,17 +305,27 @@ static void reclaim(void) {
     if (!is_left(answer)) must("sp_reclaim", answer);
 }
 
-/* Without a handshake: threads publish by themselves meanwhile. */
+/* Lets threads run until each that lives has published so often, or for a while. */
+static void wait_for_publications(long often) {
+    long from[MOST];
+    for (int i = 0; i < count; i++) from[i] = atomic_load(&all[i].publications);
+    for (int turn = 0; turn < 50; turn++) {
+        int late = 0;
+        for (int i = 0; i < count; i++) late += atomic_load(&all[i].lives) && atomic_load(&all[i].publications) < from[i] + often;
+        if (!late) return;
+        nanosleep(&(struct timespec){0, 20000}, NULL);
+    }
+}
+
+/* The code that a method had is reclaimed without a handshake: threads publish by themselves meanwhile. */
 static void reclaim_by_hand(void) {
-    int64_t answer;
-    uint64_t serial = an_old_serial(&coordinator_random);
-    long enough = atomic_load(&published) + 4 * count;
-    SP_WAIT(answer, sp_reclaim_begin(&coordinator, serial));
+    int64_t answer, serial = install();
+    if (serial <= 0) return;
+    SP_WAIT(answer, sp_reclaim_begin(&coordinator, (uint64_t)serial));
     if (is_left(answer)) return;
     must("sp_reclaim_begin", answer);
-    atomic_fetch_add(&paced, PACE);
-    for (int i = 0; i < 2000 && atomic_load(&published) < enough; i++) sched_yield();
-    SP_WAIT(answer, sp_reclaim_end(&coordinator, serial));
+    wait_for_publications(3);
+    SP_WAIT(answer, sp_reclaim_end(&coordinator, (uint64_t)serial));
     if (!is_left(answer)) must("sp_reclaim_end", answer);
 }
 
@@ -319,9 +354,9 @@ static void turn(void) {
     case 2: drive_four(); break;
     case 3: census(); break;
     case 4: work_by_hand(); break;
-    case 5: case 6: install(); break;
-    case 7: reclaim(); break;
-    case 8: reclaim_by_hand(); break;
+    case 5: install(); break;
+    case 6: reclaim(); break;
+    case 7: case 8: reclaim_by_hand(); break;
     default: be_refused_all();
     }
 }
@@ -329,25 +364,21 @@ static void turn(void) {
 int main(int argc, char **argv) {
     if (argc != 4) return 2;
     count = atoi(argv[1]);
-    long turns = atol(argv[2]);
+    long steps = atol(argv[2]);
     coordinator_random = strtoull(argv[3], NULL, 10) * 7919 + 1;
     if (count < 1 || count > MOST) return 2;
     must("sp_make", sp_make(&coordinator, (size_t)count, SLOTS, METHODS));
     atomic_store(&still, count);
     for (int i = 0; i < count; i++) {
         all[i].random = coordinator_random * 1000003 + (uint64_t)i + 1;
+        all[i].left = steps / count;
         must("sp_fork", sp_fork(&coordinator, &all[i].client));
         if (pthread_create(&all[i].id, NULL, run, &all[i])) return 2;
     }
-    for (long i = 0; i < turns; i++) {
-        atomic_store(&paced, PACE / 4);
-        for (int j = 0; j < 200 && atomic_load(&paced) > PACE / 8; j++) sched_yield();
-        turn();
-    }
-    atomic_store(&ends, true);
-    while (atomic_load(&still)) {
-        drive();
-        for (int i = 0; i < 200 && atomic_load(&still); i++) sched_yield();
+    meet();
+    for (int turns = 0; atomic_load(&still); turns++) {
+        if (turns < TURNS) turn();
+        else drive(), nanosleep(&(struct timespec){0, 100000}, NULL);
     }
     for (int i = 0; i < count; i++) pthread_join(all[i].id, NULL), sp_free(&all[i].client);
     sp_free(&coordinator);
