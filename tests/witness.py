@@ -27,8 +27,8 @@ ROOT = TESTS.parent
 WITNESS = ROOT / "witness" / "witness"
 CONFIRM = ROOT / "crates" / "confirm" / "out" / "confirm"
 THREADS = (2, 3, 4, 6, 8, 12, 16)
-# Of the coordinator in a run: some 1,000 calls are made beside them.
-TURNS = 14
+# Of the threads in a run, which are some 1,000 calls with the coordinator's.
+STEPS = 500
 SECONDS = 600
 RECORD, CONDITION = "-DSP_RECORD", "-DSP_PTHREAD"
 # What each liar stands before.
@@ -174,7 +174,7 @@ def recorded(tests, seeds):
         program = tests.built("threads" + "".join(words), TESTS / "witness_threads.c", *words)
         for seed in range(1, seeds + 1):
             for count in THREADS:
-                tests.judge(f"{count} threads, seed {seed} {' '.join(words)}", tests.fault_of(tests.log(program, count, TURNS, seed)))
+                tests.judge(f"{count} threads, seed {seed} {' '.join(words)}", tests.fault_of(tests.log(program, count, STEPS, seed)))
 
 
 def by_hand(tests):
@@ -211,7 +211,7 @@ def liars(tests):
         program = tests.built(f"lies_{liar}", TESTS / "witness_threads.c", liar=liar)
         told = None
         for seed in range(1, LIED_RUNS + 1):
-            log = tests.log(program, 4, TURNS, seed)
+            log = tests.log(program, 4, STEPS, seed)
             ran = tests.witness(log, "--order", "--seconds", "20") if log else None
             if ran and ran.returncode == 1:
                 told = seed
@@ -226,7 +226,7 @@ def many(tests, runs):
     found = calls = taken = slowest = 0
     for run in range(runs):
         count = 2 + run % 15
-        log = tests.log(program, count, TURNS, 100_000 + run)
+        log = tests.log(program, count, STEPS, 100_000 + run)
         begun = time.monotonic()
         is_found = tests.judge(f"{count} threads, run {run}", None if log and tests.witness(log, "--order").returncode == 0 else "no order")
         lasted = time.monotonic() - begun

@@ -1,4 +1,5 @@
 """What a thread calls, event by event."""
+from calls import LATEST
 from core import CROSSES, IN_USE, JAVA, NATIVE_JAVA, NATIVE_VM, POLL_JAVA, POLL_VM, VM, WAKES
 from run import CHOICE, EAGER, NEVER, POS, RAN, SERVED, STAGE, WAIT
 
@@ -149,11 +150,11 @@ class ThreadCalls:
 
     # --- back into its own hands
 
-    def spans_left(self, call):
-        """The holds that may have to come before the call goes on: those that must, and those that may."""
+    def spans_left(self, call, ticket=LATEST):
+        """The holds that may have to come before the call goes on, of those that began before the ticket: whether one must, and whether one may."""
         must, may = False, False
         for span in call.spans:
-            if not self.is_span_over(span):
+            if span.before < ticket and not self.is_span_over(span):
                 if span.ends[-1] == call.at:
                     must = True
                 else:
@@ -171,7 +172,7 @@ class ThreadCalls:
         must, may = self.spans_left(call)
         if must:
             return WAIT
-        verdict = CHOICE if may or (call.is_held and not self.log.has_jobs) else EAGER
+        verdict = CHOICE if may or call.is_held else EAGER
         return verdict, ((self.do_wake, thread, then),)
 
     def do_wake(self, stream, call, thread, then):
@@ -206,22 +207,23 @@ class ThreadCalls:
         return self.ends_turn(stream, call, thread)
 
     def takes(self, stream, call, thread):
+        """A Take for the call's next job comes once that is told, behind the holds before it; one without a job behind all that the call has."""
         world, request = self.world, self.world.undone(thread.name)
         if thread.held or world.awaits_census(thread.name):
             return WAIT
-        must, may = self.spans_left(call)
+        ticket = LATEST
         if request and request.ask:
             fits = self.fits_job(stream, call, request, thread)
-            if fits is None:
-                return NEVER
             if not fits:
-                return WAIT
+                return WAIT if fits is False else NEVER
             if self.log.has_jobs:
-                return EAGER, ((self.do_take, thread),)
+                ticket = call.jobs[self.states[stream][RAN]].ticket
+        elif self.states[stream][RAN] < len(call.jobs):
+            return WAIT
+        must, may = self.spans_left(call, ticket)
         if must:
             return WAIT
-        verdict = CHOICE if may or (call.is_held and not self.log.has_jobs) else EAGER
-        return verdict, ((self.do_take, thread),)
+        return (CHOICE if may or call.is_held else EAGER), ((self.do_take, thread),)
 
     def do_take(self, stream, call, thread):
         self.world.take(thread)
@@ -251,7 +253,7 @@ class ThreadCalls:
         must, may = self.spans_left(call)
         if must or self.states[stream][RAN] < len(call.jobs) or not self.is_last_turn(stream, call):
             return WAIT
-        verdict = CHOICE if may or (call.is_told and not self.log.has_jobs) else EAGER
+        verdict = CHOICE if may or call.is_told else EAGER
         return verdict, ((self.do_go_on, thread),)
 
     def do_stop_again(self, stream, call, thread):
