@@ -157,7 +157,7 @@ class Drives:
         if self.states[stream][CLOSED]:
             return self.driving(stream, call, stage)
         code = world.codes.get(serial)
-        if code is None or code.state != NOT_ENTRANT or world.opened or world.waiting:
+        if code is None or code.state != NOT_ENTRANT or call.call != "reclaim" and (world.opened or world.waiting):
             return WAIT
         return CHOICE, ((self.do_round,),)
 

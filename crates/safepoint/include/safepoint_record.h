@@ -6,7 +6,8 @@
    was called and what it answered. A try that answered SP_AGAIN is no call: the ticket before is
    that of the first try. A thread that stops, starts or exits is one call from its first try to
    where it goes on. So is a reclaiming from sp_reclaim_begin to sp_reclaim_end, and whoever
-   makes it makes no other call in between, but those that drive its handshake. Behind a call stand
+   makes it makes no other call in between, but those that drive its handshake; an sp_reclaim_end
+   alone is a reclaiming too, and isn't noted where it is late. Behind a call stand
    the callbacks that ran in it, each with its reply. Looks that change nothing (sp_reply,
    sp_live_after, sp_counted) aren't noted, nor is a refusal that the core doesn't have
    (SP_NOT_THIS, SP_NO_MEMORY, SP_HISTORY_FULL, SP_BAD_ASK). sp_forget forgets nothing. One system

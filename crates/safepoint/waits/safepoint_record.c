@@ -429,10 +429,26 @@ int64_t sp_recorded_reclaim_begin(struct sp_party *party, uint64_t serial) {
     return answer;
 }
 
+/* The end of a reclaiming that another one began for: a reclaiming of its own, which has no jobs. One that is late changed nothing. */
+static void end_weighing(uint64_t serial, int64_t answer) {
+    if (answer < 0) {
+        now.kind = NOTHING;
+        return;
+    }
+    open_line("reclaim");
+    put_number(serial);
+    put(" : %s", answer ? "used" : "freed");
+    if (answer) put_number((uint64_t)answer);
+    close_line();
+}
+
 int64_t sp_recorded_reclaim_end(struct sp_party *coordinator, uint64_t serial) {
+    bool is_begun = is_inside();
+    begin(SINGLE);
     int64_t answer = sp_reclaim_end(coordinator, serial);
-    if (!is_inside() || answer == SP_AGAIN) return answer;
-    if (answer == 0) end_reclaim(serial, "freed", -1);
+    if (answer == SP_AGAIN) return answer;
+    if (!is_begun) end_weighing(serial, answer);
+    else if (answer == 0) end_reclaim(serial, "freed", -1);
     else if (answer > 0) end_reclaim(serial, "used", answer);
     else end_untold(serial);
     return answer;
