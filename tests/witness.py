@@ -3,7 +3,8 @@
 
 | what | how |
 |---|---|
-| `witness_threads.c` runs with SEEDS seeds (3 without a number) for each of some counts of threads; `examples/jit` runs too | recorded, with the futex and with the pthread condition |
+| `witness_threads.c` runs with SEEDS seeds (3 without a number) for each of some counts of threads | recorded, with the futex and with the pthread condition |
+| `examples/jit` runs for a moment, and is drawn where `timeline` is built | recorded |
 | each log has an order | `witness --order`; MONITOR answers its lines as the log says, and `confirm`, where it is built, writes them |
 | logs by hand in `calls`, texts that are no logs, and bad words | each is told as it is to be |
 | --liars: the recorder hears lies | each kind is told within ten runs |
@@ -26,6 +27,9 @@ TESTS = pathlib.Path(__file__).resolve().parent
 ROOT = TESTS.parent
 WITNESS = ROOT / "witness" / "witness"
 CONFIRM = ROOT / "crates" / "confirm" / "out" / "confirm"
+TIMELINE = ROOT / "crates" / "timeline" / "out" / "timeline"
+# Threads and seconds of a run of examples/jit.
+JIT_RUNS = ((1, "0.02"), (3, "0.1"))
 THREADS = (2, 3, 4, 6, 8, 12, 16)
 # Of the threads in a run, which are some 1,000 calls with the coordinator's.
 STEPS = 500
@@ -105,10 +109,9 @@ class Tests:
         found = self.witness(log, "--order")
         if found.returncode:
             return f"status {found.returncode}: {found.stderr[:2000]}"
-        made = [line.partition(" ") for line in found.stdout[len(log):].splitlines()[1:]]
-        lines = "".join(f"{line}\n" for line in (log.splitlines()[1], *(line for _, _, line in made)))
-        answers = self.replayed(lines)
-        return disagreement(log, [(int(number), line) for number, _, line in made], answers[1:]) or self.unconfirmed(log, lines)
+        made = made_in(found.stdout[len(log):])
+        lines = lines_of(log, made)
+        return disagreement(log, made, self.replayed(lines)[1:]) or self.unconfirmed(log, lines)
 
     def unconfirmed(self, log, lines):
         """Why `confirm` doesn't write these lines, or None; None too where it isn't built."""
@@ -118,6 +121,16 @@ class Tests:
         if found.returncode or found.stdout != lines:
             return f"confirm: status {found.returncode}: {found.stderr[:500]}"
         return None
+
+
+def made_in(order):
+    """The events of an order, each with the number of its call."""
+    made = [line.partition(" ") for line in order.splitlines()[1:]]
+    return [(int(number), line) for number, _, line in made]
+
+
+def lines_of(log, made):
+    return "".join(f"{line}\n" for line in (log.splitlines()[1], *(line for _, line in made)))
 
 
 # --- what the core answers beside what was recorded
@@ -175,6 +188,17 @@ def recorded(tests, seeds):
         for seed in range(1, seeds + 1):
             for count in THREADS:
                 tests.judge(f"{count} threads, seed {seed} {' '.join(words)}", tests.fault_of(tests.log(program, count, STEPS, seed)))
+
+
+def jit(tests):
+    program = tests.built("jit", JIT)
+    for count, seconds in JIT_RUNS:
+        log = tests.log(program, count, seconds)
+        why = tests.fault_of(log)
+        if tests.judge(f"jit, {count} threads", why) and TIMELINE.is_file():
+            lines = lines_of(log, made_in(tests.witness(log, "--order").stdout[len(log):]))
+            ran = subprocess.run([TIMELINE, "--to", "2000"], input=lines, capture_output=True, text=True, timeout=SECONDS)
+            tests.judge(f"jit, {count} threads, drawn", None if ran.returncode == 0 and ran.stdout.startswith("<svg ") else ran.stderr)
 
 
 def by_hand(tests):
@@ -255,6 +279,7 @@ def main():
         faults(tests)
         budgets(tests)
         recorded(tests, int(words[2]) if len(words) == 3 else 3)
+        jit(tests)
         if has_liars:
             liars(tests)
         if runs:

@@ -1,7 +1,8 @@
 """Calls that work an operation to its end: drives, and reclaimings with a handshake."""
-from core import NOT_ENTRANT, SAFE
 from request_calls import ask_line, request_of
 from run import CHOICE, CLOSED, EAGER, NEVER, RAN, STAGE, WAIT
+from thread_events import SAFE
+from world import NOT_ENTRANT
 
 OPENING, TELLING, SERVING, COUNTED, LOOKING = range(5)
 

@@ -24,13 +24,13 @@ class Life:
 
 
 class Span:
-    """A hold that was accepted, up to its release: of the stream, from its call `first` to its call `last`, or to the end of a job of a drive, the
-    `ran`-th of that call. It begins before one ticket, and ends `after` another. `ops` are the operations that were done meanwhile, `name` the thread's where a job tells it.
-    `ends` are the calls of the thread's life, rising, that may end the time in which it was held."""
-    __slots__ = ("stream", "first", "last", "ran", "place", "before", "after", "ops", "name", "life", "ends")
+    """A hold that was accepted, up to its release: of the stream, up to its call `last`, or to the end of a job of a drive, the `ran`-th of that
+    call. It begins `before` one ticket, and ends `after` another. `ops` are the operations that were done meanwhile, `name` is the thread's where a
+    job tells it. `ends` are the calls of the thread's life, rising, that may end the time in which it was held."""
+    __slots__ = ("stream", "last", "ran", "place", "before", "after", "ops", "name", "life", "ends")
 
     def __init__(self, stream, index, before, place):
-        self.stream, self.first, self.last, self.ran, self.place = stream, index, index, None, place
+        self.stream, self.last, self.ran, self.place = stream, index, None, place
         self.before, self.after, self.ops, self.name, self.life, self.ends = before, 0, [], None, None, ()
 
     def reaches(self, call):

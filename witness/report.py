@@ -2,7 +2,7 @@
 from drives import LOOKING, OPENING, TELLING
 from programs import Programs
 from request_calls import ask_line, request_of
-from run import POS, RAN, STAGE
+from run import CLOSED, RAN, STAGE
 from thread_calls import AT_POLL, AWAKE, ENDED, ENDED_AGAIN, FRESH, LEGAL, STARTED, TAKEN
 
 # Events that are of a thread's place, and those that take one number or none.
@@ -67,8 +67,10 @@ class Report:
     def next_of_reclaim(self, call, stage):
         if stage == LOOKING:
             return self.next_look(call.args[0])
-        if not self.run.states[call.stream][POS] and call.is_refused:
+        if call.is_refused:
             return f"weigh {call.args[0]}"
+        if self.run.states[call.stream][CLOSED]:
+            return self.next_of_drive(call, stage)
         return "round" if call.call == "reclaim" else ask_line(*request_of(call))
 
     def next_look(self, serial):
@@ -98,7 +100,8 @@ class Report:
 
     def lines(self, first):
         yield f"witness: {first}"
-        yield f"calls in order: {self.beginning.over} of {sum(call.word is not None for call in self.run.log.calls)}, events: {len(self.beginning.made)}"
+        returned = sum(call.word is not None for call in self.run.log.calls)
+        yield f"calls in order: {self.beginning.over} of {returned}, events: {len(self.beginning.made)}"
         for call in self.blocked():
             line = self.next_line(call)
             yield call.text

@@ -1,6 +1,7 @@
 """What is asked for, told, held and closed, and what becomes of codes: calls that are no thread's, but for drives and reclaimings."""
-from core import IN_USE
+from core import OPEN
 from run import CHOICE, EAGER, NEVER, WAIT
+from world import IN_USE
 
 
 def request_of(call):
@@ -91,7 +92,7 @@ class RequestCalls:
     def may_open(self):
         """The oldest request may be open, and the threads that were told it have started."""
         world = self.world
-        if not world.waiting or world.census_is_open() or len(world.opened) >= 4:
+        if not world.waiting or world.census_is_open() or len(world.opened) >= OPEN:
             return False
         oldest = world.waiting[0]
         return not (world.opened and oldest.ask is None) and world.names >= self.newest.get(oldest.number, 0)

@@ -4,7 +4,7 @@ What a stream may do next is a verdict and steps. A step is a method and its arg
 EAGER: the one step can come before all that others may do first, so it is made at once. CHOICE: each of the steps may be next, or none yet.
 DEAD: the call can't go on, whatever others do.
 """
-from core import World
+from core import Core
 
 EAGER, CHOICE, DEAD = 2, 1, 0
 WAIT, NEVER = (CHOICE, ()), (DEAD, ())
@@ -23,7 +23,7 @@ def word_of(said):
 class Run:
     def __init__(self, log):
         self.log = log
-        self.world = World(*log.sizes)
+        self.world = Core(*log.sizes)
         self.streams = log.streams
         self.states = [[0, 0, 0, False, 0] for _ in log.streams]
         self.made = []

@@ -15,8 +15,9 @@ ANSWERS = {
     "census": (1, 2049), "handshake": (1, 1), "closed": (1, 1), "freed": (0, 0), "used": (1, 1), "late": (1, 1),
 }
 
+# Why a call is refused: answers without numbers.
 REFUSALS = frozenset(
-    "NoSuchPlace Illegal Vacant Publishing Held NoSuchMethod Unknown Unpublished DepthFull NotOf EmptyStack StackNotEmpty OperationPending NotDone "
-    "NothingOpen NotTold AlreadyDone NotSafe NotHeld SafepointOpen PlacesFull Spent TableFull SerialsSpent NotInUse NotNotEntrant QueueFull NoTargets "
-    "BadTargets AlreadyOpen QueueEmpty AlreadyTold NotAllHeld NotBegun ChangesLeft NotZombie".split())
+    "NoSuchPlace Illegal Vacant Publishing Held NoSuchMethod Unknown Unpublished DepthFull NotOf EmptyStack StackNotEmpty OperationPending "
+    "NotDone NothingOpen NotTold AlreadyDone NotSafe NotHeld SafepointOpen PlacesFull Spent TableFull SerialsSpent NotInUse NotNotEntrant QueueFull "
+    "NoTargets BadTargets AlreadyOpen QueueEmpty AlreadyTold NotAllHeld NotBegun ChangesLeft NotZombie".split())
 ANSWERS.update(dict.fromkeys(REFUSALS, (0, 0)))

@@ -1,7 +1,8 @@
 """What a thread calls, event by event."""
 from calls import LATEST
-from core import CROSSES, IN_USE, JAVA, NATIVE_JAVA, NATIVE_VM, POLL_JAVA, POLL_VM, VM, WAKES
 from run import CHOICE, EAGER, NEVER, POS, RAN, SERVED, STAGE, WAIT
+from thread_events import JAVA, NATIVE_JAVA, NATIVE_VM, POLL_JAVA, POLL_VM, VM
+from world import IN_USE
 
 # The stages of calls that are several events.
 FRESH, STARTED, ENDED, ENDED_AGAIN, AWAKE, AT_POLL, TAKEN, TURN_ENDED = range(8)

@@ -1,7 +1,6 @@
 """What the answers of a log say of its calls before any search."""
 from bisect import bisect_left, bisect_right
 
-from calls import LATEST
 from lives import POLLS, Span, least_poll, lives_of, put_span
 from request_calls import request_of
 
@@ -10,10 +9,19 @@ TELLS = ("tell", "drive", "drivefour")
 
 
 class Windows:
-    """Beside what it notes on the calls: `lives` by name; `told_behind`, by operation and name, the index of the last call of the thread that is
-    over before it is told; `refused_before`, calls (as stream and index) that were refused since an operation wasn't cleared for a name, and
-    `not_done`, the last Close of an operation that was refused so; `newest`, the greatest name that an operation was told to; `last_entries` of a code; `live_lists` of a name; `listed` replies of an operation, and
-    `owed` operations of a name; `starts_to_come`, the names and places of all starts."""
+    """What it notes beside the calls:
+
+    `lives`           by name
+    `told_behind`     by operation and name, the index of the last call of the thread that is over before it is told
+    `refused_before`  by operation and name, the calls (stream and index) that were refused since it wasn't cleared
+    `not_done`        by operation, its last Close that was refused so
+    `newest`          by operation, the greatest name that was told it
+    `last_entries`    by code, and `live_lists` by name: for each stream, the last call that enters it or lists it
+    `listed`          by operation, the replies as they were listed last; `owed`: by name, the operations of these
+    `starts_to_come`  the names and places of all starts
+    `requests`        by operation, its ask and names
+    `jobs`            by operation and name, the call in which the job ran; `ends_before`: the ticket before which it was done
+    """
 
     def __init__(self, log):
         self.log = log
