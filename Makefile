@@ -13,9 +13,10 @@
 # make hostile   tests of threads twenty times, tests of refused memory with each growth refused in turn
 # make runs      scripts on threads a hundred times each, then with each thread and each growth of memory refused in turn
 # make soak      threads at random over what they share, with one seed after the other, for MINUTES
-# make side      random schedules on the running layer and on the core beside it: SEEDS of them, from seed FIRST on
+# make side      random schedules on the running layer and on the core beside it: SEEDS of them (1000), from seed FIRST on
+# make witness   records runs of real threads, SEEDS (3) for each of some counts of threads, and finds an order of events for each
 # make safepoint  builds the library by which C, C++ and Rust stop threads, and tries it from each
-.PHONY: run build install uninstall test examples embed safepoint pictures random parts edits bench scale hostile runs soak side
+.PHONY: run build install uninstall test examples embed safepoint pictures random parts edits bench scale hostile runs soak side witness
 
 PROGRAMS ?= monitor timeline model safepoint
 PREFIX ?= /usr/local
@@ -23,7 +24,6 @@ DESTDIR ?=
 PICTURES = handshake_native four_handshakes safepoint_census reclaiming
 CRATES ?=
 MINUTES ?= 10
-SEEDS ?= 1000
 FIRST ?= 22
 
 run:
@@ -90,4 +90,8 @@ soak:
 
 side:
 	@tests/build.py side_by_side
-	@crates/side_by_side/out/side_by_side $(SEEDS) $(FIRST)
+	@crates/side_by_side/out/side_by_side $(or $(SEEDS),1000) $(FIRST)
+
+witness:
+	@tests/build.py monitor safepoint confirm
+	@tests/witness.py crates/safepoint/out/libsafepoint.a crates/monitor/out/monitor $(or $(SEEDS),3) --liars

@@ -179,7 +179,7 @@ def is_whole(log, count):
         called.append((call, line.partition(" : ")[2]))
     closed = [said for call, said in called if call == "close" and said.startswith("closed")]
     starts, exits = (sum(call == what for call, _ in called) for what in ("start", "exit"))
-    return lines[0] == "witness 1" and lines[1].startswith("size ") and starts == exits == count and len(closed) == len(set(closed)) > 0
+    return lines[0] == "witness 1 jobs" and lines[1].startswith("size ") and starts == exits == count and len(closed) == len(set(closed)) > 0
 
 
 def recorded(tests):
@@ -254,4 +254,5 @@ def main():
     return 1 if tests.failed else 0
 
 
-sys.exit(main())
+if __name__ == "__main__":
+    sys.exit(main())

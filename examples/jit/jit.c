@@ -479,6 +479,10 @@ int main(int argc, char **argv) {
     }
     sp_free(&coordinator);
     (void)forgotten;
+#ifdef SP_RECORD
+    must("sp_record_write", sp_record_write(stdout));
+    return 0;
+#endif
     printf("%d threads ran main %ld times; %ld compilations, %ld codes unmapped under them, no fault\n", count, runs, compilations, freed);
     return 0;
 }

@@ -6,10 +6,12 @@
    was called and what it answered. A try that answered SP_AGAIN is no call: the ticket before is
    that of the first try. A thread that stops, starts or exits is one call from its first try to
    where it goes on. So is a reclaiming from sp_reclaim_begin to sp_reclaim_end, and whoever
-   makes it makes no other call in between, but those that drive its handshake. Looks that change
-   nothing (sp_reply, sp_live_after, sp_counted) aren't noted, nor is a refusal that the core
-   doesn't have (SP_NOT_THIS, SP_NO_MEMORY, SP_HISTORY_FULL, SP_BAD_ASK). One system is recorded:
-   that of the first sp_make. */
+   makes it makes no other call in between, but those that drive its handshake; an sp_reclaim_end
+   alone is a reclaiming too, and isn't noted where it is late. Behind a call stand
+   the callbacks that ran in it, each with its reply. Looks that change nothing (sp_reply,
+   sp_live_after, sp_counted) aren't noted, nor is a refusal that the core doesn't have
+   (SP_NOT_THIS, SP_NO_MEMORY, SP_HISTORY_FULL, SP_BAD_ASK). sp_forget forgets nothing. One system
+   is recorded: that of the first sp_make. */
 #ifndef SAFEPOINT_RECORD_H
 #define SAFEPOINT_RECORD_H
 
@@ -43,6 +45,7 @@ int64_t sp_recorded_stop_serve(struct sp_party *thread);
 int64_t sp_recorded_target(struct sp_party *party, uint64_t name);
 int64_t sp_recorded_submit(struct sp_party *party, uint32_t asks, uint64_t serial);
 int64_t sp_recorded_census(struct sp_party *party);
+int64_t sp_recorded_forget(struct sp_party *party);
 int64_t sp_recorded_install(struct sp_party *party, uint32_t method);
 int64_t sp_recorded_invalidate(struct sp_party *party, uint64_t serial);
 int64_t sp_recorded_open(struct sp_party *coordinator);
@@ -79,6 +82,7 @@ int64_t sp_recorded_reclaim_end(struct sp_party *coordinator, uint64_t serial);
 #define sp_target sp_recorded_target
 #define sp_submit sp_recorded_submit
 #define sp_census sp_recorded_census
+#define sp_forget sp_recorded_forget
 #define sp_install sp_recorded_install
 #define sp_invalidate sp_recorded_invalidate
 #define sp_open sp_recorded_open

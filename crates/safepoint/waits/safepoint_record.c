@@ -3,12 +3,13 @@
 #define SP_RECORDER
 #include "safepoint_record.h"
 
+#include <sched.h>
 #include <stdarg.h>
 #include <stdatomic.h>
 #include <stdlib.h>
 #include <string.h>
 
-enum { TARGETS = 64, ROOM = 1 << 16 };
+enum { TARGETS = 64, PLACES = 64, ROOM = 1 << 16, MOST_JOBS = 1024 };
 
 /* The calls of one thread of the machine, as lines. */
 struct stream {
@@ -27,16 +28,25 @@ struct pending {
     bool stopped; /* an exit that served */
 };
 
+/* A callback that ran in a call: of which operation, for which name, what it replied, and a ticket that was drawn in it. */
+struct job {
+    int64_t operation, name, reply;
+    uint64_t ticket;
+};
+
 static atomic_uint_least64_t tickets = 1, last_serial;
 static atomic_uint streams;
 static _Atomic(struct stream *) all;
 static atomic_bool lost;
 static size_t sizes[3];
+static atomic_int_least64_t name_at[PLACES]; /* of the thread that started last at the place; it is told before that thread can be held */
 
 static _Thread_local struct stream *mine;
 static _Thread_local struct pending now;
 static _Thread_local uint64_t targets[TARGETS + 1];
 static _Thread_local size_t named;
+static _Thread_local struct job jobs[MOST_JOBS], serving; /* of the call; and that of which a thread runs the callback */
+static _Thread_local size_t ran;
 
 static uint64_t ticket(void) { return atomic_fetch_add(&tickets, 1); }
 
@@ -104,7 +114,23 @@ static void open_line(const char *call) {
 
 static void put_number(uint64_t number) { put(" %llu", (unsigned long long)number); }
 
-static void put_refusal(const char *word) { put(" : %s\n", word); }
+/* Behind the answer: the jobs of the call. */
+static void close_line(void) {
+    if (ran) put(" ;");
+    for (size_t i = 0; i < ran; i++) {
+        put_number((uint64_t)jobs[i].operation), put_number((uint64_t)jobs[i].name);
+        put_number((uint64_t)jobs[i].reply), put_number(jobs[i].ticket);
+    }
+    ran = 0;
+    put("\n");
+}
+
+/* A job is done: its reply is entered, and nothing is forgotten. */
+static void note_job(struct sp_party *party, struct job job) {
+    while ((job.reply = sp_reply(party, (uint64_t)job.operation, (uint64_t)job.name)) == SP_AGAIN) sched_yield();
+    if (job.reply < 0 || ran == MOST_JOBS) atomic_store(&lost, true);
+    else jobs[ran++] = job;
+}
 
 /* A call with at most one number, which answered this; `said` is what it says where it isn't refused. True where the call is over. */
 static bool ends(const char *call, int64_t number, int64_t answer, const char *said, bool with_answer) {
@@ -118,7 +144,7 @@ static bool ends(const char *call, int64_t number, int64_t answer, const char *s
     if (number >= 0) put_number((uint64_t)number);
     put(" : %s", word);
     if (answer >= 0 && with_answer) put_number((uint64_t)answer);
-    put("\n");
+    close_line();
     return true;
 }
 
@@ -184,14 +210,16 @@ int64_t sp_recorded_call(struct sp_party *thread, uint32_t method) {
     open_line("call");
     put_number((uint64_t)place);
     put_number(method);
-    if (answer > 0) put(" %lld : compiled %lld\n", (long long)answer, (long long)answer);
-    else put_refusal(why ? why : "interpreted");
+    if (answer > 0) put(" %lld : compiled %lld", (long long)answer, (long long)answer);
+    else put(" : %s", why ? why : "interpreted");
+    close_line();
     return answer;
 }
 
 static void end_start(void) {
     open_line("start");
-    put(" : thread %lld %lld\n", (long long)now.name, (long long)now.place);
+    put(" : thread %lld %lld", (long long)now.name, (long long)now.place);
+    close_line();
 }
 
 int64_t sp_recorded_start(struct sp_party *thread) {
@@ -202,6 +230,7 @@ int64_t sp_recorded_start(struct sp_party *thread) {
         return name;
     }
     now.name = name, now.place = sp_place(thread);
+    atomic_store(&name_at[now.place], name);
     if (sp_state(thread) != SP_AT_POLL) end_start();
     return name;
 }
@@ -217,6 +246,7 @@ int64_t sp_recorded_stop_next(struct sp_party *thread) {
     int64_t place = sp_place(thread);
     if (place >= 0) begin(STOP);
     int64_t answer = sp_stop_next(thread);
+    if (answer > 0) serving = (struct job){answer, sp_name(thread), 0, ticket()};
     if (place >= 0 && answer == 0) goes_on(place, false);
     else if (place >= 0 && answer < 0 && now.kind == STOP) ends("stop", place, answer, NULL, false);
     return answer;
@@ -224,6 +254,7 @@ int64_t sp_recorded_stop_next(struct sp_party *thread) {
 
 int64_t sp_recorded_stop_serve(struct sp_party *thread) {
     int64_t place = sp_place(thread), answer = sp_stop_serve(thread);
+    if (answer >= 0) note_job(thread, serving);
     if (answer == 0) goes_on(place, true);
     return answer;
 }
@@ -242,7 +273,8 @@ int64_t sp_recorded_exit(struct sp_party *thread) {
     }
     open_line("exit");
     put_number((uint64_t)at);
-    put(" : %s %lld\n", stopped ? "servedexited" : "exited", (long long)of);
+    put(" : %s %lld", stopped ? "servedexited" : "exited", (long long)of);
+    close_line();
     return answer;
 }
 
@@ -276,7 +308,7 @@ int64_t sp_recorded_submit(struct sp_party *party, uint32_t asks, uint64_t seria
     put_targets();
     put(" : %s", word);
     if (answer >= 0) put_number((uint64_t)answer);
-    put("\n");
+    close_line();
     return answer;
 }
 
@@ -294,6 +326,8 @@ int64_t sp_recorded_install(struct sp_party *party, uint32_t method) {
     ends("install", method, answer, "code", true);
     return answer;
 }
+
+int64_t sp_recorded_forget(struct sp_party *party) { return party->made ? 0 : SP_NOT_THIS; }
 
 int64_t sp_recorded_invalidate(struct sp_party *party, uint64_t serial) {
     begin(SINGLE);
@@ -325,8 +359,16 @@ WHOLE(close, "close", "closed")
 STEP(close_of, number, uint64_t, number, "close", "closed", true)
 STEP(tell, name, uint64_t, name, "tell", answer ? "told" : "gone", false)
 STEP(hold, place, size_t, place, "hold", "ok", false)
-STEP(serve, place, size_t, place, "serve", "ok", false)
 STEP(release, place, size_t, place, "release", "ok", false)
+
+int64_t sp_recorded_serve(struct sp_party *coordinator, size_t place) {
+    if (!is_inside()) begin(SINGLE);
+    uint64_t when = ticket();
+    int64_t answer = sp_serve(coordinator, place);
+    if (answer >= 0) note_job(coordinator, (struct job){answer, atomic_load(&name_at[place]), 0, when});
+    if (!is_inside()) ends("serve", (int64_t)place, answer, "ok", false);
+    return answer;
+}
 
 int64_t sp_recorded_operate(struct sp_party *coordinator) {
     if (is_inside()) return sp_operate(coordinator);
@@ -343,26 +385,34 @@ int64_t sp_recorded_operate(struct sp_party *coordinator) {
         int64_t frames = sp_counted(coordinator, serial);
         if (frames > 0) put_number(serial), put_number((uint64_t)frames);
     }
-    put("\n");
+    close_line();
     return answer;
 }
 
-static void end_reclaim(uint64_t serial, const char *said, int64_t number) {
-    open_line(named ? "reclaim-depth" : "reclaim");
+/* With names it asks each how many frames of the code it has. */
+static const char *reclaiming(void) { return named ? "reclaim-count" : "reclaim"; }
+
+static void put_reclaimed(uint64_t serial) {
+    if (named) put_number(serial);
     put_number(serial);
     put_targets();
+}
+
+static void end_reclaim(uint64_t serial, const char *said, int64_t number) {
+    open_line(reclaiming());
+    put_reclaimed(serial);
     put(" : %s", said);
     if (number >= 0) put_number((uint64_t)number);
-    put("\n");
+    close_line();
 }
 
 /* A thread is late, and which isn't told: as a call that hadn't returned, which is the last of a stream of its own. */
 static void end_untold(uint64_t serial) {
-    put("%u %llu - %s", atomic_fetch_add(&streams, 1), (unsigned long long)now.before, named ? "reclaim-depth" : "reclaim");
+    put("%u %llu - %s", atomic_fetch_add(&streams, 1), (unsigned long long)now.before, reclaiming());
     now.kind = NOTHING;
-    put_number(serial);
-    put_targets();
-    put(" : ?\n");
+    put_reclaimed(serial);
+    put(" : ?");
+    close_line();
 }
 
 int64_t sp_recorded_reclaim_begin(struct sp_party *party, uint64_t serial) {
@@ -379,10 +429,26 @@ int64_t sp_recorded_reclaim_begin(struct sp_party *party, uint64_t serial) {
     return answer;
 }
 
+/* The end of a reclaiming that another one began for: a reclaiming of its own, which has no jobs. One that is late changed nothing. */
+static void end_weighing(uint64_t serial, int64_t answer) {
+    if (answer < 0) {
+        now.kind = NOTHING;
+        return;
+    }
+    open_line("reclaim");
+    put_number(serial);
+    put(" : %s", answer ? "used" : "freed");
+    if (answer) put_number((uint64_t)answer);
+    close_line();
+}
+
 int64_t sp_recorded_reclaim_end(struct sp_party *coordinator, uint64_t serial) {
+    bool is_begun = is_inside();
+    begin(SINGLE);
     int64_t answer = sp_reclaim_end(coordinator, serial);
-    if (!is_inside() || answer == SP_AGAIN) return answer;
-    if (answer == 0) end_reclaim(serial, "freed", -1);
+    if (answer == SP_AGAIN) return answer;
+    if (!is_begun) end_weighing(serial, answer);
+    else if (answer == 0) end_reclaim(serial, "freed", -1);
     else if (answer > 0) end_reclaim(serial, "used", answer);
     else end_untold(serial);
     return answer;
@@ -390,7 +456,7 @@ int64_t sp_recorded_reclaim_end(struct sp_party *coordinator, uint64_t serial) {
 
 int64_t sp_record_write(FILE *file) {
     if (atomic_load(&lost)) return SP_NO_MEMORY;
-    fprintf(file, "witness 1\nsize %zu %zu %zu\n", sizes[0], sizes[1], sizes[2]);
+    fprintf(file, "witness 1 jobs\nsize %zu %zu %zu\n", sizes[0], sizes[1], sizes[2]);
     for (struct stream *from = atomic_load(&all); from; from = from->next) fwrite(from->text, 1, from->length, file);
     return ferror(file) ? SP_NO_MEMORY : 0;
 }

@@ -1,0 +1,292 @@
+#!/usr/bin/env python3
+"""Looks for an order of recorded runs of real threads: witness.py LIBSAFEPOINT MONITOR [SEEDS] [--liars] [--many N]
+
+| what | how |
+|---|---|
+| `witness_threads.c` runs with SEEDS seeds (3 without a number) for each of some counts of threads | recorded, with the futex and with the pthread condition |
+| `examples/jit` runs for a moment, and is drawn where `timeline` is built | recorded |
+| each log has an order | `witness --order`; MONITOR answers its lines as the log says, and `confirm`, where it is built, writes them |
+| logs by hand in `calls`, texts that are no logs, and bad words | each is told as it is to be |
+| --liars: the recorder hears lies | each kind is told within ten runs |
+| --many N: so many runs more, of 2 to 16 threads | how many have an order, calls a second, and the slowest |
+
+What can't be built for want of a tool is told and left out. The last line is `N passed, M failed`; the status is 0 where none failed.
+"""
+import os
+import pathlib
+import re
+import shutil
+import subprocess
+import sys
+import tempfile
+import time
+
+from safepoint import FLAGS, CRATE, JIT, WAITS, kit
+
+TESTS = pathlib.Path(__file__).resolve().parent
+ROOT = TESTS.parent
+WITNESS = ROOT / "witness" / "witness"
+CONFIRM = ROOT / "crates" / "confirm" / "out" / "confirm"
+TIMELINE = ROOT / "crates" / "timeline" / "out" / "timeline"
+# Threads and seconds of a run of examples/jit.
+JIT_RUNS = ((1, "0.02"), (3, "0.1"))
+THREADS = (2, 3, 4, 6, 8, 12, 16)
+# Of the threads in a run, which are some 1,000 calls with the coordinator's.
+STEPS = 500
+SECONDS = 600
+RECORD, CONDITION = "-DSP_RECORD", "-DSP_PTHREAD"
+# What each liar stands before.
+LIARS = {"hold": ("hold", "release"), "call": ("call", "install"), "publish": ("publish",), "stop": ("stop_next", "stop_serve")}
+LIED_RUNS = 10
+# A text that is no log, and what is told of it.
+BAD_LOGS = (
+    ("", "header"), ("witness 2\nsize 1 1 1\n", "header"), ("witness 1\nsize 1 1\n", "header"), ("witness 1\nsize 65 1 1\n", "header"),
+    ("witness 1\nsize 1 1 1\n0 0 1 start : thread 1 0", "line 3: no newline"),
+    ("witness 1\nsize 1 1 1\n0 0 1 start : thread 1 0\n0 2 3 jump 0 : ok\n", "line 4: call"),
+    ("witness 1\nsize 1 1 1\nx 0 1 start : thread 1 0\n", "line 3: stream"), ("witness 1\nsize 1 1 1\n0 00 1 start : thread 1 0\n", "line 3: before"),
+    ("witness 1\nsize 1 1 1\n0 0 x start : thread 1 0\n", "line 3: after"), ("witness 1\nsize 1 1 1\n0 0 1 start 5 : thread 1 0\n", "line 3: arguments"),
+    ("witness 1\nsize 1 1 1\n0 0 1 start thread 1 0\n", "line 3: arguments"), ("witness 1\nsize 1 1 1\n0 0 1 start : thread 1\n", "line 3: values"),
+    ("witness 1\nsize 1 1 1\n0 0 1 start : ?\n", "line 3: answer"), ("witness 1 jobs\nsize 1 1 1\n0 0 1 stop 0 : ok ; 1 2 3\n", "line 3: jobs"),
+    ("witness 1\nsize 1 1 1\n0 5 4 start : thread 1 0\n", "tickets of a stream don't rise"),
+)
+BAD_WORDS = (["--budget"], ["--budget", "x"], ["one"], ["--seconds", "-1"])
+
+
+class Tests:
+    def __init__(self, library, monitor, folder):
+        self.archives, self.monitor, self.folder = [library, kit() / "c" / "liblibc_c.a"], monitor, folder
+        self.passed = self.failed = 0
+
+    def judge(self, what, why):
+        """Passed where there is nothing to tell."""
+        if why:
+            self.failed += 1
+            print(f"FAILED: {what}: {why}", flush=True)
+        else:
+            self.passed += 1
+        return not why
+
+    # --- programs of C
+
+    def compiled(self, name, source, *words):
+        made = self.folder / f"{name}.o"
+        command = [os.environ.get("CC", "cc"), "-std=gnu11", *FLAGS, "-I", CRATE / "include", *words]
+        subprocess.run([*command, "-c", source, "-o", made], check=True, timeout=SECONDS)
+        return made
+
+    def linked(self, name, objects):
+        program = self.folder / name
+        subprocess.run([os.environ.get("CC", "cc"), "-o", program, *objects, *self.archives, "-lpthread"], check=True, timeout=SECONDS)
+        return program
+
+    def built(self, name, source, *words, liar=None):
+        """A program whose calls are recorded; the recorder hears a liar where one is named."""
+        lies = [f"-Dsp_{call}=lying_{call}" for call in LIARS.get(liar, ())]
+        objects = [self.compiled(f"{name}_{page.stem}", page, RECORD, *words, *(lies if page.stem == "safepoint_record" else ())) for page in WAITS]
+        objects.append(self.compiled(name, source, RECORD, *words, *(["-DLIES"] if liar else ())))
+        if liar:
+            objects.append(self.compiled(f"{name}_liar", TESTS / "witness_liars.c"))
+        return self.linked(name, objects)
+
+    def log(self, program, *words):
+        """What the program writes, or None where it fails."""
+        ran = subprocess.run([program, *map(str, words)], capture_output=True, timeout=SECONDS, text=True)
+        return None if ran.returncode or ran.stderr else ran.stdout
+
+    # --- an order
+
+    def witness(self, log, *words):
+        return subprocess.run([WITNESS, *words], input=log, capture_output=True, text=True, timeout=SECONDS)
+
+    def replayed(self, lines):
+        ran = subprocess.run([self.monitor, "replay"], input=lines, capture_output=True, text=True, timeout=SECONDS)
+        return ran.stdout.splitlines()
+
+    def fault_of(self, log):
+        """Why there is no right order for the log, or None."""
+        if log is None:
+            return "the run failed"
+        found = self.witness(log, "--order")
+        if found.returncode:
+            return f"status {found.returncode}: {found.stderr[:2000]}"
+        made = made_in(found.stdout[len(log):])
+        lines = lines_of(log, made)
+        return disagreement(log, made, self.replayed(lines)[1:]) or self.unconfirmed(log, lines)
+
+    def unconfirmed(self, log, lines):
+        """Why `confirm` doesn't write these lines, or None; None too where it isn't built."""
+        if not CONFIRM.is_file():
+            return None
+        found = self.witness(log)
+        if found.returncode or found.stdout != lines:
+            return f"confirm: status {found.returncode}: {found.stderr[:500]}"
+        return None
+
+
+def made_in(order):
+    """The events of an order, each with the number of its call."""
+    made = [line.partition(" ") for line in order.splitlines()[1:]]
+    return [(int(number), line) for number, _, line in made]
+
+
+def lines_of(log, made):
+    return "".join(f"{line}\n" for line in (log.splitlines()[1], *(line for _, line in made)))
+
+
+# --- what the core answers beside what was recorded
+
+def answer_of(call, words, made):
+    """Whether the events of a call, each with its answer, say what it is recorded to answer."""
+    said, numbers = words[0], words[1:]
+    lines, answers = [line for line, _ in made], [answer for _, answer in made]
+    if said == "?" or call in ("live", "replies", "drive", "drivefour") or call.startswith("reclaim"):
+        return True
+    if not made:
+        return False
+    last = answers[-1]
+    if said in ("go", "stop") or said in ("told", "gone"):
+        return last == " ".join(words)
+    if said in ("closed", "asked", "code", "open"):
+        return f"{last} ".startswith(" ".join(words) + " ")
+    if said == "compiled":
+        return last == "entered" and lines[-1].split()[3:] == numbers
+    if said == "interpreted":
+        return last == "entered"
+    if said == "thread":
+        return f"thread {numbers[0]} place {numbers[1]}" in answers
+    if said in ("exited", "servedexited"):
+        return last == f"exited {numbers[0]}"
+    if said == "census":
+        return "census" + "".join(f" {serial}:{count}" for serial, count in zip(numbers[1::2], numbers[2::2])) in answers
+    if said in ("ok", "served"):
+        return not any(answer.startswith("refused") for answer in answers)
+    return last.startswith("refused") or said == "NotSafe"
+
+
+def disagreement(log, made, answers):
+    """The first call whose events answer another thing than is recorded, or None."""
+    if len(made) != len(answers):
+        return f"{len(answers)} answers to {len(made)} events"
+    calls = log.splitlines()[2:]
+    by_call = [[] for _ in calls]
+    for (number, line), answer in zip(made, answers):
+        by_call[number].append((line, answer))
+    for text, events in zip(calls, by_call):
+        front, _, said = text.partition(" : ")
+        said, _, jobs = said.partition(" ; ")
+        replies = [answer for _, answer in events if answer.startswith("reply")]
+        if not answer_of(front.split()[3], said.split(), events) or jobs and replies != [f"reply {reply}" for reply in jobs.split()[2::4]]:
+            return f"{text}: {events}"
+    return None
+
+
+# --- what is tried
+
+def recorded(tests, seeds):
+    for words in ((), (CONDITION,)):
+        program = tests.built("threads" + "".join(words), TESTS / "witness_threads.c", *words)
+        for seed in range(1, seeds + 1):
+            for count in THREADS:
+                tests.judge(f"{count} threads, seed {seed} {' '.join(words)}", tests.fault_of(tests.log(program, count, STEPS, seed)))
+
+
+def jit(tests):
+    program = tests.built("jit", JIT)
+    for count, seconds in JIT_RUNS:
+        log = tests.log(program, count, seconds)
+        why = tests.fault_of(log)
+        if tests.judge(f"jit, {count} threads", why) and TIMELINE.is_file():
+            lines = lines_of(log, made_in(tests.witness(log, "--order").stdout[len(log):]))
+            ran = subprocess.run([TIMELINE, "--to", "2000"], input=lines, capture_output=True, text=True, timeout=SECONDS)
+            tests.judge(f"jit, {count} threads, drawn", None if ran.returncode == 0 and ran.stdout.startswith("<svg ") else ran.stderr)
+
+
+def by_hand(tests):
+    for page in sorted((TESTS / "calls").glob("*.log")):
+        log = page.read_text()
+        if page.stem.startswith("no_order"):
+            ran = tests.witness(log, "--order")
+            is_told = ran.returncode == 1 and ran.stderr.startswith("witness: no order: all was tried\ncalls in order: ") and not ran.stdout
+            tests.judge(page.name, None if is_told else f"status {ran.returncode}, {ran.stderr[:500]}")
+        else:
+            tests.judge(page.name, tests.fault_of(log))
+
+
+def faults(tests):
+    for text, what in BAD_LOGS:
+        ran = tests.witness(text)
+        tests.judge(what, None if (ran.returncode, ran.stdout, ran.stderr) == (2, "", f"witness: bad log: {what}\n") else f"{text!r}: {ran.stderr}")
+    for words in BAD_WORDS:
+        ran = tests.witness("", *words)
+        tests.judge(f"words {words}", None if (ran.returncode, ran.stdout, ran.stderr) == (2, "", "witness: bad words\n") else ran.stderr)
+
+
+def budgets(tests):
+    """A budget of steps or of time that doesn't do is told, with a beginning."""
+    log = (TESTS / "calls" / "drives.log").read_text()
+    for words in (("--budget", "3"), ("--seconds", "0")):
+        ran = tests.witness(log, *words)
+        is_told = ran.returncode == 1 and ran.stderr.startswith("witness: no order found within the budget\ncalls in order: ")
+        tests.judge(f"words {words}", None if is_told else f"status {ran.returncode}, {ran.stderr[:500]}")
+
+
+def liars(tests):
+    for liar in LIARS:
+        program = tests.built(f"lies_{liar}", TESTS / "witness_threads.c", liar=liar)
+        told = None
+        for seed in range(1, LIED_RUNS + 1):
+            log = tests.log(program, 4, STEPS, seed)
+            ran = tests.witness(log, "--order", "--seconds", "20") if log else None
+            if ran and ran.returncode == 1:
+                told = seed
+                print(f"a lie about {liar}: told in run {seed}: {ran.stderr.splitlines()[0]}, {ran.stderr.splitlines()[1]}", flush=True)
+                break
+        tests.judge(f"a lie about {liar}", None if told else f"not told in {LIED_RUNS} runs")
+
+
+def many(tests, runs):
+    """Prints how many runs have an order, and how long the search took."""
+    program = tests.built("many", TESTS / "witness_threads.c")
+    found = calls = taken = slowest = 0
+    for run in range(runs):
+        count = 2 + run % 15
+        log = tests.log(program, count, STEPS, 100_000 + run)
+        begun = time.monotonic()
+        is_found = tests.judge(f"{count} threads, run {run}", None if log and tests.witness(log, "--order").returncode == 0 else "no order")
+        lasted = time.monotonic() - begun
+        found, calls, taken, slowest = found + is_found, calls + log.count("\n") - 2, taken + lasted, max(slowest, lasted)
+        if run % 500 == 499 or run == runs - 1:
+            print(f"{found} of {run + 1} runs have an order; {calls} calls, {calls / taken:.0f} a second, {slowest:.2f} s the slowest", flush=True)
+
+
+def main():
+    words = sys.argv[1:]
+    runs = 0
+    if "--many" in words:
+        at = words.index("--many")
+        runs = int(words[at + 1])
+        del words[at:at + 2]
+    has_liars = "--liars" in words
+    words = [word for word in words if word != "--liars"]
+    if not 2 <= len(words) <= 3 or len(words) == 3 and not re.fullmatch("[0-9]+", words[2]):
+        sys.exit("witness.py LIBSAFEPOINT MONITOR [SEEDS] [--liars] [--many N]")
+    if shutil.which(os.environ.get("CC", "cc")) is None:
+        print("left out: all, since there is no C compiler\n0 passed, 0 failed")
+        return 0
+    with tempfile.TemporaryDirectory() as folder:
+        tests = Tests(pathlib.Path(words[0]).resolve(), pathlib.Path(words[1]).resolve(), pathlib.Path(folder))
+        by_hand(tests)
+        faults(tests)
+        budgets(tests)
+        recorded(tests, int(words[2]) if len(words) == 3 else 3)
+        jit(tests)
+        if has_liars:
+            liars(tests)
+        if runs:
+            many(tests, runs)
+    print(f"{tests.passed} passed, {tests.failed} failed")
+    return 1 if tests.failed else 0
+
+
+if __name__ == "__main__":
+    sys.exit(main())
