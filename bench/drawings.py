@@ -75,7 +75,8 @@ def architecture():
     for upper in (0, 1, 2):
         parts.append(line((75, foot(upper)), (75, row(upper + 1))))
     parts.append(line((75, foot(3)), (75, row(6))))
-    parts.append(line((200, foot(0)), (200, row(3) + 12), (134, row(3) + 12)))
+    parts.append(line((b, row(0) + 19), (142, row(0) + 19), (142, row(3) + 12), (134, row(3) + 12)))
+    parts += [line((b, row(2) + 19), (142, row(2) + 19)), line((200, foot(2)), (200, row(4)))]
     parts.append(line((c, row(1) + 19), (262, row(1) + 19), (262, row(3) + 27), (134, row(3) + 27)))
     for upper in (0, 1, 2, 3):
         parts.append(line((343, foot(upper)), (343, row(upper + 1))))
@@ -99,6 +100,7 @@ def architecture():
     parts += named("crate", a, row(3), 118, "replay", "lines in and out")
     parts += named("crate", a, row(6), 118, "system", "the core")
     parts += named("program", b, row(0), 110, "model", "libmodel.a, for C")
+    parts += named("program", b, row(2), 100, "confirm", "checked orders")
     parts += named("crate", b, row(4), 110, "witness_check", "checks an order")
     parts += named("crate", b, row(5), 110, "call_runs", "on call_log")
     parts += named("crate", b, row(6), 110, "rows", "worked runs")

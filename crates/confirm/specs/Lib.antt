@@ -1,0 +1,4 @@
+pub mod Parts
+pub mod Orders
+pub mod Told
+pub mod Ran

@@ -1,0 +1,74 @@
+//! Why nothing is said of an order.
+ghost use Rattle.std.specs.Prelude.{◌≡◌};
+ghost use Rattle.confirm.specs.declared.fault.Fault.TheVariants as faults;
+
+use call_log::faults::Fault as LineFault;
+use call_log::reading::ReadFault;
+use std::alloc::AllocError;
+use std::fmt;
+
+/// A fault. `{}` is what is told on standard error, behind the program's name.
+#[derive(Clone, Copy, Debug, PartialEq, Eq, Drop)]
+pub enum Fault {
+    BadWords,
+    ReadFailed,
+    /// There are more than 268,435,456 bytes.
+    TooLong,
+    /// No line is `order`.
+    NoOrder,
+    /// What stands before that line isn't a log.
+    BadLog(ReadFault),
+    /// The tickets of a stream don't rise, or it is numbered above 1023.
+    Tickets,
+    /// The line of this number behind the line `order`, counted from 1, isn't that of an event.
+    BadOrder(u64),
+    WriteFailed,
+    NoMemory,
+}
+
+fn line_fault_text(fault: LineFault) -> &'static str {
+    match fault {
+        LineFault::Cut => "no newline",
+        LineFault::Long => "too long",
+        LineFault::Stream => "stream",
+        LineFault::Before => "ticket before",
+        LineFault::After => "ticket after",
+        LineFault::Call => "call",
+        LineFault::Arguments => "arguments",
+        LineFault::Colon => "colon",
+        LineFault::Answer => "answer",
+        LineFault::Values => "values",
+        LineFault::Jobs => "jobs",
+        LineFault::Spelling => "spelling",
+    }
+}
+
+impl fmt::Display for Fault {
+    fn fmt<W: fmt::Write>(&self, f: &mut fmt::Formatter<W>) -> fmt::Result {
+        match self {
+            Fault::BadWords => write!(f, "bad words"),
+            Fault::ReadFailed => write!(f, "read failed"),
+            Fault::TooLong => write!(f, "log too long"),
+            Fault::NoOrder => write!(f, "bad order: no line `order`"),
+            Fault::BadLog(ReadFault::Header) => write!(f, "bad log: header"),
+            Fault::BadLog(ReadFault::TooMany) => write!(f, "bad log: too many calls"),
+            Fault::BadLog(ReadFault::NoMemory) => write!(f, "no memory"),
+            Fault::BadLog(ReadFault::Line(number, fault)) => {
+                let what = line_fault_text(*fault);
+                write!(f, "bad log: line {number}: {what}")
+            }
+            Fault::Tickets => write!(f, "bad log: tickets of a stream don't rise"),
+            Fault::BadOrder(number) => write!(f, "bad order: line {number}"),
+            Fault::WriteFailed => write!(f, "write failed"),
+            Fault::NoMemory => write!(f, "no memory"),
+        }
+    }
+}
+
+impl From<AllocError> for Fault {
+    ghost from_gives = { λ error made. made ≡ faults.NoMemory };
+
+    fn from(_error: AllocError) -> Fault {
+        Fault::NoMemory
+    }
+}

@@ -1,0 +1,54 @@
+//! The program: a log of calls with an order that somebody found for it in, the lines of that order out.
+//! People and programs that search run it, so that none of them need be believed.
+//! Read `run.rt` first, then `told.rt` and `crates/confirm/README.md`.
+#![tactic(auto)]
+
+mod fault;
+mod input;
+mod order;
+mod parts;
+mod run;
+#[cfg(test)]
+mod tests;
+mod told;
+
+use crate::fault::Fault;
+use crate::run::{Status, confirm};
+use replay::device::{FromReader, IntoWriter};
+use std::env;
+use std::process::ExitCode;
+
+/// `confirm` reads on standard input a log of calls, a line `order`, and a line for each event: the number of its call in the log, counted
+/// from 0, and the event as `monitor replay` reads it. Where the order explains the log it writes the lines of the order on standard output,
+/// behind a line for the sizes, and the status is 0. Where it doesn't the status is 1, and for a fault 2: standard error tells it in one
+/// line, and standard output gets nothing, or a beginning of the lines where a write failed.
+fn main(rt: HostRuntime) -> ExitCode {
+    match confirm_input(&rt) {
+        Ok(Status::Explained) => ExitCode::SUCCESS,
+        Ok(Status::NotExplained) => {
+            let _ = eprintln!(rt; "confirm: the order doesn't explain the log");
+            ExitCode::from(1)
+        }
+        Err(fault) => {
+            let _ = eprintln!(rt; "confirm: {fault}");
+            ExitCode::from(2)
+        }
+    }
+}
+
+fn confirm_input(rt: &HostRuntime) -> Result<Status, Fault> {
+    if has_words(rt) {
+        return Err(Fault::BadWords);
+    }
+    let mut source = FromReader::new(rt.stdin());
+    let mut sink = IntoWriter::new(rt.stdout());
+    confirm(rt.alloc(), &mut source, &mut sink)
+}
+
+// Whether there are words behind the program's name, or none that can be had.
+fn has_words(rt: &HostRuntime) -> bool {
+    match env::args(rt) {
+        Ok(words) => words.skip(1).next().is_some(),
+        Err(_) => true,
+    }
+}

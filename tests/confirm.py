@@ -1,0 +1,161 @@
+#!/usr/bin/env python3
+"""Runs the built program that checks orders from outside: confirm.py CONFIRM MONITOR
+
+CONFIRM is run on a log with an order that explains it, on one with an order that doesn't, on changes of both, on texts that are no log or no
+order, with bad words, and with each fault that can be made from outside: what it writes on standard output and on standard error, and its
+status, must be just those that are stated here. MONITOR must take each line that it writes. The last line is `N passed, M failed`; the
+status is 0 where none failed.
+"""
+import os
+import pathlib
+import subprocess
+import sys
+
+from program import SECONDS, Tally, closing, with_memory
+
+INPUTS = pathlib.Path(__file__).resolve().parent / "confirm"
+UNEXPLAINED = b"confirm: the order doesn't explain the log\n"
+LOG = "witness 1\nsize 1 1 1\n0 0 1 start : thread 1 0\n"
+START = ("start", "begin 0", "end 0", "wake 0", "cross 0")
+ORDER = "".join(f"0 {event}\n" for event in START)
+
+# A text that is no log, and what is told of it.
+BAD_LOGS = (
+    ("", "header"),
+    ("witness 2\nsize 1 1 1\n", "header"),
+    ("witness 1\nsize 1 1\n", "header"),
+    ("witness 1\nsize 1 1 1\n0 0 1 jump 0 : ok\n", "line 3: call"),
+    (LOG + "\n", "line 4: stream"),
+    (LOG + "0 2 3 edge : go\n", "line 4: arguments"),
+    (LOG + "0 2 3 edge 0 : stop\n", "line 4: values"),
+    (LOG + "0 2 3 edge 0 : ?\n", "line 4: answer"),
+    (LOG + "0 2 3 edge 0 : go \n", "line 4: jobs"),
+    ("witness 1\nsize 1 1 1\n0 5 4 start : thread 1 0\n", "tickets of a stream don't rise"),
+    (LOG + "0 1 2 edge 0 : go\n", "tickets of a stream don't rise"),
+    ("witness 1\nsize 1 1 1\n1024 0 1 start : thread 1 0\n", "tickets of a stream don't rise"),
+)
+
+# An order that isn't one, and the number of its first line that is wrong.
+BAD_ORDERS = (
+    ("0 start", 1),
+    ("\n", 1),
+    ("start\n", 1),
+    ("0\n", 1),
+    ("00 start\n", 1),
+    ("+0 start\n", 1),
+    ("1099511627776 start\n", 1),
+    ("0  start\n", 1),
+    (" 0 start\n", 1),
+    ("0 start \n", 1),
+    ("0 start\r\n", 1),
+    ("0 Start\n", 1),
+    ("0 size 1 1 1\n", 1),
+    ("0 ask\n", 1),
+    (f"0 ask depth {'1 ' * 600}1\n", 1),
+    (ORDER + "order\n", 6),
+    (ORDER + "0 edge\n0 jump\n", 6),
+)
+
+
+def parts(name):
+    log, _, order = (INPUTS / name).read_text().partition("order\n")
+    return log, order
+
+
+def both(log, order):
+    return f"{log}order\n{order}".encode()
+
+
+def lines_of(log, order):
+    """What is written of an order that explains a log."""
+    events = [line.partition(" ")[2] for line in order.splitlines()]
+    return "".join(f"{line}\n" for line in [log.splitlines()[1], *events]).encode()
+
+
+def orders(tally, monitor):
+    log, order = parts("served.txt")
+    lines = lines_of(log, order)
+    tally.run("an order", [], lines, given=both(log, order))
+    ran = subprocess.run([monitor, "replay"], input=lines, capture_output=True, timeout=SECONDS)
+    answers = ran.stdout.splitlines()
+    taken = [answer for answer in answers if answer != b"bad line" and not answer.startswith(b"refused")]
+    tally.judge("an order, replayed", (len(taken), ran.stderr, ran.returncode), (len(lines.splitlines()), b"", 0))
+    tally.run("a log without calls", [], b"size 1 1 1\n", given=both("witness 1\nsize 1 1 1\n", ""))
+    tally.run("a call that hasn't returned", [], lines_of(LOG, ORDER), given=both(LOG + "0 2 - edge 0 : ?\n", ORDER))
+
+
+def changed(order):
+    """Orders that differ a little from this one."""
+    lines = order.splitlines(keepends=True)
+    yield "without its first line", lines[1:]
+    yield "without its last line", lines[:-1]
+    yield "with a line twice", lines + lines[-1:]
+    yield "with its first line last", lines[1:] + lines[:1]
+    yield "with a line of a call beyond the log", [*lines[:-1], lines[-1].replace("7 ", "8 ", 1)]
+    yield "with a line of another call", [*lines[:-1], lines[-1].replace("7 ", "6 ", 1)]
+    yield "with another event", [*lines[:-1], "7 close 2\n"]
+    yield "with a request opened before it is asked for", [*lines[:5], lines[6], lines[5], *lines[7:]]
+    yield "with a question that no call asks", [*lines, "7 count 0\n"]
+    yield "without lines", []
+
+
+def unexplained(tally):
+    log, order = parts("served.txt")
+    for name, lines in changed(order):
+        tally.run(f"an order {name}", [], b"", UNEXPLAINED, 1, given=both(log, "".join(lines)))
+    for name, old, new in (
+        ("with another answer", "stop 1", "go"),
+        ("with a call over before it began", "1 14 15 close", "1 14 15 open"),
+        ("without a place", "size 1 7 4", "size 0 7 4"),
+    ):
+        tally.run(f"a log {name}", [], b"", UNEXPLAINED, 1, given=both(log.replace(old, new), order))
+    tally.run("a log that has no order", [], b"", UNEXPLAINED, 1, given=both(*parts("held.txt")))
+
+
+def bad_texts(tally):
+    for log, fault in BAD_LOGS:
+        tally.run(f"a bad log: {fault}", [], b"", f"confirm: bad log: {fault}\n".encode(), 2, given=both(log, ORDER))
+    for order, number in BAD_ORDERS:
+        tally.run(f"a bad order {order[:20]!r}", [], b"", f"confirm: bad order: line {number}\n".encode(), 2, given=both(LOG, order))
+    for text in ("", LOG, LOG + "order", LOG + "order \n", LOG + "orders\n", LOG + "order\r\n" + ORDER):
+        tally.run(f"no line `order`: {text[-10:]!r}", [], b"", b"confirm: bad order: no line `order`\n", 2, given=text.encode())
+    tally.run("both bad", [], b"", b"confirm: bad log: header\n", 2, given=both("", "start\n"))
+
+
+def bad_words(tally):
+    for words in ([""], ["order"], ["--help"], [b"\xff"], ["-", "-"]):
+        tally.run(f"words {words}", words, b"", b"confirm: bad words\n", 2, given=both(LOG, ORDER))
+
+
+def devices(tally):
+    given = both(LOG, ORDER)
+    told = lambda fault: f"confirm: {fault}\n".encode()
+    tally.run("the input closed", [], b"", told("read failed"), 2, stdin=subprocess.DEVNULL, preexec_fn=closing(0))
+    tally.run("the output closed", [], b"", told("write failed"), 2, given=given, preexec_fn=closing(1))
+    tally.run("the output closed, and nothing to write", [], b"", UNEXPLAINED, 1, given=both(LOG, ""), preexec_fn=closing(1))
+    with open("/dev/full", "wb") as full:
+        tally.run("a full output", [], b"", told("write failed"), 2, given=given, stdout=full)
+        tally.run("full errors", [], b"", b"", 1, given=both(LOG, ""), stderr=full)
+    with open("/dev/zero", "rb") as zero:
+        tally.run("an input without an end", [], b"", told("log too long"), 2, stdin=zero)
+        tally.run("little memory", [], b"", told("no memory"), 2, stdin=zero, preexec_fn=with_memory(64 << 20))
+
+
+def main():
+    if len(sys.argv) != 3:
+        sys.exit("confirm.py CONFIRM MONITOR")
+    tally = Tally(sys.argv[1])
+    if os.access(tally.program, os.X_OK):
+        orders(tally, os.path.abspath(sys.argv[2]))
+        unexplained(tally)
+        bad_texts(tally)
+        bad_words(tally)
+        devices(tally)
+    else:
+        tally.judge("the program", ("missing", b"", None), (b"", b"", 0))
+    print(f"{tally.passed} passed, {tally.failed} failed")
+    return 1 if tally.failed or not tally.passed else 0
+
+
+if __name__ == "__main__":
+    sys.exit(main())
