@@ -255,7 +255,7 @@ def many(tests, runs):
         is_found = tests.judge(f"{count} threads, run {run}", None if log and tests.witness(log, "--order").returncode == 0 else "no order")
         lasted = time.monotonic() - begun
         found, calls, taken, slowest = found + is_found, calls + log.count("\n") - 2, taken + lasted, max(slowest, lasted)
-        if run % 500 == 499 or run == runs - 1:
+        if run % 100 == 99 or run == runs - 1:
             print(f"{found} of {run + 1} runs have an order; {calls} calls, {calls / taken:.0f} a second, {slowest:.2f} s the slowest", flush=True)
 
 

@@ -1,5 +1,5 @@
 """Calls that work an operation to its end: drives, and reclaimings with a handshake."""
-from request_calls import ask_line, request_of
+from asks import ask_line, request_of
 from run import CHOICE, CLOSED, EAGER, NEVER, RAN, STAGE, WAIT
 from thread_events import SAFE
 from world import NOT_ENTRANT
@@ -74,7 +74,7 @@ class Drives:
         ran = self.states[stream][RAN]
         thread = self.world.thread_of(call.jobs[ran].name) if ran < len(call.jobs) else None
         request = self.world.undone(thread.name) if thread else None
-        if request is None or thread.held or thread.state not in SAFE or not self.fits_job(stream, call, request, thread):
+        if request is None or thread.held or thread.state not in SAFE or self.unfit(stream, call, request, thread):
             return WAIT
         span = call.drive_spans[ran]
         if span.life and span.life.at not in span.ends or not self.may_clear(request, thread.name):

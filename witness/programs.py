@@ -3,19 +3,13 @@ from drives import Drives
 from request_calls import RequestCalls
 from run import Run
 from thread_calls import ThreadCalls
-from windows import Windows
+from turns import Turns
 
 
-class Programs(ThreadCalls, RequestCalls, Drives, Run):
+class Programs(ThreadCalls, Turns, RequestCalls, Drives, Run):
     def __init__(self, log):
         Run.__init__(self, log)
-        windows = Windows(log)
-        self.lives, self.last_entries, self.live_lists = windows.lives, windows.last_entries, windows.live_lists
-        self.listed, self.owed, self.starts_to_come = windows.listed, windows.owed, windows.starts_to_come
-        self.newest = windows.newest
-        self.jobs, self.ends_before = windows.jobs, windows.ends_before
-        self.told_behind, self.refused_before, self.not_done = windows.told_behind, windows.refused_before, windows.not_done
-        self.goes = {"ret": self.ret, "edge": self.edge, "fromvm": self.fromvm, "tovm": self.move, "tonative": self.move, "block": self.move,
+        self.goes = {"ret": self.ret, "edge": self.poll_call, "fromvm": self.poll_call, "tovm": self.move, "tonative": self.move, "block": self.move,
                      "call": self.call, "publish": self.publishes, "fromnative": self.comes_back, "unblock": self.comes_back, "stop": self.stop,
                      "exit": self.exits}
         of = {"start": self.start, "install": self.install, "invalidate": self.invalidate, "live": self.live, "replies": self.replies,

@@ -1,7 +1,7 @@
 """Tells of a log without an order how far one was found, and what stands against the next calls."""
+from asks import ask_line, request_of
 from drives import LOOKING, OPENING, TELLING
 from programs import Programs
-from request_calls import ask_line, request_of
 from run import CLOSED, RAN, STAGE
 from thread_calls import AT_POLL, AWAKE, ENDED, ENDED_AGAIN, FRESH, LEGAL, STARTED, TAKEN
 

@@ -1,23 +1,8 @@
 """What is asked for, told, held and closed, and what becomes of codes: calls that are no thread's, but for drives and reclaimings."""
+from asks import ask_line, request_of
 from core import OPEN
 from run import CHOICE, EAGER, NEVER, WAIT
 from world import IN_USE
-
-
-def request_of(call):
-    """The ask and the names of a submit or a reclaiming; the ask of a census is None."""
-    kind, args = call.call.split("-")[1], call.args
-    if call.call.startswith("reclaim"):
-        args = args[1:]
-    if kind == "census":
-        return None, ()
-    return (("count", args[0]), args[1:]) if kind == "count" else ((kind,), args)
-
-
-def ask_line(ask, names):
-    if ask is None:
-        return "ask census"
-    return " ".join(["ask", *map(str, ask), *map(str, names)])
 
 
 class RequestCalls:
@@ -44,7 +29,7 @@ class RequestCalls:
 
     def is_entered_yet(self, serial):
         """Some call that enters the code has still to be made."""
-        return any(not self.is_past(stream, index) for stream, index in self.last_entries.get(serial, ()))
+        return any(not self.is_past(stream, index) for stream, index in self.known.last_entries.get(serial, ()))
 
     def do_install(self, stream, call, method):
         self.world.install(method)
@@ -95,7 +80,7 @@ class RequestCalls:
         if not world.waiting or world.census_is_open() or len(world.opened) >= OPEN:
             return False
         oldest = world.waiting[0]
-        return not (world.opened and oldest.ask is None) and world.names >= self.newest.get(oldest.number, 0)
+        return not (world.opened and oldest.ask is None) and world.names >= self.known.newest.get(oldest.number, 0)
 
     def do_open(self, stream, call):
         self.world.open()
@@ -123,8 +108,8 @@ class RequestCalls:
         request = self.world.untold(name)
         if request is None or not self.world.is_live(name):
             return None
-        life = self.lives.get(name)
-        behind = self.told_behind.get((request.number, name))
+        life = self.known.lives.get(name)
+        behind = self.known.told_behind.get((request.number, name))
         if behind is not None:
             return EAGER if life.at > behind else None
         return self.next_poll_allows(life, request.number) if life else CHOICE
@@ -158,17 +143,13 @@ class RequestCalls:
         """A hold comes at one of the calls at which it may end."""
         span = call.span
         if span is None or span.life is None:
-            return CHOICE, ((self.do_hold, thread),)
+            return CHOICE, ((self.act, thread, "hold"),)
         if span.life.name != thread.name or span.life.at not in span.ends:
             return WAIT
         request = self.world.undone(thread.name)
         if span.ops and (request is None or request.number != span.ops[0]):
             return WAIT
-        return (EAGER if len(span.ends) == 1 else CHOICE), ((self.do_hold, thread),)
-
-    def do_hold(self, stream, call, thread):
-        self.world.hold(thread)
-        self.single(stream, call, f"hold {thread.place}")
+        return (EAGER if len(span.ends) == 1 else CHOICE), ((self.act, thread, "hold"),)
 
     def do_hold_and_release(self, stream, call, thread):
         self.world.hold(thread)
@@ -186,11 +167,9 @@ class RequestCalls:
         request = world.undone(thread.name)
         if not thread.held or request is None or request.ask is None:
             return WAIT
-        fits = self.fits_job(stream, call, request, thread)
-        if fits is None:
-            return NEVER
-        if not fits or not self.may_clear(request, thread.name):
-            return WAIT
+        why = self.unfit(stream, call, request, thread)
+        if why or not self.may_clear(request, thread.name):
+            return why or WAIT
         return (CHOICE if call.is_watched else EAGER), ((self.do_serve_held, thread),)
 
     def refused_serve(self, call, thread):
@@ -214,11 +193,7 @@ class RequestCalls:
             return self.refusal(call, f"release {place}", thread)
         if call.is_refused:
             return self.refused(call, f"release {place}", self.world.release, thread)
-        return (EAGER, ((self.do_release, thread),)) if thread.held else WAIT
-
-    def do_release(self, stream, call, thread):
-        self.world.release(thread)
-        self.single(stream, call, f"release {thread.place}")
+        return (EAGER, ((self.act, thread, "release"),)) if thread.held else WAIT
 
     # --- a census, and the end of an operation
 
@@ -270,9 +245,9 @@ class RequestCalls:
 
     def may_clear(self, request, name):
         """What was refused because the name, or the last of all, wasn't cleared has been so."""
-        if any(not self.is_past(stream, index) for stream, index in self.refused_before.get((request.number, name), ())):
+        if any(not self.is_past(stream, index) for stream, index in self.known.refused_before.get((request.number, name), ())):
             return False
-        close = self.not_done.get(request.number)
+        close = self.known.not_done.get(request.number)
         return close is None or self.is_past(close.stream, close.index) or self.has_other(request, name, close)
 
     def has_other(self, request, name, close):
@@ -282,7 +257,7 @@ class RequestCalls:
 
     def is_before(self, number, name, close):
         """The name's job was done when the Close was refused."""
-        call = self.jobs.get((number, name))
+        call = self.known.jobs.get((number, name))
         if call is None:
             return False
-        return call.stream == close.stream and call.index < close.index or self.ends_before[number, name] < close.before
+        return call.stream == close.stream and call.index < close.index or self.known.ends_before[number, name] < close.before

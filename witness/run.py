@@ -1,10 +1,11 @@
-"""How far a search is: the world, where each stream is in its calls, and the events that were made.
+"""How far a search is: the world, where each stream is in its calls, and the events that were made. `known` is what is known before it.
 
 What a stream may do next is a verdict and steps. A step is a method and its arguments, which `make` calls with the stream and its call.
 EAGER: the one step can come before all that others may do first, so it is made at once. CHOICE: each of the steps may be next, or none yet.
 DEAD: the call can't go on, whatever others do.
 """
 from core import Core
+from windows import Windows
 
 EAGER, CHOICE, DEAD = 2, 1, 0
 WAIT, NEVER = (CHOICE, ()), (DEAD, ())
@@ -22,7 +23,7 @@ def word_of(said):
 
 class Run:
     def __init__(self, log):
-        self.log = log
+        self.log, self.known = log, Windows(log)
         self.world = Core(*log.sizes)
         self.streams = log.streams
         self.states = [[0, 0, 0, False, 0] for _ in log.streams]
@@ -92,7 +93,7 @@ class Run:
 
     def reply_is_owed(self, request, thread):
         """The reply that the thread would give now is the next of those that were listed."""
-        listed = self.listed.get(request.number)
+        listed = self.known.listed.get(request.number)
         if listed is None:
             return True
         had = self.replied.get(request.number) or ()
@@ -123,14 +124,13 @@ class Run:
         self.make(call, f"clear {thread.place}")
         self.put(stream, RAN, state[RAN] + 1)
 
-    def fits_job(self, stream, call, request, thread):
-        """The thread's next job is the call's next, with its reply. None: no reply could."""
-        if not self.log.has_jobs:
-            return self.reply_is_owed(request, thread)
-        ran = self.states[stream][RAN]
-        if ran >= len(call.jobs):
-            return False
-        job = call.jobs[ran]
-        if job.op != request.number or job.name != thread.name:
-            return False
-        return self.reply_is_owed(request, thread) if job.reply == self.world.reply_of(request, thread) else None
+    def unfit(self, stream, call, request, thread):
+        """None where the thread's next job is the call's next, with its reply; else WAIT, or NEVER where the reply is another."""
+        if self.log.has_jobs:
+            ran = self.states[stream][RAN]
+            job = call.jobs[ran] if ran < len(call.jobs) else None
+            if job is None or job.op != request.number or job.name != thread.name:
+                return WAIT
+            if job.reply != self.world.reply_of(request, thread):
+                return NEVER
+        return None if self.reply_is_owed(request, thread) else WAIT

@@ -1,6 +1,6 @@
 """What a thread calls, event by event."""
 from calls import LATEST
-from run import CHOICE, EAGER, NEVER, POS, RAN, SERVED, STAGE, WAIT
+from run import CHOICE, EAGER, NEVER, POS, RAN, STAGE, WAIT
 from thread_events import JAVA, NATIVE_JAVA, NATIVE_VM, POLL_JAVA, POLL_VM, VM
 from world import IN_USE
 
@@ -50,45 +50,33 @@ class ThreadCalls:
 
     # --- one event
 
-    def polled(self, call, thread, step):
+    def act(self, stream, call, thread, event):
+        """An event of the thread, with which the call is over."""
+        getattr(self.world, event)(thread)
+        self.single(stream, call, f"{event} {thread.place}")
+
+    def act_on(self, stream, call, thread, event, then):
+        """An event of the thread, behind which the call is at that stage."""
+        getattr(self.world, event)(thread)
+        self.make(call, f"{event} {thread.place}")
+        self.put(stream, STAGE, then)
+
+    def polled(self, call, thread, event):
         """A poll whose answer is recorded."""
         number = self.world.poll(thread.name)
         wanted = call.values[0] if call.word == "stop" else 0
-        if number == wanted or call.word is None:
-            return EAGER, ((step, thread),)
-        if number > wanted:
+        if number > wanted and call.word:
             return NEVER
-        return WAIT
+        return (EAGER, ((self.act, thread, event),)) if number == wanted or call.word is None else WAIT
 
     def ret(self, stream, call, thread):
-        if thread.stack is None:
-            return NEVER
-        return self.polled(call, thread, self.do_leave)
+        return self.polled(call, thread, "leave") if thread.stack else NEVER
 
-    def do_leave(self, stream, call, thread):
-        self.world.leave(thread)
-        self.single(stream, call, f"leave {thread.place}")
-
-    def edge(self, stream, call, thread):
-        return self.polled(call, thread, self.do_edge)
-
-    def do_edge(self, stream, call, thread):
-        self.world.edge(thread)
-        self.single(stream, call, f"edge {thread.place}")
-
-    def fromvm(self, stream, call, thread):
-        return self.polled(call, thread, self.do_fromvm)
-
-    def do_fromvm(self, stream, call, thread):
-        self.world.fromvm(thread)
-        self.single(stream, call, f"fromvm {thread.place}")
+    def poll_call(self, stream, call, thread):
+        return self.polled(call, thread, call.call)
 
     def move(self, stream, call, thread):
-        return EAGER, ((self.do_move, thread),)
-
-    def do_move(self, stream, call, thread):
-        {"tovm": self.world.tovm, "tonative": self.world.tonative, "block": self.world.block}[call.call](thread)
-        self.single(stream, call, f"{call.call} {thread.place}")
+        return EAGER, ((self.act, thread, call.call),)
 
     # --- a call of a method
 
@@ -173,185 +161,13 @@ class ThreadCalls:
         must, may = self.spans_left(call)
         if must:
             return WAIT
-        verdict = CHOICE if may or call.is_held else EAGER
-        return verdict, ((self.do_wake, thread, then),)
-
-    def do_wake(self, stream, call, thread, then):
-        self.world.wake(thread)
-        self.make(call, f"wake {thread.place}")
-        self.put(stream, STAGE, then)
+        return (CHOICE if may or call.is_held else EAGER), ((self.act_on, thread, "wake", then),)
 
     def comes_back(self, stream, call, thread):
         if self.states[stream][STAGE] == AWAKE:
-            return self.polled(call, thread, self.do_cross)
+            return self.polled(call, thread, "cross")
         number = self.world.poll(thread.name)
         wanted = call.values[0] if call.word == "stop" else 0
         if number > wanted and call.word:
             return WAIT
         return self.wake_up(call, thread, AWAKE)
-
-    def do_cross(self, stream, call, thread):
-        self.world.cross(thread)
-        self.single(stream, call, f"cross {thread.place}")
-
-    # --- turns of a thread that has stopped
-
-    def turn(self, stream, call, thread, stage):
-        """A turn is Take, a publication, a job or none, and a poll that goes on or stops again."""
-        if stage == AT_POLL:
-            return self.takes(stream, call, thread)
-        if stage == TAKEN:
-            return self.publication(call, thread, TURN_ENDED)
-        request = self.world.undone(thread.name)
-        if request and request.ask and not self.states[stream][SERVED]:
-            return self.serves(stream, call, thread, request)
-        return self.ends_turn(stream, call, thread)
-
-    def takes(self, stream, call, thread):
-        """A Take for the call's next job comes once that is told, behind the holds before it; one without a job behind all that the call has."""
-        world, request = self.world, self.world.undone(thread.name)
-        if thread.held or world.awaits_census(thread.name):
-            return WAIT
-        ticket = LATEST
-        if request and request.ask:
-            fits = self.fits_job(stream, call, request, thread)
-            if not fits:
-                return WAIT if fits is False else NEVER
-            if self.log.has_jobs:
-                ticket = call.jobs[self.states[stream][RAN]].ticket
-        elif self.states[stream][RAN] < len(call.jobs):
-            return WAIT
-        must, may = self.spans_left(call, ticket)
-        if must:
-            return WAIT
-        return (CHOICE if may or call.is_held else EAGER), ((self.do_take, thread),)
-
-    def do_take(self, stream, call, thread):
-        self.world.take(thread)
-        self.make(call, f"take {thread.place}")
-        self.put(stream, SERVED, False)
-        self.put(stream, STAGE, TAKEN)
-
-    def serves(self, stream, call, thread, request):
-        fits = self.fits_job(stream, call, request, thread)
-        if fits is None:
-            return NEVER
-        if not fits:
-            return self.ends_turn(stream, call, thread)
-        return (EAGER, ((self.do_serve, thread),)) if self.may_clear(request, thread.name) else WAIT
-
-    def do_serve(self, stream, call, thread):
-        self.serve(stream, call, thread)
-        self.put(stream, SERVED, True)
-
-    def is_last_turn(self, stream, call):
-        """The turn fits the answer of a stop."""
-        return call.call != "stop" or call.word is None or (call.word == "served") == self.states[stream][SERVED]
-
-    def ends_turn(self, stream, call, thread):
-        if self.world.poll(thread.name):
-            return EAGER, ((self.do_stop_again, thread),)
-        must, may = self.spans_left(call)
-        if must or self.states[stream][RAN] < len(call.jobs) or not self.is_last_turn(stream, call):
-            return WAIT
-        verdict = CHOICE if may or call.is_told else EAGER
-        return verdict, ((self.do_go_on, thread),)
-
-    def do_stop_again(self, stream, call, thread):
-        self.world.cross(thread)
-        self.make(call, f"cross {thread.place}")
-        self.put(stream, STAGE, AT_POLL)
-
-    def do_go_on(self, stream, call, thread):
-        self.world.cross(thread)
-        self.make(call, f"cross {thread.place}")
-        self.to_stage(stream, call, STARTED if call.call == "exit" else None)
-
-    def stop(self, stream, call, thread):
-        return self.turn(stream, call, thread, self.states[stream][STAGE] or AT_POLL)
-
-    # --- a start: Start, a publication, Wake, a poll
-
-    def start(self, stream, call):
-        world, stage = self.world, self.states[stream][STAGE]
-        if call.is_refused:
-            return self.refused(call, "start", world.start)
-        if stage == FRESH:
-            return self.starts(call)
-        thread = world.places[call.life.place] if call.life else None
-        if stage == STARTED:
-            return self.publication(call, thread, ENDED)
-        if stage == ENDED:
-            return self.wake_up(call, thread, AWAKE)
-        if stage == AWAKE:
-            return self.ends_turn(stream, call, thread)
-        return self.turn(stream, call, thread, stage)
-
-    def starts(self, call):
-        world = self.world
-        name, place = call.values or (0, 0)
-        if call.word and world.names >= name:
-            return NEVER
-        if world.census_is_open() or call.word and (world.names + 1 != name or world.vacant() != place):
-            return WAIT
-        return CHOICE, ((self.do_start,),)
-
-    def do_start(self, stream, call):
-        self.world.start()
-        self.make(call, "start")
-        if call.life:
-            self.put(stream, STAGE, STARTED)
-        else:
-            self.done(stream, call)
-
-    # --- an exit: a publication and Exit; or behind the publication a poll that stops, turns, and so on anew
-
-    def exits(self, stream, call, thread):
-        stage = self.states[stream][STAGE]
-        if thread.stack is not None:
-            return NEVER
-        if stage == FRESH:
-            return self.publication(call, thread, ENDED)
-        if stage == STARTED:
-            return self.publication(call, thread, ENDED_AGAIN)
-        if stage in (ENDED, ENDED_AGAIN):
-            return self.leaves(stream, call, thread, stage == ENDED_AGAIN)
-        return self.turn(stream, call, thread, stage)
-
-    def leaves(self, stream, call, thread, has_turned):
-        number = self.world.poll(thread.name)
-        if number:
-            if call.word == "exited":
-                return NEVER
-            return EAGER, ((self.do_stop_exit, thread),)
-        if call.word == "servedexited" and not has_turned:
-            return WAIT
-        if self.states[stream][RAN] < len(call.jobs) or self.spans_left(call)[0] or not self.may_leave(thread):
-            return WAIT
-        return CHOICE, ((self.do_exit, thread),)
-
-    def may_leave(self, thread):
-        """Whoever listed the thread as live has done so, those that started at greater places before this one was taken again have started, and
-        what it is recorded to have replied it has."""
-        if any(not self.is_past(stream, index) for stream, index in self.live_lists.get(thread.name, ())):
-            return False
-        for name, place in self.starts_to_come:
-            if name > self.world.names:
-                if place == thread.place:
-                    break
-                if place > thread.place:
-                    return False
-        return all(self.has_replied(number, thread.name) for number in self.owed.get(thread.name, ()))
-
-    def has_replied(self, number, name):
-        return any(who == name for who, _ in self.replied.get(number) or ())
-
-    def do_stop_exit(self, stream, call, thread):
-        line = "fromvm" if thread.state == VM else "edge"
-        (self.world.fromvm if thread.state == VM else self.world.edge)(thread)
-        self.make(call, f"{line} {thread.place}")
-        self.put(stream, STAGE, AT_POLL)
-
-    def do_exit(self, stream, call, thread):
-        self.world.exit(thread)
-        self.single(stream, call, f"exit {thread.place}")

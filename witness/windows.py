@@ -1,8 +1,8 @@
 """What the answers of a log say of its calls before any search."""
 from bisect import bisect_left, bisect_right
 
+from asks import request_of
 from lives import POLLS, Span, least_poll, lives_of, put_span
-from request_calls import request_of
 
 HOLDS = ("hold", "drive", "drivefour", "operate")
 TELLS = ("tell", "drive", "drivefour")
