@@ -1,5 +1,5 @@
 -- A text, cut at a byte, and at the line `order`.
-use Rattle.std.specs.Prelude.{◌≡◌, ℕ, ◌==◌, ◌+◌, Bool, true, not, ◌&&◌, option_map, take, drop, bytes_eq, codes, List, [], ◌∷◌, ◌++◌, Option, Some, None}
+use Rattle.std.specs.Prelude.{◌≡◌, ℕ, ◌==◌, ◌+◌, Bool, true, not, ◌&&◌, option_map, take, drop, bytes_eq, codes, List, [], ◌∷◌, ◌++◌, Option, None}
 use Rattle.std.specs.List.{flat_map, list_all, position}
 
 -- What stands before the first such byte, and what stands behind it.

@@ -73,7 +73,11 @@ fn read_line(alloc: Global, line: &[u8]) -> Result<Option<Deed<'_>>, AllocError>
     };
     match event_of(alloc, spelled)? {
         None => Ok(None),
-        Some(event) => Ok(Some(Deed { owner, event, spelled })),
+        Some(event) => Ok(Some(Deed {
+            owner,
+            event,
+            spelled,
+        })),
     }
 }
 

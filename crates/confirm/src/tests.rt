@@ -25,8 +25,14 @@ fn orders_are_read(rt: HostRuntime) -> Result<(), Fail> {
     for (text, read) in [
         (b"".as_slice(), "[] []"),
         (b"0 start\n".as_slice(), "[0] [Start]"),
-        (b"7 tell 1\n0 close\n".as_slice(), "[7, 0] [Tell(1), Close(None)]"),
-        (b"1099511627775 round\n".as_slice(), "[1099511627775] [Round]"),
+        (
+            b"7 tell 1\n0 close\n".as_slice(),
+            "[7, 0] [Tell(1), Close(None)]",
+        ),
+        (
+            b"1099511627775 round\n".as_slice(),
+            "[1099511627775] [Round]",
+        ),
         (b"1099511627776 round\n".as_slice(), "bad order: line 1"),
         (b"0 start".as_slice(), "bad order: line 1"),
         (b"0 start\n\n".as_slice(), "bad order: line 2"),
@@ -46,8 +52,14 @@ fn orders_are_read(rt: HostRuntime) -> Result<(), Fail> {
 #[test]
 fn texts_are_cut_at_the_first_line_order(rt: HostRuntime) {
     for (text, parts) in [
-        (b"order\n".as_slice(), Some((b"".as_slice(), b"".as_slice()))),
-        (b"a\norder\nb\norder\n".as_slice(), Some((b"a\n".as_slice(), b"b\norder\n".as_slice()))),
+        (
+            b"order\n".as_slice(),
+            Some((b"".as_slice(), b"".as_slice())),
+        ),
+        (
+            b"a\norder\nb\norder\n".as_slice(),
+            Some((b"a\n".as_slice(), b"b\norder\n".as_slice())),
+        ),
         (b"orders\n order\n".as_slice(), None),
         (b"a\norder".as_slice(), None),
     ] {
@@ -64,6 +76,9 @@ fn lines_are_told_of_an_order_that_explains(rt: HostRuntime) -> Result<(), Fail>
     assert!(rt; unfinished.is_none());
     text.extend_from_slice(b"0 cross 0\n")?;
     let lines = tell(alloc, text.as_slice())?.ok_or("unexplained")?;
-    assert_eq!(rt; lines.as_slice(), b"size 1 1 1\nstart\nbegin 0\nend 0\nwake 0\ncross 0\n".as_slice());
+    assert_eq!(rt;
+        lines.as_slice(),
+        b"size 1 1 1\nstart\nbegin 0\nend 0\nwake 0\ncross 0\n".as_slice()
+    );
     Ok(())
 }

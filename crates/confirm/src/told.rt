@@ -16,8 +16,8 @@ use witness_check::streams::all_rise;
 fn size_line(alloc: Global, log: &Log) -> Result<Vec<u8>, AllocError>
     ensures { IfOk result (λ line. line.items ≡ size_line log.now) }
 {
-    let Log { places, slots, methods, .. } = log;
-    Ok(format!(in alloc; "size {places} {slots} {methods}\n")?.into_bytes())
+    let line = format!(in alloc; "size {} {} {}\n", log.places, log.slots, log.methods)?;
+    Ok(line.into_bytes())
 }
 
 /// The log that the text spells.
@@ -46,7 +46,8 @@ pub fn tell(alloc: Global, text: &[u8]) -> Result<Option<Vec<u8>>, Fault>
     };
     let log = read_log(alloc, before)?;
     let order = read_order(alloc, behind, size_line(alloc, &log)?)?;
-    if check(alloc, &log, order.events.as_slice(), order.owners.as_slice())? {
+    let (events, owners) = (order.events.as_slice(), order.owners.as_slice());
+    if check(alloc, &log, events, owners)? {
         Ok(Some(order.lines))
     } else {
         Ok(None)
