@@ -105,7 +105,7 @@ def unexplained(tally):
         tally.run(f"an order {name}", [], b"", UNEXPLAINED, 1, given=both(log, "".join(lines)))
     for name, old, new in (
         ("with another answer", "stop 1", "go"),
-        ("with a call over before it began", "1 14 15 close", "1 14 15 open"),
+        ("whose tickets the order goes against", "0 12 13 tonative", "0 16 17 tonative"),
         ("without a place", "size 1 7 4", "size 0 7 4"),
     ):
         tally.run(f"a log {name}", [], b"", UNEXPLAINED, 1, given=both(log.replace(old, new), order))
