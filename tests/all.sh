@@ -49,11 +49,12 @@ edits() {
     fi
 }
 
-# What C, C++ and Rust do with the libraries for C, and what is installed.
+# What C, C++ and Rust do with the libraries for C, what is installed, and an order for what threads of C called.
 libraries() {
     count tests/embed.py crates/model/out/libmodel.a
     count tests/safepoint.py crates/safepoint/out/libsafepoint.a --quick
     count tests/install.py
+    count tests/witness.py crates/safepoint/out/libsafepoint.a crates/monitor/out/monitor 1
 }
 
 tests/minutes.py watch $$ > out/minutes.log &
@@ -73,6 +74,7 @@ archives=$!
 edits > "$refused" 2>&1 &
 edits=$!
 count tests/program.py crates/monitor/out/monitor crates/monitor/out/monitor.by-rattle
+count tests/confirm.py crates/confirm/out/confirm crates/monitor/out/monitor
 count tests/pictures.py crates/timeline/out/timeline crates/timeline/out/timeline.by-rattle
 count tests/random_pictures.py crates/monitor/out/monitor crates/timeline/out/timeline 20000
 count tests/pages.py crates/timeline/out/timeline
