@@ -32,12 +32,12 @@ TIMELINE = ROOT / "crates" / "timeline" / "out" / "timeline"
 JIT_RUNS = ((1, "0.02"), (3, "0.1"))
 THREADS = (2, 3, 4, 6, 8, 12, 16)
 # Of the threads in a run, which are some 1,000 calls with the coordinator's.
-STEPS = 500
+STEPS = 550
 SECONDS = 600
 RECORD, CONDITION = "-DSP_RECORD", "-DSP_PTHREAD"
 # What each liar stands before.
 LIARS = {"hold": ("hold", "release"), "call": ("call", "install"), "publish": ("publish",), "stop": ("stop_next", "stop_serve")}
-LIED_RUNS = 10
+LIED_RUNS, LIED_STEPS = 10, 1500
 # A text that is no log, and what is told of it.
 BAD_LOGS = (
     ("", "header"), ("witness 2\nsize 1 1 1\n", "header"), ("witness 1\nsize 1 1\n", "header"), ("witness 1\nsize 65 1 1\n", "header"),
@@ -235,7 +235,7 @@ def liars(tests):
         program = tests.built(f"lies_{liar}", TESTS / "witness_threads.c", liar=liar)
         told = None
         for seed in range(1, LIED_RUNS + 1):
-            log = tests.log(program, 4, STEPS, seed)
+            log = tests.log(program, 4, LIED_STEPS, seed)
             ran = tests.witness(log, "--order", "--seconds", "20") if log else None
             if ran and ran.returncode == 1:
                 told = seed
