@@ -21,30 +21,37 @@ import sys
 import tempfile
 import time
 
-from safepoint import FLAGS, CRATE, JIT, WAITS, kit
+from safepoint import CRATE, FLAGS, JIT, WAITS, kit
 
 TESTS = pathlib.Path(__file__).resolve().parent
 ROOT = TESTS.parent
 WITNESS = ROOT / "witness" / "witness"
+sys.path.insert(0, str(WITNESS.parent))
+from calls import read_log
+from search import FOUND, Search
+
 CONFIRM = ROOT / "crates" / "confirm" / "out" / "confirm"
 TIMELINE = ROOT / "crates" / "timeline" / "out" / "timeline"
 # Threads and seconds of a run of examples/jit.
 JIT_RUNS = ((1, "0.02"), (3, "0.1"))
 THREADS = (2, 3, 4, 6, 8, 12, 16)
 # Of the threads in a run, which are some 1,000 calls with the coordinator's.
-STEPS = 500
+STEPS = 550
 SECONDS = 600
 RECORD, CONDITION = "-DSP_RECORD", "-DSP_PTHREAD"
 # What each liar stands before.
 LIARS = {"hold": ("hold", "release"), "call": ("call", "install"), "publish": ("publish",), "stop": ("stop_next", "stop_serve")}
-LIED_RUNS = 10
+LIED_RUNS, LIED_STEPS = 10, 1500
+# Of the search for one of many runs.
+MOST_STEPS, MOST_SECONDS = 20_000_000, 60
 # A text that is no log, and what is told of it.
 BAD_LOGS = (
     ("", "header"), ("witness 2\nsize 1 1 1\n", "header"), ("witness 1\nsize 1 1\n", "header"), ("witness 1\nsize 65 1 1\n", "header"),
     ("witness 1\nsize 1 1 1\n0 0 1 start : thread 1 0", "line 3: no newline"),
     ("witness 1\nsize 1 1 1\n0 0 1 start : thread 1 0\n0 2 3 jump 0 : ok\n", "line 4: call"),
     ("witness 1\nsize 1 1 1\nx 0 1 start : thread 1 0\n", "line 3: stream"), ("witness 1\nsize 1 1 1\n0 00 1 start : thread 1 0\n", "line 3: before"),
-    ("witness 1\nsize 1 1 1\n0 0 x start : thread 1 0\n", "line 3: after"), ("witness 1\nsize 1 1 1\n0 0 1 start 5 : thread 1 0\n", "line 3: arguments"),
+    ("witness 1\nsize 1 1 1\n0 0 x start : thread 1 0\n", "line 3: after"), ("witness 1\nsize 1 1 1\n0 0 1099511627776 start : thread 1 0\n", "line 3: after"),
+    ("witness 1\nsize 1 1 1\n0 0 1 start 5 : thread 1 0\n", "line 3: arguments"),
     ("witness 1\nsize 1 1 1\n0 0 1 start thread 1 0\n", "line 3: arguments"), ("witness 1\nsize 1 1 1\n0 0 1 start : thread 1\n", "line 3: values"),
     ("witness 1\nsize 1 1 1\n0 0 1 start : ?\n", "line 3: answer"), ("witness 1 jobs\nsize 1 1 1\n0 0 1 stop 0 : ok ; 1 2 3\n", "line 3: jobs"),
     ("witness 1\nsize 1 1 1\n0 5 4 start : thread 1 0\n", "tickets of a stream don't rise"),
@@ -235,7 +242,7 @@ def liars(tests):
         program = tests.built(f"lies_{liar}", TESTS / "witness_threads.c", liar=liar)
         told = None
         for seed in range(1, LIED_RUNS + 1):
-            log = tests.log(program, 4, STEPS, seed)
+            log = tests.log(program, 4, LIED_STEPS, seed)
             ran = tests.witness(log, "--order", "--seconds", "20") if log else None
             if ran and ran.returncode == 1:
                 told = seed
@@ -245,16 +252,19 @@ def liars(tests):
 
 
 def many(tests, runs):
-    """Prints how many runs have an order, and how long the search took."""
+    """Prints how many runs have an order, and how long a processor read and searched their logs."""
     program = tests.built("many", TESTS / "witness_threads.c")
     found = calls = taken = slowest = 0
     for run in range(runs):
         count = 2 + run % 15
         log = tests.log(program, count, STEPS, 100_000 + run)
-        begun = time.monotonic()
-        is_found = tests.judge(f"{count} threads, run {run}", None if log and tests.witness(log, "--order").returncode == 0 else "no order")
-        lasted = time.monotonic() - begun
-        found, calls, taken, slowest = found + is_found, calls + log.count("\n") - 2, taken + lasted, max(slowest, lasted)
+        if not tests.judge(f"{count} threads, run {run}", None if log else "the run failed"):
+            continue
+        begun = time.process_time()
+        search = Search(read_log(log), MOST_STEPS, MOST_SECONDS)
+        is_found = tests.judge(f"{count} threads, run {run}: an order", None if search.run() == FOUND else "none was found")
+        lasted = time.process_time() - begun
+        found, calls, taken, slowest = found + is_found, calls + search.total, taken + lasted, max(slowest, lasted)
         if run % 100 == 99 or run == runs - 1:
             print(f"{found} of {run + 1} runs have an order; {calls} calls, {calls / taken:.0f} a second, {slowest:.2f} s the slowest", flush=True)
 

@@ -18,7 +18,7 @@ struct one {
     uint64_t random;
     int64_t name;
     int depth;
-    long left; /* of its steps */
+    long left, unwound; /* of its steps; how often it has left a frame and told it */
     atomic_long publications;
     atomic_bool lives;
 };
@@ -28,6 +28,7 @@ static uint64_t coordinator_random;
 static struct one all[MOST];
 static int count;
 static atomic_int still; /* threads that have steps left */
+static atomic_long unwound; /* how often each thread is to have left a frame and told it */
 static atomic_uint_least64_t last_serial;
 
 /* Whether a liar may say now that a thread is held. */
@@ -86,7 +87,7 @@ static void heed(struct one *me, int64_t polled) {
 
 static void enter(struct one *me) {
     if (me->depth == DEPTH) return;
-    must("sp_call", sp_call(&me->party, (uint32_t)drawn(&me->random, METHODS)));
+    must("sp_call", sp_call(&me->party, (uint32_t)(drawn(&me->random, METHODS) * drawn(&me->random, 2))));
     me->depth++;
 }
 
@@ -151,7 +152,17 @@ static void be_refused(struct one *me) {
     }
 }
 
+static void unwind(struct one *me) {
+    me->unwound++;
+    leave(me);
+    publish(me);
+}
+
 static void step(struct one *me) {
+    if (me->unwound < atomic_load(&unwound)) {
+        unwind(me);
+        return;
+    }
     switch (drawn(&me->random, 18)) {
     case 0: case 1: case 2: case 3: case 4: enter(me); break;
     case 5: case 6: case 7: case 8: leave(me); break;
@@ -170,6 +181,7 @@ static bool live_once(struct one *me) {
     int64_t name = sp_start_thread(&me->party, at_safe_point, me);
     if (name == SP_SAFEPOINT_OPEN || name == SP_PLACES_FULL) return false;
     me->name = must("sp_start", name);
+    me->unwound = atomic_load(&unwound);
     atomic_store(&me->lives, true);
     for (uint64_t left = 20 + drawn(&me->random, 200); left && me->left; left--, me->left--) {
         step(me);
@@ -236,6 +248,10 @@ static void drive_four(void) {
     must("sp_drive_four", sp_drive_four(&coordinator, at_safe_point, NULL));
 }
 
+static void drive_all(void) {
+    while (must("sp_drive_four", sp_drive_four(&coordinator, at_safe_point, NULL))) continue;
+}
+
 static void census(void) {
     int64_t answer;
     SP_WAIT(answer, sp_census(&coordinator));
@@ -284,10 +300,9 @@ static void work_by_hand(void) {
 }
 
 /* Gives a method a new code: the serial of the one that it had from here, 0 for none. */
-static int64_t install(void) {
+static int64_t install(uint32_t method) {
     static int64_t codes[METHODS];
     int64_t serial, old;
-    uint32_t method = (uint32_t)drawn(&coordinator_random, METHODS);
     SP_WAIT(serial, sp_install(&coordinator, method));
     if (serial == SP_TABLE_FULL) return 0;
     note_serial(must("sp_install", serial));
@@ -309,7 +324,7 @@ static void reclaim(void) {
 static void wait_for_publications(long often) {
     long from[MOST];
     for (int i = 0; i < count; i++) from[i] = atomic_load(&all[i].publications);
-    for (int turn = 0; turn < 50; turn++) {
+    for (int turn = 0; turn < 400; turn++) {
         int late = 0;
         for (int i = 0; i < count; i++) late += atomic_load(&all[i].lives) && atomic_load(&all[i].publications) < from[i] + often;
         if (!late) return;
@@ -317,21 +332,23 @@ static void wait_for_publications(long often) {
     }
 }
 
-/* The code that a method had is reclaimed without a handshake: threads publish by themselves meanwhile. */
+/* The code of the method that is called most is replaced, and reclaimed without a handshake: threads publish by themselves meanwhile. */
 static void reclaim_by_hand(void) {
-    int64_t answer, serial = install();
+    int64_t answer, serial = install(0);
     if (serial <= 0) return;
+    drive_all();
     SP_WAIT(answer, sp_reclaim_begin(&coordinator, (uint64_t)serial));
     if (is_left(answer)) return;
     must("sp_reclaim_begin", answer);
-    wait_for_publications(3);
+    atomic_fetch_add(&unwound, 2);
+    wait_for_publications(2);
     SP_WAIT(answer, sp_reclaim_end(&coordinator, (uint64_t)serial));
     if (!is_left(answer)) must("sp_reclaim_end", answer);
 }
 
 static void be_refused_all(void) {
     int64_t answer;
-    while (must("sp_drive_four", sp_drive_four(&coordinator, at_safe_point, NULL))) continue;
+    drive_all();
     SP_WAIT(answer, sp_close(&coordinator));
     refused("sp_close", answer, SP_NOTHING_OPEN);
     SP_WAIT(answer, sp_tell(&coordinator, 1));
@@ -349,14 +366,14 @@ static void be_refused_all(void) {
 }
 
 static void turn(void) {
-    switch (drawn(&coordinator_random, 10)) {
+    switch (drawn(&coordinator_random, 12)) {
     case 0: case 1: submit(true), drive(); break;
     case 2: drive_four(); break;
     case 3: census(); break;
     case 4: work_by_hand(); break;
-    case 5: install(); break;
+    case 5: install((uint32_t)drawn(&coordinator_random, METHODS)); break;
     case 6: reclaim(); break;
-    case 7: case 8: reclaim_by_hand(); break;
+    case 7: case 8: case 9: case 10: reclaim_by_hand(); break;
     default: be_refused_all();
     }
 }
@@ -377,6 +394,7 @@ int main(int argc, char **argv) {
     }
     meet();
     for (int turns = 0; atomic_load(&still); turns++) {
+        for (int i = 0; i < count; i++) sched_yield();
         if (turns < TURNS) turn();
         else drive(), nanosleep(&(struct timespec){0, 100000}, NULL);
     }

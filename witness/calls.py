@@ -1,7 +1,7 @@
 """Reads a log of calls (crates/call_log has the form)."""
 import re
 
-from spelled import ANSWERS, CALLS, REFUSALS
+from spelled import ANSWERS, CALLS, LOOKS, REFUSALS, SAID
 
 LATEST = 1 << 40
 MOST_CALLS = 1 << 20
@@ -10,6 +10,7 @@ STREAMS = 1024
 # The greatest places, slots and methods of a system.
 SIZES = (64, 1024, 256)
 NUMBER = re.compile("0|[1-9][0-9]{0,12}")
+LONG_NUMBER = re.compile("[0-9]{13}")
 N = f"(?:{NUMBER.pattern})"
 LINE = re.compile(f"({N}) ({N}) ({N}|-) (\\S+)((?: {N})*) : (\\S+)((?: {N})*)(?: ;((?: {N} {N} {N} {N})+))?")
 
@@ -33,7 +34,7 @@ class Call:
     What the windows say of it is put beside (windows.py).
     """
     __slots__ = ("number", "text", "stream", "index", "before", "after", "call", "args", "word", "values", "jobs", "life", "at", "span", "spans",
-                 "drive_spans", "is_refused", "is_watched", "is_held", "is_told", "is_queue_seen", "is_list_seen", "next_poll", "may_rest")
+                 "drive_spans", "is_refused", "is_sayable", "is_watched", "is_held", "is_told", "is_queue_seen", "is_list_seen", "next_poll", "may_rest")
 
     def __init__(self, number, text):
         self.number, self.text = number, text
@@ -82,13 +83,14 @@ def fault_of(text):
 def call_of(number, text):
     """The call that a line spells; its number counts from 0."""
     found = LINE.fullmatch(text)
-    if found is None or len(text) > LONGEST:
+    if found is None or len(text) > LONGEST or any(int(it) >= LATEST for it in LONG_NUMBER.findall(text)):
         raise BadLog(f"line {number + 3}: {fault_of(text)}")
     stream, before, after, called, args, word, values, jobs = found.groups()
     call = Call(number, text)
     call.stream, call.before, call.after = int(stream), int(before), LATEST if after == "-" else int(after)
     call.call, call.args, call.values = called, list(map(int, args.split())), list(map(int, values.split()))
     call.word, call.is_refused = None if word == "?" else word, word in REFUSALS
+    call.is_sayable = word == "?" or word in SAID.get(called, ()) or call.is_refused and called not in LOOKS
     call.jobs = jobs_of(list(map(int, jobs.split()))) if jobs else ()
     if not is_within(call.args, CALLS.get(called)) or not is_within(call.values, ANSWERS.get(word)) or (after == "-") != (word == "?"):
         raise BadLog(f"line {number + 3}: {fault_of(text)}")

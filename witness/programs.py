@@ -1,7 +1,7 @@
 """What each stream may do next."""
 from drives import Drives
 from request_calls import RequestCalls
-from run import Run
+from run import NEVER, Run
 from thread_calls import ThreadCalls
 from turns import Turns
 
@@ -22,4 +22,4 @@ class Programs(ThreadCalls, Turns, RequestCalls, Drives, Run):
 
     def next_of(self, stream, call):
         """A verdict, and the steps that the stream may make next in its call."""
-        return self.programs[call.call](stream, call)
+        return self.programs[call.call](stream, call) if call.is_sayable else NEVER

@@ -55,7 +55,7 @@ class Report:
     def next_of_thread(self, call, stage):
         if stage == FRESH:
             return "start" if call.call == "start" else self.run.first_line(call)
-        place = call.life.place
+        place = call.life.place if call.call == "start" else call.args[0]
         thread = self.world.places[place]
         if thread and thread.left is not None:
             return f"change {place}" if thread.left else f"end {place}"

@@ -15,6 +15,18 @@ ANSWERS = {
     "census": (1, 2049), "handshake": (1, 1), "closed": (1, 1), "freed": (0, 0), "used": (1, 1), "late": (1, 1),
 }
 
+# What a call may answer beside a refusal. A look isn't refused.
+SAID = {
+    **dict.fromkeys(("ret", "edge", "fromvm", "fromnative", "unblock"), ("go", "stop")),
+    **dict.fromkeys(("tovm", "tonative", "block", "publish", "invalidate", "hold", "serve", "release"), ("ok",)),
+    **dict.fromkeys(("submit-depth", "submit-top", "submit-count", "submit-census"), ("asked",)),
+    **dict.fromkeys(("reclaim", "reclaim-depth", "reclaim-top", "reclaim-count"), ("freed", "used", "late")),
+    "start": ("thread",), "call": ("compiled", "interpreted"), "stop": ("served", "ok"), "exit": ("exited", "servedexited"), "install": ("code",),
+    "live": ("names",), "replies": ("replies",), "open": ("open",), "tell": ("told", "gone"), "operate": ("census",), "close": ("closed",),
+    "drive": ("handshake", "census"), "drivefour": ("closed",),
+}
+LOOKS = ("live", "replies")
+
 # Why a call is refused: answers without numbers.
 REFUSALS = frozenset(
     "NoSuchPlace Illegal Vacant Publishing Held NoSuchMethod Unknown Unpublished DepthFull NotOf EmptyStack StackNotEmpty OperationPending "
