@@ -25,7 +25,7 @@ pub fn serve_stop<N: Name, J: Errand, R: Wait>(rt: &R, thread: &mut Mutator<'_, 
 }
 
 /// Returns from the method of the top frame, and polls. Refused only where there is no frame.
-pub fn leave<N: Name, J: Errand, R: Wait>(
+pub fn return_from<N: Name, J: Errand, R: Wait>(
     rt: &R,
     thread: &mut Mutator<'_, N, J>,
 ) -> Result<(), ReturnFault>
