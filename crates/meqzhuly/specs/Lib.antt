@@ -5,7 +5,7 @@ pub use Rattle.operations.specs.Jobs
 pub use Rattle.operations.specs.Requests
 pub use Rattle.thread_list.specs.Moves
 pub use Rattle.thread_list.specs.Sharing
-pub use Rattle.thread_list.specs.Standings
+pub use Rattle.thread_list.specs.BodyStates
 pub use Rattle.coordinator.specs.Driving
 pub use Rattle.held_threads.specs.Holding
 pub use Rattle.held_threads.specs.Reclaiming
