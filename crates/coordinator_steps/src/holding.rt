@@ -1,8 +1,11 @@
 //! Holding a thread, serving it, and letting it go.
 ghost use Rattle.std.specs.Prelude.{◌≡◌, ◌<◌, ◌++◌, ◌∷◌, [], false, None, Some, length, IfSome, IfNone, IfOk, IfErr};
 ghost use Rattle.held_threads.specs.Held.{is_held};
-ghost use Rattle.held_threads.specs.Refused.{Holds, MayHold, hold_refused, HasNoHeld, IsServeFault, serve_refused};
-ghost use Rattle.coordinator_steps.specs.Done.{Releases, Serves};
+ghost use Rattle.desk.specs.Fields.{at};
+ghost use Rattle.desk.specs.declared.entries.Progress.TheVariants.{Undone};
+ghost use Rattle.desk.specs.declared.entries.Standing.{Standing as StandingOf};
+ghost use Rattle.held_threads.specs.Refused.{Holds, MayHold, hold_fault, hold_refused, HasNoHeld, IsServeFault, serve_refused};
+ghost use Rattle.coordinator_steps.specs.Done.{Owes, Releases, Serves};
 
 use crate::steps::Steps;
 use berths::{BodyReceipt, Room};
@@ -15,11 +18,14 @@ use held_threads::{
 use operations::job::Errand;
 use poll::PollRow;
 
-// The number of the oldest request that a thread owes, 0 for none.
-fn number_in(progress: Progress) -> u64 {
+// The number of the oldest request that a thread which may be held owes.
+fn number_in(progress: Progress) -> u64
+    requires { (said : StandingOf) × (hold_fault said progress ≡ None) }
+    ensures { progress ≡ Undone result }
+{
     match progress {
         Progress::Undone(number) => number,
-        Progress::Done | Progress::NotTold => 0,
+        Progress::Done | Progress::NotTold => unreachable!(),
     }
 }
 
@@ -33,6 +39,7 @@ impl<N: Name> Steps<N> {
         place: usize,
     ) -> Result<(u64, BodyReceipt<N>), HoldFault>
         ensures held { IfOk result (λ r. Holds self.old self.new place r.1) }
+        ensures number { IfOk result (λ r. Owes (at desk.now) self.old place r.1.body.name r.0) }
         ensures refused { IfErr result (λ e. hold_refused self.old N.board.places place e × (self.new ≡ self.old)) }
         ensures same { IfErr result (λ e. room.new ≡ room.old) }
     {
@@ -50,6 +57,7 @@ impl<N: Name> Steps<N> {
     // that it owes; or why there is none.
     fn holdable<J: Errand>(&self, desk: &Desk<N, J>, place: usize) -> Result<(u64, u64), HoldFault>
         ensures may { IfOk result (λ r. (place < N.board.places) × MayHold self.now place r.0) }
+        ensures owes { IfOk result (λ r. Owes (at desk.now) self.now place r.0 r.1) }
         ensures refused { IfErr result (λ e. hold_refused self.now N.board.places place e) }
     {
         if place >= self.places {

@@ -7,7 +7,8 @@ use Rattle.desk.specs.declared.entries.Entry.{Entry}
 use Rattle.desk.specs.declared.entries.Target.{Target}
 use Rattle.desk.specs.declared.entries.Standing.TheVariants as stand
 use Rattle.desk.specs.Finishing.{FinishSeen}
-use Rattle.desk.specs.Machine.{State, Stands}
+use Rattle.desk.specs.Fields.{DeskSeen, at}
+use Rattle.desk.specs.Machine.{Stands}
 use Rattle.desk.specs.Refusals.{open_refused}
 use Rattle.desk.specs.Targets.{standing}
 use Rattle.thread_list.specs.Moves.{IsOperated}
@@ -20,31 +21,31 @@ use Rattle.held_threads.specs.Reclaiming.{IsReclaimed}
 use Rattle.coordinator_steps.specs.Done as done
 use Rattle.held_threads.specs.Refused as steps
 use Rattle.parties.specs.declared.acts.Fault.TheVariants as fault
-use Rattle.parties.specs.Asked.{Told, WasEntered}
+use Rattle.parties.specs.Asked.{Told, IsLegal, WasEntered}
 
 abbrev pub Opens : Told → Type 0
 Opens (Ok n) = WasEntered (Entry.Open n)
-Opens (Err (fault.Open f)) = (s : State) × open_refused s f
+Opens (Err (fault.Open f)) = (d : DeskSeen) × IsLegal d × open_refused (at d) f
 Opens (Err fault.Again) = Unit {0}
 Opens (Err e) = ⊥
 
 -- The oldest request that wasn't told to the thread of the name is, and its place armed with that number.
 abbrev pub Arms : ℕ → Holding → ℕ → Holding → Type 0
 Arms name old n new
-    = (s : State) × (t : Target) × steps.IsUntold s name old.armer t n × (new.armer ≡ armed_with old.armer t.place n)
+    = (d : DeskSeen) × (t : Target) × IsLegal d × steps.IsUntold (at d) name old.armer t n × (new.armer ≡ armed_with old.armer t.place n)
 
 -- Nothing is armed, since the name is gone.
 abbrev pub IsGone : ℕ → Holding → Holding → Type 0
-IsGone name old new = (new ≡ old) × ((s : State) × (standing s name ≡ stand.Gone))
+IsGone name old new = (new ≡ old) × ((d : DeskSeen) × IsLegal d × (standing (at d) name ≡ stand.Gone))
 
 abbrev pub Tells : ℕ → Holding → Told → Holding → Type 0
 Tells name old (Ok n) new = (new.held ≡ old.held) × (new.operated ≡ old.operated) × (n ≢ 0 → Arms name old n new) × (n ≡ 0 → IsGone name old new)
-Tells name old (Err (fault.Tell f)) new = (new ≡ old) × ((s : State) × steps.tell_refused s name old.armer f)
+Tells name old (Err (fault.Tell f)) new = (new ≡ old) × ((d : DeskSeen) × IsLegal d × steps.tell_refused (at d) name old.armer f)
 Tells name old (Err fault.Again) new = new ≡ old
 Tells name old (Err e) new = ⊥
 
 abbrev pub Holds : ℕ → ℕ → Holding → Told → Holding → Type 0
-Holds places place old (Ok n) new = (receipt : Moved) × steps.Holds old new place receipt
+Holds places place old (Ok n) new = (receipt : Moved) × (d : DeskSeen) × steps.Holds old new place receipt × IsLegal d × done.Owes (at d) old place receipt.body.name n
 Holds places place old (Err (fault.Hold f)) new = steps.hold_refused old places place f × (new ≡ old)
 Holds places place old (Err fault.Again) new = new ≡ old
 Holds places place old (Err e) new = ⊥
@@ -69,9 +70,14 @@ Releases places place old (Err e) new = ⊥
 abbrev pub Operates : Holding → Told → List (ℕ × ℕ) → Holding → Type 0
 Operates old (Ok n) counts new
     = WasEntered (Entry.Operate n) × AreEach (IsOperated n) old.held new.held × IsCensus new.held counts × (new.armer ≡ old.armer) × (new.operated ≡ true)
-Operates old (Err (fault.Operate f)) counts new = (new ≡ old) × ((s : State) × steps.census_refused s old.held f)
+Operates old (Err (fault.Operate f)) counts new = (new ≡ old) × ((d : DeskSeen) × IsLegal d × steps.census_refused (at d) old.held f)
 Operates old (Err fault.Again) counts new = new ≡ old
 Operates old (Err e) counts new = ⊥
+
+-- What a census counted takes the place of what one before it did.
+abbrev pub SameCounts : Told → List (ℕ × ℕ) → List (ℕ × ℕ) → Type 0
+SameCounts (Ok n) old new = Unit {0}
+SameCounts (Err e) old new = new ≡ old
 
 abbrev pub Closes : Option ℕ → Holding → Told → Holding → Type 0
 Closes number old (Ok n) new = WasEntered (Entry.Close n) × steps.MayClose old number n × (new ≡ record old { operated = false })

@@ -1,11 +1,12 @@
 //! What any party asks of the desk, under its lock.
-ghost use Rattle.std.specs.Prelude.{◌≡◌, ◌≢◌, ◌<◌, Some, None, Err, IfOk, IfErr};
-ghost use Rattle.parties.specs.Asked.{request_for, Submits, Installs, Invalidates, Begins, FindsReply, FindsNext, Forgets, reply_of};
+ghost use Rattle.std.specs.Prelude.{◌≡◌, Err, IfOk};
+ghost use Rattle.parties.specs.Asked.{request_for, reclaiming_for, names_behind, Submits, Installs, Invalidates, Begins, ReplyAt, FindsReply, FindsNext, Forgets};
 
 use crate::acts::Fault;
+use crate::pairs::first_of;
 use crate::system::SharedSystem;
 use bodies::Name;
-use desk::{AskFault, NotReclaimed, ReclaimFault, Refused};
+use desk::{AskFault, Desk, NotReclaimed, ReclaimFault, Refused};
 use operations::job::Query;
 use operations::{Ask, Request, Targets};
 use std::alloc::{AllocError, Global};
@@ -48,17 +49,19 @@ fn reclaiming_for(
     alloc: Global,
     names: &[u64],
     serial: u64,
-) -> Result<(Option<Request>, Vec<Query>), AllocError> {
-    if names.is_empty() {
+) -> Result<(Option<Request>, Vec<Query>), AllocError>
+    ensures { IfOk result (λ r. r.0 ≡ reclaiming_for serial names.now) }
+{
+    let [_, ..] = names else {
         return Ok((None, Vec::new(alloc)));
-    }
+    };
     let (request, jobs) = request_for(alloc, names, Some(Ask::CountOf(serial)))?;
     Ok((Some(request), jobs))
 }
 
 // The names of a request that was refused go, but where there was no memory.
 fn forget_names(names: &mut Vec<u64>, fault: AskFault)
-    ensures { fault ≡ AskFault.NoMemory → names.new.items ≡ names.old.items }
+    ensures { names.new.items ≡ names_behind (Err (Fault.Ask fault)) names.old.items }
 {
     match fault {
         AskFault::NoMemory => {}
@@ -70,7 +73,9 @@ fn forget_names(names: &mut Vec<u64>, fault: AskFault)
     }
 }
 
-fn forget_names_of(names: &mut Vec<u64>, fault: ReclaimFault) {
+fn forget_names_of(names: &mut Vec<u64>, fault: ReclaimFault)
+    ensures { names.new.items ≡ names_behind (Err (Fault.Reclaim fault)) names.old.items }
+{
     match fault {
         ReclaimFault::Ask(fault) => forget_names(names, fault),
         ReclaimFault::Code(_) | ReclaimFault::AlreadyOpen | ReclaimFault::Spent => names.clear(),
@@ -86,12 +91,12 @@ pub(crate) fn submit<'s, 'n, N: Name>(
     ask: Option<Ask>,
 ) -> Result<u64, Fault>
     ensures said { Submits ask names.old.items result }
-    ensures again { result ≡ Err Fault.Again → names.new.items ≡ names.old.items }
-    ensures no_memory { result ≡ Err (Fault.Ask AskFault.NoMemory) → names.new.items ≡ names.old.items }
+    ensures names { names.new.items ≡ names_behind result names.old.items }
 {
     let Some(mut desk) = system.try_desk() else {
         return Err(Fault::Again);
     };
+    desk.value.history_is_legal();
     let Ok((request, jobs)) = request_for(alloc, names.as_slice(), ask) else {
         return Err(Fault::NoMemory);
     };
@@ -116,12 +121,13 @@ pub(crate) fn reclaim<'s, 'n, N: Name>(
     names: &'n mut Vec<u64>,
     serial: u64,
 ) -> Result<u64, Fault>
-    ensures said { Begins serial result }
-    ensures again { result ≡ Err Fault.Again → names.new.items ≡ names.old.items }
+    ensures said { Begins serial names.old.items result }
+    ensures names { names.new.items ≡ names_behind result names.old.items }
 {
     let Some(mut desk) = system.try_desk() else {
         return Err(Fault::Again);
     };
+    desk.value.history_is_legal();
     let Ok((request, jobs)) = reclaiming_for(alloc, names.as_slice(), serial) else {
         return Err(Fault::NoMemory);
     };
@@ -150,6 +156,7 @@ pub(crate) fn install<N: Name>(system: &SharedSystem<N>, method: u32) -> Result<
     let Some(mut desk) = system.try_desk() else {
         return Err(Fault::Again);
     };
+    desk.value.history_is_legal();
     match desk.value.install(system.board(), method as u64) {
         Ok((installed, _receipt)) => {
             system.set_hint(method, installed.code);
@@ -165,24 +172,24 @@ pub(crate) fn invalidate<N: Name>(system: &SharedSystem<N>, serial: u64) -> Resu
     let Some(mut desk) = system.try_desk() else {
         return Err(Fault::Again);
     };
+    desk.value.history_is_legal();
     match desk.value.invalidate(system.board(), serial) {
         Ok(_receipt) => Ok(0),
         Err(fault) => Err(Fault::Invalidate(fault)),
     }
 }
 
-// The reply of the name in the list.
-fn found_in(list: &[(u64, u64)], name: u64) -> Option<u64>
-    ensures { result ≡ reply_of name list.now }
+// The reply of the name in the operation, of those that the desk keeps.
+fn reply_at<N: Name>(desk: &Desk<N, Query>, op: u64, name: u64) -> Result<u64, Fault>
+    ensures { ReplyAt desk.now op name result }
 {
-    let mut rest = list;
-    while let [(who, reply), others @ ..] = rest {
-        if *who == name {
-            return Some(*reply);
-        }
-        rest = others;
+    let Ok(list) = desk.replies(op) else {
+        return Err(Fault::NoMemory);
+    };
+    match first_of(list.as_slice(), name) {
+        Some(reply) => Ok(reply),
+        None => Err(Fault::NotAnswered),
     }
-    None
 }
 
 pub(crate) fn reply<N: Name>(system: &SharedSystem<N>, op: u64, name: u64) -> Result<u64, Fault>
@@ -191,13 +198,8 @@ pub(crate) fn reply<N: Name>(system: &SharedSystem<N>, op: u64, name: u64) -> Re
     let Some(desk) = system.try_desk() else {
         return Err(Fault::Again);
     };
-    let Ok(list) = desk.value.replies(op) else {
-        return Err(Fault::NoMemory);
-    };
-    match found_in(list.as_slice(), name) {
-        Some(reply) => Ok(reply),
-        None => Err(Fault::NotAnswered),
-    }
+    desk.value.history_is_legal();
+    reply_at(&*desk.value, op, name)
 }
 
 pub(crate) fn live_after<N: Name>(system: &SharedSystem<N>, name: u64) -> Result<u64, Fault>
@@ -206,6 +208,7 @@ pub(crate) fn live_after<N: Name>(system: &SharedSystem<N>, name: u64) -> Result
     let Some(desk) = system.try_desk() else {
         return Err(Fault::Again);
     };
+    desk.value.history_is_legal();
     match desk.value.live_after(name) {
         Some(next) => Ok(next),
         None => Ok(0),
@@ -218,6 +221,7 @@ pub(crate) fn forget<N: Name>(system: &SharedSystem<N>) -> Result<u64, Fault>
     let Some(mut desk) = system.try_desk() else {
         return Err(Fault::Again);
     };
+    desk.value.history_is_legal();
     desk.value.forget();
     Ok(0)
 }

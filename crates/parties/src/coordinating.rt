@@ -1,6 +1,6 @@
 //! The steps of the coordinator: each tries the desk's lock, and behind it that of one room where it needs it.
 ghost use Rattle.std.specs.Prelude.{◌≡◌, IfOk, IfErr};
-ghost use Rattle.parties.specs.Coordinated.{Opens, Tells, Holds, Serves, Releases, Operates, Closes, Weighs};
+ghost use Rattle.parties.specs.Coordinated.{Opens, Tells, Holds, Serves, Releases, Operates, SameCounts, Closes, Weighs};
 
 use crate::acts::Fault;
 use crate::system::SharedSystem;
@@ -17,6 +17,7 @@ pub(crate) fn open<N: Name>(system: &SharedSystem<N>) -> Result<u64, Fault>
     let Some(mut desk) = system.try_desk() else {
         return Err(Fault::Again);
     };
+    desk.value.history_is_legal();
     match desk.value.open() {
         Ok((number, _receipt)) => Ok(number),
         Err(fault) => Err(Fault::Open(fault)),
@@ -35,6 +36,7 @@ pub(crate) fn tell<'s, 'c, 'h, N: Name>(
     let Some(mut desk) = system.try_desk() else {
         return Err(Fault::Again);
     };
+    desk.value.history_is_legal();
     let untold = match keeps.look_up(&*desk.value, name) {
         Ok(Some(untold)) => untold,
         Ok(None) => return Err(Fault::Again),
@@ -70,6 +72,7 @@ pub(crate) fn hold<'s, 'c, N: Name>(
     let Some(desk) = system.try_desk() else {
         return Err(Fault::Again);
     };
+    desk.value.history_is_legal();
     let Some(mut room) = system.try_room(place) else {
         return Err(Fault::Again);
     };
@@ -140,11 +143,13 @@ pub(crate) fn operate<'s, 'c, 'l, N: Name>(
     alloc: Global,
     counts: &'l mut Vec<(u64, u32)>,
 ) -> Result<u64, Fault>
-    ensures { Operates keeps.old result counts.new.items keeps.new }
+    ensures said { Operates keeps.old result counts.new.items keeps.new }
+    ensures counts { SameCounts result counts.old.items counts.new.items }
 {
     let Some(mut desk) = system.try_desk() else {
         return Err(Fault::Again);
     };
+    desk.value.history_is_legal();
     match keeps.operate(&mut *desk.value, system.board(), system.row(), alloc) {
         Ok((number, list, _receipt)) => {
             *counts = list;
@@ -165,6 +170,7 @@ pub(crate) fn close<'s, 'c, N: Name>(
     let Some(mut desk) = system.try_desk() else {
         return Err(Fault::Again);
     };
+    desk.value.history_is_legal();
     match keeps.close(&mut *desk.value, number) {
         Ok((number, _receipt)) => Ok(number),
         Err(fault) => Err(Fault::Close(fault)),

@@ -3,11 +3,11 @@ ghost use Rattle.std.specs.Prelude.{◌≡◌, ◌≢◌, ◌<◌, true, IfOk, I
 ghost use Rattle.desk.specs.declared.entries.Entry.{Entry};
 ghost use Rattle.thread_list.specs.Moves.{SameThread, IsResumed};
 ghost use Rattle.parties.specs.Asked.{WasEntered};
-ghost use Rattle.parties.specs.Acted.{number_of, StartFails, IntoNative, OutOfNative, Blocks, Unblocks, Next, Serves, StaysOn};
+ghost use Rattle.parties.specs.Acted.{number_of, StartFails, IntoNative, OutOfNative, Blocks, Unblocks, Next, Serves, GivesUp, StaysOn};
 
 use crate::acts::Fault;
 use crate::system::SharedSystem;
-use berths::{BodyAct, BodyReceipt};
+use berths::BodyReceipt;
 use bodies::Name;
 use thread_list::Poll;
 use thread_steps::{Entered, ExitFault, Stepper};
@@ -136,6 +136,7 @@ pub(crate) fn enter_start<N: Name>(
     let Some(mut desk) = system.try_desk() else {
         return Err(Fault::Again);
     };
+    desk.value.history_is_legal();
     match desk.value.start(has_image) {
         Ok((name, place, _receipt)) => Ok((name, place)),
         Err(fault) => Err(Fault::Start(fault)),
@@ -160,7 +161,7 @@ pub(crate) fn vacate<N: Name>(
     system: &SharedSystem<N>,
     runner: Stepper<N>,
 ) -> Result<BodyReceipt<N>, (Result<u64, Fault>, Stepper<N>)>
-    ensures vacated { IfOk result (λ r. (r.act ≡ BodyAct.Vacated) × (r.body.name ≡ runner.name)) }
+    ensures vacated { IfOk result (GivesUp runner) }
     ensures refused { IfErr result (λ e. StaysOn runner e.0 e.1) }
 {
     let Some(mut room) = system.try_room(runner.place()) else {
@@ -187,5 +188,6 @@ pub(crate) fn take_off<N: Name>(system: &SharedSystem<N>, name: u64) -> bool
     let Some(mut desk) = system.try_desk() else {
         return false;
     };
+    desk.value.history_is_legal();
     desk.value.exit(name).is_ok()
 }

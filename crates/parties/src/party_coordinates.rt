@@ -4,6 +4,7 @@ ghost use Rattle.parties.specs.Acted.{Acts};
 
 use crate::acts::{Act, Fault};
 use crate::coordinating;
+use crate::pairs::first_of;
 use crate::party::{Party, Role};
 use bodies::Name;
 
@@ -93,11 +94,9 @@ impl<N: Name> Party<N> {
         ensures { Acts N.board.places self.old (Act.Counted serial) result self.new }
     {
         let _ = &self.role;
-        for count in self.counts.as_slice() {
-            if count.0 == serial {
-                return Ok(count.1 as u64);
-            }
+        match first_of(self.counts.as_slice(), serial) {
+            Some(count) => Ok(count as u64),
+            None => Ok(0),
         }
-        Ok(0)
     }
 }

@@ -2,7 +2,7 @@
 ghost use Rattle.std.specs.Prelude.{◌≡◌, ◌≢◌, Ok, Err, IfOk, IfErr};
 ghost use Rattle.desk.specs.declared.entries.Entry.{Entry};
 ghost use Rattle.parties.specs.Asked.{WasEntered};
-ghost use Rattle.parties.specs.Acted.{Acts, StartFails, code_of};
+ghost use Rattle.parties.specs.Acted.{Acts, GivesUp, StartFails, code_of};
 
 use crate::acts::{Act, Fault};
 use crate::crossing::{self, number_of};
@@ -224,8 +224,8 @@ impl<N: Name> Party<N> {
     }
 
     fn enter_start(&mut self) -> Result<(), Fault>
-        requires { self.old ≡ Role.Shares }
-        ensures ok { IfOk result (λ _. (e : _) × (self.new ≡ Role.Starts e) × WasEntered (Entry.Start e.name e.place)) }
+        requires { self.old.role ≡ Role.Shares }
+        ensures ok { IfOk result (λ _. (e : _) × (self.new ≡ record self.old { role = Role.Starts e }) × WasEntered (Entry.Start e.name e.place)) }
         ensures err { IfErr result (λ e. (self.new ≡ self.old) × StartFails N.board.places e) }
     {
         let image = Image::new(self.alloc);
@@ -236,7 +236,7 @@ impl<N: Name> Party<N> {
     }
 
     fn move_in(&mut self) -> Result<u64, Fault>
-        requires { (e : _) × (self.old ≡ Role.Starts e) }
+        requires { (e : _) × (self.old.role ≡ Role.Starts e) }
         ensures { Acts N.board.places self.old Act.Start result self.new }
     {
         let Role::Starts(entered) = mem::replace(&mut self.role, Role::Gone) else {
@@ -269,8 +269,8 @@ impl<N: Name> Party<N> {
     }
 
     fn vacate(&mut self) -> Result<u64, Fault>
-        requires { (r : _) × (self.old ≡ Role.Runs r) }
-        ensures ok { IfOk result (λ n. n ≡ 0 → (m : _) × (r : _) × (self.old ≡ Role.Runs r) × (self.new ≡ Role.Leaves m) × (m.body.name ≡ r.name)) }
+        requires { (r : _) × (self.old.role ≡ Role.Runs r) }
+        ensures ok { IfOk result (λ n. n ≡ 0 → (m : _) × (r : _) × (self.old.role ≡ Role.Runs r) × (self.new ≡ record self.old { role = Role.Leaves m }) × GivesUp r m) }
         ensures told { IfOk result (λ n. n ≢ 0 → Acts N.board.places self.old Act.Exit (Ok n) self.new) }
         ensures err { IfErr result (λ e. Acts N.board.places self.old Act.Exit (Err e) self.new) }
     {

@@ -1,5 +1,5 @@
 -- What a stepper keeps, and what its steps lead to beside those of a running thread.
-use Rattle.std.specs.Prelude.{◌≡◌, ◌<◌, ◌==◌, [], ℕ, Option, Some, None, Bool, true, false}
+use Rattle.std.specs.Prelude.{◌≡◌, ◌≢◌, ◌⊎◌, ◌<◌, ◌==◌, [], ℕ, Option, Some, None, Bool, true, false}
 use Rattle.thread_state.specs.declared.State.{State}
 use Rattle.thread_state.specs.declared.State.TheVariants.{AtPoll, Serving}
 use Rattle.thread_state.specs.declared.Back.{Back}
@@ -13,7 +13,7 @@ use Rattle.berths.specs.Berths.{Moved, Went}
 use Rattle.berths.specs.declared.room.ToldJob.{ToldJob}
 use Rattle.berths.specs.declared.room.BodyAct.TheVariants.{MovedIn, Served}
 use Rattle.thread_list.specs.declared.polls.Poll.{Poll}
-use Rattle.thread_list.specs.Moves.{Running, IsOf, IsGiven, Crosses, IsCleared, as_polled, is_running, is_there}
+use Rattle.thread_list.specs.Moves.{Running, IsOf, IsGiven, Gives, Crosses, IsCleared, as_polled, is_running, is_there}
 use Rattle.thread_steps.specs.BodyStates.{IsReady, IsAnswered, serves}
 
 -- What a stepper keeps: a body is the thread's own, the thread has it in hand where it runs its own code, its name and its
@@ -50,6 +50,16 @@ next_of false old new n back = TakesUp old new n back
 
 abbrev pub StopsNext : Running → Running → ℕ → Type 0
 StopsNext old new n = (back : Back) × next_of (n == 0) old new n back
+
+-- Its body came out of its berth without a job and was published, and a poll after that found a number.
+abbrev pub PollsStill : Running → Running → Type 0
+PollsStill old new
+    = (after : BodyView) × (found : ℕ) × (found ≢ 0) × (new.body ≡ Some (as_polled after found))
+    × Went old.place old.name (Served None) new.crossed × IsPublished new.crossed.body after
+
+-- The thread stays stopped: it is as it was, its body went into its berth, or it polled again.
+abbrev pub StaysStopped : Running → Running → Type 0
+StaysStopped old new = (new.state ≡ old.state) × ((new ≡ old) ⊎ (Gives old new ⊎ PollsStill old new))
 
 -- What the job that came out with the body answered was entered, by the body's frames, the operation cleared, and the thread polled.
 abbrev pub EndsServing : Running → Running → Poll → FinishSeen → Type 0

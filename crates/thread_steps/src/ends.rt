@@ -6,13 +6,13 @@ ghost use Rattle.frames.specs.Stack.{times};
 ghost use Rattle.frames.specs.declared.CodeId.{CodeId as Code};
 ghost use Rattle.thread_state.specs.declared.Back.TheVariants.{Java as OfJava};
 ghost use Rattle.thread_state.specs.declared.State.TheVariants.{InJava as IsInJava, AtPoll as IsAtPoll};
-ghost use Rattle.thread_list.specs.Moves.{SameThread, IsResumed};
+ghost use Rattle.thread_list.specs.Moves.{SameThread, IsResumed, IsVacated, IsGivenUp};
 ghost use Rattle.thread_steps.specs.Moves.{PollsIn};
 ghost use Rattle.thread_steps.specs.Refused.{exit_refused};
 
 use crate::body_state::{BodyState, OwnHand};
 use crate::runner::{Stepper, after_poll};
-use berths::{BodyAct, BodyReceipt, Room};
+use berths::{BodyReceipt, Room};
 use board::Board;
 use bodies::Name;
 use frames::image::Image;
@@ -144,7 +144,8 @@ impl<N: Name> Stepper<N> {
     ) -> Result<BodyReceipt<N>, (ExitFault, Stepper<N>)>
         requires board { board.now ≡ N.board }
         requires row { row.now ≡ N.poll_row }
-        ensures vacated { IfOk result (λ r. (r.act ≡ BodyAct.Vacated) × (r.body.name ≡ self.name)) }
+        ensures vacated { IfOk result (λ r. IsVacated self.place self.name r) }
+        ensures published { IfOk result (λ r. IsGivenUp self.body r) }
         ensures same { IfErr result (λ e. SameThread self e.1) }
         ensures refused { IfErr result (λ e. exit_refused self e.1 e.0) }
     {

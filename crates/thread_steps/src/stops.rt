@@ -1,8 +1,9 @@
 //! The steps of a thread that has stopped at a poll.
-ghost use Rattle.std.specs.Prelude.{◌≡◌, IfOk, IfErr, IfSome, IfNone};
-ghost use Rattle.thread_state.specs.declared.State.TheVariants.{AtPoll as IsAtPoll};
-ghost use Rattle.thread_list.specs.Moves.{SameThread};
-ghost use Rattle.thread_steps.specs.Moves.{StopsNext, EndsServing};
+ghost use Rattle.std.specs.Prelude.{◌≡◌, ◌≢◌, ◌⊎◌, IfOk, IfErr, IfSome, IfNone};
+ghost use Rattle.thread_state.specs.declared.State.TheVariants.{AtPoll as IsAtPoll, Serving as IsServing};
+ghost use Rattle.thread_state.specs.declared.Back.{Back as WayBack};
+ghost use Rattle.thread_list.specs.Moves.{SameThread, Gives};
+ghost use Rattle.thread_steps.specs.Moves.{StopsNext, StaysStopped, PollsStill, EndsServing};
 
 use crate::body_state::{BodyState, OwnHand, OwnRecorder};
 use crate::runner::{Stepper, after_poll};
@@ -29,9 +30,9 @@ impl<N: Name> Stepper<N> {
         requires board { board.now ≡ N.board }
         requires row { row.now ≡ N.poll_row }
         ensures next { IfOk result (λ o. IfSome o (StopsNext self.old self.new)) }
-        ensures again { IfOk result (λ o. IfNone o (self.new.state ≡ self.old.state)) }
+        ensures again { IfOk result (λ o. IfNone o (StaysStopped self.old self.new)) }
         ensures same { SameThread self.old self.new }
-        ensures err { IfErr result (λ s. (s ≡ self.old.state) × (self.new ≡ self.old)) }
+        ensures err { IfErr result (λ s. (s ≡ self.old.state) × ((back : WayBack) → s ≢ IsAtPoll back) × (self.new ≡ self.old)) }
     {
         let back = match &self.body_state {
             BodyState::AtPoll(back, _) => *back,
@@ -53,6 +54,7 @@ impl<N: Name> Stepper<N> {
     fn give_in<J: Errand>(&mut self, room: &mut Room<N, J>, back: Back)
         requires stopped { self.old.state ≡ IsAtPoll back }
         ensures state { self.new.state ≡ self.old.state }
+        ensures given { (self.new ≡ self.old) ⊎ Gives self.old self.new }
         ensures room { room.new.place ≡ room.old.place }
         ensures same { SameThread self.old self.new }
     {
@@ -79,7 +81,8 @@ impl<N: Name> Stepper<N> {
         requires stopped { self.old.state ≡ IsAtPoll back }
         requires place { room.old.place ≡ self.old.place }
         ensures next { IfSome result (StopsNext self.old self.new) }
-        ensures again { IfNone result (self.new.state ≡ self.old.state) }
+        ensures state { IfNone result (self.new.state ≡ self.old.state) }
+        ensures again { IfNone result ((self.new ≡ self.old) ⊎ PollsStill self.old self.new) }
         ensures same { SameThread self.old self.new }
     {
         let given = self.body_state.take_given()?;
@@ -120,7 +123,7 @@ impl<N: Name> Stepper<N> {
         ensures ends { IfOk result (λ o. IfSome o (λ r. EndsServing self.old self.new r.0 r.1)) }
         ensures again { IfOk result (λ o. IfNone o ((self.new ≡ self.old) × (desk.new ≡ desk.old))) }
         ensures same { SameThread self.old self.new }
-        ensures err { IfErr result (λ s. (s ≡ self.old.state) × (self.new ≡ self.old) × (desk.new ≡ desk.old)) }
+        ensures err { IfErr result (λ s. (s ≡ self.old.state) × ((back : WayBack) → s ≢ IsServing back) × (self.new ≡ self.old) × (desk.new ≡ desk.old)) }
     {
         let Some((back, mut body, done)) = self.body_state.take_answered() else {
             return Err(self.state());

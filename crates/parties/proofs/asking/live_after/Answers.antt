@@ -1,6 +1,6 @@
 use Rattle.std.proofs.Common.{◌∙◌, ap, sym}
 use Rattle.desk.specs.Fields.{at}
-use Rattle.parties.specs.Asked.{or_zero}
+use Rattle.parties.specs.Pairs.{or_zero}
 use Rattle.parties.proofs.asking.live_after.Goals as goal
 
 pub returns-in-Some-live_after : goal.returns-in-Some-live_after
