@@ -5,6 +5,8 @@ use Rattle.bodies.specs.Census.{IsCensus}
 use Rattle.operations.specs.declared.Kind.{Kind}
 use Rattle.operations.specs.declared.Kind.TheVariants as kind
 use Rattle.operations.specs.Requests.{is_census, kind_of}
+use Rattle.desk.specs.declared.entries.Entry.TheVariants.{Close}
+use Rattle.desk.specs.Fields.{DeskSeen, Enters, at}
 use Rattle.desk.specs.Machine.{State, Current, Stands}
 use Rattle.desk.specs.Refusals.{oldest_of, front_is, MayOperate}
 use Rattle.coordinator.specs.declared.faults.Driven.{Driven}
@@ -38,14 +40,16 @@ abbrev pub kind_by : {L : Type 0} → Option L → Kind
 kind_by None = kind.Handshake
 kind_by (Some list) = kind.Census
 
--- The number is that of the oldest open request, which was of this kind.
-abbrev pub WasOldest : Kind → ℕ → Type 0
-WasOldest k n = (s : State) × (o : Current) × (oldest_of s.opened ≡ Some o) × (n ≡ o.number) × (open_kind s ≡ Some k)
+-- The Close of the receipt was entered where the oldest open request had this number, and was of this kind.
+abbrev pub WasOldest : Kind → ℕ → Stands → Type 0
+WasOldest k n done
+    = (before : DeskSeen) × (after : DeskSeen) × Enters before after (Close n) done
+    × ((o : Current) × (oldest_of (at before).opened ≡ Some o) × (n ≡ o.number)) × (open_kind (at before) ≡ Some k)
 
 -- What was worked on is told as what it was.
-abbrev pub IsWorked : Driven → Type 0
-IsWorked (Handshake n) = WasOldest kind.Handshake n
-IsWorked (Census n list) = WasOldest kind.Census n
+abbrev pub IsWorked : Driven → Stands → Type 0
+IsWorked (Handshake n) done = WasOldest kind.Handshake n done
+IsWorked (Census n list) done = WasOldest kind.Census n done
 
 -- What was held is held, and more may be behind it; what was armed is armed, or a greater number.
 abbrev pub HoldsOn : Holding → Holding → Type 0

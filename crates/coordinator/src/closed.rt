@@ -66,7 +66,7 @@ impl<N: Name> Closed<N> {
         requires kind { self.kind ≡ kind_by list }
         requires list { IfSome list (λ counts. IsCounted counts.items) }
         ensures number { number_of result.0 ≡ self.number }
-        ensures worked { WasOldest self.kind self.number → IsWorked result.0 }
+        ensures worked { WasOldest self.kind self.number self.done → IsWorked result.0 result.1 }
         ensures listed { IsListed result.0 }
         ensures closed { result.1 ≡ self.done }
     {

@@ -159,7 +159,7 @@ impl<'a, N: Name, J: Errand> Coordinator<'a, N, J> {
     // Closes the oldest open request where it is of this kind.
     pub(crate) fn close_kind<R: Wait>(&mut self, rt: &R, kind: Kind) -> Option<Closed<N>>
         ensures closed { IfSome result (λ c. (c.done.entry ≡ Entry.Close c.number)
-            × WasOldest kind c.number × (c.kind ≡ kind)) }
+            × WasOldest kind c.number c.done × (c.kind ≡ kind)) }
         ensures same { OnSome result (self.new ≡ record self.old { operated = false }) }
         ensures open { IfNone result (self.new ≡ self.old) }
     {
@@ -170,7 +170,7 @@ impl<'a, N: Name, J: Errand> Coordinator<'a, N, J> {
 
     fn try_close_kind<R: Wait>(&self, rt: &R, kind: Kind) -> Option<Closed<N>>
         ensures { IfSome result (λ c. (c.done.entry ≡ Entry.Close c.number)
-            × WasOldest kind c.number × (c.kind ≡ kind)) }
+            × WasOldest kind c.number c.done × (c.kind ≡ kind)) }
     {
         let mut desk = self.shared.desk().lock_in_line(rt);
         let closed = match Closed::close(&mut desk, self.bodies.as_slice(), kind) {

@@ -48,7 +48,7 @@ impl<'a, N: Name, J: Errand> Coordinator<'a, N, J> {
     /// caller has operated the census, the list is over the threads that are still held.
     pub fn drive<R: Wait>(&mut self, rt: &R) -> Result<(Driven, Receipt<N>), DriveFault>
         ensures closed { IfOk result (λ r. r.1.entry ≡ Entry.Close (number_of r.0)) }
-        ensures worked { IfOk result (λ r. IsWorked r.0) }
+        ensures worked { IfOk result (λ r. IsWorked r.0 r.1) }
         ensures listed { IfOk result (λ r. IsListed r.0) }
         ensures free { OnOk result ((self.new.held ≡ []) × (self.new.operated ≡ false)) }
         ensures refused { IfErr result (drive_refused self.old self.new) }

@@ -50,7 +50,7 @@ impl<'a, N: Name, J: Errand> Coordinator<'a, N, J> {
         rt: &R,
     ) -> Result<(Driven, Receipt<N>), DriveFault>
         ensures closed { IfOk result (λ r. r.1.entry ≡ Entry.Close (number_of r.0)) }
-        ensures worked { IfOk result (λ r. IsWorked r.0) }
+        ensures worked { IfOk result (λ r. IsWorked r.0 r.1) }
         ensures listed { IfOk result (λ r. IsListed r.0) }
         ensures free { OnOk result ((self.new.held ≡ []) × (self.new.operated ≡ false)) }
         ensures refused { IfErr result (λ e. e ≡ DriveFault.NoMemory) }
@@ -70,7 +70,7 @@ impl<'a, N: Name, J: Errand> Coordinator<'a, N, J> {
     fn close_census<R: Wait>(&mut self, rt: &R, wanted: u64) -> Closed<N>
         requires free { self.old.held ≡ [] }
         ensures closed { (result.done.entry ≡ Entry.Close result.number)
-            × WasOldest kind.Census result.number × (result.kind ≡ kind.Census) }
+            × WasOldest kind.Census result.number result.done × (result.kind ≡ kind.Census) }
         ensures free { (self.new.held ≡ []) × (self.new.operated ≡ false) }
         ensures armer { self.new.armer ≡ self.old.armer }
     {
@@ -86,7 +86,7 @@ impl<'a, N: Name, J: Errand> Coordinator<'a, N, J> {
     fn close_again<R: Wait>(&mut self, rt: &R) -> Closed<N>
         requires free { self.old.held ≡ [] }
         ensures closed { (result.done.entry ≡ Entry.Close result.number)
-            × WasOldest kind.Census result.number × (result.kind ≡ kind.Census) }
+            × WasOldest kind.Census result.number result.done × (result.kind ≡ kind.Census) }
         ensures free { (self.new.held ≡ []) × (self.new.operated ≡ false) }
         ensures armer { self.new.armer ≡ self.old.armer }
     {

@@ -85,7 +85,7 @@ impl<'a, N: Name, J: Errand> Coordinator<'a, N, J> {
         told: AllTold<N, J>,
     ) -> (Driven, Receipt<N>)
         ensures closed { result.1.entry ≡ Entry.Close (number_of result.0) }
-        ensures worked { IsWorked result.0 }
+        ensures worked { IsWorked result.0 result.1 }
         ensures listed { IsListed result.0 }
         ensures free { (self.new.held ≡ []) × (self.new.operated ≡ false) }
         ensures armer { self.new.armer ≡ self.old.armer }
