@@ -1,8 +1,10 @@
 //! The steps of a thread that has stopped at a poll.
-ghost use Rattle.std.specs.Prelude.{◌≡◌, IfOk, IfErr, IfSome, IfNone};
-ghost use Rattle.thread_state.specs.declared.State.TheVariants.{AtPoll as IsAtPoll};
+ghost use Rattle.std.specs.Prelude.{◌≡◌, ◌≢◌, IfOk, IfErr, IfSome, IfNone};
+ghost use Rattle.thread_state.specs.declared.State.TheVariants.{AtPoll as IsAtPoll, Serving as IsServing};
+ghost use Rattle.thread_state.specs.declared.Back.{Back as WayBack};
 ghost use Rattle.thread_list.specs.Moves.{SameThread};
-ghost use Rattle.thread_steps.specs.Moves.{StopsNext, EndsServing};
+ghost use Rattle.desk.specs.Fields.{at};
+ghost use Rattle.thread_steps.specs.Moves.{StopsNext, EndsServing, IsNotEntered};
 
 use crate::body_state::{BodyState, OwnHand, OwnRecorder};
 use crate::runner::{Stepper, after_poll};
@@ -31,7 +33,7 @@ impl<N: Name> Stepper<N> {
         ensures next { IfOk result (λ o. IfSome o (StopsNext self.old self.new)) }
         ensures again { IfOk result (λ o. IfNone o (self.new.state ≡ self.old.state)) }
         ensures same { SameThread self.old self.new }
-        ensures err { IfErr result (λ s. (s ≡ self.old.state) × (self.new ≡ self.old)) }
+        ensures err { IfErr result (λ s. (s ≡ self.old.state) × ((back : WayBack) → s ≢ IsAtPoll back) × (self.new ≡ self.old)) }
     {
         let back = match &self.body_state {
             BodyState::AtPoll(back, _) => *back,
@@ -119,8 +121,9 @@ impl<N: Name> Stepper<N> {
         requires row { row.now ≡ N.poll_row }
         ensures ends { IfOk result (λ o. IfSome o (λ r. EndsServing self.old self.new r.0 r.1)) }
         ensures again { IfOk result (λ o. IfNone o ((self.new ≡ self.old) × (desk.new ≡ desk.old))) }
+        ensures not_entered { IfOk result (λ o. IfNone o (IsNotEntered (at desk.old) self.old)) }
         ensures same { SameThread self.old self.new }
-        ensures err { IfErr result (λ s. (s ≡ self.old.state) × (self.new ≡ self.old) × (desk.new ≡ desk.old)) }
+        ensures err { IfErr result (λ s. (s ≡ self.old.state) × ((back : WayBack) → s ≢ IsServing back) × (self.new ≡ self.old) × (desk.new ≡ desk.old)) }
     {
         let Some((back, mut body, done)) = self.body_state.take_answered() else {
             return Err(self.state());
