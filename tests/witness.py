@@ -1,5 +1,5 @@
 #!/usr/bin/env python3
-"""Looks for an order of recorded runs of real threads: witness.py LIBSAFEPOINT MONITOR [SEEDS] [--liars] [--many N]
+"""Looks for an order of recorded runs of real threads: witness.py LIBSAFEPOINT MONITOR [SEEDS] [--liars] [--many N [FIRST]]
 
 | what | how |
 |---|---|
@@ -8,7 +8,7 @@
 | each log has an order | `witness --order`; MONITOR answers its lines as the log says, and `confirm`, where it is built, writes them |
 | logs by hand in `calls`, texts that are no logs, and bad words | each is told as it is to be |
 | --liars: the recorder hears lies | each kind is told within ten runs |
-| --many N: so many runs more, of 2 to 16 threads | how many have an order, calls a second, and the slowest |
+| --many N FIRST: N runs of 2 to 16 threads, from number FIRST (0) on | each has an order that MONITOR answers alike, and that `confirm` takes where it is built; calls a second, and the slowest |
 
 What can't be built for want of a tool is told and left out. The last line is `N passed, M failed`; the status is 0 where none failed.
 """
@@ -28,6 +28,7 @@ ROOT = TESTS.parent
 WITNESS = ROOT / "witness" / "witness"
 sys.path.insert(0, str(WITNESS.parent))
 from calls import read_log
+from confirming import confirmed, order_text
 from search import FOUND, Search
 
 CONFIRM = ROOT / "crates" / "confirm" / "out" / "confirm"
@@ -116,18 +117,28 @@ class Tests:
         found = self.witness(log, "--order")
         if found.returncode:
             return f"status {found.returncode}: {found.stderr[:2000]}"
-        made = made_in(found.stdout[len(log):])
-        lines = lines_of(log, made)
-        return disagreement(log, made, self.replayed(lines)[1:]) or self.unconfirmed(log, lines)
+        return self.fault_of_order(log, found.stdout)
 
-    def unconfirmed(self, log, lines):
+    def fault_of_order(self, log, order):
+        """Why the core doesn't answer in this order as the log says, or `confirm`, where it is built, doesn't take it; or None."""
+        made = made_in(order[len(log):])
+        lines = lines_of(log, made)
+        return disagreement(log, made, self.replayed(lines)[1:]) or self.unconfirmed(order, lines)
+
+    def unconfirmed(self, order, lines):
         """Why `confirm` doesn't write these lines, or None; None too where it isn't built."""
         if not CONFIRM.is_file():
             return None
+        written, said = confirmed(CONFIRM, order)
+        return None if written == lines else f"confirm: {said}"
+
+    def unwritten(self, log):
+        """Why `witness` by itself doesn't write lines of the log, or None; None too where `confirm` isn't built."""
+        if not CONFIRM.is_file():
+            return None
         found = self.witness(log)
-        if found.returncode or found.stdout != lines:
-            return f"confirm: status {found.returncode}: {found.stderr[:500]}"
-        return None
+        is_begun = found.stdout.startswith(log.splitlines()[1] + "\n")
+        return None if found.returncode == 0 and is_begun else f"status {found.returncode}: {found.stderr[:500]}"
 
 
 def made_in(order):
@@ -216,7 +227,7 @@ def by_hand(tests):
             is_told = ran.returncode == 1 and ran.stderr.startswith("witness: no order: all was tried\ncalls in order: ") and not ran.stdout
             tests.judge(page.name, None if is_told else f"status {ran.returncode}, {ran.stderr[:500]}")
         else:
-            tests.judge(page.name, tests.fault_of(log))
+            tests.judge(page.name, tests.fault_of(log) or tests.unwritten(log))
 
 
 def faults(tests):
@@ -251,35 +262,38 @@ def liars(tests):
         tests.judge(f"a lie about {liar}", None if told else f"not told in {LIED_RUNS} runs")
 
 
-def many(tests, runs):
+def many(tests, runs, first):
     """Prints how many runs have an order, and how long a processor read and searched their logs."""
     program = tests.built("many", TESTS / "witness_threads.c")
     found = calls = taken = slowest = 0
-    for run in range(runs):
+    for run in range(first, first + runs):
         count = 2 + run % 15
         log = tests.log(program, count, STEPS, 100_000 + run)
         if not tests.judge(f"{count} threads, run {run}", None if log else "the run failed"):
             continue
         begun = time.process_time()
         search = Search(read_log(log), MOST_STEPS, MOST_SECONDS)
-        is_found = tests.judge(f"{count} threads, run {run}: an order", None if search.run() == FOUND else "none was found")
+        why = None if search.run() == FOUND else "none was found"
         lasted = time.process_time() - begun
-        found, calls, taken, slowest = found + is_found, calls + search.total, taken + lasted, max(slowest, lasted)
-        if run % 100 == 99 or run == runs - 1:
-            print(f"{found} of {run + 1} runs have an order; {calls} calls, {calls / taken:.0f} a second, {slowest:.2f} s the slowest", flush=True)
+        why = why or tests.fault_of_order(log, order_text(log, search.made))
+        found += tests.judge(f"{count} threads, run {run}: an order", why)
+        calls, taken, slowest = calls + search.total, taken + lasted, max(slowest, lasted)
+        if run % 100 == 99 or run == first + runs - 1:
+            done = run + 1 - first
+            print(f"{found} of {done} runs have an order; {calls} calls, {calls / taken:.0f} a second, {slowest:.2f} s the slowest", flush=True)
 
 
 def main():
     words = sys.argv[1:]
-    runs = 0
+    runs = first = 0
     if "--many" in words:
         at = words.index("--many")
-        runs = int(words[at + 1])
-        del words[at:at + 2]
+        runs, first = (int(word) for word in (words[at + 1:] + ["0"])[:2])
+        del words[at:at + 3]
     has_liars = "--liars" in words
     words = [word for word in words if word != "--liars"]
     if not 2 <= len(words) <= 3 or len(words) == 3 and not re.fullmatch("[0-9]+", words[2]):
-        sys.exit("witness.py LIBSAFEPOINT MONITOR [SEEDS] [--liars] [--many N]")
+        sys.exit("witness.py LIBSAFEPOINT MONITOR [SEEDS] [--liars] [--many N [FIRST]]")
     if shutil.which(os.environ.get("CC", "cc")) is None:
         print("left out: all, since there is no C compiler\n0 passed, 0 failed")
         return 0
@@ -293,7 +307,7 @@ def main():
         if has_liars:
             liars(tests)
         if runs:
-            many(tests, runs)
+            many(tests, runs, first)
     print(f"{tests.passed} passed, {tests.failed} failed")
     return 1 if tests.failed else 0
 
