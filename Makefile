@@ -18,7 +18,7 @@
 # make safepoint  builds the library by which C, C++ and Rust stop threads, and tries it from each
 .PHONY: run build install uninstall test examples embed safepoint pictures random parts edits bench scale hostile runs soak side witness
 
-PROGRAMS ?= monitor timeline model safepoint
+PROGRAMS ?= monitor timeline confirm model safepoint
 PREFIX ?= /usr/local
 DESTDIR ?=
 PICTURES = handshake_native four_handshakes safepoint_census reclaiming

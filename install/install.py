@@ -22,10 +22,11 @@ sys.path.insert(0, str(ROOT / "tests"))
 import proved
 from toolchain import toolchain
 
-INCLUDE, WAITS = CRATES / "safepoint" / "include", CRATES / "safepoint" / "waits"
-PROGRAMS, LIBRARIES = ("monitor", "timeline"), ("safepoint", "model")
+INCLUDE, WAITS, WITNESS = CRATES / "safepoint" / "include", CRATES / "safepoint" / "waits", ROOT / "witness"
+PROGRAMS, LIBRARIES = ("monitor", "timeline", "confirm"), ("safepoint", "model")
 WAIT_LIBRARY = "libsafepoint_wait.a"
-OWN_FOLDERS = ("share/safepoint",)
+OWN_FOLDERS = ("share/safepoint/witness", "share/safepoint")
+RUNS = ("bin/witness", "share/safepoint/witness/witness")
 VERSION = "0.1.0"
 
 
@@ -34,6 +35,8 @@ def plain_files():
     yield from ((f"include/{it}", INCLUDE / it) for it in ("safepoint.h", "safepoint_wait.h", "safepoint_record.h", "safepoint.hpp"))
     yield "include/model.h", CRATES / "model" / "include" / "model.h"
     yield from ((f"share/safepoint/{it.name}", it) for it in sorted(WAITS.glob("*.c")))
+    yield "bin/witness", HERE / "witness.sh"
+    yield from ((f"share/safepoint/witness/{it.name}", it) for it in (WITNESS / "witness", *sorted(WITNESS.glob("*.py"))))
     yield from ((f"share/man/man{it.suffix[1:]}/{it.name}", it) for it in sorted(HERE.glob("*.[13]")))
 
 
@@ -106,13 +109,14 @@ def install(place):
             place.put(room / f"{name}.pc", f"lib/pkgconfig/{name}.pc")
         place.put(waits_archive(room), f"lib/{WAIT_LIBRARY}")
         for to, source in plain_files():
-            place.put(source, to)
+            place.put(source, to, 0o755 if to in RUNS else 0o644)
     return 0
 
 
 def uninstall(place):
     for it in targets():
         (place.top / it).unlink(missing_ok=True)
+    shutil.rmtree(place.top / "share" / "safepoint" / "witness" / "__pycache__", ignore_errors=True)
     for it in OWN_FOLDERS:
         with contextlib.suppress(OSError):  # it isn't there, or has files of others
             (place.top / it).rmdir()

@@ -21,6 +21,7 @@ import tempfile
 ROOT = pathlib.Path(__file__).resolve().parent.parent
 PAGE = ROOT / "docs" / "start" / "EMBEDDING.md"
 EXAMPLES = ROOT / "examples"
+CALLS = ROOT / "tests" / "calls" / "drives.log"
 SECONDS = 120
 WARNINGS = ["-O2", "-Wall", "-Wextra", "-Werror", "-Wno-unused-parameter"]
 FIRST_STOP = b"operation 1 at place 0\nclosed 1\n"
@@ -127,6 +128,11 @@ def uses(tests, installed, folder):
     tests.run(f"{installed.name}: monitor", [installed.top / "bin" / "monitor", "replay"], (EXAMPLES / "one_publication.out").read_bytes(), input=lines)
     picture = EXAMPLES / "handshake_native"
     tests.run(f"{installed.name}: timeline", [installed.top / "bin" / "timeline"], picture.with_suffix(".svg").read_bytes(), input=picture.with_suffix(".lines").read_bytes())
+    calls = CALLS.read_bytes()
+    ran = subprocess.run([installed.top / "bin" / "witness"], input=calls, capture_output=True, timeout=SECONDS)
+    is_ordered = ran.returncode == 0 and not ran.stderr and ran.stdout.startswith(calls.splitlines(keepends=True)[1])
+    if tests.judge(f"{installed.name}: witness, with confirm", is_ordered, f"status {ran.returncode}, {ran.stderr[-600:]!r}"):
+        tests.run(f"{installed.name}: monitor takes its lines", [installed.top / "bin" / "monitor", "replay"], input=ran.stdout)
 
 
 def whole(tests, installed, folder):
