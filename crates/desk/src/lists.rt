@@ -325,7 +325,7 @@ fn has_body<N: Name>(bodies: &[Body<N>], name: u64) -> bool
     bodies.iter().any(|b| b.name() == name)
 }
 
-// The same, first tried at an index.
+// Whether a body has the name, which is first looked for at an index.
 #[tactic(auto, using(crate::proofs::Listed::body_at))]
 fn has_body_at<N: Name>(bodies: &[Body<N>], index: usize, name: u64) -> bool
     ensures { result ≡ has_body name bodies.now }
@@ -399,8 +399,8 @@ fn take_first<J: Errand>(jobs: &mut VecDeque<J>, name: u64) -> Option<J>
     None
 }
 
-// The same, where the front is looked at before the list is searched: jobs are mostly taken in the order in which they stand, and
-// the first is taken without moving another.
+// Takes the first job for the name. The front is looked at before the list is searched: jobs are mostly taken in their order, and the
+// first is taken without moving another.
 #[inline(always)]
 fn take_of<J: Errand>(jobs: &mut VecDeque<J>, name: u64) -> Option<J>
     ensures job { IfSome result (λ j. J.whom j ≡ name) }

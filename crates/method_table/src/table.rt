@@ -344,7 +344,7 @@ impl MethodTable {
         self.noted(serial)
     }
 
-    // The same, by the index.
+    // The code of the serial, by the index.
     fn noted(&self, serial: u64) -> Option<Code>
         ensures sound { IsTable self.now }
         ensures value { result ≡ unfreed self.now.codes serial }

@@ -88,7 +88,7 @@ fn put_short(waits: &mut Vec<u8>, said: &Reply)
     }
 }
 
-/// The same of a list, which joins what waits once it is whole.
+/// Puts a reply that is a list behind what waits, once its text is whole.
 #[cold]
 fn put_long(text: &mut Vec<u8>, waits: &mut Vec<u8>, said: Reply) -> Result<(), AllocError>
     ensures text { OnOk result (waits.new.items ≡ waits.old.items ++ (reply_text said ++ 10 ∷ [])) }

@@ -57,7 +57,7 @@ fn near_end(bytes: &[u8]) -> usize
     }
 }
 
-/// The same as `find_end`, for a line of any length.
+/// What `find_end` finds, for a line of any length.
 #[inline(never)]
 fn far_end(bytes: &[u8]) -> usize
     ensures at { result ≡ first_at 10 bytes.now }
@@ -141,7 +141,7 @@ pub(crate) fn last(tail: &[u8]) -> Option<u64>
     if is_end(rest) { Some(n) } else { None }
 }
 
-/// The same number, where it is that of a place: those have mostly one digit or two, which are read at once.
+/// What `last` answers, for the number of a place: those have mostly one digit or two, which are read at once.
 #[inline(always)]
 pub(crate) fn place(tail: &[u8]) -> Option<u64>
     ensures { result ≡ last_number (words_after tail.now) }

@@ -127,7 +127,7 @@ impl System {
         Ok(said)
     }
 
-    // The same of an event that is lent. It is copied where it isn't refused.
+    // Applies an event that is lent. It is copied where it isn't refused.
     fn apply_copy(&mut self, alloc: Global, event: &Event) -> Result<Answer, AllocError>
         ensures answered { IfOk result (λ answer. Next self.old event.now answer self.new) }
         ensures refused { OnErr result (self.new ≡ self.old) }
