@@ -26,8 +26,9 @@ const ROOM: usize = MOVED + CELLS;
 /// reserves its room once.
 ///
 /// Calls and returns only note them: the cell of a code's slot has the code with its net, so that
-/// a move looks at that cell alone, and neither searches nor shifts any list. A publication first
-/// flushes, which lists and sorts them.
+/// a move looks at that cell alone, and neither searches nor shifts any list: a call and its return
+/// take about 10 ns at a depth of 256, and 90 over a sorted list (docs/project/SPEED.md). A
+/// publication first flushes, which lists and sorts them.
 #[derive(Drop)]
 pub(crate) struct Nets {
     // By the last bits of a slot: a code with its net. One with other last bits stands for none.
