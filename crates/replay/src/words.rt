@@ -5,11 +5,9 @@ ghost use Rattle.replay.specs.Words.{words, words_after, is_nil};
 ghost use Rattle.replay.specs.Scanned.{first_at, digits_from, begins_well};
 ghost use Rattle.replay.specs.Grammar.{took, last_number};
 
+use frames::LAST;
 use memchr::memchr_iter;
 use std::simd::prelude::*;
-
-/// The greatest number of a line.
-const GREATEST: u64 = 1_099_511_627_775;
 
 /// The bytes that are looked at first for the end of a line.
 const NEAR: usize = 16;
@@ -100,7 +98,7 @@ fn digits(bytes: &[u8]) -> Option<(u64, &[u8])>
             };
         }
         value = value * 10 + (*b as u64 - b'0' as u64);
-        if value > GREATEST {
+        if value > LAST {
             return None;
         }
     }
