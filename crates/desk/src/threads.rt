@@ -5,13 +5,14 @@ ghost use Rattle.desk.specs.Refusals.{start_refused, MayStart};
 ghost use Rattle.desk.specs.Fields.{at, Enters};
 ghost use Rattle.desk.specs.Targets.{name_at, live_after};
 
-use crate::desk::{Desk, LAST};
+use crate::desk::Desk;
 use crate::entries::{Entry, Live};
 use crate::faults::{NotLive, StartFault, start_fault};
 use crate::lists::{is_census_open, least_free, lives, make_room, names_of, take_off_live};
 use crate::log::Receipt;
 use crate::targets::{live_after, name_at};
 use bodies::Name;
+use frames::LAST;
 use operations::job::Errand;
 use std::alloc::AllocError;
 
