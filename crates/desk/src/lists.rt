@@ -114,7 +114,7 @@ pub fn steps_of(request: &Request) -> usize
 }
 
 /// Whether a census is open.
-pub fn is_census_open<J>(opened: &[Opened<J>]) -> bool
+pub fn has_census<J>(opened: &[Opened<J>]) -> bool
     ensures { result ≡ has_census (map current_of opened.now) }
 {
     let mut rest = opened;
@@ -131,7 +131,7 @@ pub fn is_census_open<J>(opened: &[Opened<J>]) -> bool
 pub fn kind_among<J>(opened: &[Opened<J>]) -> Kind
     ensures { result ≡ kind_among (map current_of opened.now) }
 {
-    if is_census_open(opened) {
+    if has_census(opened) {
         Kind::Census
     } else {
         Kind::Handshake
@@ -183,7 +183,7 @@ pub fn least_pending<J>(queue: &Queue<Carried<J>>, opened: &[Opened<J>], next: u
 pub fn may_open_more<J>(queue: &Queue<Carried<J>>, opened: &[Opened<J>]) -> bool
     ensures { result ≡ may_open_more (map asked_of queue.now) (map current_of opened.now) }
 {
-    opened.len() < OPEN && !is_census_open(opened) && !(awaits_census(queue) && !opened.is_empty())
+    opened.len() < OPEN && !has_census(opened) && !(awaits_census(queue) && !opened.is_empty())
 }
 
 /// Where the open request of the number stands.
