@@ -16,15 +16,13 @@ use crate::rule::{About, Free, GoRound, Install, Invalidate, Look, Retire, Weigh
 use crate::weighed::Weighed;
 use crate::words::{MOMENT, count_at, entry_at, place_at};
 use atomic_table::Seat;
-use frames::CodeId;
 use frames::board_rule::{BoardView, Entry, EntryState};
+use frames::{CodeId, LAST};
 use std::marker::{Brand, Model};
 
 /// The last moment was reached, 2^40 - 1.
 #[derive(Clone, Copy, Debug, PartialEq, Eq)]
 pub struct Spent;
-
-const LAST_MOMENT: u64 = (1 << 40) - 1;
 
 /// Stores the entries of the codes, looks at the places, weighs the codes, and counts the moments. A board has one. Contracts
 /// see its board and its view.
@@ -221,7 +219,7 @@ impl Keeper {
         ensures { result ≡ nat_le (2 ^ 40) (self.now.seen.moment + 1) }
     {
         let _ = &self.seat;
-        self.moment >= LAST_MOMENT
+        self.moment >= LAST
     }
 
     /// Begins the next moment: one fetch-add. `Spent`, without a step, where the last moment was reached.

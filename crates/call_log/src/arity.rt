@@ -47,7 +47,7 @@ fn call_range(word: Word) -> Option<(usize, usize)>
     }
 }
 
-/// The same of a word that is answered.
+/// How many numbers may follow a word that is answered, at least and at most.
 fn answer_range(word: Word) -> Option<(usize, usize)>
     ensures { result ≡ answer_range word }
 {

@@ -77,7 +77,7 @@ fn scripts_are_answered(rt: HostRuntime) -> Result<(), Fail> {
     Ok(())
 }
 
-// The same from a source to a sink: a fault is told and nothing is written.
+// From a source to a sink: a fault is told and nothing is written.
 #[test]
 fn scripts_are_checked(rt: HostRuntime) -> Result<(), Fail> {
     for (text, written, told) in [

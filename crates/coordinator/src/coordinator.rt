@@ -109,7 +109,7 @@ impl<'a, N: Name, J: Errand> Coordinator<'a, N, J> {
         self.close_chosen(rt, None)
     }
 
-    /// The same of the open request of the number.
+    /// Closes the open request of the number, and drops the jobs of targets that are gone.
     pub fn close_of<R: Wait>(&mut self, rt: &R, number: u64) -> Result<Closing<N>, CloseFault>
         ensures closed { IfOk result (λ r. (r.stands.entry ≡ Entry.Close number)
             × MayClose self.old (Some number) number) }

@@ -35,7 +35,7 @@ impl<'a, N: Name, J: Errand> Coordinator<'a, N, J> {
         }
     }
 
-    // The same, with the receipt of its berth where the thread isn't safe. The berth's lock comes after the desk's: where the thread got
+    // Holds the thread, or answers its berth's receipt where it isn't safe. The berth's lock comes after the desk's: where the thread got
     // done between the two, its berth tells that nothing is told to it, and the desk is asked again.
     fn take_safe<R: Wait>(&mut self, rt: &R, place: usize) -> Result<BodyReceipt<N>, Unheld<N>>
         ensures held { IfOk result (Holds self.old self.new place) }

@@ -21,7 +21,7 @@ pub struct Telling {
     pub number: u64,
 }
 
-/// The same, with its job there.
+/// What a thread is to be told, with its job where there is one.
 #[derive(Drop)]
 pub struct Untold<J> {
     pub what: Telling,
@@ -29,7 +29,7 @@ pub struct Untold<J> {
 }
 
 impl<J> Untold<J> {
-    /// The same, with the job, which is no longer here then.
+    /// Takes the job out, and answers what the thread is to be told with it.
     #[inline(always)]
     pub fn taken(&mut self) -> Untold<J>
         ensures same { result ≡ self.old }
@@ -156,7 +156,7 @@ fn has_more<N: Name, J: Errand>(desk: &Desk<N, J>, name: u64, number: u64) -> bo
     desk.open_count() > 1 && desk.untold(name, number).is_some()
 }
 
-// The same with its job, which the desk has no longer then.
+// What a thread is to be told, with its job, which is taken from the desk.
 #[inline(always)]
 fn with_job<N: Name, J: Errand>(desk: &mut Desk<N, J>, what: Telling) -> Untold<J>
     ensures what { result.what ≡ what }

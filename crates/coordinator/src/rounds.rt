@@ -37,7 +37,7 @@ impl<N: Name, J: Errand> Model for Begun<N, J> {
         b.after.value.keeper ≡ went_round b.before.value.keeper b.before.value.keeper.moment };
 }
 
-/// The same once the handshake is closed, where there is one, with the receipt of its Close.
+/// A reclaim whose handshake is closed, where there is one, with the receipt of its Close.
 pub struct Shaken<N: Name, J: Errand> {
     begun: Begun<N, J>,
     closed: Option<Receipt<N>>,

@@ -29,7 +29,7 @@ impl<'a, N: Name, J: Errand> Coordinator<'a, N, J> {
         self.tell_with(rt, name, None)
     }
 
-    // The same, with a job for the name that was taken before, if any.
+    // Tells the name, with a job for it that was taken before, if any.
     fn tell_with<R: Wait>(
         &mut self,
         rt: &R,
@@ -110,7 +110,7 @@ impl<'a, N: Name, J: Errand> Coordinator<'a, N, J> {
         self.list_from(&mut desk)
     }
 
-    // The same under a hold of the desk's lock.
+    // Lists them under a hold of the desk's lock.
     pub(crate) fn list_from(&mut self, desk: &mut Desk<N, J>) -> Listed<N, J>
         ensures same { self.new ≡ self.old }
         ensures seen { result.seen ≡ desk.old }

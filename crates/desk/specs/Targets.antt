@@ -31,7 +31,7 @@ is_target_of next name c = is_asked next name c.request && nat_lt name c.before
 abbrev pub kind_among : List Current → Kind
 kind_among cs = if has_census cs then kind.Census else kind.Handshake
 
--- the same of a name by its place, where it is live
+-- how a name that is asked stands, by its place where it is live
 abbrev pub standing_at : Option ℕ → Bool → Kind → Standing
 standing_at None has k = Gone
 standing_at (Some place) has k = if has then Asked record { place = place; kind = k } else Gone

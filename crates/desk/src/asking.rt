@@ -9,13 +9,14 @@ ghost use Rattle.desk.specs.Refusals.{ask_refused, ask_refused_if, MayAsk};
 ghost use Rattle.desk.specs.Fields.{at, Enters};
 ghost use Rattle.desk.specs.JobsFit.{jobs_fit, request_of};
 
-use crate::desk::{Desk, LAST};
+use crate::desk::Desk;
 use crate::entries::{Carried, Entry};
 use crate::faults::{AskFault, Refused, ask_fault};
 use crate::lists::{fit_their_request, jobs_fit, steps_of};
 use crate::log::{Receipt, seen_as_ask};
 use crate::names::Names;
 use bodies::Name;
+use frames::LAST;
 use operations::Request;
 use operations::job::Errand;
 use operations::queue::{Queue, Unqueued};

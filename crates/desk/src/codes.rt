@@ -318,9 +318,6 @@ impl<N: Name> Codes<N> {
     pub fn weigh_fault(&self, serial: u64) -> Option<RetireFault>
         ensures { result ≡ retire_fault (unfreed self.now.table.codes serial) }
     {
-        match find_not_entrant(&self.table, serial) {
-            Ok(_) => None,
-            Err(fault) => Some(fault),
-        }
+        find_not_entrant(&self.table, serial).err()
     }
 }

@@ -19,9 +19,6 @@ use operations::queue::Queue;
 use std::alloc::Global;
 use std::marker::Model;
 
-/// The last name and number.
-pub const LAST: u64 = (1 << 40) - 1;
-
 /// The desk. What a Finish touches comes first, in the order in which it lies in memory behind the desk's lock: the thread that enters it
 /// finds these lines of the cache with another processor.
 #[derive(Drop)]

@@ -185,10 +185,7 @@ pub enum ReclaimFault {
 impl fmt::Display for ReclaimFault {
     fn fmt<W: fmt::Write>(&self, f: &mut fmt::Formatter<W>) -> fmt::Result {
         match self {
-            ReclaimFault::Code(RetireFault::Unknown) => f.write_str("the code is unknown"),
-            ReclaimFault::Code(RetireFault::NotNotEntrant) => {
-                f.write_str("the code is in use, or reclaimed already")
-            }
+            ReclaimFault::Code(fault) => write!(f, "{fault}"),
             ReclaimFault::AlreadyOpen => f.write_str("a request is open or waits"),
             ReclaimFault::Spent => f.write_str("the moment is the last"),
             ReclaimFault::Ask(fault) => write!(f, "{fault}"),
@@ -215,6 +212,20 @@ pub enum CodeFault {
     /// There is no memory.
     NoMemory,
 }
+
+impl fmt::Display for CodeFault {
+    fn fmt<W: fmt::Write>(&self, f: &mut fmt::Formatter<W>) -> fmt::Result {
+        match self {
+            CodeFault::Install(fault) => write!(f, "{fault}"),
+            CodeFault::HistoryFull => f.write_str(
+                "the history has no room for the states of a code",
+            ),
+            CodeFault::NoMemory => f.write_str("there is no memory"),
+        }
+    }
+}
+
+impl Error for CodeFault {}
 
 pub(crate) fn start_fault(fault: RoomFault) -> StartFault
     ensures { result ≡ start_fault fault }

@@ -19,7 +19,7 @@ impl<N: Name, J: Errand> Desk<N, J> {
         self.log.replies(self.alloc, op)
     }
 
-    /// The same, and None where they were forgotten.
+    /// The names with their replies of an operation, and None where they were forgotten.
     pub fn kept_replies(&self, op: u64) -> Result<Option<Vec<(u64, u64)>>, AllocError>
         ensures some { IfOk result (λ r.
             IfSome r (λ list. list.items ≡ replies_of op self.now.book.history)) }

@@ -114,7 +114,7 @@ pub fn steps_of(request: &Request) -> usize
 }
 
 /// Whether a census is open.
-pub fn is_census_open<J>(opened: &[Opened<J>]) -> bool
+pub fn has_census<J>(opened: &[Opened<J>]) -> bool
     ensures { result ≡ has_census (map current_of opened.now) }
 {
     let mut rest = opened;
@@ -131,7 +131,7 @@ pub fn is_census_open<J>(opened: &[Opened<J>]) -> bool
 pub fn kind_among<J>(opened: &[Opened<J>]) -> Kind
     ensures { result ≡ kind_among (map current_of opened.now) }
 {
-    if is_census_open(opened) {
+    if has_census(opened) {
         Kind::Census
     } else {
         Kind::Handshake
@@ -183,7 +183,7 @@ pub fn least_pending<J>(queue: &Queue<Carried<J>>, opened: &[Opened<J>], next: u
 pub fn may_open_more<J>(queue: &Queue<Carried<J>>, opened: &[Opened<J>]) -> bool
     ensures { result ≡ may_open_more (map asked_of queue.now) (map current_of opened.now) }
 {
-    opened.len() < OPEN && !is_census_open(opened) && !(awaits_census(queue) && !opened.is_empty())
+    opened.len() < OPEN && !has_census(opened) && !(awaits_census(queue) && !opened.is_empty())
 }
 
 /// Where the open request of the number stands.
@@ -325,7 +325,7 @@ fn has_body<N: Name>(bodies: &[Body<N>], name: u64) -> bool
     bodies.iter().any(|b| b.name() == name)
 }
 
-// The same, first tried at an index.
+// Whether a body has the name, which is first looked for at an index.
 #[tactic(auto, using(crate::proofs::Listed::body_at))]
 fn has_body_at<N: Name>(bodies: &[Body<N>], index: usize, name: u64) -> bool
     ensures { result ≡ has_body name bodies.now }
@@ -399,8 +399,8 @@ fn take_first<J: Errand>(jobs: &mut VecDeque<J>, name: u64) -> Option<J>
     None
 }
 
-// The same, where the front is looked at before the list is searched: jobs are mostly taken in the order in which they stand, and
-// the first is taken without moving another.
+// Takes the first job for the name. The front is looked at before the list is searched: jobs are mostly taken in their order, and the
+// first is taken without moving another.
 #[inline(always)]
 fn take_of<J: Errand>(jobs: &mut VecDeque<J>, name: u64) -> Option<J>
     ensures job { IfSome result (λ j. J.whom j ≡ name) }

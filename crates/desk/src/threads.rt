@@ -5,13 +5,14 @@ ghost use Rattle.desk.specs.Refusals.{start_refused, MayStart};
 ghost use Rattle.desk.specs.Fields.{at, Enters};
 ghost use Rattle.desk.specs.Targets.{name_at, live_after};
 
-use crate::desk::{Desk, LAST};
+use crate::desk::Desk;
 use crate::entries::{Entry, Live};
 use crate::faults::{NotLive, StartFault, start_fault};
-use crate::lists::{is_census_open, least_free, lives, make_room, names_of, take_off_live};
+use crate::lists::{has_census, least_free, lives, make_room, names_of, take_off_live};
 use crate::log::Receipt;
 use crate::targets::{live_after, name_at};
 use bodies::Name;
+use frames::LAST;
 use operations::job::Errand;
 use std::alloc::AllocError;
 
@@ -33,7 +34,7 @@ impl<N: Name, J: Errand> Desk<N, J> {
         ensures err { IfErr result (λ e.
             (self.new ≡ self.old) × start_refused (at self.old) N.board.places self.old.book e) }
     {
-        if is_census_open(self.opened.as_slice()) {
+        if has_census(self.opened.as_slice()) {
             return Err(StartFault::SafepointOpen);
         }
         let Some(place) = least_free(self.live.as_slice(), self.places) else {

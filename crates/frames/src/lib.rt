@@ -9,6 +9,9 @@ pub mod board_rule;
 pub mod image;
 mod nets;
 
+/// The last name, serial, operation number and moment, and the greatest number of a line.
+pub const LAST: u64 = (1 << 40) - 1;
+
 /// A code: the slot in which it stands, and its serial. Serials are never given out twice.
 #[derive(Clone, Copy, Debug, PartialEq, Eq, Drop)]
 pub struct CodeId {

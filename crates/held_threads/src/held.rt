@@ -85,7 +85,7 @@ impl<N: Name> Returning<N> {
         shared.berth_of(&body).release(rt, body, operated)
     }
 
-    /// The same without waking those that wait at the berth. Answers also those, who are woken later.
+    /// The body goes into its berth, without waking those that wait there. Answers also those, who are woken later.
     pub fn back_quietly<J: Errand, R: Wait>(
         self,
         rt: &R,
@@ -248,7 +248,7 @@ impl<N: Name> Held<N> {
         Ok(taken)
     }
 
-    /// The same, once it is there and something is told to its thread.
+    /// Holds the body once it is there and something is told to its thread.
     pub fn hold_soon<J: Errand, R: Wait>(
         &mut self,
         rt: &R,

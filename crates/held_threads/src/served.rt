@@ -47,7 +47,7 @@ impl<N: Name, J: Errand> Model for Served<N, J> {
         (last_of s.first s.later) };
 }
 
-/// The same, where its thread was told more meanwhile: it doesn't go back before that is served.
+/// A served body whose thread was told more meanwhile: it doesn't go back before that is served.
 struct Undone<N: Name, J: Errand> {
     served: Served<N, J>,
     job: Due<J>,

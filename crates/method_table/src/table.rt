@@ -10,13 +10,10 @@ ghost use Rattle.method_table.specs.TableView.{IsTable, install_fault, reason, i
 use crate::history::{Edit, History};
 use crate::slots::{Slots, forget, note, slot_of};
 use crate::{Code, CodeState};
-use frames::CodeId;
+use frames::{CodeId, LAST};
 use std::alloc::{AllocError, Global};
 use std::collections::HashMap;
 use std::marker::Model;
-
-/// The last serial that is given out.
-pub const LAST_SERIAL: u64 = (1 << 40) - 1;
 
 /// Why a method gets no code, in the order of the tests.
 #[derive(Clone, Copy, Debug, PartialEq, Eq, Drop)]
@@ -179,7 +176,7 @@ impl MethodTable {
         let Some(slot) = least_free(&self.records, self.slots, self.taken) else {
             return Err(InstallFault::TableFull);
         };
-        if self.next > LAST_SERIAL {
+        if self.next > LAST {
             return Err(InstallFault::SerialsSpent);
         }
         Ok(slot)
@@ -344,7 +341,7 @@ impl MethodTable {
         self.noted(serial)
     }
 
-    // The same, by the index.
+    // The code of the serial, by the index.
     fn noted(&self, serial: u64) -> Option<Code>
         ensures sound { IsTable self.now }
         ensures value { result ≡ unfreed self.now.codes serial }

@@ -49,7 +49,7 @@ impl Request {
         }
     }
 
-    /// The same request again, with a list of its own. It fails for want of memory alone.
+    /// A copy with a list of its own. It fails for want of memory alone.
     pub fn copied(&self, alloc: Global) -> Result<Request, AllocError>
         ensures same { IfOk result (λ copy. copy ≡ self.now) }
         ensures succeeds { is_census self.now ≡ true → IsOk result }

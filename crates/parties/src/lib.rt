@@ -10,6 +10,7 @@ mod asking;
 mod coordinating;
 mod crosses;
 mod crossing;
+mod fault_texts;
 pub mod party;
 mod party_asks;
 mod party_coordinates;

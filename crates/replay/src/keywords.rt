@@ -68,7 +68,7 @@ pub(crate) fn first_word(line: &[u8]) -> Option<(Word, usize)>
     any_word(line)
 }
 
-/// The same, of any length, and where nothing stands behind it.
+/// The word at the beginning, of any length, also where nothing stands behind it.
 #[inline(never)]
 fn any_word(line: &[u8]) -> Option<(Word, usize)>
     ensures begun { option_map (λ it. (it.0, words_after (drop it.1 line.now))) result ≡ begun (words line.now) }

@@ -92,7 +92,7 @@ fn put_three_digits(text: &mut Vec<u8>, n: u64) -> Result<(), AllocError>
     )
 }
 
-/// The same of a number of any length.
+/// Puts a number of any length.
 #[inline(never)]
 fn put_digits(text: &mut Vec<u8>, n: u64) -> Result<(), AllocError>
     ensures text { OnOk result (text.new.items ≡ text.old.items ++ decimal n) }

@@ -16,6 +16,8 @@ use crate::held::Held;
 use crate::print::{is_short_reply, put_reply};
 use crate::words::find_end;
 use std::alloc::{AllocError, Global};
+use std::error::Error;
+use std::fmt;
 use system::System;
 
 /// Bytes that are read at a time, and that wait at most, but for one answer, before they are written.
@@ -34,6 +36,18 @@ pub enum ReplayFault {
     /// Memory was refused at a line that takes memory, and the lines before it are answered; or before anything was read.
     NoMemory,
 }
+
+impl fmt::Display for ReplayFault {
+    fn fmt<W: fmt::Write>(&self, f: &mut fmt::Formatter<W>) -> fmt::Result {
+        f.write_str(match self {
+            ReplayFault::ReadFailed => "a read failed",
+            ReplayFault::WriteFailed => "a write failed",
+            ReplayFault::NoMemory => "there is no memory",
+        })
+    }
+}
+
+impl Error for ReplayFault {}
 
 /// Why lines aren't answered.
 #[derive(Clone, Copy, Debug, PartialEq, Eq, Drop)]
@@ -88,7 +102,7 @@ fn put_short(waits: &mut Vec<u8>, said: &Reply)
     }
 }
 
-/// The same of a list, which joins what waits once it is whole.
+/// Puts a reply that is a list behind what waits, once its text is whole.
 #[cold]
 fn put_long(text: &mut Vec<u8>, waits: &mut Vec<u8>, said: Reply) -> Result<(), AllocError>
     ensures text { OnOk result (waits.new.items ≡ waits.old.items ++ (reply_text said ++ 10 ∷ [])) }

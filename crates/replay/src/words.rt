@@ -5,11 +5,9 @@ ghost use Rattle.replay.specs.Words.{words, words_after, is_nil};
 ghost use Rattle.replay.specs.Scanned.{first_at, digits_from, begins_well};
 ghost use Rattle.replay.specs.Grammar.{took, last_number};
 
+use frames::LAST;
 use memchr::memchr_iter;
 use std::simd::prelude::*;
-
-/// The greatest number of a line.
-const GREATEST: u64 = 1_099_511_627_775;
 
 /// The bytes that are looked at first for the end of a line.
 const NEAR: usize = 16;
@@ -57,7 +55,7 @@ fn near_end(bytes: &[u8]) -> usize
     }
 }
 
-/// The same as `find_end`, for a line of any length.
+/// What `find_end` finds, for a line of any length.
 #[inline(never)]
 fn far_end(bytes: &[u8]) -> usize
     ensures at { result ≡ first_at 10 bytes.now }
@@ -100,7 +98,7 @@ fn digits(bytes: &[u8]) -> Option<(u64, &[u8])>
             };
         }
         value = value * 10 + (*b as u64 - b'0' as u64);
-        if value > GREATEST {
+        if value > LAST {
             return None;
         }
     }
@@ -141,7 +139,7 @@ pub(crate) fn last(tail: &[u8]) -> Option<u64>
     if is_end(rest) { Some(n) } else { None }
 }
 
-/// The same number, where it is that of a place: those have mostly one digit or two, which are read at once.
+/// What `last` answers, for the number of a place: those have mostly one digit or two, which are read at once.
 #[inline(always)]
 pub(crate) fn place(tail: &[u8]) -> Option<u64>
     ensures { result ≡ last_number (words_after tail.now) }

@@ -33,7 +33,7 @@ impl Asked {
         }
     }
 
-    // The same, where its number is above this. (The number tells mostly, so it comes first.)
+    // Whether it is of the name, and its number is above this. (The number tells mostly, so it comes first.)
     fn is_above(&self, above: u64, name: u64) -> bool
         ensures { result ≡ is_above above name self.now }
     {

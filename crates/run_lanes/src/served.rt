@@ -19,7 +19,7 @@ const FRESH: Served = Served {
     cleared: 0,
 };
 
-/// The same of the threads at all places.
+/// What the threads at all places were told and did.
 #[derive(Drop)]
 pub(crate) struct AllServed {
     places: Vec<Served>,

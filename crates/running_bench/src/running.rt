@@ -98,7 +98,7 @@ fn run_threads<'a, N: Name + Send, R: Threads + Wait + Clock + Sync>(
     )
 }
 
-// The same in a scope.
+// Measures in a scope.
 fn run_in<'s, 'a: 's, N: Name + Send, R: Threads + Wait + Clock + Sync, E>(
     scope: &Scope<'s, E>,
     rt: &'a R,

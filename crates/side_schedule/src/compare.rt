@@ -63,7 +63,7 @@ impl<R, S: Running<R>> Pair<'_, R, S> {
         self.counts()
     }
 
-    /// The same of what is too much to look at after each call: the replies of every number, also of the next, and the frames of each
+    /// What is too much to look at after each call: the replies of every number, also of the next, and the frames of each
     /// thread that is away.
     pub fn compare_all(&mut self) -> Result<(), Stopped> {
         for op in 0..self.oracle.asked.saturating_add(2) {

@@ -53,7 +53,7 @@ pub trait Running<R>: Drop {
     /// The replies of the operation, each with its name; none where they are forgotten.
     fn replies(&self, rt: &R, op: u64) -> Result<Vec<(u64, u64)>, AllocError>;
 
-    /// The same, and None where they are forgotten.
+    /// The names with their replies of the operation, None where they are forgotten.
     fn kept_replies(&self, rt: &R, op: u64) -> Result<Option<Vec<(u64, u64)>>, AllocError>;
 
     /// The frames of the thread, where its body is in its berth: it is away and not held.

@@ -230,7 +230,7 @@ impl<'a, N: Name, R: Wait> Driver<'a, N, R> {
         self.note_reclaimed(serial, came)
     }
 
-    // The same with a handshake of all live threads.
+    // Reclaims a code that is invalidated, with a handshake of all live threads.
     fn reclaim_with_jobs(&mut self) -> Result<(), Wrong> {
         let Some(serial) = self.pick_left() else {
             return Ok(());

@@ -15,7 +15,7 @@ use std::thread;
 // How many requests wait at most beside each other.
 const BATCH: u64 = 3;
 
-// The same where they are worked on at once: some stay for a second time.
+// How many wait at most where they are worked on at once: some stay for a second time.
 const FOUR: u64 = 6;
 
 /// What the oldest request came to that was worked on to its Close. A census has its list with the driver.
@@ -185,7 +185,7 @@ impl<'a, N: Name, R: Wait> Driver<'a, N, R> {
         }
     }
 
-    // The same, which is to be this one.
+    // Works on the oldest request, which is to be this one, and checks what it came to.
     fn drive(&mut self, op: u64) -> Result<(), Wrong> {
         match self.drive_next() {
             Gone::Handshake(driven) if driven == op => self.check_handshake(op),

@@ -73,7 +73,7 @@ fn run_over<'a, N: Name + Send, R: Threads + Wait + Sync>(
     )
 }
 
-// The same in a scope.
+// Runs it in a scope.
 fn run_in<'s, 'a: 's, N: Name + Send, R: Threads + Wait + Sync, E>(
     scope: &Scope<'s, E>,
     rt: &'a R,

@@ -7,10 +7,10 @@ ghost use Rattle.system.specs.Kept.Records.{new_record, not_entrant, is_clear};
 ghost use Rattle.system.specs.Stands.{Does, OfWorld};
 
 use crate::answers::{Answer, Refusal};
-use crate::keeping::{Core, LAST};
+use crate::keeping::Core;
 use crate::records::Record;
 use crate::thread::Thread;
-use frames::CodeId;
+use frames::{CodeId, LAST};
 use method_table::table::{FreeFault, InstallFault, InvalidateFault, RetireFault};
 use method_table::{Code, CodeState};
 use std::alloc::AllocError;

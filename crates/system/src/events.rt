@@ -53,7 +53,7 @@ pub enum Event {
 }
 
 impl Event {
-    /// The same event. Only the names of a handshake take memory.
+    /// A copy. Only the names of a handshake take memory.
     pub fn copied(&self, alloc: Global) -> Result<Event, AllocError>
         ensures same { IfOk result (λ event. event ≡ self.now) }
         ensures succeeds { copies_freely self.now ≡ true → IsOk result }

@@ -5,9 +5,6 @@ use crate::thread::Thread;
 use activation_index::dense::DenseIndex;
 use method_table::table::MethodTable;
 
-/// The last name, serial, operation and moment.
-pub const LAST: u64 = (1 << 40) - 1;
-
 /// The places with their threads, the codes with what was written down of them by slot, the counts as the threads published them,
 /// the numbers given out, and the requests.
 #[derive(Drop)]

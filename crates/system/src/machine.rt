@@ -21,6 +21,8 @@ use activation_index::dense::DenseIndex;
 use method_table::table::MethodTable;
 use operations::queue::Queue;
 use std::alloc::{AllocError, Global};
+use std::error::Error;
+use std::fmt;
 use std::marker::Model;
 
 /// The coordinator's core: it does events one at a time, and answers them as the definitions do.
@@ -50,6 +52,17 @@ pub enum NewFault {
     /// Memory was refused.
     NoMemory,
 }
+
+impl fmt::Display for NewFault {
+    fn fmt<W: fmt::Write>(&self, f: &mut fmt::Formatter<W>) -> fmt::Result {
+        f.write_str(match self {
+            NewFault::BadSize => "a size is 0, or above its limit",
+            NewFault::NoMemory => "there is no memory",
+        })
+    }
+}
+
+impl Error for NewFault {}
 
 /// Memory was refused at the event at this position; or, at 0, for the answers. The events before it are done and answered, and
 /// no other.
@@ -127,7 +140,7 @@ impl System {
         Ok(said)
     }
 
-    // The same of an event that is lent. It is copied where it isn't refused.
+    // Applies an event that is lent. It is copied where it isn't refused.
     fn apply_copy(&mut self, alloc: Global, event: &Event) -> Result<Answer, AllocError>
         ensures answered { IfOk result (λ answer. Next self.old event.now answer self.new) }
         ensures refused { OnErr result (self.new ≡ self.old) }

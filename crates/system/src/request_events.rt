@@ -7,9 +7,10 @@ ghost use Rattle.system.specs.Memory.{Accepts};
 ghost use Rattle.system.specs.Stands.{Does};
 
 use crate::answers::{Answer, Refusal};
-use crate::keeping::{Core, LAST};
+use crate::keeping::Core;
 use crate::requests::Open;
 use crate::tells::{may_tell_any, place_of, tell_at};
+use frames::LAST;
 use operations::Request;
 use operations::queue::QueueFault;
 use std::alloc::AllocError;

@@ -8,9 +8,10 @@ ghost use Rattle.system.specs.Stands.{Does};
 
 use crate::answers::{Answer, Refusal};
 use crate::events::Act;
-use crate::keeping::{Core, LAST};
+use crate::keeping::Core;
 use crate::places::{act_at, exit_at, stack_at, vacant_place};
 use crate::thread::Thread;
+use frames::LAST;
 use std::alloc::{AllocError, Global};
 
 impl Core {

@@ -13,6 +13,7 @@ use berths::{BodyReceipt, SeatReceipt};
 use board::Board;
 use bodies::{Body, Called, Name};
 use frames::CodeId;
+use frames::image::DEPTH;
 use poll::PollRow;
 use std::marker::Model;
 use thread_state::{Back, State};
@@ -99,7 +100,7 @@ impl<N: Name> OwnPart<N> {
         };
         // What is accepted comes first in each test: the compiler lays it out as one line.
         if method < self.methods {
-            if body.depth() < 256 {
+            if body.depth() < DEPTH {
                 Ok(body.call(board, method, hint))
             } else {
                 Err(CallFault::DepthFull)

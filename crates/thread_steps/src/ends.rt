@@ -18,6 +18,8 @@ use bodies::Name;
 use frames::image::Image;
 use operations::job::Errand;
 use poll::PollRow;
+use std::error::Error;
+use std::fmt;
 use std::marker::{Model, PhantomData};
 use thread_list::{Poll, poll_of};
 use thread_state::{Back, State};
@@ -133,6 +135,18 @@ pub enum ExitFault {
     /// Something is told to it: it polled, and this is what the poll answered.
     Told(Poll),
 }
+
+impl fmt::Display for ExitFault {
+    fn fmt<W: fmt::Write>(&self, f: &mut fmt::Formatter<W>) -> fmt::Result {
+        match self {
+            ExitFault::Illegal(state) => write!(f, "not in Java or in the VM, but in {state}"),
+            ExitFault::StackNotEmpty => write!(f, "the stack isn't empty"),
+            ExitFault::Told(_) => write!(f, "something is told to the thread"),
+        }
+    }
+}
+
+impl Error for ExitFault {}
 
 impl<N: Name> Stepper<N> {
     /// The thread ends: it publishes its empty stack and gives its place up. Answers the receipt of that.

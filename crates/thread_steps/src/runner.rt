@@ -17,6 +17,7 @@ use berths::{BodyReceipt, Room};
 use board::Board;
 use bodies::{Body, Called, Name};
 use frames::CodeId;
+use frames::image::DEPTH;
 use operations::job::Errand;
 use poll::PollRow;
 use std::marker::Model;
@@ -95,7 +96,7 @@ impl<N: Name> Stepper<N> {
         };
         // What is accepted comes first in each test: the compiler lays it out as one line.
         if method < self.methods {
-            if body.depth() < 256 {
+            if body.depth() < DEPTH {
                 Ok(body.call(board, method, hint))
             } else {
                 Err(CallFault::DepthFull)

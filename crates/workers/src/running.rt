@@ -132,7 +132,7 @@ fn run_all<'a, N: Name + Send, J: Errand + Send, R: Threads + Wait + Sync, G: Ga
     )
 }
 
-// The same in a scope, with room for the threads.
+// Runs the tasks in a scope, with room for the threads.
 fn run_in<
     's,
     'a: 's,

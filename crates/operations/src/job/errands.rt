@@ -32,7 +32,7 @@ pub trait Errand: Drop {
     fn ask_of(&self) -> Ask
         ensures { result ≡ asks self.now };
 
-    /// The same with another number.
+    /// The errand with another number.
     fn numbered(self, op: u64) -> Self
         ensures number { number result ≡ op }
         ensures same { (whom result ≡ whom self) × (asks result ≡ asks self) }

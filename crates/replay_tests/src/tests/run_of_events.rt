@@ -1,4 +1,4 @@
-// The same runs through `System::run`, which is given all events at once: with ample memory, and with each growth refused in turn. Then it
+// Runs through `System::run`, which is given all events at once: with ample memory, and with each growth refused in turn. Then it
 // stops before the event that lacks memory, and can be gone on with.
 use super::{Transcript, operation_runs, publication_runs, trap_runs};
 use replay::engine::Reply;

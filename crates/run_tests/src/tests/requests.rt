@@ -211,7 +211,7 @@ fn four_are_told_and_served_in_order(rt: HostRuntime) -> Result<(), Fail> {
     Ok(())
 }
 
-// The same four over two threads in native code, and a census.
+// Four requests over two threads in native code, and a census.
 const DRIVEN: &str = "
     install 0 = 1
     install 1 = 2

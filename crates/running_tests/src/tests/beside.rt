@@ -156,7 +156,7 @@ fn work<N: Name, J: Errand, R: Wait>(
     }
 }
 
-// The same, and then the threads are let go.
+// The work of a case, after which the threads are let go.
 fn work_to_end<N: Name, J: Errand, R: Wait>(
     rt: &R,
     alloc: Global,
@@ -228,7 +228,7 @@ pub fn run<N: Name + Send + Sync, J: Errand + Send, R: Threads + Wait + Sync>(
     Ok(is_ready && went_well && live.is_empty() && shared.peek_counts() == 0)
 }
 
-/// The same with boxed jobs that ask this. The last list is that of the first handshake.
+/// Plays a case with boxed jobs that ask this. The last list is that of the first handshake.
 pub fn play<R: Threads + Wait + Sync>(
     rt: &R,
     alloc: Global,
@@ -256,7 +256,7 @@ pub fn play<R: Threads + Wait + Sync>(
     run::<Brand, Job, R>(rt, alloc, case, parts, &signals, lists)
 }
 
-/// The same without jobs.
+/// Plays a case without jobs.
 pub fn play_without_jobs<R: Threads + Wait + Sync>(
     rt: &R,
     alloc: Global,

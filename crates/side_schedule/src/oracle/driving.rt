@@ -25,7 +25,7 @@ impl Oracle {
         }
     }
 
-    /// The same of all that are open and may be opened: they are told and served, and closed.
+    /// All that are open and may be opened are told, served and closed.
     pub(super) fn drive_four(&mut self) -> Result<Said, Said> {
         self.may_drive(true)?;
         self.begin()?;

@@ -1,7 +1,7 @@
 use Rattle.std.proofs.Common.{◌≡◌, length, map}
 use Rattle.desk.specs.Machine.{has_census}
 use Rattle.desk.specs.Fields.{current_of}
-use Rattle.desk.proofs.lists.is_census_open.Given as goal
+use Rattle.desk.proofs.lists.has_census.Given as goal
 
 abbrev pub invariant-loop-one : goal.invariant-loop-one
 invariant-loop-one g l = has_census (map current_of l.rest) ≡ has_census (map current_of l.fn.opened)
