@@ -149,7 +149,7 @@ fn work<N: Name, R: Wait>(
     wait_for(rt, &signals.is_gone);
     let last = coordinator.reclaim(rt, 1, Vec::new(alloc)).ok()?;
     match (first?, last) {
-        (Reclaimed::Used(1), Reclaimed::Freed(_)) => depth,
+        (Reclaimed::Used(1, _), Reclaimed::Freed(_)) => depth,
         _ => None,
     }
 }

@@ -1,5 +1,5 @@
 -- What reclaiming answers.
-use Rattle.std.specs.Prelude.{◌≡◌, ℕ, Some}
+use Rattle.std.specs.Prelude.{◌≡◌, ℕ, length, Some}
 use Rattle.method_table.specs.declared.Code.{Code}
 use Rattle.method_table.specs.Codes.{id_of, unfreed}
 use Rattle.board.specs.declared.weighed.Weighed.{Weighed}
@@ -8,6 +8,7 @@ use Rattle.desk.specs.declared.entries.Entry.TheVariants as entry
 use Rattle.desk.specs.CodeBoard.{KeeperWeighs}
 use Rattle.desk.specs.Fields.{DeskSeen, Enters, LooksAtAll, at}
 use Rattle.desk.specs.Machine.{Stands}
+use Rattle.desk.specs.Weighings.{WeighingSeen}
 use Rattle.held_threads.specs.declared.faults.Reclaimed.{Reclaimed}
 use Rattle.held_threads.specs.declared.faults.Reclaimed.TheVariants.{Freed, Used, Late}
 
@@ -16,13 +17,18 @@ abbrev pub WasWeighed : ℕ → ℕ → DeskSeen → DeskSeen → Weighed → Ty
 WasWeighed places serial old new said
     = (code : Code) × (unfreed (at old).table.codes serial ≡ Some code) × KeeperWeighs places (id_of code) old.keeper new.keeper said
 
--- Code that is freed was weighed and retired first. What is used or late is what the weighing said, and the desk's history stays.
+-- The receipt is of a weighing of this code with this answer, at the length of this desk's history.
+abbrev pub IsWeighing : ℕ → DeskSeen → Weighed → WeighingSeen → Type 0
+IsWeighing serial desk said w = w ≡ record { serial = serial; said = said; length = length desk.book.history }
+
+-- Code that is freed was weighed and retired first. What is used or late is what the weighing said, as its receipt shows, and the desk's
+-- history stays.
 abbrev pub Frees : {N : Type 0} → ℕ → ℕ → DeskSeen → DeskSeen → Reclaimed N → Type 0
 Frees places serial old new (Freed r)
     = (retired : DeskSeen) × (receipt : Stands) × WasWeighed places serial old retired Clear × Enters old retired (entry.Retire serial) receipt
     × Enters retired new (entry.Free serial) r
-Frees places serial old new (Used n) = WasWeighed places serial old new (InUse n) × (new.book ≡ old.book)
-Frees places serial old new (Late place) = WasWeighed places serial old new (NotLooked place) × (new.book ≡ old.book)
+Frees places serial old new (Used n w) = WasWeighed places serial old new (InUse n) × IsWeighing serial old (InUse n) w × (new.book ≡ old.book)
+Frees places serial old new (Late place w) = WasWeighed places serial old new (NotLooked place) × IsWeighing serial old (NotLooked place) w × (new.book ≡ old.book)
 
 -- What reclaiming answers is what became of the code where all places had just been looked at: it was freed, or weighed as used, or a place
 -- was late, since what was found there didn't let it pass.

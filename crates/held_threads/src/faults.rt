@@ -2,7 +2,7 @@
 //! here.
 use berths::BerthReceipt;
 use bodies::Name;
-use desk::Receipt;
+use desk::{Receipt, Weighing};
 
 /// What telling a name came to.
 #[derive(Drop)]
@@ -86,8 +86,9 @@ pub enum OperateFault {
 pub enum Reclaimed<N: Name> {
     /// The code is freed. The receipt is of its Free.
     Freed(Receipt<N>),
-    /// So many activations stand.
-    Used(u64),
-    /// The least place whose thread may still enter the code, or have entered it without having published that.
-    Late(usize),
+    /// So many activations stand. The receipt is of the weighing.
+    Used(u64, Weighing<N>),
+    /// The least place whose thread may still enter the code, or have entered it without having published that. The receipt is of the
+    /// weighing.
+    Late(usize, Weighing<N>),
 }

@@ -17,12 +17,12 @@ fn weigh_and_free<N: Name, J: Errand>(
     requires board { board.now ≡ N.board }
     ensures { IfSome result (Frees N.board.places serial desk.old desk.new) }
 {
-    let Ok((said, _weighing, _receipt)) = desk.weigh(board, serial) else {
+    let Ok((said, weighing, _receipt)) = desk.weigh(board, serial) else {
         return None;
     };
     match said {
-        Weighed::NotLooked(place) => Some(Reclaimed::Late(place)),
-        Weighed::Used(count) => Some(Reclaimed::Used(count)),
+        Weighed::NotLooked(place) => Some(Reclaimed::Late(place, weighing)),
+        Weighed::Used(count) => Some(Reclaimed::Used(count, weighing)),
         Weighed::Clear => match desk.free(board, serial) {
             Ok(receipt) => Some(Reclaimed::Freed(receipt)),
             Err(_) => None,

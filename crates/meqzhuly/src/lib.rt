@@ -23,9 +23,9 @@ pub use coordinator::{
 };
 pub use poll::Armer;
 
-// What the calls of a system answer, and what shows that an entry of the history was made.
+// What the calls of a system answer, and what shows that an entry of the history was made, or a code weighed.
 pub use desk::{
     AskFault, CloseFault, Closing, CodeFault, NotLive, OpenFault, Operating, Receipt, Refused,
-    StartFault,
+    StartFault, Weighing,
 };
 pub use method_table::table::{InstallFault, InvalidateFault};

@@ -10,6 +10,7 @@ use Rattle.desk.specs.Finishing.{FinishSeen}
 use Rattle.desk.specs.Machine.{State, Stands}
 use Rattle.desk.specs.Refusals.{open_refused}
 use Rattle.desk.specs.Targets.{standing}
+use Rattle.desk.specs.Weighings.{WeighingSeen}
 use Rattle.thread_list.specs.Moves.{IsOperated}
 use Rattle.held_threads.specs.declared.faults.Reclaimed.TheVariants as became
 use Rattle.held_threads.specs.declared.faults.ServeFault.{ServeFault}
@@ -82,8 +83,9 @@ Closes number old (Err e) new = ⊥
 -- What became of the code where all places had just been looked at: it was freed, or so many activations stand.
 abbrev pub Weighs : (N : Type 0) → ℕ → ℕ → Told → Type 0
 Weighs N places serial (Ok n)
-    = ((receipt : Stands) × (n ≡ 0) × IsReclaimed {N = N} places serial (became.Freed receipt)) ⊎ IsReclaimed {N = N} places serial (became.Used n)
-Weighs N places serial (Err (fault.Late place)) = IsReclaimed {N = N} places serial (became.Late place)
+    = ((receipt : Stands) × (n ≡ 0) × IsReclaimed {N = N} places serial (became.Freed receipt))
+    ⊎ ((weighing : WeighingSeen) × IsReclaimed {N = N} places serial (became.Used n weighing))
+Weighs N places serial (Err (fault.Late place)) = (weighing : WeighingSeen) × IsReclaimed {N = N} places serial (became.Late place weighing)
 Weighs N places serial (Err fault.NotWeighed) = Unit {0}
 Weighs N places serial (Err fault.Again) = Unit {0}
 Weighs N places serial (Err e) = ⊥

@@ -180,8 +180,8 @@ pub(crate) fn weigh<N: Name>(system: &SharedSystem<N>, serial: u64) -> Result<u6
     };
     match weigh_code(&mut *desk.value, system.board(), serial, system.places()) {
         Some(Reclaimed::Freed(_receipt)) => Ok(0),
-        Some(Reclaimed::Used(count)) => Ok(count),
-        Some(Reclaimed::Late(place)) => Err(Fault::Late(place)),
+        Some(Reclaimed::Used(count, _weighing)) => Ok(count),
+        Some(Reclaimed::Late(place, _weighing)) => Err(Fault::Late(place)),
         None => Err(Fault::NotWeighed),
     }
 }

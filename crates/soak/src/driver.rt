@@ -253,8 +253,8 @@ impl<'a, N: Name, R: Wait> Driver<'a, N, R> {
     fn try_reclaim(&mut self, serial: u64, jobs: Vec<Query>) -> Came {
         match self.coordinator.reclaim(self.rt, serial, jobs) {
             Ok(Reclaimed::Freed(_receipt)) => Came::Freed,
-            Ok(Reclaimed::Used(count)) => Came::Used(count),
-            Ok(Reclaimed::Late(place)) => Came::Late(place),
+            Ok(Reclaimed::Used(count, _weighing)) => Came::Used(count),
+            Ok(Reclaimed::Late(place, _weighing)) => Came::Late(place),
             Err(refused) => Came::of_refused(refused),
         }
     }

@@ -44,8 +44,8 @@ frees_one (x ∷ ss) rs s r (inr (y, more, is, was, rest)) freed = inr (y, more 
 -- what reclaiming answers where it frees nothing
 pub left_of : {N : Type 0} (places serial : ℕ) (r : Reclaimed N) → IsReclaimed places serial r → IsLeft r → WasLeft serial
 left_of places serial (Freed x) is left = absurd left
-left_of places serial (Used n) is left = (places, is.before, is.looked, is.after, is.looks, inl (n, is.frees.0))
-left_of places serial (Late place) is left = (places, is.before, is.looked, is.after, is.looks, inr (place, is.frees.0))
+left_of places serial (Used n w) is left = (places, is.before, is.looked, is.after, is.looks, inl (n, is.frees.0))
+left_of places serial (Late place w) is left = (places, is.before, is.looked, is.after, is.looks, inr (place, is.frees.0))
 
 -- the same where it answers no receipt
 pub left_unless : {A : Type 0} (N : Type 0) (places serial : ℕ) (said : Option A) → said ≡ None

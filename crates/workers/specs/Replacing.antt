@@ -45,8 +45,8 @@ IsKept serial freed left freed' left' =
 -- What was reclaimed wasn't freed: activations stand, or a place is late.
 abbrev pub IsLeft : {N : Type 0} → Reclaimed N → Type 0
 IsLeft (Freed r) = ⊥
-IsLeft (Used n) = ⊤
-IsLeft (Late place) = ⊤
+IsLeft (Used n weighing) = ⊤
+IsLeft (Late place weighing) = ⊤
 
 -- A code with the receipt of its Free goes to those that are freed, and one without to those that are left.
 abbrev pub IsKeptBy : ℕ → Option Stands → List Stands → List ℕ → List Stands → List ℕ → Type 0

@@ -233,7 +233,7 @@ fn reclaim<N: Name, J: Errand, R: Wait>(
     shared.forget(rt);
     match reclaimed {
         Ok(Reclaimed::Freed(receipt)) => Ok(Some(receipt)),
-        Ok(Reclaimed::Used(_) | Reclaimed::Late(_)) => Ok(None),
+        Ok(Reclaimed::Used(..) | Reclaimed::Late(..)) => Ok(None),
         Err(refused) => match refused.fault {
             ReclaimFault::Ask(AskFault::NoMemory) => Err(RunFault::NoMemory),
             _ => Err(RunFault::Refused),

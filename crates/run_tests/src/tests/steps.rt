@@ -107,8 +107,8 @@ pub fn reclaim<N: Name, J: Errand, R: Wait>(
 fn reclaimed<N: Name>(alloc: Global, said: Reclaimed<N>) -> Said {
     match said {
         Reclaimed::Freed(_receipt) => word(alloc, "freed"),
-        Reclaimed::Used(count) => format!(in alloc; "used {count}"),
-        Reclaimed::Late(place) => format!(in alloc; "late {place}"),
+        Reclaimed::Used(count, _weighing) => format!(in alloc; "used {count}"),
+        Reclaimed::Late(place, _weighing) => format!(in alloc; "late {place}"),
     }
 }
 

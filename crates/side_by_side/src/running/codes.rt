@@ -80,8 +80,8 @@ impl<'a, N: Name, J: Errand> Side<'a, N, J> {
     fn reclaim_with<R: Wait>(&mut self, rt: &R, serial: u64, jobs: Vec<J>) -> Said {
         match self.coordinator.reclaim(rt, serial, jobs) {
             Ok(Reclaimed::Freed(_receipt)) => Said::Freed,
-            Ok(Reclaimed::Used(count)) => Said::Used(count),
-            Ok(Reclaimed::Late(place)) => Said::NotLooked(place),
+            Ok(Reclaimed::Used(count, _weighing)) => Said::Used(count),
+            Ok(Reclaimed::Late(place, _weighing)) => Said::NotLooked(place),
             Err(refused) => {
                 let NotReclaimed { fault, jobs } = refused;
                 self.put_back(jobs, of_reclaim(fault))
