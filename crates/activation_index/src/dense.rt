@@ -43,7 +43,8 @@ impl DenseIndex {
     /// The slot's cell is that of the serial from now on. The caller sees to it that its count is 0 and its serial less.
     pub fn place(&mut self, slot: usize, serial: u64)
         requires slot { slot < length self.old }
-        requires free { (cell : _) → slice_get self.old slot ≡ Some cell → (cell.count ≡ 0) × (cell.serial < serial) }
+        requires free { (cell : _) → slice_get self.old slot ≡ Some cell → (cell.count ≡ 0)
+            × (cell.serial < serial) }
         ensures { self.new ≡ slice_set self.old slot (cell_of serial 0) }
     {
         self.cells[slot] = Entry { serial, count: 0 };
@@ -56,8 +57,10 @@ impl DenseIndex {
         requires serial { (cell : _) → slice_get self.old slot ≡ Some cell → cell.serial ≡ serial }
         requires low { pos 0 ≤ℤ (pos (count_at self.old slot serial) +ℤ by) }
         requires high { (pos (count_at self.old slot serial) +ℤ by) ≤ℤ pos 16384 }
-        ensures here { pos (count_at self.new slot serial) ≡ pos (count_at self.old slot serial) +ℤ by }
-        ensures others { self.new ≡ slice_set self.old slot (cell_of serial (count_at self.new slot serial)) }
+        ensures here { pos (count_at self.new slot serial)
+            ≡ pos (count_at self.old slot serial) +ℤ by }
+        ensures others { self.new
+            ≡ slice_set self.old slot (cell_of serial (count_at self.new slot serial)) }
     {
         let count = moved(self.cells[slot].count, by);
         self.cells[slot] = Entry { serial, count };
@@ -80,7 +83,8 @@ impl DenseIndex {
     pub fn census(&self, alloc: Global) -> Result<Vec<(u64, u32)>, AllocError>
         ensures census { IfOk result (λ census. IsPermutation (counted self.now) census.items) }
         ensures sorted { IfOk result (λ census. IsNonDecreasingBy (λ pair. pair.0) census.items) }
-        ensures rising { IfOk result (λ census. ((serial : ℕ) → of_serial serial (counted self.now) ≤ 1)
+        ensures rising { IfOk result (λ census. ((serial : ℕ)
+            → of_serial serial (counted self.now) ≤ 1)
             → IsRisingPairs 0 census.items) }
     {
         let mut census = counted_cells(alloc, &self.cells)?;

@@ -40,7 +40,8 @@ impl Model for Index {
 
     ghost view = { λ i. record { slots = i.slots; entries = i.entries.items } };
 
-    ghost invariant = { λ i. (i.slots ≤ vec_capacity i.entries) × (length i.entries.items ≤ i.slots) × IsRisingFrom 0 i.entries.items };
+    ghost invariant = { λ i. (i.slots ≤ vec_capacity i.entries) × (length i.entries.items ≤ i.slots)
+        × IsRisingFrom 0 i.entries.items };
 }
 
 impl Index {

@@ -28,7 +28,10 @@ impl Model for Board {
 
     ghost view = { λ b. board_id b.table.shared.table_id b.slots b.places };
 
-    ghost invariant = { λ b. (b.table.shared.key ≡ (b.slots, b.places)) × (b.table.shared.table_id.words ≡ words_at b.slots b.places) × (b.table.shared.table_id.slots ≡ 0) × (0 < b.places) × (b.slots ≤ 1024) × (b.places ≤ 64) };
+    ghost invariant = { λ b. (b.table.shared.key ≡ (b.slots, b.places))
+        × (b.table.shared.table_id.words ≡ words_at b.slots b.places)
+        × (b.table.shared.table_id.slots ≡ 0) × (0 < b.places) × (b.slots ≤ 1024)
+        × (b.places ≤ 64) };
 }
 
 fn first_words(alloc: Global, slots: usize, places: usize) -> Result<Vec<u64>, AllocError>
@@ -58,7 +61,8 @@ impl Board {
         ensures board { IfOk result (λ t. (t.0.slots ≡ slots) × (t.0.places ≡ places)) }
         ensures keeper { IfOk result (λ t. t.1 ≡ first_keeper t.0) }
         ensures seats { IfOk result (λ t. length t.2.items ≡ places) }
-        ensures each_seat { IfOk result (λ t. (k : ℕ) → k < places → slice_get t.2.items k ≡ Some (first_seat t.0 k)) }
+        ensures each_seat { IfOk result (λ t. (k : ℕ) → k < places
+            → slice_get t.2.items k ≡ Some (first_seat t.0 k)) }
     {
         let words = first_words(alloc, slots, places)?;
         let notes = vec![in alloc; Note::at(0); slots]?;
@@ -87,10 +91,12 @@ impl Board {
     /// that meets the rule, with what the keeper and these seats know. Where each place was given up, nothing is counted.
     pub fn close(self, keeper: Keeper, mut seats: Vec<ThreadSeat>) -> ClosedBoard
         requires keeper { keeper.board ≡ self }
-        requires seats { (i : ℕ) (s : SeatSeen) → slice_get seats.items i ≡ Some s → s.board ≡ self }
+        requires seats { (i : ℕ) (s : SeatSeen) → slice_get seats.items i ≡ Some s
+            → s.board ≡ self }
         ensures sizes { (result.slots ≡ self.slots) × (result.places ≡ self.places) }
         ensures rule { IsLeftBy keeper seats.items result }
-        ensures vacant { AreVacant self.places seats.items → (slot : ℕ) → slot < self.slots → word_left result (count_of slot) ≡ 0 }
+        ensures vacant { AreVacant self.places seats.items → (slot : ℕ) → slot < self.slots
+            → word_left result (count_of slot) ≡ 0 }
     {
         let Board {
             table,

@@ -23,12 +23,15 @@ impl Model for ClosedBoard {
 
     ghost view = { λ b. words_left b.slots b.places (slots_items b.closed.words) };
 
-    ghost invariant = { λ b. (slots_len b.closed.words ≡ words_at b.slots b.places) × IsFull b.closed.words × (slots_len b.closed.slots ≡ 0) × (b.slots ≤ 1024) × (b.places ≤ 64) };
+    ghost invariant = { λ b. (slots_len b.closed.words ≡ words_at b.slots b.places)
+        × IsFull b.closed.words × (slots_len b.closed.slots ≡ 0) × (b.slots ≤ 1024)
+        × (b.places ≤ 64) };
 }
 
 impl ClosedBoard {
     pub(crate) fn of(closed: Closed<(), Global>, slots: usize, places: usize) -> ClosedBoard
-        requires words { (slots_len closed.words ≡ words_at slots places) × IsFull closed.words × (slots_len closed.slots ≡ 0) }
+        requires words { (slots_len closed.words ≡ words_at slots places) × IsFull closed.words
+            × (slots_len closed.slots ≡ 0) }
         requires sizes { (slots ≤ 1024) × (places ≤ 64) }
         ensures { result ≡ words_left slots places (slots_items closed.words) }
     {

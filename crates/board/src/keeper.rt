@@ -41,7 +41,9 @@ impl Model for Keeper {
 
     ghost view = { λ k. of_keeper (board_id k.seat.table_id k.slots k.places) k.seat.me.0 };
 
-    ghost invariant = { λ k. IsKeeper k.seat.me.0 × (k.moment ≡ (keeper_of k.seat.me.0).moment) × (k.seat.table_id.words ≡ words_at k.slots k.places) × (k.slots ≤ 1024) × (k.places ≤ 64) × (0 < k.places) × AreNoted k.slots k.notes.items (keeper_of k.seat.me.0) };
+    ghost invariant = { λ k. IsKeeper k.seat.me.0 × (k.moment ≡ (keeper_of k.seat.me.0).moment)
+        × (k.seat.table_id.words ≡ words_at k.slots k.places) × (k.slots ≤ 1024) × (k.places ≤ 64)
+        × (0 < k.places) × AreNoted k.slots k.notes.items (keeper_of k.seat.me.0) };
 }
 
 /// The word of the code in the state.
@@ -65,7 +67,8 @@ impl Keeper {
     ) -> Keeper
         requires keeper { seat.me.0 ≡ IsKeepers (keeper_view slots places) [] 0 }
         requires notes { notes.items ≡ replicate slots blank }
-        requires board { (seat.table_id.words ≡ words_at slots places) × (slots ≤ 1024) × (places ≤ 64) × (0 < places) }
+        requires board { (seat.table_id.words ≡ words_at slots places) × (slots ≤ 1024)
+            × (places ≤ 64) × (0 < places) }
         ensures { result ≡ first_keeper (board_id seat.table_id slots places) }
     {
         Keeper {
@@ -94,7 +97,8 @@ impl Keeper {
     /// The view has each slot of the board, with a serial that a word can hold.
     fn has_slots(&self)
         ensures slots { length self.now.seen.slots ≡ self.now.board.slots }
-        ensures small { (i : ℕ) → i < self.now.board.slots → (slot_of self.now.seen i).serial < 2 ^ 40 }
+        ensures small { (i : ℕ) → i < self.now.board.slots
+            → (slot_of self.now.seen i).serial < 2 ^ 40 }
     {
         let _slots = self.slots;
     }
@@ -144,7 +148,8 @@ impl Keeper {
         requires code { IsIn self.old.seen code InUse }
         requires small { code.serial < 2 ^ 40 }
         ensures board { self.new.board ≡ self.old.board }
-        ensures step { self.new.seen ≡ entry_stored self.old.seen code (not_entrant code self.old.seen.moment) }
+        ensures step { self.new.seen
+            ≡ entry_stored self.old.seen code (not_entrant code self.old.seen.moment) }
         ensures made { KeeperSteps self.old.board self.old.seen self.new.seen }
         ensures stamp { self.old.stamp < self.new.stamp }
     {
@@ -162,7 +167,8 @@ impl Keeper {
         requires slot { code.slot < self.old.board.slots }
         requires code { IsIn self.old.seen code InUse }
         ensures board { self.new.board ≡ self.old.board }
-        ensures step { self.new.seen ≡ entry_stored self.old.seen code (not_entrant code self.old.seen.moment) }
+        ensures step { self.new.seen
+            ≡ entry_stored self.old.seen code (not_entrant code self.old.seen.moment) }
         ensures made { KeeperSteps self.old.board self.old.seen self.new.seen }
         ensures stamp { self.old.stamp < self.new.stamp }
         ensures code { slot_of self.new.seen code.slot ≡ not_entrant code self.old.seen.moment }
@@ -183,7 +189,8 @@ impl Keeper {
         requires small { code.serial < 2 ^ 40 }
         ensures board { self.new.board ≡ self.old.board }
         ensures step { self.new.seen ≡ replaced self.old.seen old code }
-        ensures made { KeeperSteps self.old.board self.old.seen (left_by self.old.seen old) × KeeperSteps self.old.board (left_by self.old.seen old) self.new.seen }
+        ensures made { KeeperSteps self.old.board self.old.seen (left_by self.old.seen old)
+            × KeeperSteps self.old.board (left_by self.old.seen old) self.new.seen }
         ensures stamp { self.old.stamp + 1 < self.new.stamp }
     {
         self.invalidate(board, old);
@@ -226,9 +233,11 @@ impl Keeper {
     pub fn round(&mut self, board: &Board) -> Result<(), Spent>
         requires board { self.old.board ≡ board.now }
         ensures board { self.new.board ≡ self.old.board }
-        ensures ok { OnOk result ((self.new.seen ≡ went_round self.old.seen self.old.seen.moment) × KeeperSteps self.old.board self.old.seen self.new.seen) }
+        ensures ok { OnOk result ((self.new.seen ≡ went_round self.old.seen self.old.seen.moment)
+            × KeeperSteps self.old.board self.old.seen self.new.seen) }
         ensures stamp { OnOk result (self.old.stamp < self.new.stamp) }
-        ensures spent { OnErr result ((self.new.seen ≡ self.old.seen) × (2 ^ 40 ≤ self.old.seen.moment + 1)) }
+        ensures spent { OnErr result ((self.new.seen ≡ self.old.seen)
+            × (2 ^ 40 ≤ self.old.seen.moment + 1)) }
         ensures slots { length self.new.seen.slots ≡ self.new.board.slots }
     {
         self.has_slots();
@@ -245,7 +254,8 @@ impl Keeper {
         requires slot { (code.slot < self.old.board.slots) × (place < self.old.board.places) }
         requires code { IsIn self.old.seen code NotEntrant }
         ensures board { self.new.board ≡ self.old.board }
-        ensures step { (found : ℕ) × (self.new.seen ≡ looked_at self.old.seen code place found) × (result ≡ is_past (slot_of self.old.seen code.slot).left found) }
+        ensures step { (found : ℕ) × (self.new.seen ≡ looked_at self.old.seen code place found)
+            × (result ≡ is_past (slot_of self.old.seen code.slot).left found) }
         ensures made { KeeperSteps self.old.board self.old.seen self.new.seen }
         ensures stamp { self.old.stamp < self.new.stamp }
     {
@@ -264,7 +274,8 @@ impl Keeper {
         requires slot { (code.slot < self.old.board.slots) × (place < self.old.board.places) }
         requires code { IsIn self.old.seen code NotEntrant }
         ensures board { self.new.board ≡ self.old.board }
-        ensures step { (found : ℕ) × (self.new.seen ≡ looked_at self.old.seen code place found) × (result ≡ is_past (slot_of self.old.seen code.slot).left found) }
+        ensures step { (found : ℕ) × (self.new.seen ≡ looked_at self.old.seen code place found)
+            × (result ≡ is_past (slot_of self.old.seen code.slot).left found) }
         ensures made { KeeperSteps self.old.board self.old.seen self.new.seen }
         ensures stamp { self.old.stamp < self.new.stamp }
         ensures looked { result ≡ true → IsLooked self.new.seen code place }
@@ -278,8 +289,11 @@ impl Keeper {
     /// The least place that wasn't looked at for the code.
     fn unlooked(&self, code: CodeId) -> Option<usize>
         requires slot { code.slot < self.now.board.slots }
-        ensures some { IfSome result (λ p. (p < self.now.board.places) × (has_place (slot_of self.now.seen code.slot).looked p ≡ false) × ((q : ℕ) → q < p → IsLooked self.now.seen code q)) }
-        ensures none { IfNone result ((q : ℕ) → q < self.now.board.places → IsLooked self.now.seen code q) }
+        ensures some { IfSome result (λ p. (p < self.now.board.places)
+            × (has_place (slot_of self.now.seen code.slot).looked p ≡ false)
+            × ((q : ℕ) → q < p → IsLooked self.now.seen code q)) }
+        ensures none { IfNone result ((q : ℕ) → q < self.now.board.places
+            → IsLooked self.now.seen code q) }
     {
         let place = self.notes[code.slot as usize].least_unlooked();
         if place < self.places {
@@ -338,7 +352,8 @@ impl Keeper {
         requires small { code.serial < 2 ^ 40 }
         requires clear { (slot_of self.old.seen code.slot).clear ≡ true }
         ensures board { self.new.board ≡ self.old.board }
-        ensures step { self.new.seen ≡ entry_stored self.old.seen code (in_state (slot_of self.old.seen code.slot) Zombie) }
+        ensures step { self.new.seen
+            ≡ entry_stored self.old.seen code (in_state (slot_of self.old.seen code.slot) Zombie) }
         ensures made { KeeperSteps self.old.board self.old.seen self.new.seen }
         ensures stamp { self.old.stamp < self.new.stamp }
     {
@@ -356,7 +371,8 @@ impl Keeper {
         requires code { IsIn self.old.seen code NotEntrant }
         requires clear { (slot_of self.old.seen code.slot).clear ≡ true }
         ensures board { self.new.board ≡ self.old.board }
-        ensures step { self.new.seen ≡ entry_stored self.old.seen code (in_state (slot_of self.old.seen code.slot) Zombie) }
+        ensures step { self.new.seen
+            ≡ entry_stored self.old.seen code (in_state (slot_of self.old.seen code.slot) Zombie) }
         ensures made { KeeperSteps self.old.board self.old.seen self.new.seen }
         ensures stamp { self.old.stamp < self.new.stamp }
         ensures code { IsIn self.new.seen code Zombie }
@@ -373,7 +389,8 @@ impl Keeper {
         requires code { IsIn self.old.seen code Zombie }
         requires small { code.serial < 2 ^ 40 }
         ensures board { self.new.board ≡ self.old.board }
-        ensures step { self.new.seen ≡ entry_stored self.old.seen code (in_state (slot_of self.old.seen code.slot) Vacant) }
+        ensures step { self.new.seen
+            ≡ entry_stored self.old.seen code (in_state (slot_of self.old.seen code.slot) Vacant) }
         ensures made { KeeperSteps self.old.board self.old.seen self.new.seen }
         ensures stamp { self.old.stamp < self.new.stamp }
     {
@@ -390,7 +407,8 @@ impl Keeper {
         requires slot { code.slot < self.old.board.slots }
         requires code { IsIn self.old.seen code Zombie }
         ensures board { self.new.board ≡ self.old.board }
-        ensures step { self.new.seen ≡ entry_stored self.old.seen code (in_state (slot_of self.old.seen code.slot) Vacant) }
+        ensures step { self.new.seen
+            ≡ entry_stored self.old.seen code (in_state (slot_of self.old.seen code.slot) Vacant) }
         ensures made { KeeperSteps self.old.board self.old.seen self.new.seen }
         ensures stamp { self.old.stamp < self.new.stamp }
         ensures code { IsIn self.new.seen code Vacant }

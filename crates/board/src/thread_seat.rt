@@ -41,7 +41,11 @@ impl Model for ThreadSeat {
 
     ghost view = { λ t. of_thread (board_id t.seat.table_id t.slots t.places) t.seat.me.0 };
 
-    ghost invariant = { λ t. IsThread t.seat.me.0 × (t.seat.me.1 ≡ []) × (t.place ≡ (thread_of t.seat.me.0).place) × (t.place < t.places) × (t.moment ≡ (thread_of t.seat.me.0).moment) × (t.seat.table_id.words ≡ words_at t.slots t.places) × (t.slots ≤ 1024) × (t.places ≤ 64) };
+    ghost invariant = { λ t. IsThread t.seat.me.0 × (t.seat.me.1 ≡ [])
+        × (t.place ≡ (thread_of t.seat.me.0).place) × (t.place < t.places)
+        × (t.moment ≡ (thread_of t.seat.me.0).moment)
+        × (t.seat.table_id.words ≡ words_at t.slots t.places) × (t.slots ≤ 1024)
+        × (t.places ≤ 64) };
 }
 
 impl ThreadSeat {
@@ -52,7 +56,8 @@ impl ThreadSeat {
         place: usize,
     ) -> ThreadSeat
         requires seat { seat.me ≡ (IsThreads (seat_view place) 0, []) }
-        requires board { (place < places) × (seat.table_id.words ≡ words_at slots places) × (slots ≤ 1024) × (places ≤ 64) }
+        requires board { (place < places) × (seat.table_id.words ≡ words_at slots places)
+            × (slots ≤ 1024) × (places ≤ 64) }
         ensures { result ≡ first_seat (board_id seat.table_id slots places) place }
     {
         ThreadSeat {
@@ -118,7 +123,9 @@ impl ThreadSeat {
         requires slot { code.slot < self.old.board.slots }
         requires published { self.old.seen.stored ≢ 0 }
         ensures board { self.new.board ≡ self.old.board }
-        ensures step { (found : ℕ) × (self.new.seen ≡ entered self.old.seen code found) × (result ≡ (found == pack code.serial InUse)) × (IsHeld self.old.seen code → IsStandingWord code found) }
+        ensures step { (found : ℕ) × (self.new.seen ≡ entered self.old.seen code found)
+            × (result ≡ (found == pack code.serial InUse))
+            × (IsHeld self.old.seen code → IsStandingWord code found) }
         ensures made { ThreadSteps self.old.board self.old.seen self.new.seen }
         ensures stamp { self.old.stamp < self.new.stamp }
         ensures fresh { result ≡ true → has_code self.new.seen.fresh code ≡ true }

@@ -60,7 +60,8 @@ impl Model for Seats {
 
     ghost view = { λ s. record { seat = s.parts.value.seat; poller = s.parts.value.poller } };
 
-    ghost invariant = { λ s. IsVacant s.parts.value.images.items (vec_capacity s.parts.value.images) };
+    ghost invariant = { λ s. IsVacant s.parts.value.images.items
+        (vec_capacity s.parts.value.images) };
 }
 
 impl Seats {
@@ -94,9 +95,13 @@ impl<N: Name> Model for SpareSeat<N> {
 
     ghost Value = { SpareView };
 
-    ghost view = { λ p. record { seat = p.parts.value.seat.seen; poller = p.parts.value.poller.seen } };
+    ghost view = { λ p. record {
+      seat = p.parts.value.seat.seen;
+      poller = p.parts.value.poller.seen;
+    } };
 
-    ghost invariant = { λ p. IsPaired N.board N.poll_row p.parts.value.seat p.parts.value.poller × IsSpare p.parts.value.seat.seen
+    ghost invariant = { λ p. IsPaired N.board N.poll_row p.parts.value.seat p.parts.value.poller
+        × IsSpare p.parts.value.seat.seen
         × IsVacant p.parts.value.images.items (vec_capacity p.parts.value.images) };
 }
 
@@ -143,9 +148,15 @@ impl<N: Name> Model for Body<N> {
 
     ghost Value = { BodyView };
 
-    ghost view = { λ b. record { name = b.parts.value.name; image = image_of b.parts.value.images.items; seat = b.parts.value.seat.seen; poller = b.parts.value.poller.seen } };
+    ghost view = { λ b. record {
+      name = b.parts.value.name;
+      image = image_of b.parts.value.images.items;
+      seat = b.parts.value.seat.seen;
+      poller = b.parts.value.poller.seen;
+    } };
 
-    ghost invariant = { λ b. IsPaired N.board N.poll_row b.parts.value.seat b.parts.value.poller × IsKept N.board.slots b.parts.value.images.items b.parts.value.seat.seen
+    ghost invariant = { λ b. IsPaired N.board N.poll_row b.parts.value.seat b.parts.value.poller
+        × IsKept N.board.slots b.parts.value.images.items b.parts.value.seat.seen
         × (1 ≤ vec_capacity b.parts.value.images) };
 }
 
@@ -157,7 +168,8 @@ fn count_changes(image: &mut Image, seat: &mut ThreadSeat, board: &Board)
     requires begun { seat.old.seen.moment ≢ 0 }
     ensures board { seat.new.board ≡ seat.old.board }
     ensures fit { IsFit seat.old.board.slots image.new seat.new.seen }
-    ensures made { (made : List (ChangeOf × ℕ)) × AreMade image.old image.new seat.old.seen seat.new.seen made }
+    ensures made { (made : List (ChangeOf × ℕ))
+        × AreMade image.old image.new seat.old.seen seat.new.seen made }
     ensures none_left { next_code image.new ≡ None }
 {
     while let Some(change) = image.next_change() {
@@ -217,7 +229,8 @@ fn count_moved(image: &mut Image, seat: &mut ThreadSeat, board: &Board)
 impl<N: Name> Body<N> {
     /// The body of a thread that starts, in the box of the place that it takes: its stack is empty and nothing of it is counted.
     pub fn new(name: u64, image: Image, pair: SpareSeat<N>) -> Body<N>
-        requires empty { (image.frames ≡ []) × (image.publishing ≡ false) × ((c : Code) → times c image.counted ≡ 0) }
+        requires empty { (image.frames ≡ []) × (image.publishing ≡ false)
+            × ((c : Code) → times c image.counted ≡ 0) }
         ensures name { result.name ≡ name }
         ensures image { result.image ≡ image }
         ensures seats { (result.seat ≡ pair.seat) × (result.poller ≡ pair.poller) }
@@ -253,7 +266,8 @@ impl<N: Name> Body<N> {
     /// Runs a job on its own image, which must be settled.
     pub fn run<J: Errand>(&self, job: J) -> Done
         requires { IsSettled self.now.image }
-        ensures same { (result.op ≡ J.number job) × (result.target ≡ J.whom job) × (result.ask ≡ J.asks job) }
+        ensures same { (result.op ≡ J.number job) × (result.target ≡ J.whom job)
+            × (result.ask ≡ J.asks job) }
         ensures reply { result.reply ≡ reply (J.asks job) self.now.image.frames }
         ensures called { J.may_answer job self.now.image result.reply }
     {
@@ -316,8 +330,10 @@ impl<N: Name> Body<N> {
     #[inline(always)]
     pub fn ret(&mut self) -> Frame
         requires frames { 0 < length self.old.image.frames }
-        ensures popped { (self.old.image.frames ≡ self.new.image.frames ++ result ∷ []) × HasFrames self.old.image self.new.image self.new.image.frames }
-        ensures others { (self.new.name ≡ self.old.name) × (self.new.seat ≡ self.old.seat) × (self.new.poller ≡ self.old.poller) }
+        ensures popped { (self.old.image.frames ≡ self.new.image.frames ++ result ∷ [])
+            × HasFrames self.old.image self.new.image self.new.image.frames }
+        ensures others { (self.new.name ≡ self.old.name) × (self.new.seat ≡ self.old.seat)
+            × (self.new.poller ≡ self.old.poller) }
     {
         let parts = &mut *self.parts;
         let image = &mut parts.images[0];
@@ -343,7 +359,8 @@ impl<N: Name> Body<N> {
         requires row { row.now ≡ N.poll_row }
         ensures step { self.new.poller ≡ polled self.old.poller result }
         ensures later { (result ≡ 0) ⊎ (self.old.poller.cleared < result) }
-        ensures others { (self.new.name ≡ self.old.name) × (self.new.image ≡ self.old.image) × (self.new.seat ≡ self.old.seat) }
+        ensures others { (self.new.name ≡ self.old.name) × (self.new.image ≡ self.old.image)
+            × (self.new.seat ≡ self.old.seat) }
     {
         let parts = &mut *self.parts;
         parts.poller.poll(row)
@@ -354,8 +371,10 @@ impl<N: Name> Body<N> {
     pub fn clear(&mut self, row: &PollRow, n: u64) -> bool
         requires row { row.now ≡ N.poll_row }
         requires number { n ≢ 0 }
-        ensures step { (found : ℕ) × (self.new.poller ≡ exchanged self.old.poller n found) × (result ≡ (found == n)) }
-        ensures others { (self.new.name ≡ self.old.name) × (self.new.image ≡ self.old.image) × (self.new.seat ≡ self.old.seat) }
+        ensures step { (found : ℕ) × (self.new.poller ≡ exchanged self.old.poller n found)
+            × (result ≡ (found == n)) }
+        ensures others { (self.new.name ≡ self.old.name) × (self.new.image ≡ self.old.image)
+            × (self.new.seat ≡ self.old.seat) }
     {
         let parts = &mut *self.parts;
         parts.poller.clear(row, n)

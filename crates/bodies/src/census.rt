@@ -18,7 +18,9 @@ fn count_frames(index: &mut Index, frames: &[Frame])
     ensures slots { index.new.slots ≡ index.old.slots }
     ensures rising { IsRisingFrom 0 index.new.entries }
     ensures taken { length index.new.entries ≤ length index.old.entries + length frames.now }
-    ensures counts { (serial : ℕ) → count_in index.new.entries serial ≡ count_in index.old.entries serial + serial_count serial frames.now }
+    ensures counts { (serial : ℕ)
+        → count_in index.new.entries serial
+        ≡ count_in index.old.entries serial + serial_count serial frames.now }
 {
     let mut rest = frames;
     while let Some((frame, others)) = rest.split_first() {
@@ -35,7 +37,9 @@ fn count_frame(index: &mut Index, frame: Frame)
     ensures slots { index.new.slots ≡ index.old.slots }
     ensures rising { IsRisingFrom 0 index.new.entries }
     ensures taken { length index.new.entries ≤ length index.old.entries + 1 }
-    ensures counts { (serial : ℕ) → count_in index.new.entries serial ≡ count_in index.old.entries serial + serial_count serial (frame ∷ []) }
+    ensures counts { (serial : ℕ)
+        → count_in index.new.entries serial
+        ≡ count_in index.old.entries serial + serial_count serial (frame ∷ []) }
 {
     if let Some(code) = frame.code {
         index.add(code.serial, 1);
@@ -46,9 +50,12 @@ fn count_frame(index: &mut Index, frame: Frame)
 fn count_bodies<N: Name>(index: &mut Index, bodies: &[Body<N>])
     requires rising { IsRisingFrom 0 index.old.entries }
     requires room { length index.old.entries + 256 * length bodies.now ≤ index.old.slots }
-    requires high { (serial : ℕ) → count_in index.old.entries serial + 256 * length bodies.now ≤ 16384 }
+    requires high { (serial : ℕ)
+        → count_in index.old.entries serial + 256 * length bodies.now ≤ 16384 }
     ensures rising { IsRisingFrom 0 index.new.entries }
-    ensures counts { (serial : ℕ) → count_in index.new.entries serial ≡ count_in index.old.entries serial + total_count serial bodies.now }
+    ensures counts { (serial : ℕ)
+        → count_in index.new.entries serial
+        ≡ count_in index.old.entries serial + total_count serial bodies.now }
 {
     let mut rest = bodies;
     while let Some((body, others)) = rest.split_first() {

@@ -133,7 +133,9 @@ struct Header {
 
 /// What the two lines tell, where they are those of a log.
 fn read_header(alloc: Global, first: &[u8], second: &[u8]) -> Result<Option<Header>, AllocError>
-    ensures { IfOk result (λ header. MatchOption header (is_header first.now second.now ≡ false) (IsHeader first.now second.now)) }
+    ensures { IfOk result
+        (λ header. MatchOption header (is_header first.now second.now
+        ≡ false) (IsHeader first.now second.now)) }
 {
     let jobs = first == b"witness 1 jobs".as_slice();
     if !jobs && first != b"witness 1".as_slice() {

@@ -65,7 +65,8 @@ impl Token {
 
 /// What stands between two spaces, as bytes.
 fn parts(alloc: Global, line: &[u8]) -> Result<Vec<&[u8]>, AllocError>
-    ensures { IfOk result (λ parts. map (λ x. x.now) parts.items ≡ slice_split (λ b. b == 32) line.now) }
+    ensures { IfOk result
+        (λ parts. map (λ x. x.now) parts.items ≡ slice_split (λ b. b == 32) line.now) }
 {
     line.split(|b| *b == b' ').collect(alloc)
 }

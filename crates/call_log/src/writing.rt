@@ -140,7 +140,8 @@ pub fn put_header(
     slots: u64,
     methods: u64,
 ) -> Result<(), AllocError>
-    ensures { OnOk result (text.new.items ≡ text.old.items ++ header_text jobs places slots methods) }
+    ensures { OnOk result (text.new.items ≡ text.old.items
+        ++ header_text jobs places slots methods) }
 {
     put_first(text, jobs)?;
     text.push(b'\n')?;

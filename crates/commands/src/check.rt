@@ -21,8 +21,10 @@ pub fn check_script<R: Source, W: Sink>(
     requires source { R.failures source.old ≡ 0 }
     requires unread { R.reads source.old ≡ 0 }
     requires sink { W.failures sink.old ≡ 0 }
-    ensures told { IfSome (R.left source.old) (λ text. Told text result (W.got sink.old) (W.got sink.new)) }
-    ensures read { ReadAndTold result (R.left source.old) (R.left source.new) (W.got sink.old) (W.got sink.new) }
+    ensures told { IfSome (R.left source.old)
+        (λ text. Told text result (W.got sink.old) (W.got sink.new)) }
+    ensures read { ReadAndTold result (R.left source.old) (R.left source.new) (W.got sink.old)
+        (W.got sink.new) }
     ensures failed { FailedCalls result (R.failures source.new) (W.failures sink.new) }
 {
     let text = read_text(alloc, source)?;
@@ -38,8 +40,10 @@ pub fn check_script<R: Source, W: Sink>(
 pub fn read_code<R: Source>(alloc: Global, source: &mut R) -> Result<Code, Fault>
     requires source { R.failures source.old ≡ 0 }
     requires unread { R.reads source.old ≡ 0 }
-    ensures code { IfOk result (λ code. (text : List ℕ) × ReadsEnough (R.left source.old) (R.left source.new) text × IsCodeOf text code) }
-    ensures fault { IfErr result (IsFaultOfSource (R.left source.old) (R.left source.new) (R.failures source.new)) }
+    ensures code { IfOk result (λ code. (text : List ℕ)
+        × ReadsEnough (R.left source.old) (R.left source.new) text × IsCodeOf text code) }
+    ensures fault { IfErr result (IsFaultOfSource (R.left source.old) (R.left source.new)
+        (R.failures source.new)) }
 {
     let text = read_text(alloc, source)?;
     check_text(alloc, &text)
@@ -66,8 +70,10 @@ pub fn line_of(alloc: Global, code: &Code) -> Result<String, AllocError>
 fn read_text<R: Source>(alloc: Global, source: &mut R) -> Result<Vec<u8>, Fault>
     requires source { R.failures source.old ≡ 0 }
     requires unread { R.reads source.old ≡ 0 }
-    ensures text { IfOk result (λ text. ReadsEnough (R.left source.old) (R.left source.new) text.items) }
-    ensures failed { MatchResult result (λ _. R.failures source.new ≡ 0) (λ fault. IsUnread fault (R.failures source.new)) }
+    ensures text { IfOk result
+        (λ text. ReadsEnough (R.left source.old) (R.left source.new) text.items) }
+    ensures failed { MatchResult result (λ _. R.failures source.new ≡ 0)
+        (λ fault. IsUnread fault (R.failures source.new)) }
 {
     let mut block = new_block(alloc)?;
     let mut text = Vec::new(alloc);

@@ -13,13 +13,16 @@ pub trait CommandLine {
 
     /// The word of that number, where the program's name is number 0; None behind the last.
     fn word(&self, number: usize, alloc: Global) -> Result<Option<String>, Fault>
-        ensures word { IfOk result (λ word. IfSome (words self.now) (λ all. option_map string_bytes word ≡ slice_get all number)) }
+        ensures word { IfOk result
+            (λ word. IfSome (words self.now)
+            (λ all. option_map string_bytes word ≡ slice_get all number)) }
         ensures fault { IfErr result (λ fault. (fault ≡ BadWords) ⊎ (fault ≡ NoMemory)) };
 }
 
 /// The words behind the program's name, which needn't be text itself.
 pub fn read_words<L: CommandLine>(line: &L, alloc: Global) -> Result<Vec<String>, Fault>
-    ensures words { IfOk result (λ words. IfSome (L.words line.now) (λ all. map string_bytes words.items ≡ drop 1 all)) }
+    ensures words { IfOk result
+        (λ words. IfSome (L.words line.now) (λ all. map string_bytes words.items ≡ drop 1 all)) }
     ensures fault { IfErr result (λ fault. (fault ≡ BadWords) ⊎ (fault ≡ NoMemory)) }
 {
     let mut words = Vec::new(alloc);

@@ -16,9 +16,11 @@ const MAX_BYTES: usize = 268_435_456;
 pub fn read_text<R: Source>(alloc: Global, source: &mut R) -> Result<Vec<u8>, Fault>
     requires source { R.failures source.old ≡ 0 }
     requires unread { R.reads source.old ≡ 0 }
-    ensures text { IfOk result (λ text. ReadsWhole (R.left source.old) (R.left source.new) text.items) }
+    ensures text { IfOk result
+        (λ text. ReadsWhole (R.left source.old) (R.left source.new) text.items) }
     ensures fresh { OnOk result (R.failures source.new ≡ 0) }
-    ensures fault { IfErr result (IsUnread (R.left source.old) (R.left source.new) (R.failures source.new)) }
+    ensures fault { IfErr result (IsUnread (R.left source.old) (R.left source.new)
+        (R.failures source.new)) }
 {
     let mut block = new_block(alloc)?;
     let mut text = Vec::new(alloc);

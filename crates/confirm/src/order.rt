@@ -47,7 +47,8 @@ fn owner_of(bytes: &[u8]) -> Option<usize>
 /// The event that the bytes spell.
 fn event_of(alloc: Global, bytes: &[u8]) -> Result<Option<Event>, AllocError>
     ensures event { IfOk result (λ event. event ≡ event_in (command_of bytes.now)) }
-    ensures spelled { IfOk result (λ event. IfSome event (λ event. bytes.now ≡ spelling (Do event))) }
+    ensures spelled { IfOk result
+        (λ event. IfSome event (λ event. bytes.now ≡ spelling (Do event))) }
     ensures read { IfOk result (λ event. IfSome event IsRead) }
 {
     lines_spell_commands();
@@ -60,9 +61,12 @@ fn event_of(alloc: Global, bytes: &[u8]) -> Result<Option<Event>, AllocError>
 
 /// What a line of an order says.
 fn read_line(alloc: Global, line: &[u8]) -> Result<Option<Deed<'_>>, AllocError>
-    ensures deed { IfOk result (λ deed. option_map (λ deed. (deed.owner, deed.event)) deed ≡ deed_of line.now) }
-    ensures spelled { IfOk result (λ deed. IfSome deed (λ deed. line.now ≡ deed_text deed.owner deed.event)) }
-    ensures event { IfOk result (λ deed. IfSome deed (λ deed. deed.spelled.now ≡ spelling (Do deed.event))) }
+    ensures deed { IfOk result
+        (λ deed. option_map (λ deed. (deed.owner, deed.event)) deed ≡ deed_of line.now) }
+    ensures spelled { IfOk result
+        (λ deed. IfSome deed (λ deed. line.now ≡ deed_text deed.owner deed.event)) }
+    ensures event { IfOk result
+        (λ deed. IfSome deed (λ deed. deed.spelled.now ≡ spelling (Do deed.event))) }
     ensures read { IfOk result (λ deed. IfSome deed (λ deed. IsRead deed.event)) }
 {
     let Some((number, spelled)) = cut(b' ', line) else {
@@ -83,9 +87,12 @@ fn read_line(alloc: Global, line: &[u8]) -> Result<Option<Deed<'_>>, AllocError>
 
 impl Order {
     fn push(&mut self, deed: Deed) -> Result<(), AllocError>
-        ensures owners { OnOk result (self.new.owners.items ≡ self.old.owners.items ++ deed.entry.owner ∷ []) }
-        ensures events { OnOk result (self.new.events.items ≡ self.old.events.items ++ deed.entry.event ∷ []) }
-        ensures lines { OnOk result (self.new.lines.items ≡ self.old.lines.items ++ (deed.entry.spelled.now ++ 10 ∷ [])) }
+        ensures owners { OnOk result (self.new.owners.items ≡ self.old.owners.items
+            ++ deed.entry.owner ∷ []) }
+        ensures events { OnOk result (self.new.events.items ≡ self.old.events.items
+            ++ deed.entry.event ∷ []) }
+        ensures lines { OnOk result (self.new.lines.items ≡ self.old.lines.items
+            ++ (deed.entry.spelled.now ++ 10 ∷ [])) }
     {
         self.owners.push(deed.owner)?;
         self.events.push(deed.event)?;
@@ -96,7 +103,9 @@ impl Order {
 
 /// The order that the text spells: a line for each event, with its newline. The lines of the events stand behind the head.
 pub fn read_order(alloc: Global, text: &[u8], head: Vec<u8>) -> Result<Order, Fault>
-    ensures order { IfOk result (λ order. IsOrder text.now head.items order.owners.items order.events.items order.lines.items) }
+    ensures order { IfOk result
+        (λ order. IsOrder text.now head.items order.owners.items order.events.items
+        order.lines.items) }
     ensures fault { IfErr result (IsOrderFault text.now) }
 {
     let mut order = Order {

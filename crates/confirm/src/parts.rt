@@ -27,7 +27,8 @@ pub fn cut(byte: u8, bytes: &[u8]) -> Option<(&[u8], &[u8])>
 
 /// What stands before the first line `order` and what stands behind it; none where there is no such line.
 pub fn part(text: &[u8]) -> Option<(&[u8], &[u8])>
-    ensures { MatchOption result (LacksOrder text.now) (λ parts. IsParted text.now parts.0.now parts.1.now) }
+    ensures { MatchOption result (LacksOrder text.now)
+        (λ parts. IsParted text.now parts.0.now parts.1.now) }
 {
     let mut rest = text;
     while let Some((line, behind)) = cut(b'\n', rest) {

@@ -27,7 +27,8 @@ pub fn confirm<R: Source, W: Sink>(
     requires source { R.failures source.old ≡ 0 }
     requires unread { R.reads source.old ≡ 0 }
     requires sink { W.failures sink.old ≡ 0 }
-    ensures ran { Ran result (R.left source.old) (R.left source.new) (W.got sink.old) (W.got sink.new) }
+    ensures ran { Ran result (R.left source.old) (R.left source.new) (W.got sink.old)
+        (W.got sink.new) }
     ensures failed { FailedCalls result (R.failures source.new) (W.failures sink.new) }
 {
     let text = read_text(alloc, source)?;

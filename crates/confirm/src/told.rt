@@ -38,7 +38,8 @@ fn read_log(alloc: Global, text: &[u8]) -> Result<Log, Fault>
 
 /// The lines of the order that stands in the text behind a log, where it explains that log.
 pub fn tell(alloc: Global, text: &[u8]) -> Result<Option<Vec<u8>>, Fault>
-    ensures told { IfOk result (λ lines. IsTold text.now (option_map (λ lines. lines.items) lines)) }
+    ensures told { IfOk result
+        (λ lines. IsTold text.now (option_map (λ lines. lines.items) lines)) }
     ensures fault { IfErr result (IsFaultOf text.now) }
 {
     let Some((before, behind)) = part(text) else {

@@ -56,7 +56,12 @@ impl<N: Name, J: Errand> Model for Listed<N, J> {
 
     ghost Value = { Listing };
 
-    ghost view = { λ l. record { seen = l.seen.value; list = map (λ u. u.what) l.list.items; has_more = l.has_more } };
+    ghost view = { λ l. record {
+      seen = l.seen.value;
+      list = map
+          (λ u. u.what) l.list.items;
+      has_more = l.has_more;
+    } };
 }
 
 impl<N: Name, J: Errand> Listed<N, J> {

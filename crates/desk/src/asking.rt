@@ -34,7 +34,12 @@ fn wait_for_its_turn<J>(
 ) -> Result<(), Vec<J>>
     requires tested { MayWait (length queue.old) request }
     ensures ok { OnOk result ((due : NamesSeen) × (due.items ≡ targets_of request)
-        × (queue.new ≡ queue.old ++ record { number = number; request = request; load = record { due = due; jobs = jobs } } ∷ [])) }
+        × (queue.new ≡ queue.old
+        ++ record {
+          number = number;
+          request = request;
+          load = record { due = due; jobs = jobs };
+        } ∷ [])) }
     ensures handed_back { IfErr result (λ back. back ≡ jobs) }
     ensures unchanged { OnErr result (queue.new ≡ queue.old) }
 {
@@ -111,7 +116,8 @@ impl<N: Name, J: Errand> Desk<N, J> {
         ensures some { IfSome result (λ fault. (r : RequestOf) (fits : Bool) (b : Book)
             → has_targets r ≡ has_some → (are_targets r && fits) ≡ good
             → ask_refused (at self.now) r fits b fault) }
-        ensures none { IfNone result (((at self.now).next_number < 2 ^ 40) × (length (at self.now).waiting < 64)
+        ensures none { IfNone result (((at self.now).next_number < 2 ^ 40)
+            × (length (at self.now).waiting < 64)
             × (has_some ≡ true) × (good ≡ true)) }
     {
         if self.next_number > LAST {

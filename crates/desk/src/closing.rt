@@ -21,7 +21,11 @@ impl<N: Name> Model for Closing<N> {
 
     ghost Value = { ClosingSeen };
 
-    ghost view = { λ c. record { stands = c.receipt; kind = c.kind.value; oldest = c.oldest.value } };
+    ghost view = { λ c. record {
+      stands = c.receipt;
+      kind = c.kind.value;
+      oldest = c.oldest.value;
+    } };
 }
 
 impl<N: Name> Closing<N> {

@@ -42,7 +42,13 @@ impl<N: Name, J: Errand> Model for Desk<N, J> {
 
     ghost Value = { DeskSeen };
 
-    ghost view = { λ d. record { book = d.log.book; slots = d.codes.table.slots; methods = d.codes.table.methods; keeper = d.codes.keeper; jobs = map (jobs_left J.whom) d.opened.items } };
+    ghost view = { λ d. record {
+      book = d.log.book;
+      slots = d.codes.table.slots;
+      methods = d.codes.table.methods;
+      keeper = d.codes.keeper;
+      jobs = map (jobs_left J.whom) d.opened.items;
+    } };
 
     ghost invariant = { λ d. IsDesk J.whom N.board.places (record {
       fields = record {

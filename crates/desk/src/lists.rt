@@ -294,7 +294,8 @@ pub fn finish_at<J>(opened: &mut Vec<Opened<J>>, place: usize, name: u64)
     requires { (place < length opened.old.items)
         × ((o : OpenedOf J) → slice_get opened.old.items place ≡ Some o → (0 < o.left)
         × (is_distinct o.due.items ≡ true)) }
-    ensures step { (o : OpenedOf J) → slice_get opened.old.items place ≡ Some o → (after : OpenedOf J)
+    ensures step { (o : OpenedOf J) → slice_get opened.old.items place ≡ Some o
+        → (after : OpenedOf J)
         × (current_of after ≡ finished name (current_of o))
         × (opened.new.items ≡ slice_set opened.old.items place after)
         × (after.jobs ≡ o.jobs) }
@@ -308,7 +309,8 @@ pub fn finish_at<J>(opened: &mut Vec<Opened<J>>, place: usize, name: u64)
 pub fn operate_at<J>(opened: &mut Vec<Opened<J>>, place: usize)
     requires { (place < length opened.old.items)
         × ((o : OpenedOf J) → slice_get opened.old.items place ≡ Some o → 0 < o.left) }
-    ensures step { (o : OpenedOf J) → slice_get opened.old.items place ≡ Some o → (after : OpenedOf J)
+    ensures step { (o : OpenedOf J) → slice_get opened.old.items place ≡ Some o
+        → (after : OpenedOf J)
         × (current_of after ≡ as_operated (current_of o))
         × (opened.new.items ≡ slice_set opened.old.items place after)
         × (after.jobs ≡ o.jobs) }
@@ -558,7 +560,8 @@ pub fn job_of<J: Errand>(opened: &mut Vec<Opened<J>>, place: usize, name: u64) -
         ((o : OpenedOf J)
         → slice_get opened.old.items place ≡ Some o
         → among name (names_left J.whom o) ≡ false) }
-    ensures step { (o : OpenedOf J) → slice_get opened.old.items place ≡ Some o → (after : OpenedOf J)
+    ensures step { (o : OpenedOf J) → slice_get opened.old.items place ≡ Some o
+        → (after : OpenedOf J)
         × (current_of after ≡ current_of o)
         × (opened.new.items ≡ slice_set opened.old.items place after)
         × (names_left J.whom after ≡ without_first name (names_left J.whom o)) }

@@ -48,7 +48,10 @@ impl<N: Name> Model for Receipt<N> {
 
     ghost Value = { Stands };
 
-    ghost view = { λ r. record { place = length r.before.value.entries + r.behind; entry = r.entry.value } };
+    ghost view = { λ r. record {
+      place = length r.before.value.entries + r.behind;
+      entry = r.entry.value;
+    } };
 }
 
 /// How long the history of the desk of N was. Only a log makes one.
@@ -88,7 +91,18 @@ impl<N: Name> Model for Log<N> {
 
     ghost Value = { Logged };
 
-    ghost view = { λ l. record { book = record { history = l.past.entries ++ unfolded l.entries.items l.asked.list; reserved = l.reserved; gone = record { entries = length l.past.entries; operations = l.forgotten } }; lists = l.replies.lists; spare = min l.replies.spare l.asked.spare; places = l.replies.places; noted = l.asked.noted } };
+    ghost view = { λ l. record {
+      book = record {
+        history = l.past.entries
+            ++ unfolded l.entries.items l.asked.list;
+        reserved = l.reserved;
+        gone = record { entries = length l.past.entries; operations = l.forgotten };
+      };
+      lists = l.replies.lists;
+      spare = min l.replies.spare l.asked.spare;
+      places = l.replies.places;
+      noted = l.asked.noted;
+    } };
 
     ghost invariant = { λ l. (vec_len l.entries + l.reserved ≤ vec_capacity l.entries)
         × (asks l.entries.items ≡ length l.asked.list)

@@ -24,7 +24,11 @@ impl Model for Names {
 
     ghost Value = { NamesSeen };
 
-    ghost view = { λ n. record { items = option_to_list n.first ++ n.later.items; capacity = vec_capacity n.later } };
+    ghost view = { λ n. record {
+      items = option_to_list n.first
+          ++ n.later.items;
+      capacity = vec_capacity n.later;
+    } };
 }
 
 // Where a name stands among these, looked for one by one.
@@ -169,7 +173,11 @@ impl Model for Awaited {
 
     ghost Value = { NamesSeen };
 
-    ghost view = { λ d. record { items = option_to_list d.first ++ drop d.gone d.later.items; capacity = vec_capacity d.later } };
+    ghost view = { λ d. record {
+      items = option_to_list d.first
+          ++ drop d.gone d.later.items;
+      capacity = vec_capacity d.later;
+    } };
 
     ghost invariant = { λ d. d.gone ≤ length d.later.items };
 }

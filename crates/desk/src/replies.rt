@@ -29,7 +29,11 @@ impl Model for Replies {
 
     ghost Value = { RepliesSeen };
 
-    ghost view = { λ r. record { lists = map (said_in r.all.items) r.spans.items; spare = vec_capacity r.spans - vec_len r.spans; places = vec_capacity r.all - vec_len r.all } };
+    ghost view = { λ r. record {
+      lists = map (said_in r.all.items) r.spans.items;
+      spare = vec_capacity r.spans - vec_len r.spans;
+      places = vec_capacity r.all - vec_len r.all;
+    } };
 
     ghost invariant = { λ r. AreBehind 0 r.spans.items (length r.all.items) };
 }

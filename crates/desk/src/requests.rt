@@ -30,7 +30,11 @@ impl Model for Requests {
 
     ghost Value = { RequestsSeen };
 
-    ghost view = { λ r. record { list = requests_of r.asked.items r.names.items; spare = vec_capacity r.asked - vec_len r.asked; noted = drop r.used r.names.items } };
+    ghost view = { λ r. record {
+      list = requests_of r.asked.items r.names.items;
+      spare = vec_capacity r.asked - vec_len r.asked;
+      noted = drop r.used r.names.items;
+    } };
 
     ghost invariant = { λ r. (r.used ≡ names_taken r.asked.items)
         × (r.used ≤ length r.names.items) };

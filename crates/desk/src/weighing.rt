@@ -21,7 +21,11 @@ impl<N: Name> Model for Weighing<N> {
 
     ghost Value = { WeighingSeen };
 
-    ghost view = { λ w. record { serial = w.serial.value; said = w.said.value; length = w.length } };
+    ghost view = { λ w. record {
+      serial = w.serial.value;
+      said = w.said.value;
+      length = w.length;
+    } };
 }
 
 impl<N: Name> Weighing<N> {

@@ -153,7 +153,9 @@ pub enum BoardView {
 
 /// A law: whatever step a seat makes, where it is allowed, a board that meets the rule meets it afterwards.
 pub fn steps_keep_the_rule()
-    ensures { (slots places : ℕ) (old new : BoardState) (actor : Actor) (made : Made) → BoardStep slots places old new actor made → IsBoardKept slots places old → IsBoardKept slots places new }
+    ensures { (slots places : ℕ) (old new : BoardState) (actor : Actor) (made : Made)
+        → BoardStep slots places old new actor made → IsBoardKept slots places old
+        → IsBoardKept slots places new }
 {}
 
 /// A law: a new board, with vacant slots and places, meets the rule.
@@ -164,6 +166,8 @@ pub fn new_boards_meet_the_rule()
 /// A law: a count word is the sum, over the seats, of what they count in its slot, whatever the serial.
 /// (The rule says it of the serial that stands there, since no other has a count.)
 pub fn counts_sum_over_all_serials()
-    ensures { (slots places : ℕ) (board : BoardState) → IsBoardKept slots places board → (slot bound : ℕ) → slot < slots → (board.slot slot).serial < bound
-        → board.word (Rattle.frames.specs.BoardWords.count_of slot) ≡ counted_in places bound board slot }
+    ensures { (slots places : ℕ) (board : BoardState) → IsBoardKept slots places board
+        → (slot bound : ℕ) → slot < slots → (board.slot slot).serial < bound
+        → board.word (Rattle.frames.specs.BoardWords.count_of slot)
+        ≡ counted_in places bound board slot }
 {}

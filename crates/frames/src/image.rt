@@ -49,11 +49,13 @@ impl Model for Image {
       publishing = i.publishing;
     } };
 
-    ghost invariant = { λ i. (vec_len i.frames ≤ 256) × (256 ≤ vec_capacity i.frames) × (i.nets.flushed ≡ i.publishing)
+    ghost invariant = { λ i. (vec_len i.frames ≤ 256) × (256 ≤ vec_capacity i.frames)
+        × (i.nets.flushed ≡ i.publishing)
         × (i.given ≤ length i.nets.entries)
         × (i.publishing ≡ false → i.given ≡ 0)
         × IsRising None i.nets.entries
-        × ((code : CodeId) → IsWithin (net_in (drop i.given i.nets.entries) code) (act code i.frames.items))
+        × ((code : CodeId)
+        → IsWithin (net_in (drop i.given i.nets.entries) code) (act code i.frames.items))
         × (i.publishing ≡ false → length (counted_by i.frames.items i.nets.entries) ≤ 256)
         × (length i.nets.entries ≤ 512) };
 }
@@ -251,10 +253,13 @@ impl Image {
         ensures frames { self.new.frames ≡ self.old.frames }
         ensures settled { IfSome result (λ change. IsSettled self.new) }
         ensures closed { IfSome result (λ change. self.new.changed ≡ []) }
-        ensures counts { IfSome result (λ change. Counts self.old (record self.new { changed = change.code ∷ [] }) change) }
+        ensures counts { IfSome result
+            (λ change. Counts self.old (record self.new { changed = change.code ∷ [] }) change) }
         ensures differs { IfSome result (λ change. Differs self.old change.code) }
         ensures by { IfSome result (λ change. change.by ≢ pos 0) }
-        ensures others { IfSome result (λ change. (code : CodeId) → same_code code change.code ≡ false → act code self.old.frames ≡ times code self.old.counted) }
+        ensures others { IfSome result (λ change. (code : CodeId)
+            → same_code code change.code ≡ false
+            → act code self.old.frames ≡ times code self.old.counted) }
         ensures none { IfNone result (self.new ≡ self.old) }
     {
         self.nets.take_only()
@@ -286,7 +291,8 @@ impl Image {
 
     /// How many more frames than are counted have a code of the serial.
     pub fn net(&self, serial: u64) -> i32
-        ensures { pos (serial_times serial self.now.counted) +ℤ result ≡ pos (serial_count serial self.now.frames) }
+        ensures { pos (serial_times serial self.now.counted) +ℤ result
+            ≡ pos (serial_count serial self.now.frames) }
     {
         self.nets.sum(self.given, serial)
     }

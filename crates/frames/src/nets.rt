@@ -51,7 +51,8 @@ impl Model for Nets {
       flushed = n.flushed;
     } };
 
-    ghost invariant = { λ n. AreKept n.cells.items n.touched.items (vec_capacity n.touched) n.list.items (vec_capacity n.list) n.flushed };
+    ghost invariant = { λ n. AreKept n.cells.items n.touched.items (vec_capacity n.touched)
+        n.list.items (vec_capacity n.list) n.flushed };
 }
 
 impl Nets {
@@ -254,8 +255,11 @@ fn has_net(net: &Change) -> bool
 
 // Where a code moved back to 0.
 fn zero_place(nets: &[Change]) -> Option<usize>
-    ensures some { IfSome result (λ place. (place < length nets.now) × (is_zero (slice_index_or nets.now place (record { code = record { slot = 0; serial = 0 }; by = pos 0 })).by ≡ true)) }
-    ensures none { IfNone result (length (filter (λ net. not (is_zero net.by)) nets.now) ≡ length nets.now) }
+    ensures some { IfSome result (λ place. (place < length nets.now)
+        × (is_zero (slice_index_or nets.now place
+        (record { code = record { slot = 0; serial = 0 }; by = pos 0 })).by ≡ true)) }
+    ensures none { IfNone result (length (filter (λ net. not (is_zero net.by)) nets.now)
+        ≡ length nets.now) }
 {
     for (place, net) in nets.iter().enumerate() {
         if net.by == 0 {
@@ -321,14 +325,23 @@ fn note(
     serial: u64,
     by: i32,
 )
-    requires kept { AreKept cells.old.items touched.old.items (vec_capacity touched.old) list.old.items (vec_capacity list.old) false }
-    requires new { (d : Change) → same_code (slice_index_or cells.old.items (cell_of (record { slot = slot; serial = serial })) d).code (record { slot = slot; serial = serial }) ≡ false }
+    requires kept { AreKept cells.old.items touched.old.items (vec_capacity touched.old)
+        list.old.items (vec_capacity list.old) false }
+    requires new { (d : Change)
+        → same_code (slice_index_or cells.old.items (cell_of
+        (record { slot = slot; serial = serial })) d).code (record { slot = slot; serial = serial })
+        ≡ false }
     requires one { (pos 0 ≤ℤ (by +ℤ pos 1)) × (by ≤ℤ pos 1) }
     requires some { is_zero by ≡ false }
-    requires within { IsWithin (net_in (settled (cells.old.items ++ list.old.items)) (record { slot = slot; serial = serial }) +ℤ by) 256 }
-    requires room { length (add (settled (cells.old.items ++ list.old.items)) (record { slot = slot; serial = serial }) by) ≤ 512 }
-    ensures kept { AreKept cells.new.items touched.new.items (vec_capacity touched.new) list.new.items (vec_capacity list.new) false }
-    ensures moved { settled (cells.new.items ++ list.new.items) ≡ add (settled (cells.old.items ++ list.old.items)) (record { slot = slot; serial = serial }) by }
+    requires within { IsWithin (net_in (settled (cells.old.items ++ list.old.items))
+        (record { slot = slot; serial = serial }) +ℤ by) 256 }
+    requires room { length (add (settled (cells.old.items ++ list.old.items))
+        (record { slot = slot; serial = serial }) by) ≤ 512 }
+    ensures kept { AreKept cells.new.items touched.new.items (vec_capacity touched.new)
+        list.new.items (vec_capacity list.new) false }
+    ensures moved { settled (cells.new.items ++ list.new.items)
+        ≡ add (settled (cells.old.items ++ list.old.items))
+        (record { slot = slot; serial = serial }) by }
 {
     let code = CodeId { slot, serial };
     let place = cell_of(code);
@@ -350,14 +363,23 @@ fn note_listed(
     serial: u64,
     by: i32,
 )
-    requires kept { AreKept cells.old.items touched.old.items (vec_capacity touched.old) list.old.items (vec_capacity list.old) false }
-    requires new { (d : Change) → same_code (slice_index_or cells.old.items (cell_of (record { slot = slot; serial = serial })) d).code (record { slot = slot; serial = serial }) ≡ false }
+    requires kept { AreKept cells.old.items touched.old.items (vec_capacity touched.old)
+        list.old.items (vec_capacity list.old) false }
+    requires new { (d : Change)
+        → same_code (slice_index_or cells.old.items (cell_of
+        (record { slot = slot; serial = serial })) d).code (record { slot = slot; serial = serial })
+        ≡ false }
     requires one { (pos 0 ≤ℤ (by +ℤ pos 1)) × (by ≤ℤ pos 1) }
     requires some { is_zero by ≡ false }
-    requires within { IsWithin (net_in (settled (cells.old.items ++ list.old.items)) (record { slot = slot; serial = serial }) +ℤ by) 256 }
-    requires room { length (add (settled (cells.old.items ++ list.old.items)) (record { slot = slot; serial = serial }) by) ≤ 512 }
-    ensures kept { AreKept cells.new.items touched.new.items (vec_capacity touched.new) list.new.items (vec_capacity list.new) false }
-    ensures moved { settled (cells.new.items ++ list.new.items) ≡ add (settled (cells.old.items ++ list.old.items)) (record { slot = slot; serial = serial }) by }
+    requires within { IsWithin (net_in (settled (cells.old.items ++ list.old.items))
+        (record { slot = slot; serial = serial }) +ℤ by) 256 }
+    requires room { length (add (settled (cells.old.items ++ list.old.items))
+        (record { slot = slot; serial = serial }) by) ≤ 512 }
+    ensures kept { AreKept cells.new.items touched.new.items (vec_capacity touched.new)
+        list.new.items (vec_capacity list.new) false }
+    ensures moved { settled (cells.new.items ++ list.new.items)
+        ≡ add (settled (cells.old.items ++ list.old.items))
+        (record { slot = slot; serial = serial }) by }
 {
     let code = CodeId { slot, serial };
     if let Some(place) = searched(list, code) {
@@ -381,8 +403,11 @@ fn empty(cells: &mut Vec<Change>, list: &mut Vec<Change>, place: usize)
     requires place { place < 1024 }
     requires room { length list.old.items < vec_capacity list.old }
     ensures cells { AreCells cells.new.items list.new.items }
-    ensures totals { (code : CodeId) → total (cells.new.items ++ list.new.items) code ≡ total (cells.old.items ++ list.old.items) code }
-    ensures among { (places : List ℕ) → AreAmong cells.old.items (place ∷ places) → AreAmong cells.new.items places }
+    ensures totals { (code : CodeId)
+        → total (cells.new.items ++ list.new.items) code
+        ≡ total (cells.old.items ++ list.old.items) code }
+    ensures among { (places : List ℕ) → AreAmong cells.old.items (place ∷ places)
+        → AreAmong cells.new.items places }
     ensures fits { length list.new.items ≤ length list.old.items + 1 }
     ensures capacity { vec_capacity list.new ≡ vec_capacity list.old }
 {
@@ -400,7 +425,9 @@ fn drain(cells: &mut Vec<Change>, touched: &[u16], list: &mut Vec<Change>)
     requires fits { length list.old.items ≤ 1024 }
     requires room { 2048 ≤ vec_capacity list.old }
     ensures cells { AreCells cells.new.items list.new.items }
-    ensures totals { (code : CodeId) → total (cells.new.items ++ list.new.items) code ≡ total (cells.old.items ++ list.old.items) code }
+    ensures totals { (code : CodeId)
+        → total (cells.new.items ++ list.new.items) code
+        ≡ total (cells.old.items ++ list.old.items) code }
     ensures none { AreAmong cells.new.items [] }
     ensures capacity { vec_capacity list.new ≡ vec_capacity list.old }
 {
@@ -489,7 +516,8 @@ fn are_zero(nets: &[Change]) -> bool
 // Whether no cell has a net. Those that aren't touched have none.
 fn are_back(cells: &[Change], touched: &[u16]) -> bool
     requires long { length cells.now ≡ 1024 }
-    requires nets { (k : ℕ) (d : Change) → k < 1024 → is_zero (slice_index_or cells.now k d).by ≡ false → is_in k touched.now ≡ true }
+    requires nets { (k : ℕ) (d : Change) → k < 1024
+        → is_zero (slice_index_or cells.now k d).by ≡ false → is_in k touched.now ≡ true }
     requires places { All (λ k. k < 1024) touched.now }
     ensures { result ≡ (length (filter (λ net. not (is_zero net.by)) cells.now) == 0) }
 {

@@ -380,7 +380,8 @@ impl<N: Name> Held<N> {
         requires index { index < length self.old }
         requires board { board.now ≡ N.board }
         requires row { row.now ≡ N.poll_row }
-        ensures ran { IfOk result (λ r. Runs J.number J.whom J.asks J.may_answer r.0 r.1.ask r.1.body
+        ensures ran { IfOk result
+            (λ r. Runs J.number J.whom J.asks J.may_answer r.0 r.1.ask r.1.body
             room.old room.new) }
         ensures served { IfOk result (λ r. (body : BodyView) × (after : BodyView)
             × (slice_get self.old index ≡ Some body) × (self.new ≡ slice_set self.old index after)

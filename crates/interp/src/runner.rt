@@ -47,7 +47,8 @@ impl<'c> Runner<'c> {
     /// A runner that has the whole trace of a checked script left, whose code this is. All memory that it
     /// ever needs is taken here.
     pub fn new(alloc: Global, code: &'c Code) -> Result<Runner<'c>, AllocError>
-        ensures left { IfOk result (λ r. (bs : List Body) → code.now ≡ map routine bs → AreChecked bs → Left r (trace bs)) }
+        ensures left { IfOk result (λ r. (bs : List Body) → code.now ≡ map routine bs
+            → AreChecked bs → Left r (trace bs)) }
         ensures made { IfOk result (λ r. made_by r ≡ 0) }
     {
         Ok(Runner {
@@ -70,7 +71,9 @@ impl<'c> Runner<'c> {
     /// It takes no memory but what `mark` takes.
     pub fn step<S: Steps>(&mut self, steps: &mut S) -> Result<bool, S::Refusal>
         ensures stepped { Stepped S.marked S.refused self.old steps.old result self.new steps.new }
-        ensures made { IfOk result (λ b. made_by self.new ≡ (if b then min (made_by self.old + 1) (2 ^ 64 - 1) else made_by self.old)) }
+        ensures made { IfOk result
+            (λ b. made_by self.new
+            ≡ (if b then min (made_by self.old + 1) (2 ^ 64 - 1) else made_by self.old)) }
     {
         match self.ahead() {
             Ahead::Finished => Ok(false),
@@ -109,7 +112,8 @@ impl<'c> Runner<'c> {
     }
 
     fn ahead(&self) -> Ahead
-        ensures value { result ≡ ahead_of self.now.code.now self.now.phase self.now.frame self.now.callers.items }
+        ensures value { result
+            ≡ ahead_of self.now.code.now self.now.phase self.now.frame self.now.callers.items }
         ensures fits { Fits self.now.frame self.now.callers.items result }
     {
         match self.phase {
@@ -138,7 +142,8 @@ impl<'c> Runner<'c> {
 
     fn advance(&mut self, step: Move)
         requires { MoveFits self.old.frame self.old.callers.items step }
-        ensures moved { Moved step self.old.phase self.old.frame self.old.callers.items self.new.phase self.new.frame self.new.callers.items }
+        ensures moved { Moved step self.old.phase self.old.frame self.old.callers.items
+            self.new.phase self.new.frame self.new.callers.items }
         ensures code { self.new.code ≡ self.old.code }
         ensures made { self.new.made ≡ min (self.old.made + 1) (2 ^ 64 - 1) }
     {

@@ -80,9 +80,14 @@ impl Model for MethodTable {
 
     ghost Value = { TableView };
 
-    ghost view = { λ t. record { codes = t.history.codes; slots = t.slots; methods = length t.current.items } };
+    ghost view = { λ t. record {
+      codes = t.history.codes;
+      slots = t.slots;
+      methods = length t.current.items;
+    } };
 
-    ghost invariant = { λ t. IsKept t.history.codes t.slots t.next t.records.items (slot_in t.index) t.current.items t.taken };
+    ghost invariant = { λ t. IsKept t.history.codes t.slots t.next t.records.items (slot_in t.index)
+        t.current.items t.taken };
 }
 
 // The least slot without an unfreed code, where no slot below is free.
@@ -120,7 +125,8 @@ fn put(records: &mut Vec<Code>, code: Code) -> Result<(), AllocError>
 // The code in a slot comes into a state.
 fn set_state(records: &mut Vec<Code>, slot: u32, state: CodeState)
     requires { slot < length records.old.items }
-    ensures { (code : Code) → slice_get records.old.items slot ≡ Some code → records.new.items ≡ slice_set records.old.items slot (record code { state = state }) }
+    ensures { (code : Code) → slice_get records.old.items slot ≡ Some code
+        → records.new.items ≡ slice_set records.old.items slot (record code { state = state }) }
 {
     records[slot as usize].state = state;
 }
@@ -128,9 +134,14 @@ fn set_state(records: &mut Vec<Code>, slot: u32, state: CodeState)
 // The code that was in use, where there was one, is not entrant.
 fn replace(records: &mut Vec<Code>, history: &mut History, old: Option<CodeId>)
     requires { IfSome old (λ id. id.slot < length records.old.items) }
-    ensures codes { IfSome old (λ id. history.new.codes ≡ with_state history.old.codes id.serial NotEntrant) }
-    ensures record { IfSome old (λ id. (code : Code) → slice_get records.old.items id.slot ≡ Some code → records.new.items ≡ slice_set records.old.items id.slot (record code { state = NotEntrant })) }
-    ensures none { IfNone old ((history.new.codes ≡ history.old.codes) × (records.new.items ≡ records.old.items)) }
+    ensures codes { IfSome old
+        (λ id. history.new.codes ≡ with_state history.old.codes id.serial NotEntrant) }
+    ensures record { IfSome old (λ id. (code : Code)
+        → slice_get records.old.items id.slot ≡ Some code
+        → records.new.items ≡ slice_set records.old.items id.slot
+        (record code { state = NotEntrant })) }
+    ensures none { IfNone old ((history.new.codes ≡ history.old.codes)
+        × (records.new.items ≡ records.old.items)) }
 {
     if let Some(id) = old {
         set_state(records, id.slot, CodeState::NotEntrant);
@@ -144,7 +155,8 @@ fn replace(records: &mut Vec<Code>, history: &mut History, old: Option<CodeId>)
 impl MethodTable {
     /// An empty table, with as many slots and methods as are given.
     pub fn new(alloc: Global, slots: u32, methods: u32) -> Result<MethodTable, AllocError>
-        ensures { IfOk result (λ table. table ≡ record { codes = []; slots = slots; methods = methods }) }
+        ensures { IfOk result
+            (λ table. table ≡ record { codes = []; slots = slots; methods = methods }) }
     {
         Ok(MethodTable {
             slots,
@@ -185,11 +197,18 @@ impl MethodTable {
     /// A new code for the method, in use: it has the next serial and the least free slot. The code that was in use for the method is not
     /// entrant from now on.
     pub fn install(&mut self, method: u64) -> Result<Installed, InstallFault>
-        ensures slot { IfOk result (λ r. free_slot self.old.codes self.old.slots ≡ Some r.code.slot) }
+        ensures slot { IfOk result
+            (λ r. free_slot self.old.codes self.old.slots ≡ Some r.code.slot) }
         ensures in_slots { IfOk result (λ r. r.code.slot < self.old.slots) }
         ensures serial { IfOk result (λ r. r.code.serial ≡ next_serial self.old.codes) }
-        ensures replaced { IfOk result (λ r. r.replaced ≡ option_map id_of (in_use_for self.old.codes method)) }
-        ensures codes { IfOk result (λ r. self.new ≡ record self.old { codes = with_code (without_use self.old.codes (in_use_for self.old.codes method)) method r.code.slot }) }
+        ensures replaced { IfOk result
+            (λ r. r.replaced ≡ option_map id_of (in_use_for self.old.codes method)) }
+        ensures codes { IfOk result
+            (λ r. self.new
+            ≡ record self.old {
+              codes = with_code
+                  (without_use self.old.codes (in_use_for self.old.codes method)) method r.code.slot;
+            }) }
         ensures accepted { OnOk result (install_fault self.old method ≡ None) }
         ensures refused { IfErr result (λ fault. install_fault self.old method ≡ reason fault) }
         ensures sound { IsTable self.new }
@@ -230,9 +249,11 @@ impl MethodTable {
 
     /// No new activation of the code from now on: it is not entrant.
     pub fn invalidate(&mut self, serial: u64) -> Result<(), InvalidateFault>
-        ensures codes { OnOk result (self.new ≡ record self.old { codes = with_state self.old.codes serial NotEntrant }) }
+        ensures codes { OnOk result (self.new
+            ≡ record self.old { codes = with_state self.old.codes serial NotEntrant }) }
         ensures accepted { OnOk result (invalidate_fault (unfreed self.old.codes serial) ≡ None) }
-        ensures refused { IfErr result (λ fault. invalidate_fault (unfreed self.old.codes serial) ≡ Some fault) }
+        ensures refused { IfErr result
+            (λ fault. invalidate_fault (unfreed self.old.codes serial) ≡ Some fault) }
         ensures sound { IsTable self.new }
         ensures unchanged { OnErr result (self.new ≡ self.old) }
     {
@@ -253,9 +274,11 @@ impl MethodTable {
 
     /// No activation of the code is left: it is a zombie.
     pub fn retire(&mut self, serial: u64) -> Result<(), RetireFault>
-        ensures codes { OnOk result (self.new ≡ record self.old { codes = with_state self.old.codes serial Zombie }) }
+        ensures codes { OnOk result (self.new
+            ≡ record self.old { codes = with_state self.old.codes serial Zombie }) }
         ensures accepted { OnOk result (retire_fault (unfreed self.old.codes serial) ≡ None) }
-        ensures refused { IfErr result (λ fault. retire_fault (unfreed self.old.codes serial) ≡ Some fault) }
+        ensures refused { IfErr result
+            (λ fault. retire_fault (unfreed self.old.codes serial) ≡ Some fault) }
         ensures sound { IsTable self.new }
         ensures unchanged { OnErr result (self.new ≡ self.old) }
     {
@@ -275,9 +298,11 @@ impl MethodTable {
 
     /// The code is gone, and its slot is free.
     pub fn free(&mut self, serial: u64) -> Result<(), FreeFault>
-        ensures codes { OnOk result (self.new ≡ record self.old { codes = with_state self.old.codes serial Freed }) }
+        ensures codes { OnOk result (self.new
+            ≡ record self.old { codes = with_state self.old.codes serial Freed }) }
         ensures accepted { OnOk result (free_fault (unfreed self.old.codes serial) ≡ None) }
-        ensures refused { IfErr result (λ fault. free_fault (unfreed self.old.codes serial) ≡ Some fault) }
+        ensures refused { IfErr result
+            (λ fault. free_fault (unfreed self.old.codes serial) ≡ Some fault) }
         ensures sound { IsTable self.new }
         ensures unchanged { OnErr result (self.new ≡ self.old) }
     {

@@ -87,7 +87,8 @@ pub extern "C" fn model_line(
     line: &[u8],
     answer: &mut [u8],
 ) -> isize
-    ensures { LineTold result line.now model.old.handle.value answer.old model.new.handle.value answer.new }
+    ensures { LineTold result line.now model.old.handle.value answer.old model.new.handle.value
+        answer.new }
 {
     if !model.is_made() {
         return NO_MODEL;
@@ -104,7 +105,8 @@ pub extern "C" fn model_line(
 /// Gives the answer that waits, and answers its length, or a fault.
 #[unsafe(no_mangle)]
 pub extern "C" fn model_answer(alloc: Global, model: &mut Place, answer: &mut [u8]) -> isize
-    ensures { AnswerTold result model.old.handle.value answer.old model.new.handle.value answer.new }
+    ensures { AnswerTold result model.old.handle.value answer.old model.new.handle.value
+        answer.new }
 {
     if !model.is_made() {
         return NO_MODEL;

@@ -68,11 +68,14 @@ impl LineModel {
         slots: usize,
         methods: usize,
     ) -> Result<LineModel, NewFault>
-        ensures stands { IfOk result (λ model. IsAt model.system (Some (start_world places slots methods))) }
+        ensures stands { IfOk result
+            (λ model. IsAt model.system (Some (start_world places slots methods))) }
         ensures nothing_waits { IfOk result (λ model. model.waits ≡ None) }
         ensures sized { OnOk result (are_sizes places slots methods ≡ true) }
-        ensures bad_size { IfErr result (λ fault. fault ≡ NewFaults.BadSize → are_sizes places slots methods ≡ false) }
-        ensures no_memory { IfErr result (λ fault. fault ≡ NewFaults.NoMemory → are_sizes places slots methods ≡ true) }
+        ensures bad_size { IfErr result (λ fault. fault ≡ NewFaults.BadSize
+            → are_sizes places slots methods ≡ false) }
+        ensures no_memory { IfErr result (λ fault. fault ≡ NewFaults.NoMemory
+            → are_sizes places slots methods ≡ true) }
     {
         let system = System::new(alloc, places, slots, methods)?;
         match Vec::with_capacity(alloc, SHORT) {
@@ -92,10 +95,12 @@ impl LineModel {
         line: &[u8],
         answer: &mut [u8],
     ) -> Result<usize, LineFault>
-        ensures answered { IfOk result (λ n. Answered self.old line.now (take n answer.new) self.new) }
+        ensures answered { IfOk result
+            (λ n. Answered self.old line.now (take n answer.new) self.new) }
         ensures room { IfOk result (λ n. n ≤ length answer.new) }
         ensures behind { IfOk result (λ n. drop n answer.new ≡ drop n answer.old) }
-        ensures kept { IfErr result (λ fault. Kept fault self.old line.now (length answer.old) self.new) }
+        ensures kept { IfErr result
+            (λ fault. Kept fault self.old line.now (length answer.old) self.new) }
         ensures unwritten { OnErr result (answer.new ≡ answer.old) }
     {
         if self.has_answer() {
@@ -156,7 +161,8 @@ impl LineModel {
         requires none_waits { is_some self.old.waits ≡ false }
         ensures played { OnOk result (Plays self.old line.now self.new) }
         ensures kept { OnErr result (self.new ≡ self.old) }
-        ensures no_memory { (world : Option World) → IsAt self.old.system world → OnErr result (LineTakes world line.now) }
+        ensures no_memory { (world : Option World) → IsAt self.old.system world
+            → OnErr result (LineTakes world line.now) }
     {
         let command = parse(alloc, line)?;
         let said = obey(&mut self.system, alloc, command)?;

@@ -32,11 +32,14 @@ impl Job {
     /// Takes no memory.
     pub fn new(target: u64, ask: Ask, call: Call) -> Job
         requires callable { (i : _) → IsSettled i.now → Call.pre call i }
-        requires answers { (i : _) (r : _) → IsSettled i.now → Call.post call i r → r ≡ reply ask i.now.frames }
+        requires answers { (i : _) (r : _) → IsSettled i.now → Call.post call i r
+            → r ≡ reply ask i.now.frames }
         ensures number { ⟦<Job as Errand>⟧.number result ≡ 0 }
         ensures whom { ⟦<Job as Errand>⟧.whom result ≡ target }
         ensures asks { ⟦<Job as Errand>⟧.asks result ≡ ask }
-        ensures callback { (image : ImageView) (reply : ℕ) → ⟦<Job as Errand>⟧.may_answer result image reply ↔ ((i : _) × (i.now ≡ image) × Call.post call i reply) }
+        ensures callback { (image : ImageView) (reply : ℕ)
+            → ⟦<Job as Errand>⟧.may_answer result image reply ↔ ((i : _) × (i.now ≡ image)
+            × Call.post call i reply) }
     {
         Job {
             op: 0,
@@ -51,7 +54,9 @@ impl Job {
         ensures number { ⟦<Job as Errand>⟧.number result ≡ op }
         ensures whom { ⟦<Job as Errand>⟧.whom result ≡ ⟦<Job as Errand>⟧.whom self }
         ensures asks { ⟦<Job as Errand>⟧.asks result ≡ ⟦<Job as Errand>⟧.asks self }
-        ensures callback { (image : ImageView) (reply : ℕ) → ⟦<Job as Errand>⟧.may_answer result image reply ↔ ⟦<Job as Errand>⟧.may_answer self image reply }
+        ensures callback { (image : ImageView) (reply : ℕ)
+            → ⟦<Job as Errand>⟧.may_answer result image reply ↔ ⟦<Job as Errand>⟧.may_answer self
+            image reply }
     {
         let mut job = self;
         job.op = op;

@@ -112,7 +112,8 @@ impl<T> Queue<T> {
 
     /// Puts a request last. One that is refused comes back with its load, and the queue stays as it was.
     pub fn push(&mut self, number: u64, request: Request, load: T) -> Result<(), Unqueued<T>>
-        ensures ok { OnOk result (self.new ≡ self.old ++ record { number = number; request = request; load = load } ∷ []) }
+        ensures ok { OnOk result (self.new ≡ self.old
+            ++ record { number = number; request = request; load = load } ∷ []) }
         ensures accepted { OnOk result (MayWait (length self.old) request) }
         ensures refused { IfErr result (λ back. IsCause (length self.old) request back.fault) }
         ensures handed_back { IfErr result (λ back. (back.request ≡ request) × (back.load ≡ load)) }
@@ -133,7 +134,8 @@ impl<T> Queue<T> {
     #[inline(always)]
     pub fn push_tested(&mut self, number: u64, request: Request, load: T) -> Result<(), Unqueued<T>>
         requires tested { MayWait (length self.old) request }
-        ensures ok { OnOk result (self.new ≡ self.old ++ record { number = number; request = request; load = load } ∷ []) }
+        ensures ok { OnOk result (self.new ≡ self.old
+            ++ record { number = number; request = request; load = load } ∷ []) }
         ensures refused { IfErr result (λ back. back.fault ≡ QueueFault.NoMemory) }
         ensures handed_back { IfErr result (λ back. (back.request ≡ request) × (back.load ≡ load)) }
         ensures unchanged { OnErr result (self.new ≡ self.old) }

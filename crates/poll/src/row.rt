@@ -21,7 +21,8 @@ impl Model for PollRow {
 
     ghost view = { λ r. r.table.shared.table_id };
 
-    ghost invariant = { λ r. (r.table.shared.table_id.words ≡ words_of r.table.shared.key) × (r.table.shared.key ≤ 64) × (r.table.shared.table_id.slots ≡ 0) };
+    ghost invariant = { λ r. (r.table.shared.table_id.words ≡ words_of r.table.shared.key)
+        × (r.table.shared.key ≤ 64) × (r.table.shared.table_id.slots ≡ 0) };
 }
 
 /// Stores numbers of operations. Contracts see which row it is of, the number that each place was last armed with, how many
@@ -37,7 +38,8 @@ impl Model for Armer {
 
     ghost view = { λ a. of_armer a.seat.table_id a.seat.me.0 };
 
-    ghost invariant = { λ a. IsArmer a.seat.me.0 × (a.last.items ≡ (arming_of a.seat.me.0).armed) × (a.seat.table_id.words ≡ words_of (length a.last.items)) };
+    ghost invariant = { λ a. IsArmer a.seat.me.0 × (a.last.items ≡ (arming_of a.seat.me.0).armed)
+        × (a.seat.table_id.words ≡ words_of (length a.last.items)) };
 }
 
 /// Loads and clears the word of one place. Contracts see which row it is of, its place, the number that it cleared last, how
@@ -53,7 +55,8 @@ impl Model for Poller {
 
     ghost view = { λ p. of_poller p.seat.table_id p.seat.me.0 };
 
-    ghost invariant = { λ p. IsPoller p.seat.me.0 × (p.seat.me.1 ≡ []) × (p.word ≡ word_at (watching_of 0 p.seat.me.0).place) × (p.word < p.seat.table_id.words) };
+    ghost invariant = { λ p. IsPoller p.seat.me.0 × (p.seat.me.1 ≡ [])
+        × (p.word ≡ word_at (watching_of 0 p.seat.me.0).place) × (p.word < p.seat.table_id.words) };
 }
 
 impl PollRow {
@@ -63,7 +66,8 @@ impl PollRow {
         requires { (0 < places) × (places ≤ 64) }
         ensures armer { IfOk result (λ t. t.1 ≡ full_armer t.0 places) }
         ensures pollers { IfOk result (λ t. vec_len t.2 ≡ places) }
-        ensures places { IfOk result (λ t. (k : ℕ) → k < places → slice_get t.2.items k ≡ Some (first_poller t.0 k)) }
+        ensures places { IfOk result (λ t. (k : ℕ) → k < places
+            → slice_get t.2.items k ≡ Some (first_poller t.0 k)) }
     {
         let words = vec![in alloc; 0; words_of(places)]?;
         let last = vec![in alloc; 0; places]?;
@@ -94,9 +98,11 @@ impl PollRow {
     pub fn close(self, armer: Armer, mut pollers: Vec<Poller>) -> Vec<u64>
         requires armer { armer.table ≡ self }
         requires count { vec_len pollers ≡ length armer.seen.armed }
-        requires pollers { (k : ℕ) (p : PollerSeen) → slice_get pollers.items k ≡ Some p → (p.table ≡ self) × (p.seen.place ≡ k) }
+        requires pollers { (k : ℕ) (p : PollerSeen) → slice_get pollers.items k ≡ Some p
+            → (p.table ≡ self) × (p.seen.place ≡ k) }
         ensures count { vec_len result ≡ length armer.seen.armed }
-        ensures kept { (k : ℕ) (p : PollerSeen) → slice_get pollers.items k ≡ Some p → IsPlaceKept (place_left result.items armer p) }
+        ensures kept { (k : ℕ) (p : PollerSeen) → slice_get pollers.items k ≡ Some p
+            → IsPlaceKept (place_left result.items armer p) }
     {
         let PollRow { table } = self;
         let Armer { mut seat, mut last } = armer;
@@ -138,7 +144,8 @@ impl Poller {
         requires row { self.old.table ≡ row.now }
         requires number { n ≢ 0 }
         ensures row { self.new.table ≡ self.old.table }
-        ensures step { (found : ℕ) × IsMet self.old.seen.cleared found × (self.new.seen ≡ exchanged self.old.seen n found) × (result ≡ (found == n)) }
+        ensures step { (found : ℕ) × IsMet self.old.seen.cleared found
+            × (self.new.seen ≡ exchanged self.old.seen n found) × (result ≡ (found == n)) }
         ensures made { PollerSteps self.old.seen self.new.seen }
         ensures stamp { self.old.stamp < self.new.stamp }
         ensures later { result ≡ true → self.old.seen.cleared < n }

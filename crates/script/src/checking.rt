@@ -42,9 +42,11 @@ fn lay_method(
 ) -> Result<Routine, ScriptFault>
     requires { walk.old.place ≡ [] }
     ensures ops { IfOk result (λ r. r ≡ routine (body_view method.now.items.items)) }
-    ensures clean { OnOk result (body_faults count 0 (number ∷ []) 0 (body_view method.now.items.items) ≡ []) }
+    ensures clean { OnOk result (body_faults count 0 (number ∷ []) 0
+        (body_view method.now.items.items) ≡ []) }
     ensures place { OnOk result (walk.new.place ≡ []) }
-    ensures err { IfErr result (IsFirst (body_faults count 0 (number ∷ []) 0 (body_view method.now.items.items))) }
+    ensures err { IfErr result (IsFirst
+        (body_faults count 0 (number ∷ []) 0 (body_view method.now.items.items))) }
 {
     walk.place.enter(number)?;
     let mut ops = Vec::new(walk.alloc);
@@ -62,10 +64,13 @@ fn lay_items(
     ops: &mut Vec<Op>,
 ) -> Result<(), ScriptFault>
     requires { level ≤ MAX_LEVELS }
-    ensures ops { OnOk result (ops.new.items ≡ ops.old.items ++ layout (length ops.old.items) level (body_view items.now.items)) }
-    ensures clean { OnOk result (body_faults count level walk.old.place 0 (body_view items.now.items) ≡ []) }
+    ensures ops { OnOk result (ops.new.items ≡ ops.old.items
+        ++ layout (length ops.old.items) level (body_view items.now.items)) }
+    ensures clean { OnOk result (body_faults count level walk.old.place 0
+        (body_view items.now.items) ≡ []) }
     ensures place { OnOk result (walk.new.place ≡ walk.old.place) }
-    ensures err { IfErr result (IsFirst (body_faults count level walk.old.place 0 (body_view items.now.items))) }
+    ensures err { IfErr result (IsFirst
+        (body_faults count level walk.old.place 0 (body_view items.now.items))) }
 {
     for (number, item) in items.iter().enumerate() {
         lay_item(number, item, level, count, walk, ops)?;
@@ -83,12 +88,15 @@ fn lay_item(
     ops: &mut Vec<Op>,
 ) -> Result<(), ScriptFault>
     requires { level ≤ MAX_LEVELS }
-    ensures ops { OnOk result ((rest : Body) → ops.old.items ++ layout (length ops.old.items) level (item_view item.now rest)
+    ensures ops { OnOk result ((rest : Body)
+        → ops.old.items ++ layout (length ops.old.items) level (item_view item.now rest)
         ≡ ops.new.items ++ layout (length ops.new.items) level rest) }
-    ensures clean { OnOk result ((rest : Body) → body_faults count level walk.old.place number (item_view item.now rest)
+    ensures clean { OnOk result ((rest : Body)
+        → body_faults count level walk.old.place number (item_view item.now rest)
         ≡ body_faults count level walk.old.place (number + 1) rest) }
     ensures place { OnOk result (walk.new.place ≡ walk.old.place) }
-    ensures err { IfErr result (λ e. (rest : Body) → IsFirst (body_faults count level walk.old.place number (item_view item.now rest)) e) }
+    ensures err { IfErr result (λ e. (rest : Body)
+        → IsFirst (body_faults count level walk.old.place number (item_view item.now rest)) e) }
 {
     walk.place.enter(number)?;
     match item {

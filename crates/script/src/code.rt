@@ -95,7 +95,8 @@ impl Code {
 }
 
 fn op_of(methods: &Vec<Routine>, method: usize, at: usize) -> Option<Op>
-    ensures value { result ≡ option_and_then (λ r. slice_get r at) (slice_get methods.now.items method) }
+    ensures value { result ≡ option_and_then
+        (λ r. slice_get r at) (slice_get methods.now.items method) }
     ensures small { IsSome result → at < 2 ^ 63 }
 {
     methods.get(method)?.op(at)

@@ -83,7 +83,8 @@ fn methods_of(document: &Value) -> Option<&Vec<Value>>
 fn read_methods(values: &Vec<Value>, walk: &mut Walk) -> Result<Script, ScriptFault>
     requires place { walk.old.place ≡ [] }
     requires items { walk.old.items ≡ 0 }
-    ensures ok { IfOk result (λ s. method_outlines (items_view values.now.items) ≡ map some_sound (bodies s)) }
+    ensures ok { IfOk result
+        (λ s. method_outlines (items_view values.now.items) ≡ map some_sound (bodies s)) }
     ensures clean { OnOk result (methods_faults 0 0 (items_view values.now.items) ≡ []) }
     ensures err { IfErr result (IsFirst (methods_faults 0 0 (items_view values.now.items))) }
 {
@@ -96,11 +97,16 @@ fn read_methods(values: &Vec<Value>, walk: &mut Walk) -> Result<Script, ScriptFa
 
 fn read_method(number: usize, value: &Value, walk: &mut Walk) -> Result<Method, ScriptFault>
     requires { walk.old.place ≡ [] }
-    ensures ok { IfOk result (λ m. option_map outline (as_array (view value.now)) ≡ some_sound (body_view m.items.items)) }
-    ensures clean { OnOk result (method_faults number walk.old.items (as_array (view value.now)) ≡ []) }
-    ensures items { OnOk result (walk.new.items ≡ walk.old.items + method_count (as_array (view value.now))) }
+    ensures ok { IfOk result
+        (λ m. option_map outline (as_array (view value.now))
+        ≡ some_sound (body_view m.items.items)) }
+    ensures clean { OnOk result (method_faults number walk.old.items (as_array (view value.now))
+        ≡ []) }
+    ensures items { OnOk result (walk.new.items
+        ≡ walk.old.items + method_count (as_array (view value.now))) }
     ensures place { OnOk result (walk.new.place ≡ []) }
-    ensures err { IfErr result (IsFirst (method_faults number walk.old.items (as_array (view value.now)))) }
+    ensures err { IfErr result (IsFirst
+        (method_faults number walk.old.items (as_array (view value.now)))) }
 {
     walk.place.enter(number)?;
     let Some(values) = value.as_array() else {
@@ -113,11 +119,15 @@ fn read_method(number: usize, value: &Value, walk: &mut Walk) -> Result<Method, 
 
 #[cycle(reading)]
 fn read_items(values: &Vec<Value>, walk: &mut Walk) -> Result<Vec<Item>, ScriptFault>
-    ensures ok { IfOk result (λ is. outline (items_view values.now.items) ≡ sound (body_view is.items)) }
-    ensures clean { OnOk result (faults walk.old.place 0 walk.old.items (outline (items_view values.now.items)) ≡ []) }
-    ensures items { OnOk result (walk.new.items ≡ walk.old.items + count (outline (items_view values.now.items))) }
+    ensures ok { IfOk result
+        (λ is. outline (items_view values.now.items) ≡ sound (body_view is.items)) }
+    ensures clean { OnOk result (faults walk.old.place 0 walk.old.items
+        (outline (items_view values.now.items)) ≡ []) }
+    ensures items { OnOk result (walk.new.items
+        ≡ walk.old.items + count (outline (items_view values.now.items))) }
     ensures place { OnOk result (walk.new.place ≡ walk.old.place) }
-    ensures err { IfErr result (IsFirst (faults walk.old.place 0 walk.old.items (outline (items_view values.now.items)))) }
+    ensures err { IfErr result (IsFirst
+        (faults walk.old.place 0 walk.old.items (outline (items_view values.now.items)))) }
 {
     let mut items = Vec::new(walk.alloc);
     for (number, value) in values.iter().enumerate() {
@@ -128,12 +138,16 @@ fn read_items(values: &Vec<Value>, walk: &mut Walk) -> Result<Vec<Item>, ScriptF
 
 #[cycle(reading)]
 fn read_item(number: usize, value: &Value, walk: &mut Walk) -> Result<Item, ScriptFault>
-    ensures ok { IfOk result (λ i. (b : Body) → sketch (view value.now) (sound b) ≡ sound (item_view i b)) }
-    ensures clean { OnOk result ((rest : Outline) → faults walk.old.place number walk.old.items (sketch (view value.now) rest)
+    ensures ok { IfOk result (λ i. (b : Body)
+        → sketch (view value.now) (sound b) ≡ sound (item_view i b)) }
+    ensures clean { OnOk result ((rest : Outline)
+        → faults walk.old.place number walk.old.items (sketch (view value.now) rest)
         ≡ faults walk.old.place (number + 1) walk.new.items rest) }
-    ensures items { OnOk result ((rest : Outline) → walk.old.items + count (sketch (view value.now) rest) ≡ walk.new.items + count rest) }
+    ensures items { OnOk result ((rest : Outline)
+        → walk.old.items + count (sketch (view value.now) rest) ≡ walk.new.items + count rest) }
     ensures place { OnOk result (walk.new.place ≡ walk.old.place) }
-    ensures err { IfErr result (λ e. (rest : Outline) → IsFirst (faults walk.old.place number walk.old.items (sketch (view value.now) rest)) e) }
+    ensures err { IfErr result (λ e. (rest : Outline)
+        → IsFirst (faults walk.old.place number walk.old.items (sketch (view value.now) rest)) e) }
 {
     walk.place.enter(number)?;
     let Some(shape) = shape_of(value) else {

@@ -52,7 +52,8 @@ fn number_at(value: &Value, key: &str) -> Option<u64>
 
 /// The array at a key.
 pub fn array_at<'a>(value: &'a Value, key: &str) -> Option<&'a Vec<Value>>
-    ensures { option_map (λ v. items_view v.now.items) result ≡ array_under key.now (view value.now) }
+    ensures { option_map (λ v. items_view v.now.items) result
+        ≡ array_under key.now (view value.now) }
 {
     value.get(key).and_then(Value::as_array)
 }

@@ -18,7 +18,8 @@ use std::alloc::AllocError;
 // What is written down of a code that a new one replaces: it is as after an invalidation of its own.
 fn note_replaced(records: &mut Vec<Record>, replaced: Option<CodeId>, moment: u64)
     requires { IfSome replaced (λ id. id.slot < length records.old.items) }
-    ensures some { IfSome replaced (λ id. records.new.items ≡ slice_set records.old.items id.slot (new_record moment)) }
+    ensures some { IfSome replaced
+        (λ id. records.new.items ≡ slice_set records.old.items id.slot (new_record moment)) }
     ensures none { IfNone replaced (records.new.items ≡ records.old.items) }
 {
     if let Some(old) = replaced {
@@ -33,7 +34,8 @@ impl Core {
         requires world { OfWorld self.old }
         requires few { length self.old.places.items ≤ 64 }
         requires recorded { length self.old.records.items ≡ self.old.table.slots }
-        ensures does { IfOk result (λ answer. Does (events.Install method) self.old answer self.new) }
+        ensures does { IfOk result
+            (λ answer. Does (events.Install method) self.old answer self.new) }
         ensures refused { OnErr result (self.new ≡ self.old) }
         ensures no_memory { OnErr result (Accepts self.old (events.Install method)) }
     {

@@ -80,10 +80,13 @@ impl System {
         slots: usize,
         methods: usize,
     ) -> Result<System, NewFault>
-        ensures stands { IfOk result (λ system. StandsFor system [] × (places_of system ≡ places) × (slots_of system ≡ slots) × (methods_of system ≡ methods)) }
+        ensures stands { IfOk result (λ system. StandsFor system [] × (places_of system ≡ places)
+            × (slots_of system ≡ slots) × (methods_of system ≡ methods)) }
         ensures sized { OnOk result (are_sizes places slots methods ≡ true) }
-        ensures bad_size { IfErr result (λ fault. fault ≡ NewFaults.BadSize → are_sizes places slots methods ≡ false) }
-        ensures no_memory { IfErr result (λ fault. fault ≡ NewFaults.NoMemory → are_sizes places slots methods ≡ true) }
+        ensures bad_size { IfErr result (λ fault. fault ≡ NewFaults.BadSize
+            → are_sizes places slots methods ≡ false) }
+        ensures no_memory { IfErr result (λ fault. fault ≡ NewFaults.NoMemory
+            → are_sizes places slots methods ≡ true) }
     {
         if !are_sizes(places, slots, methods) {
             return Err(NewFault::BadSize);
@@ -99,7 +102,8 @@ impl System {
     pub fn apply(&mut self, alloc: Global, event: Event) -> Result<Answer, AllocError>
         ensures answered { IfOk result (λ answer. Next self.old event answer self.new) }
         ensures refused { OnErr result (self.new ≡ self.old) }
-        ensures no_memory { (before : List TheEvent) → StandsFor self.old before → OnErr result (NeedsMemory (world_by self.old before) event) }
+        ensures no_memory { (before : List TheEvent) → StandsFor self.old before
+            → OnErr result (NeedsMemory (world_by self.old before) event) }
         ensures sizes { SameSizes self.old self.new }
         ensures succeeds { takes_no_memory event ≡ true → IsOk result }
     {
@@ -110,19 +114,28 @@ impl System {
     /// is done. After that memory is refused only at an event that takes memory and would be accepted.
     pub fn run(&mut self, alloc: Global, events: &[Event]) -> Result<Vec<Answer>, Stopped>
         ensures answered { (before : List TheEvent) → StandsFor self.old before →
-            IfOk result (λ said. (said.items ≡ answers (world_by self.old before) events.now) × StandsFor self.new (before ++ events.now)) }
+            IfOk result (λ said. (said.items ≡ answers (world_by self.old before) events.now)
+            × StandsFor self.new (before ++ events.now)) }
         ensures stopped { (before : List TheEvent) → StandsFor self.old before →
             IfErr result (λ stop. (stop.at ≤ length events.now)
             × (stop.answers.items ≡ answers (world_by self.old before) (take stop.at events.now))
             × StandsFor self.new (before ++ take stop.at events.now)) }
         ensures no_memory { (before : List TheEvent) → StandsFor self.old before →
-            IfErr result (λ stop. ((stop.at ≡ 0) × (self.new ≡ self.old)) ⊎ StopsAt (world_by self.old before) events.now stop.at) }
+            IfErr result (λ stop. ((stop.at ≡ 0) × (self.new ≡ self.old))
+            ⊎ StopsAt (world_by self.old before) events.now stop.at) }
         ensures sizes { SameSizes self.old self.new }
-        ensures once { (all : List TheEvent) → StandsFor self.new all → RunAtMostOnce (places_of self.new) (slots_of self.new) (methods_of self.new) all }
-        ensures handshakes { (all : List TheEvent) → StandsFor self.new all → FinishesAtSafePoints (places_of self.new) (slots_of self.new) (methods_of self.new) all }
-        ensures safepoints { (all : List TheEvent) → StandsFor self.new all → OperatesAtSafepoints (places_of self.new) (slots_of self.new) (methods_of self.new) all }
-        ensures held { (all : List TheEvent) → StandsFor self.new all → AllHeldAreSafe (world_by self.new all) }
-        ensures reclaimed { (all : List TheEvent) → StandsFor self.new all → NoRetiredCodeStands (world_by self.new all) }
+        ensures once { (all : List TheEvent) → StandsFor self.new all
+            → RunAtMostOnce (places_of self.new) (slots_of self.new) (methods_of self.new) all }
+        ensures handshakes { (all : List TheEvent) → StandsFor self.new all
+            → FinishesAtSafePoints (places_of self.new) (slots_of self.new) (methods_of self.new)
+            all }
+        ensures safepoints { (all : List TheEvent) → StandsFor self.new all
+            → OperatesAtSafepoints (places_of self.new) (slots_of self.new) (methods_of self.new)
+            all }
+        ensures held { (all : List TheEvent) → StandsFor self.new all
+            → AllHeldAreSafe (world_by self.new all) }
+        ensures reclaimed { (all : List TheEvent) → StandsFor self.new all
+            → NoRetiredCodeStands (world_by self.new all) }
     {
         let mut said = Vec::new(alloc);
         if said.reserve(events.len()).is_err() {
@@ -144,7 +157,8 @@ impl System {
     fn apply_copy(&mut self, alloc: Global, event: &Event) -> Result<Answer, AllocError>
         ensures answered { IfOk result (λ answer. Next self.old event.now answer self.new) }
         ensures refused { OnErr result (self.new ≡ self.old) }
-        ensures no_memory { (before : List TheEvent) → StandsFor self.old before → OnErr result (NeedsMemory (world_by self.old before) event.now) }
+        ensures no_memory { (before : List TheEvent) → StandsFor self.old before
+            → OnErr result (NeedsMemory (world_by self.old before) event.now) }
         ensures sizes { SameSizes self.old self.new }
     {
         if let Some(refusal) = refusal_before_copy(&self.core, event) {
@@ -164,7 +178,8 @@ fn are_sizes(places: usize, slots: usize, methods: usize) -> bool
 // What a system of these sizes keeps at the start.
 fn new_core(alloc: Global, places: usize, slots: usize, methods: usize) -> Result<Core, AllocError>
     requires { are_sizes places slots methods ≡ true }
-    ensures { IfOk result (λ core. StandsFor core [] × (places_of core ≡ places) × (slots_of core ≡ slots) × (methods_of core ≡ methods)) }
+    ensures { IfOk result (λ core. StandsFor core [] × (places_of core ≡ places)
+        × (slots_of core ≡ slots) × (methods_of core ≡ methods)) }
 {
     Ok(Core {
         places: vacant_places(alloc, places)?,
@@ -183,7 +198,8 @@ fn new_core(alloc: Global, places: usize, slots: usize, methods: usize) -> Resul
 
 // Why an event is refused, of those whose copy takes memory.
 fn refusal_before_copy(core: &Core, event: &Event) -> Option<Refusal>
-    ensures refused { IfSome result (λ refusal. Does event.now core.now (Answers.Refused refusal) core.now) }
+    ensures refused { IfSome result
+        (λ refusal. Does event.now core.now (Answers.Refused refusal) core.now) }
     ensures none { IfNone result ((copies_freely event.now ≡ true) ⊎ Accepts core.now event.now) }
 {
     match event {

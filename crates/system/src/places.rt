@@ -35,7 +35,12 @@ pub fn act_at(
 ) -> Answer
     requires plain { is_plain act ≡ true }
     requires few { table.now.methods ≤ 256 }
-    ensures { DidAt (record { act = act; opens = operations.now; now = now }) table.now place places.old.items places.new.items result }
+    ensures { DidAt
+        (record {
+          act = act;
+          opens = operations.now;
+          now = now;
+        }) table.now place places.old.items places.new.items result }
 {
     if place >= places.len() {
         return Answer::Refused(Refusal::NoSuchPlace);

@@ -36,8 +36,11 @@ impl Record {
     /// The least of so many places that wasn't looked at.
     pub fn unlooked(&self, places: usize) -> Option<usize>
         requires { places ≤ 64 }
-        ensures some { IfSome result (λ place. (place < places) × (slice_index_or self.now.looked place true ≡ false) × ((other : ℕ) → other < place → slice_index_or self.now.looked other true ≡ true)) }
-        ensures none { IfNone result ((place : ℕ) → place < places → slice_index_or self.now.looked place true ≡ true) }
+        ensures some { IfSome result (λ place. (place < places)
+            × (slice_index_or self.now.looked place true ≡ false)
+            × ((other : ℕ) → other < place → slice_index_or self.now.looked other true ≡ true)) }
+        ensures none { IfNone result ((place : ℕ) → place < places
+            → slice_index_or self.now.looked place true ≡ true) }
     {
         for place in 0..places {
             if !self.looked[place] {

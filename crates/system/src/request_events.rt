@@ -30,7 +30,8 @@ fn refusal_of(fault: QueueFault) -> Option<Refusal>
 impl Core {
     /// Why the request wouldn't wait, but for want of memory.
     pub fn ask_refusal(&self, request: &Request) -> Option<Refusal>
-        ensures refused { IfSome result (λ refusal. Does (events.Ask request.now) self.now (answers.Refused refusal) self.now) }
+        ensures refused { IfSome result
+            (λ refusal. Does (events.Ask request.now) self.now (answers.Refused refusal) self.now) }
         ensures none { IfNone result (Accepts self.now (events.Ask request.now)) }
     {
         if self.requests.numbers >= LAST {

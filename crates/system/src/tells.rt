@@ -28,7 +28,8 @@ fn is_named_at(name: u64, place: &Option<Thread>) -> bool
 /// A place of the thread of this name. While no thread has left, a name stands one place before its number: there it is looked for
 /// first.
 pub fn place_of(places: &[Option<Thread>], name: u64) -> Option<usize>
-    ensures some { IfSome result (λ place. (kept : TheThread) × (slice_get places.now place ≡ Some (Some kept)) × (kept.name ≡ name)) }
+    ensures some { IfSome result (λ place. (kept : TheThread)
+        × (slice_get places.now place ≡ Some (Some kept)) × (kept.name ≡ name)) }
     ensures none { IfNone result (list_any (is_named_at name) places.now ≡ false) }
 {
     if 0 < name && name <= places.len() as u64 {
@@ -48,7 +49,10 @@ pub fn place_of(places: &[Option<Thread>], name: u64) -> Option<usize>
 /// Tells the thread at the place the least operation that has it as a live target and is new to it.
 pub fn tell_at(places: &mut Vec<Option<Thread>>, place: usize, operations: &[Open]) -> Answer
     requires { (kept : TheThread) × (slice_get places.old.items place ≡ Some (Some kept)) }
-    ensures { (kept : TheThread) → slice_get places.old.items place ≡ Some (Some kept) → (result ≡ answer_told operations.now kept) × (places.new.items ≡ slice_set places.old.items place (Some (kept_told operations.now kept))) }
+    ensures { (kept : TheThread) → slice_get places.old.items place ≡ Some (Some kept)
+        → (result ≡ answer_told operations.now kept)
+        × (places.new.items
+        ≡ slice_set places.old.items place (Some (kept_told operations.now kept))) }
 {
     match &mut places[place] {
         None => unreachable!(),

@@ -85,7 +85,13 @@ impl Thread {
     ) -> Result<Answer, Refusal>
         requires plain { is_plain act ≡ true }
         requires few { table.now.methods ≤ 256 }
-        ensures { (w : World) (t : _) → table.now.codes ≡ w.codes → table.now.methods ≡ w.methods → IsHere operations.now self.old w.requests t → Did (record { act = act; opens = operations.now; now = now }) w.requests (acts.here w act t) self.old self.new t result }
+        ensures { (w : World) (t : _) → table.now.codes ≡ w.codes → table.now.methods ≡ w.methods
+            → IsHere operations.now self.old w.requests t
+            → Did (record {
+              act = act;
+              opens = operations.now;
+              now = now;
+            }) w.requests (acts.here w act t) self.old self.new t result }
     {
         if let Some(refusal) = self.common_refusal(act) {
             return Err(refusal);
@@ -111,7 +117,8 @@ impl Thread {
 
     /// The next change of the open publication.
     pub fn change(&mut self) -> Result<Option<Change>, Refusal>
-        ensures { (w : World) (t : _) → SameThread self.old t → DidNext (acts.here w TheActs.Change t) self.old self.new t result }
+        ensures { (w : World) (t : _) → SameThread self.old t
+            → DidNext (acts.here w TheActs.Change t) self.old self.new t result }
     {
         if !self.image.is_publishing() {
             return Err(Refusal::NotBegun);
@@ -121,7 +128,9 @@ impl Thread {
 
     /// Whether the thread may leave its place: the refusal, where it may not.
     pub fn exit_refusal(&self) -> Option<Refusal>
-        ensures { (w : World) (t : _) → SameThread self.now t → poll_of w.requests t.name ≡ poll_by self.now.marks → SaysExit (acts.here w TheActs.Exit t) t result }
+        ensures { (w : World) (t : _) → SameThread self.now t
+            → poll_of w.requests t.name ≡ poll_by self.now.marks
+            → SaysExit (acts.here w TheActs.Exit t) t result }
     {
         if let Some(refusal) = self.common_refusal(Act::Exit) {
             return Some(refusal);
@@ -147,7 +156,9 @@ impl Thread {
     ) -> Result<Answer, Refusal>
         requires closed { self.old.image.publishing ≡ false }
         requires few { table.now.methods ≤ 256 }
-        ensures { (w : World) (t : _) → SameThread self.old t → table.now.codes ≡ w.codes → table.now.methods ≡ w.methods → DidAlone (acts.does w (TheActs.Enter method serial) t) self.old self.new t result }
+        ensures { (w : World) (t : _) → SameThread self.old t → table.now.codes ≡ w.codes
+            → table.now.methods ≡ w.methods
+            → DidAlone (acts.does w (TheActs.Enter method serial) t) self.old self.new t result }
     {
         if method >= table.methods() as u64 {
             return Err(Refusal::NoSuchMethod);
@@ -181,7 +192,8 @@ impl Thread {
 
     fn enter_frame(&mut self, method: u32, code: Option<CodeId>) -> Result<Answer, Refusal>
         requires closed { self.old.image.publishing ≡ false }
-        ensures { (t : _) → SameThread self.old t → DidAlone (enters_frame t method code) self.old self.new t result }
+        ensures { (t : _) → SameThread self.old t
+            → DidAlone (enters_frame t method code) self.old self.new t result }
     {
         if let Some(refusal) = self.frame_refusal() {
             return Err(refusal);
@@ -216,7 +228,8 @@ impl Thread {
 
     // A move without a poll.
     fn moves(&mut self, step: Move) -> Result<Answer, Refusal>
-        ensures { (t : _) → SameThread self.old t → DidAlone (acts.move_by t step) self.old self.new t result }
+        ensures { (t : _) → SameThread self.old t
+            → DidAlone (acts.move_by t step) self.old self.new t result }
     {
         match thread_state::step(self.state, step) {
             Ok(state) => {
@@ -229,7 +242,9 @@ impl Thread {
 
     // A poll: the thread goes on, or stops for the operation.
     fn crosses(&mut self) -> Result<Answer, Refusal>
-        ensures { (requests : Asked) (t : _) → SameThread self.old t → poll_of requests t.name ≡ poll_by self.old.marks → DidAlone (acts.polls requests t) self.old self.new t result }
+        ensures { (requests : Asked) (t : _) → SameThread self.old t
+            → poll_of requests t.name ≡ poll_by self.old.marks
+            → DidAlone (acts.polls requests t) self.old self.new t result }
     {
         let poll = self.poll();
         match thread_state::cross(self.state, poll.is_none()) {
@@ -243,7 +258,8 @@ impl Thread {
 
     // A held thread doesn't wake.
     fn wake(&mut self) -> Result<Answer, Refusal>
-        ensures { (w : World) (t : _) → SameThread self.old t → DidAlone (acts.does w TheActs.Wake t) self.old self.new t result }
+        ensures { (w : World) (t : _) → SameThread self.old t
+            → DidAlone (acts.does w TheActs.Wake t) self.old self.new t result }
     {
         if self.held {
             return Err(Refusal::Held);
@@ -252,7 +268,8 @@ impl Thread {
     }
 
     fn release(&mut self) -> Result<Answer, Refusal>
-        ensures { (w : World) (t : _) → SameThread self.old t → DidAlone (acts.does w TheActs.Release t) self.old self.new t result }
+        ensures { (w : World) (t : _) → SameThread self.old t
+            → DidAlone (acts.does w TheActs.Release t) self.old self.new t result }
     {
         if !self.held {
             return Err(Refusal::NotHeld);
@@ -384,7 +401,8 @@ impl Thread {
     }
 
     fn take(&mut self, operations: &[Open]) -> Result<Answer, Refusal>
-        ensures { (w : World) (t : _) → IsHere operations.now self.old w.requests t → DidAlone (acts.does w TheActs.Take t) self.old self.new t result }
+        ensures { (w : World) (t : _) → IsHere operations.now self.old w.requests t
+            → DidAlone (acts.does w TheActs.Take t) self.old self.new t result }
     {
         if self.held {
             return Err(Refusal::Held);
@@ -398,7 +416,12 @@ impl Thread {
     // Opens a publication at a moment.
     fn begin(&mut self, now: u64) -> Result<Answer, Refusal>
         requires { self.old.image.publishing ≡ false }
-        ensures { (w : World) (t : _) → SameThread self.old t → Did (record { act = TheActs.Begin; opens = []; now = now }) w.requests (acts.does w TheActs.Begin t) self.old self.new t result }
+        ensures { (w : World) (t : _) → SameThread self.old t
+            → Did (record {
+              act = TheActs.Begin;
+              opens = [];
+              now = now;
+            }) w.requests (acts.does w TheActs.Begin t) self.old self.new t result }
     {
         match self.image.begin() {
             Ok(()) => {
@@ -410,7 +433,12 @@ impl Thread {
     }
 
     fn end(&mut self) -> Result<Answer, Refusal>
-        ensures { (w : World) (now : ℕ) (t : _) → SameThread self.old t → Did (record { act = TheActs.End; opens = []; now = now }) w.requests (acts.does w TheActs.End t) self.old self.new t result }
+        ensures { (w : World) (now : ℕ) (t : _) → SameThread self.old t
+            → Did (record {
+              act = TheActs.End;
+              opens = [];
+              now = now;
+            }) w.requests (acts.does w TheActs.End t) self.old self.new t result }
     {
         match self.image.end() {
             Ok(()) => {
@@ -427,7 +455,9 @@ impl Thread {
     fn leave(&mut self) -> Result<Answer, Refusal>
         requires closed { self.old.image.publishing ≡ false }
         requires java { is_in_java self.old.state ≡ true }
-        ensures { (w : World) (t : _) → SameThread self.old t → poll_of w.requests t.name ≡ poll_by self.old.marks → DidAlone (acts.does w TheActs.Leave t) self.old self.new t result }
+        ensures { (w : World) (t : _) → SameThread self.old t
+            → poll_of w.requests t.name ≡ poll_by self.old.marks
+            → DidAlone (acts.does w TheActs.Leave t) self.old self.new t result }
     {
         if self.image.depth() == 0 {
             return Err(Refusal::EmptyStack);
@@ -438,7 +468,12 @@ impl Thread {
 
     // The callback of a handshake, once for each target, on a published stack: of the least one that waits for it. (JEP 312)
     fn finish(&mut self, operations: &[Open]) -> Result<Answer, Refusal>
-        ensures { (w : World) (now : ℕ) (t : _) → IsHere operations.now self.old w.requests t → Did (record { act = TheActs.Finish; opens = operations.now; now = now }) w.requests (acts.does w TheActs.Finish t) self.old self.new t result }
+        ensures { (w : World) (now : ℕ) (t : _) → IsHere operations.now self.old w.requests t
+            → Did (record {
+              act = TheActs.Finish;
+              opens = operations.now;
+              now = now;
+            }) w.requests (acts.does w TheActs.Finish t) self.old self.new t result }
     {
         let Some(open) = self.next_undone(operations) else {
             return Err(idle_refusal(
@@ -459,7 +494,12 @@ impl Thread {
 
     // The thread may go on once its own work is done: the least one that waits for it is cleared. (JEP 312)
     fn clear(&mut self, operations: &[Open]) -> Result<Answer, Refusal>
-        ensures { (w : World) (now : ℕ) (t : _) → IsHere operations.now self.old w.requests t → Did (record { act = TheActs.Clear; opens = operations.now; now = now }) w.requests (acts.does w TheActs.Clear t) self.old self.new t result }
+        ensures { (w : World) (now : ℕ) (t : _) → IsHere operations.now self.old w.requests t
+            → Did (record {
+              act = TheActs.Clear;
+              opens = operations.now;
+              now = now;
+            }) w.requests (acts.does w TheActs.Clear t) self.old self.new t result }
     {
         let Some(open) = self.next_uncleared(operations) else {
             return Err(idle_refusal(
@@ -477,7 +517,8 @@ impl Thread {
 
     // The coordinator keeps a thread blocked in a safe state. (JEP 312)
     fn hold(&mut self, operations: &[Open]) -> Result<Answer, Refusal>
-        ensures { (w : World) (t : _) → IsHere operations.now self.old w.requests t → DidAlone (acts.does w TheActs.Hold t) self.old self.new t result }
+        ensures { (w : World) (t : _) → IsHere operations.now self.old w.requests t
+            → DidAlone (acts.does w TheActs.Hold t) self.old self.new t result }
     {
         if !self.is_waited_for(operations) {
             return Err(idle_refusal(

@@ -40,7 +40,8 @@ impl Core {
 
     /// The frames of the thread at the place.
     pub fn stack(&self, alloc: Global, place: usize) -> Result<Answer, AllocError>
-        ensures does { IfOk result (λ answer. Does (events.At place acts.Stack) self.now answer self.now) }
+        ensures does { IfOk result
+            (λ answer. Does (events.At place acts.Stack) self.now answer self.now) }
         ensures no_memory { OnErr result (Accepts self.now (events.At place acts.Stack)) }
     {
         stack_at(alloc, &self.places, place)

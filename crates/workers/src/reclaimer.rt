@@ -37,7 +37,12 @@ impl<'a, N: Name, J: Errand> Model for Reclaimer<'a, N, J> {
 
     ghost Value = { Codes };
 
-    ghost view = { λ r. record { in_use = r.in_use.items; left = r.left.items; installed = r.installed.items; freed = r.freed.items } };
+    ghost view = { λ r. record {
+      in_use = r.in_use.items;
+      left = r.left.items;
+      installed = r.installed.items;
+      freed = r.freed.items;
+    } };
 }
 
 /// The receipts of the codes that were installed and freed, and the sum of all count words in the end.
@@ -110,7 +115,9 @@ impl<'a, N: Name, J: Errand> Reclaimer<'a, N, J> {
     pub fn finish<R: Wait>(self, rt: &R, alloc: Global) -> Result<Tally<N>, RunFault>
         ensures installed { IfOk result (λ t. t.installed.items ≡ self.entry.installed) }
         ensures freed { IfOk result (λ t. Reclaims self.entry t.freed.items) }
-        ensures few { IfOk result (λ t. length t.freed.items ≤ length self.entry.freed + length self.entry.left + length self.entry.in_use) }
+        ensures few { IfOk result
+            (λ t. length t.freed.items ≤ length self.entry.freed + length self.entry.left + length
+            self.entry.in_use) }
     {
         let Reclaimer {
             shared,
@@ -151,8 +158,10 @@ impl<'a, N: Name, J: Errand> Reclaimer<'a, N, J> {
     // A code that was taken out of use is freed, or left.
     fn keep(&mut self, serial: u64, freed: Option<Receipt<N>>) -> Result<(), RunFault>
         requires { IfSome freed (λ r. r.entry ≡ Entry.Free serial) }
-        ensures kept { OnOk result (IsKeptBy serial freed self.old.freed self.old.left self.new.freed self.new.left) }
-        ensures same { (self.new.in_use ≡ self.old.in_use) × (self.new.installed ≡ self.old.installed) }
+        ensures kept { OnOk result (IsKeptBy serial freed self.old.freed self.old.left
+            self.new.freed self.new.left) }
+        ensures same { (self.new.in_use ≡ self.old.in_use)
+            × (self.new.installed ≡ self.old.installed) }
     {
         match freed {
             Some(receipt) => {
@@ -251,7 +260,8 @@ fn reclaim_all<N: Name, J: Errand, R: Wait>(
     freed: &mut Vec<Receipt<N>>,
 ) -> Result<(), RunFault>
     ensures some { OnOk result (FreesSome serials.now freed.old.items freed.new.items) }
-    ensures few { OnOk result (length freed.new.items ≤ length freed.old.items + length serials.now) }
+    ensures few { OnOk result (length freed.new.items ≤ length freed.old.items + length
+        serials.now) }
 {
     for serial in serials {
         let Some(receipt) = reclaim(rt, shared, coordinator, *serial, Vec::new(alloc))? else {

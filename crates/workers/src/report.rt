@@ -33,7 +33,13 @@ impl<N: Name> Model for Report<N> {
 
     ghost Value = { Reported };
 
-    ghost view = { λ r. record { exited = r.exited.entry; name = r.name; ending = r.ending; made = r.made; compiled = r.compiled } };
+    ghost view = { λ r. record {
+      exited = r.exited.entry;
+      name = r.name;
+      ending = r.ending;
+      made = r.made;
+      compiled = r.compiled;
+    } };
 }
 
 impl<N: Name> Report<N> {
@@ -44,7 +50,14 @@ impl<N: Name> Report<N> {
         made: u64,
         compiled: bool,
     ) -> Report<N>
-        ensures { result ≡ record { exited = exited.entry; name = name; ending = ending; made = made; compiled = compiled } }
+        ensures { result
+            ≡ record {
+              exited = exited.entry;
+              name = name;
+              ending = ending;
+              made = made;
+              compiled = compiled;
+            } }
     {
         Report {
             exited,

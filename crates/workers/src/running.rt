@@ -126,7 +126,9 @@ fn run_all<'a, N: Name + Send, J: Errand + Send, R: Threads + Wait + Sync, G: Ga
         thread::scope_env(),
         rt,
         move |scope| -> Result<Summary<N>, RunFault>
-            requires { All (λ t. t.code ≡ code.now) tasks.items × InstallsEach (length code.now) reclaimer × (length jobs.items ≡ length code.now) × (vec_len room ≡ 0) × (vec_len tasks ≤ vec_capacity room) }
+            requires { All (λ t. t.code ≡ code.now) tasks.items
+                × InstallsEach (length code.now) reclaimer × (length jobs.items ≡ length code.now)
+                × (vec_len room ≡ 0) × (vec_len tasks ≤ vec_capacity room) }
             ensures { IfOk result (IsSummary code.entry.now (vec_len tasks.entry)) }
         { run_in(scope, rt, alloc, code, tasks, room, reclaimer, jobs) },
     )

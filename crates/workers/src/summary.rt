@@ -35,7 +35,14 @@ impl<N: Name> Model for Summary<N> {
 
     ghost Value = { Summed };
 
-    ghost view = { λ s. record { reports = s.reports.items; lines = s.lines.items; compiled = s.compiled; installed = s.installed.items; freed = s.freed.items; counts = s.counts } };
+    ghost view = { λ s. record {
+      reports = s.reports.items;
+      lines = s.lines.items;
+      compiled = s.compiled;
+      installed = s.installed.items;
+      freed = s.freed.items;
+      counts = s.counts;
+    } };
 }
 
 impl<N: Name> Summary<N> {

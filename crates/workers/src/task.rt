@@ -52,7 +52,8 @@ impl<'a, N: Name, J: Errand, R: Wait, G: Gate> Task<'a, N, J, R, G> {
         worker: Worker<'a, N, J, R, G>,
     ) -> Result<Task<'a, N, J, R, G>, BeginFault>
         requires { worker.compiled ≡ false }
-        ensures begun { IfOk result (λ t. (t.code ≡ code.now) × (t.name ≡ worker.entry.thread.name)) }
+        ensures begun { IfOk result (λ t. (t.code ≡ code.now)
+            × (t.name ≡ worker.entry.thread.name)) }
     {
         let name = worker.name();
         let mut worker = worker;

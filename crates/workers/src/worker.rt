@@ -98,9 +98,11 @@ impl<'a, N: Name, J: Errand, R: Wait, G: Gate> Worker<'a, N, J, R, G> {
     }
 
     fn enter(&mut self, method: usize) -> Result<(), CallFault>
-        ensures ok { OnOk result (Enters self.old.thread self.old.compiled method self.new.thread self.new.compiled) }
+        ensures ok { OnOk result (Enters self.old.thread self.old.compiled method self.new.thread
+            self.new.compiled) }
         ensures same { SameThread self.old.thread self.new.thread }
-        ensures err { IfErr result (λ e. (self.new ≡ self.old) × enter_refused self.old.thread method e) }
+        ensures err { IfErr result (λ e. (self.new ≡ self.old)
+            × enter_refused self.old.thread method e) }
     {
         let Ok(method) = u32::try_from(method) else {
             return Err(CallFault::NoSuchMethod);

@@ -36,12 +36,14 @@ pub trait Errand: Drop {
     fn numbered(self, op: u64) -> Self
         ensures number { number result ≡ op }
         ensures same { (whom result ≡ whom self) × (asks result ≡ asks self) }
-        ensures callback { (image : ImageView) (reply : ℕ) → may_answer result image reply ↔ may_answer self image reply };
+        ensures callback { (image : ImageView) (reply : ℕ)
+            → may_answer result image reply ↔ may_answer self image reply };
 
     /// Calls the callback on the image: the reply is what it answered there.
     fn run_on(self, image: &Image) -> Done
         requires { IsSettled image.now }
-        ensures same { (result.op ≡ number self) × (result.target ≡ whom self) × (result.ask ≡ asks self) }
+        ensures same { (result.op ≡ number self) × (result.target ≡ whom self)
+            × (result.ask ≡ asks self) }
         ensures reply { result.reply ≡ reply (asks self) image.now.frames }
         ensures called { may_answer self image.now result.reply };
 }

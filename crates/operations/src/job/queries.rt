@@ -21,7 +21,8 @@ impl Query {
         ensures number { ⟦<Query as Errand>⟧.number result ≡ 0 }
         ensures whom { ⟦<Query as Errand>⟧.whom result ≡ target }
         ensures asks { ⟦<Query as Errand>⟧.asks result ≡ ask }
-        ensures callback { (image : ImageView) (r : ℕ) → ⟦<Query as Errand>⟧.may_answer result image r ↔ (r ≡ reply ask image.frames) }
+        ensures callback { (image : ImageView) (r : ℕ)
+            → ⟦<Query as Errand>⟧.may_answer result image r ↔ (r ≡ reply ask image.frames) }
     {
         Query { op: 0, target, ask }
     }

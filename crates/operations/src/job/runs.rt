@@ -29,7 +29,9 @@ impl Job {
     /// Calls the callback on the image of a settled stack.
     pub fn run(self, image: &Image) -> Done
         requires { IsSettled image.now }
-        ensures same { (result.op ≡ ⟦<Job as Errand>⟧.number self) × (result.target ≡ ⟦<Job as Errand>⟧.whom self) × (result.ask ≡ ⟦<Job as Errand>⟧.asks self) }
+        ensures same { (result.op ≡ ⟦<Job as Errand>⟧.number self)
+            × (result.target ≡ ⟦<Job as Errand>⟧.whom self)
+            × (result.ask ≡ ⟦<Job as Errand>⟧.asks self) }
         ensures reply { result.reply ≡ reply (⟦<Job as Errand>⟧.asks self) image.now.frames }
         ensures called { ⟦<Job as Errand>⟧.may_answer self image.now result.reply }
     {

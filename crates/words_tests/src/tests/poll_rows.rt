@@ -47,7 +47,8 @@ fn a_row_is_made_whole_or_not_at_all(rt: HostRuntime) -> Result<(), Fail> {
 }
 
 fn armed_elsewhere<R: Threads + Sync>(rt: &R, row: &PollRow, armer: Armer, n: u64) -> Armer
-    requires { (armer.table ≡ row.now) × (length armer.seen.armed ≡ 1) × (slice_index armer.seen.armed 0 < n) × (n < 2 ^ 40) }
+    requires { (armer.table ≡ row.now) × (length armer.seen.armed ≡ 1)
+        × (slice_index armer.seen.armed 0 < n) × (n < 2 ^ 40) }
     ensures row { result.table ≡ row.now }
     ensures step { result.seen ≡ armed_with armer.seen 0 n }
 {
@@ -55,7 +56,8 @@ fn armed_elsewhere<R: Threads + Sync>(rt: &R, row: &PollRow, armer: Armer, n: u6
         rt,
         || (),
         move || -> Armer
-            requires { (armer.table ≡ row.now) × (length armer.seen.armed ≡ 1) × (slice_index armer.seen.armed 0 < n) × (n < 2 ^ 40) }
+            requires { (armer.table ≡ row.now) × (length armer.seen.armed ≡ 1)
+                × (slice_index armer.seen.armed 0 < n) × (n < 2 ^ 40) }
             ensures { (result.table ≡ row.entry.now) × (result.seen ≡ armed_with armer.seen 0 n) }
         {
             let mut armer = armer;

@@ -129,13 +129,16 @@ fn wrong_on<N: Name>(
     pollers: Vec<Poller>,
 ) -> Result<Option<&'static str>, AllocError>
     requires names { (board ≡ N.board) × (row ≡ N.poll_row) }
-    requires sizes { (board.slots ≡ run.slots) × (board.places ≡ run.places) × (run.slot < run.slots) × (run.places ≤ 64) }
+    requires sizes { (board.slots ≡ run.slots) × (board.places ≡ run.places)
+        × (run.slot < run.slots) × (run.places ≤ 64) }
     requires keeper { keeper ≡ first_keeper board }
     requires armer { armer.table ≡ row }
     requires seats { length seats.items ≡ run.places }
-    requires each_seat { (k : ℕ) → k < run.places → slice_get seats.items k ≡ Some (first_seat board k) }
+    requires each_seat { (k : ℕ) → k < run.places
+        → slice_get seats.items k ≡ Some (first_seat board k) }
     requires pollers { vec_len pollers ≡ run.places }
-    requires each_poller { (k : ℕ) → k < run.places → slice_get pollers.items k ≡ Some (first_poller row k) }
+    requires each_poller { (k : ℕ) → k < run.places
+        → slice_get pollers.items k ≡ Some (first_poller row k) }
 {
     let places = places_of::<N>(alloc, run.places, seats, pollers, run.slot)?;
     let tables = Tables::of(board, row, keeper, armer, places, run.places, run.slot);

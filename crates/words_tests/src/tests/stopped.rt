@@ -76,7 +76,8 @@ impl Stop {
 fn two_codes(alloc: Global) -> Result<(Board, Keeper, ThreadSeat), AllocError>
     ensures board { IfOk result (λ t. (t.0.slots ≡ 2) × (t.0.places ≡ 1)) }
     ensures keeper { IfOk result (λ t. (t.1.board ≡ t.0) × IsIn t.1.seen (code 0 1) InUse) }
-    ensures seat { IfOk result (λ t. (t.2.board ≡ t.0) × (t.2.seen.stored ≢ 0) × (t.2.seen.counted ≡ [])) }
+    ensures seat { IfOk result (λ t. (t.2.board ≡ t.0) × (t.2.seen.stored ≢ 0)
+        × (t.2.seen.counted ≡ [])) }
 {
     let (board, mut keeper, mut seat) = one_seat(alloc, 1, 2)?;
     keeper.install(&board, C);
@@ -89,7 +90,8 @@ fn two_codes(alloc: Global) -> Result<(Board, Keeper, ThreadSeat), AllocError>
 // Publishes one activation of C and one of D, and stops where it is to.
 fn publish(board: &Board, seat: &mut ThreadSeat, stop: &Stop)
     requires board { (seat.old.board ≡ board.now) × (board.now.slots ≡ 2) }
-    requires fresh { (has_code seat.old.seen.fresh (code 0 1) ≡ true) × (has_code seat.old.seen.fresh (code 1 2) ≡ true) }
+    requires fresh { (has_code seat.old.seen.fresh (code 0 1) ≡ true)
+        × (has_code seat.old.seen.fresh (code 1 2) ≡ true) }
     requires uncounted { seat.old.seen.counted ≡ [] }
     ensures board { seat.new.board ≡ seat.old.board }
 {
@@ -128,7 +130,8 @@ fn meet<R: Threads + Sync>(
     requires sizes { (board.now.slots ≡ 2) × (board.now.places ≡ 1) }
     requires keeper { (keeper.board ≡ board.now) × IsIn keeper.seen (code 0 1) InUse }
     requires seat { seat.board ≡ board.now }
-    requires fresh { (has_code seat.seen.fresh (code 0 1) ≡ true) × (has_code seat.seen.fresh (code 1 2) ≡ true) }
+    requires fresh { (has_code seat.seen.fresh (code 0 1) ≡ true)
+        × (has_code seat.seen.fresh (code 1 2) ≡ true) }
     requires uncounted { seat.seen.counted ≡ [] }
     ensures keeper { (result.0.board ≡ board.now) × IsIn result.0.seen (code 0 1) NotEntrant }
     ensures seat { result.1.board ≡ board.now }
@@ -136,8 +139,10 @@ fn meet<R: Threads + Sync>(
     let ((keeper, found), seat) = join(
         rt,
         move || -> (Keeper, (bool, bool))
-            requires { (board.now.slots ≡ 2) × (board.now.places ≡ 1) × (keeper.board ≡ board.now) × IsIn keeper.seen (code 0 1) InUse }
-            ensures { (result.0.board ≡ board.entry.now) × IsIn result.0.seen (code 0 1) NotEntrant }
+            requires { (board.now.slots ≡ 2) × (board.now.places ≡ 1) × (keeper.board ≡ board.now)
+                × IsIn keeper.seen (code 0 1) InUse }
+            ensures { (result.0.board ≡ board.entry.now)
+                × IsIn result.0.seen (code 0 1) NotEntrant }
         {
             let mut keeper = keeper;
             stop.wait_for_publisher();
@@ -146,7 +151,9 @@ fn meet<R: Threads + Sync>(
             (keeper, found)
         },
         move || -> ThreadSeat
-            requires { (board.now.slots ≡ 2) × (seat.board ≡ board.now) × (has_code seat.seen.fresh (code 0 1) ≡ true) × (has_code seat.seen.fresh (code 1 2) ≡ true) × (seat.seen.counted ≡ []) }
+            requires { (board.now.slots ≡ 2) × (seat.board ≡ board.now)
+                × (has_code seat.seen.fresh (code 0 1) ≡ true)
+                × (has_code seat.seen.fresh (code 1 2) ≡ true) × (seat.seen.counted ≡ []) }
             ensures { result.board ≡ board.entry.now }
         {
             let mut seat = seat;

@@ -56,9 +56,11 @@ pub fn places_of<N: Name>(
 ) -> Result<Vec<Place<N>>, AllocError>
     requires slot { slot < N.board.slots }
     requires seats { length seats.items ≡ places }
-    requires each_seat { (k : ℕ) → k < places → slice_get seats.items k ≡ Some (first_seat N.board k) }
+    requires each_seat { (k : ℕ) → k < places
+        → slice_get seats.items k ≡ Some (first_seat N.board k) }
     requires pollers { vec_len pollers ≡ places }
-    requires each_poller { (k : ℕ) → k < places → slice_get pollers.items k ≡ Some (first_poller N.poll_row k) }
+    requires each_poller { (k : ℕ) → k < places
+        → slice_get pollers.items k ≡ Some (first_poller N.poll_row k) }
 {
     let mut made = Vec::with_capacity(alloc, places)?;
     while let Some(seat) = seats.pop() {
