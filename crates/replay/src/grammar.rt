@@ -5,7 +5,7 @@ ghost use Rattle.replay.specs.Words.{words_after};
 ghost use Rattle.replay.specs.Grammar.{command_of, of_word, size_of, enter_of, close_of, asking, handshake, alone, of_one, of_two, numbers};
 
 use crate::keywords::{AskWord, Word, ask_of, first_word};
-use crate::words::{cut, is_end, last, next, place};
+use crate::words::{cut, is_end, last, next, short_last};
 use operations::{Ask, Request, Targets};
 use std::alloc::{AllocError, Global};
 use system::events::{Act, Event};
@@ -47,7 +47,7 @@ fn plain(word: Word, tail: &[u8]) -> Option<Command>
     match word {
         Word::Size => size(tail),
         Word::Start => alone(Event::Start, tail),
-        Word::At(act) => Some(Command::Do(Event::At(place(tail)? as usize, act))),
+        Word::At(act) => Some(Command::Do(Event::At(short_last(tail)? as usize, act))),
         Word::Enter => enter(tail),
         Word::Install => Some(Command::Do(Event::Install(last(tail)?))),
         Word::Invalidate => Some(Command::Do(Event::Invalidate(last(tail)?))),
@@ -79,13 +79,13 @@ fn alone(event: Event, tail: &[u8]) -> Option<Command>
 fn enter(tail: &[u8]) -> Option<Command>
     ensures { result ≡ enter_of (words_after tail.now) }
 {
-    let (place, tail) = next(tail)?;
+    let (at, tail) = next(tail)?;
     let (method, tail) = next(tail)?;
     if is_end(tail) {
-        return Some(Command::Do(Event::At(place as usize, Act::Enter(method, None))));
+        return Some(Command::Do(Event::At(at as usize, Act::Enter(method, None))));
     }
-    let serial = last(tail)?;
-    Some(Command::Do(Event::At(place as usize, Act::Enter(method, Some(serial)))))
+    let serial = short_last(tail)?;
+    Some(Command::Do(Event::At(at as usize, Act::Enter(method, Some(serial)))))
 }
 
 fn close(tail: &[u8]) -> Option<Command>
@@ -102,7 +102,7 @@ fn look(tail: &[u8]) -> Option<Command>
     ensures { result ≡ of_two Event.Look (words_after tail.now) }
 {
     let (serial, tail) = next(tail)?;
-    Some(Command::Do(Event::Look(serial, last(tail)? as usize)))
+    Some(Command::Do(Event::Look(serial, short_last(tail)? as usize)))
 }
 
 fn size(tail: &[u8]) -> Option<Command>

@@ -38,7 +38,7 @@ pub(crate) enum AskWord {
     Census,
 }
 
-/// The keyword that begins the line, and where it ends. Most have five, four, six or seven letters and a space behind them, so those places
+/// The keyword that begins the line, and where it ends. Most have three to seven letters and a space behind them, so those places
 /// are looked at before any space is searched.
 #[inline(always)]
 pub(crate) fn first_word(line: &[u8]) -> Option<(Word, usize)>
@@ -63,6 +63,11 @@ pub(crate) fn first_word(line: &[u8]) -> Option<(Word, usize)>
     if line.len() > 7 && line[7] == b' ' {
         if let Some(word) = of_seven(&line[..7]) {
             return Some((word, 7));
+        }
+    }
+    if line.len() > 3 && line[3] == b' ' {
+        if let Some(word) = of_three(&line[..3]) {
+            return Some((word, 3));
         }
     }
     any_word(line)
@@ -97,6 +102,7 @@ fn word_of(text: &[u8]) -> Option<Word>
     }
 }
 
+#[inline(always)]
 fn of_three(text: &[u8]) -> Option<Word>
     requires { length text.now ≡ 3 }
     ensures { result ≡ word_of text.now }

@@ -18,6 +18,7 @@ use crate::words::find_end;
 use std::alloc::{AllocError, Global};
 use std::error::Error;
 use std::fmt;
+use std::mem::forget;
 use system::System;
 
 /// Bytes that are read at a time, and that wait at most, but for one answer, before they are written.
@@ -136,6 +137,8 @@ fn turn(
     let said = obey(system, alloc, command)?;
     if is_short_reply(&said) {
         put_short(waits, &said);
+        // It owns nothing, which its drop would look for again.
+        forget(said);
         Ok(())
     } else {
         put_long(text, waits, said)

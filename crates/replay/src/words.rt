@@ -116,8 +116,42 @@ fn begins_well(bytes: &[u8]) -> bool
     }
 }
 
-/// The number that is the next word, and what stands after it.
+/// The number that is the next word, and what stands after it. One of at most three digits with more words behind it is read at once.
+#[inline(always)]
 pub(crate) fn next(tail: &[u8]) -> Option<(u64, &[u8])>
+    ensures taken { option_map (λ taken. (taken.0, words_after taken.1.now)) result ≡ took (words_after tail.now) }
+    ensures shorter { IfSome result (λ taken. length taken.1.now < length tail.now) }
+{
+    if tail.len() > 2 && tail[2] == b' ' && b'0' <= tail[1] && tail[1] <= b'9' {
+        return Some((tail[1] as u64 - b'0' as u64, &tail[2..]));
+    }
+    if tail.len() > 3
+        && tail[3] == b' '
+        && b'1' <= tail[1]
+        && tail[1] <= b'9'
+        && b'0' <= tail[2]
+        && tail[2] <= b'9'
+    {
+        let n = (tail[1] as u64 - b'0' as u64) * 10 + (tail[2] as u64 - b'0' as u64);
+        return Some((n, &tail[3..]));
+    }
+    if tail.len() > 4
+        && tail[4] == b' '
+        && b'1' <= tail[1]
+        && tail[1] <= b'9'
+        && b'0' <= tail[2]
+        && tail[2] <= b'9'
+        && b'0' <= tail[3]
+        && tail[3] <= b'9'
+    {
+        let n = (tail[1] as u64 - b'0' as u64) * 10 + (tail[2] as u64 - b'0' as u64);
+        return Some((n * 10 + (tail[3] as u64 - b'0' as u64), &tail[4..]));
+    }
+    next_number(tail)
+}
+
+/// The same of a number of any length.
+fn next_number(tail: &[u8]) -> Option<(u64, &[u8])>
     ensures taken { option_map (λ taken. (taken.0, words_after taken.1.now)) result ≡ took (words_after tail.now) }
     ensures shorter { IfSome result (λ taken. length taken.1.now < length tail.now) }
 {
@@ -135,13 +169,13 @@ pub(crate) fn next(tail: &[u8]) -> Option<(u64, &[u8])>
 pub(crate) fn last(tail: &[u8]) -> Option<u64>
     ensures { result ≡ last_number (words_after tail.now) }
 {
-    let (n, rest) = next(tail)?;
+    let (n, rest) = next_number(tail)?;
     if is_end(rest) { Some(n) } else { None }
 }
 
-/// What `last` answers, for the number of a place: those have mostly one digit or two, which are read at once.
+/// What `last` answers. Most numbers have at most three digits, and those are read at once.
 #[inline(always)]
-pub(crate) fn place(tail: &[u8]) -> Option<u64>
+pub(crate) fn short_last(tail: &[u8]) -> Option<u64>
     ensures { result ≡ last_number (words_after tail.now) }
 {
     if tail.len() == 2 && b'0' <= tail[1] && tail[1] <= b'9' {
@@ -149,6 +183,17 @@ pub(crate) fn place(tail: &[u8]) -> Option<u64>
     }
     if tail.len() == 3 && b'1' <= tail[1] && tail[1] <= b'9' && b'0' <= tail[2] && tail[2] <= b'9' {
         return Some((tail[1] as u64 - b'0' as u64) * 10 + (tail[2] as u64 - b'0' as u64));
+    }
+    if tail.len() == 4
+        && b'1' <= tail[1]
+        && tail[1] <= b'9'
+        && b'0' <= tail[2]
+        && tail[2] <= b'9'
+        && b'0' <= tail[3]
+        && tail[3] <= b'9'
+    {
+        let n = (tail[1] as u64 - b'0' as u64) * 10 + (tail[2] as u64 - b'0' as u64);
+        return Some(n * 10 + (tail[3] as u64 - b'0' as u64));
     }
     last(tail)
 }

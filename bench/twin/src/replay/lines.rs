@@ -50,16 +50,20 @@ impl Words<'_> {
             return None;
         }
         let mut at = 0;
-        while at < rest.len() && rest[at] != b' ' {
-            let digit = u64::from(rest[at].wrapping_sub(b'0'));
-            if digit > 9 || value == 0 {
+        if let [next, ..] = rest
+            && *next != b' '
+        {
+            if value == 0 {
                 return None;
             }
-            value = value * 10 + digit;
-            if value > GREATEST {
-                return None;
+            while at < rest.len() && rest[at] != b' ' {
+                let digit = u64::from(rest[at].wrapping_sub(b'0'));
+                value = value * 10 + digit;
+                if digit > 9 || value > GREATEST {
+                    return None;
+                }
+                at += 1;
             }
-            at += 1;
         }
         self.0 = &rest[at..];
         Some(value)

@@ -13,3 +13,6 @@ returns-in-Some-of_six-clause-begun c = spaced_at 6 c.args.line.now c.in-Some-of
 
 pub returns-in-Some-of_seven-clause-begun : goal.returns-in-Some-of_seven-clause-begun
 returns-in-Some-of_seven-clause-begun c = spaced_at 7 c.args.line.now c.in-Some-of_seven.word (omega arith) (grind (arith, c.if-line-eq32-4.true)) (sym c.in-Some-of_seven.is ∙ c.of_seven.ensures)
+
+pub returns-in-Some-of_three-clause-begun : goal.returns-in-Some-of_three-clause-begun
+returns-in-Some-of_three-clause-begun c = spaced_at 3 c.args.line.now c.in-Some-of_three.word (omega arith) (grind (arith, c.if-line-eq32-5.true)) (sym c.in-Some-of_three.is ∙ c.of_three.ensures)

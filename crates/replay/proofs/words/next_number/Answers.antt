@@ -1,7 +1,7 @@
 use Rattle.std.proofs.Common.{◌∙◌, sym, ℕ, arith, length-take, length-drop}
 use Rattle.std.proofs.lemmas.Option.{IfSome_then}
 use Rattle.replay.proofs.Numbers.{next_taken, next_missing}
-use Rattle.replay.proofs.words.next.Goals as goal
+use Rattle.replay.proofs.words.next_number.Goals as goal
 
 pub returns-then-begins_well-clause-taken : goal.returns-then-begins_well-clause-taken
 returns-then-begins_well-clause-taken c = next_taken c.args.tail.now c.digits.result (omega arith) (sym c.begins_well.ensures ∙ c.if-begins_well.true) c.digits.ensures.taken
