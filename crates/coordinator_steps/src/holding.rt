@@ -6,7 +6,7 @@ ghost use Rattle.desk.specs.Fields.{at};
 ghost use Rattle.desk.specs.Targets.{progress};
 ghost use Rattle.desk.specs.declared.entries.Progress.TheVariants.{Undone as IsUndone};
 ghost use Rattle.held_threads.specs.Held.{is_held, StandsAt};
-ghost use Rattle.held_threads.specs.Refused.{In, HoldsBy, MayHoldBy, hold_refused_by, Withholds, HasNoHeldBy, IsServeFaultBy, serve_refused_by};
+ghost use Rattle.held_threads.specs.Refused.{In, HoldsBy, MayHoldBy, hold_fault, hold_refused_by, Withholds, HasNoHeldBy, IsServeFaultBy, serve_refused_by};
 ghost use Rattle.held_threads.specs.Serves.{Runs};
 ghost use Rattle.coordinator_steps.specs.Done.{Releases, IsElsewhere, Leaves, ServesBy, IsUnserved};
 
@@ -14,20 +14,25 @@ use crate::steps::Steps;
 use berths::{BodyReceipt, Room};
 use board::Board;
 use bodies::Name;
-use desk::{Desk, Finished, Progress};
-use held_threads::{
-    HoldFault, ReleaseFault, ServeFault, Unserved, hold_fault_at, serve_fault_of, unserved,
-};
+use desk::{Desk, Finished, Progress, Standing};
+use held_threads::{HoldFault, ReleaseFault, ServeFault, Unserved, serve_fault_of, unserved};
 use operations::job::Errand;
 use poll::PollRow;
 
-// The number of the oldest request that a thread owes, 0 for none.
-fn number_in(progress: Progress) -> u64
-    ensures { (n : ℕ) → progress ≡ IsUndone n → result ≡ n }
+// Why a thread that stands to the open requests like this, and owes nothing of what it was told, isn't held.
+fn refusal(said: Standing, progress: Progress) -> HoldFault
+    requires { (n : ℕ) → progress ≢ IsUndone n }
+    ensures { hold_fault said progress ≡ Some result }
 {
-    match progress {
-        Progress::Undone(number) => number,
-        Progress::Done | Progress::NotTold => 0,
+    match said {
+        Standing::NothingOpen => HoldFault::NothingOpen,
+        Standing::NotOf => HoldFault::NotOf,
+        Standing::Gone => HoldFault::NotTold,
+        Standing::Asked(_) => match progress {
+            Progress::NotTold => HoldFault::NotTold,
+            Progress::Done => HoldFault::AlreadyDone,
+            Progress::Undone(_) => unreachable!(),
+        },
     }
 }
 
@@ -58,6 +63,7 @@ impl<N: Name> Steps<N> {
 
     // The name of the thread of a place that may be held as far as the desk goes and isn't held, with the number of the oldest operation
     // that it owes; or why there is none.
+    #[tactic(auto, using(crate::proofs::Owing::owes))]
     fn holdable<J: Errand>(&self, desk: &Desk<N, J>, place: usize) -> Result<(u64, u64), HoldFault>
         ensures may { IfOk result (λ r. (place < N.board.places) × MayHoldBy (In (at desk.now)) self.now place r.0) }
         ensures number { IfOk result (λ r. progress (at desk.now) r.0 (slice_index self.now.armer.armed place) ≡ IsUndone r.1) }
@@ -67,16 +73,16 @@ impl<N: Name> Steps<N> {
             return Err(HoldFault::NoSuchPlace);
         }
         let last = self.armer.last(place);
-        let Some((name, fault)) = hold_fault_at(desk, place, last) else {
+        let Some(name) = desk.name_at(place) else {
             return Err(HoldFault::Vacant);
         };
-        if let Some(fault) = fault {
-            return Err(fault);
+        // Who owes a request is a target of it: how the name stands is looked up for others alone.
+        let progress = desk.progress(name, last);
+        match progress {
+            Progress::Undone(_) if self.bodies.has(place) => Err(HoldFault::Held),
+            Progress::Undone(number) => Ok((name, number)),
+            Progress::Done | Progress::NotTold => Err(refusal(desk.standing(name), progress)),
         }
-        if self.bodies.has(place) {
-            return Err(HoldFault::Held);
-        }
-        Ok((name, number_in(desk.progress(name, last))))
     }
 
     /// Why a place has no held thread: there is no such place, no live thread has it, or its thread isn't held.
@@ -105,10 +111,26 @@ impl<N: Name> Steps<N> {
         ensures elsewhere { IfOk result (λ o. IfNone o (IsElsewhere self.old place room.old)) }
         ensures refused { IfErr result (λ e. (is_held place self.old.held ≡ false) × HasNoHeldBy (In (at desk.now)) N.board.places place e × (self.new ≡ self.old) × (room.new ≡ room.old)) }
     {
-        let Some(index) = self.bodies.index_of(place) else {
-            return Err(self.unheld(desk, place));
-        };
-        Ok(self.bodies.release_into(index, room, self.operated))
+        match self.release_held(room, place) {
+            Some(released) => Ok(released),
+            None => Err(self.unheld(desk, place)),
+        }
+    }
+
+    /// The same without the desk. None where no thread of the place is held: `unheld` tells why.
+    #[inline(always)]
+    pub fn release_held<J: Errand>(
+        &mut self,
+        room: &mut Room<N, J>,
+        place: usize,
+    ) -> Option<Option<BodyReceipt<N>>>
+        ensures released { IfSome result (λ o. IfSome o (Releases self.old self.new place)) }
+        ensures again { IfSome result (λ o. IfNone o ((self.new ≡ self.old) × (room.new ≡ room.old))) }
+        ensures elsewhere { IfSome result (λ o. IfNone o (IsElsewhere self.old place room.old)) }
+        ensures refused { IfNone result ((is_held place self.old.held ≡ false) × (self.new ≡ self.old) × (room.new ≡ room.old)) }
+    {
+        let index = self.bodies.index_of(place)?;
+        Some(self.bodies.release_into(index, room, self.operated))
     }
 
     /// Serves the held thread of a place, which was told an open handshake and isn't done with it: publishes its stack, runs its oldest job

@@ -44,7 +44,7 @@ void sp_ring(void);
         int64_t found_;                                                       \
         do                                                                    \
             found_ = (call);                                                  \
-        while (sp_again(found_, &pause_));                                    \
+        while (found_ == SP_AGAIN && sp_again(found_, &pause_));              \
         (answer) = found_;                                                    \
     } while (0)
 

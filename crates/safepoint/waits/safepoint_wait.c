@@ -162,14 +162,35 @@ int64_t sp_stop(struct sp_party *thread, sp_callback call, void *with) {
     }
 }
 
-/* Behind a call by which a thread gave its stack or its place away. */
-static int64_t given(int64_t answer) {
+/* A call that takes a thread's stack away from it, or gives it back. */
+typedef int64_t (*crossing)(struct sp_party *);
+
+static int64_t crossed(int64_t answer, crossing call, struct sp_party *thread) {
+    struct sp_pause pause = {0, 0};
+    while (sp_again(answer, &pause)) answer = call(thread);
+    return answer;
+}
+
+/* Behind a first try of a call by which a thread gives its stack away: mostly all is done by it. The rest stands apart, so that nothing is
+   kept for it before. */
+__attribute__((noinline)) static int64_t given_late(int64_t answer, crossing call, struct sp_party *thread) {
+    answer = crossed(answer, call, thread);
     if (driven()) come();
     return answer;
 }
 
-static int64_t polled(int64_t answer, struct sp_party *thread, sp_callback call, void *with) {
-    return answer > 0 ? sp_stop(thread, call, with) : answer;
+static inline int64_t given(int64_t answer, crossing call, struct sp_party *thread) {
+    return answer != SP_AGAIN && !driven() ? answer : given_late(answer, call, thread);
+}
+
+/* The same of one by which it takes its stack back, and polls. */
+__attribute__((noinline)) static int64_t taken_late(int64_t answer, crossing call, struct sp_party *thread, sp_callback run, void *with) {
+    answer = crossed(answer, call, thread);
+    return answer > 0 ? sp_stop(thread, run, with) : answer;
+}
+
+static inline int64_t taken(int64_t answer, crossing call, struct sp_party *thread, sp_callback run, void *with) {
+    return answer ? taken_late(answer, call, thread, run, with) : 0;
 }
 
 int64_t sp_start_thread(struct sp_party *thread, sp_callback call, void *with) {
@@ -197,28 +218,16 @@ int64_t sp_exit_thread(struct sp_party *thread, sp_callback call, void *with) {
     }
 }
 
-int64_t sp_enter_native(struct sp_party *thread) {
-    int64_t answer;
-    SP_WAIT(answer, sp_to_native(thread));
-    return given(answer);
-}
+int64_t sp_enter_native(struct sp_party *thread) { return given(sp_to_native(thread), sp_to_native, thread); }
 
 int64_t sp_leave_native(struct sp_party *thread, sp_callback call, void *with) {
-    int64_t answer;
-    SP_WAIT(answer, sp_from_native(thread));
-    return polled(answer, thread, call, with);
+    return taken(sp_from_native(thread), sp_from_native, thread, call, with);
 }
 
-int64_t sp_enter_blocked(struct sp_party *thread) {
-    int64_t answer;
-    SP_WAIT(answer, sp_block(thread));
-    return given(answer);
-}
+int64_t sp_enter_blocked(struct sp_party *thread) { return given(sp_block(thread), sp_block, thread); }
 
 int64_t sp_leave_blocked(struct sp_party *thread, sp_callback call, void *with) {
-    int64_t answer;
-    SP_WAIT(answer, sp_unblock(thread));
-    return polled(answer, thread, call, with);
+    return taken(sp_unblock(thread), sp_unblock, thread, call, with);
 }
 
 /* --- the coordinator --- */
@@ -257,7 +266,8 @@ static int64_t tell_all(struct drive *it) {
         SP_WAIT(name, sp_live_after(it->coordinator, (uint64_t)name));
         if (name <= 0) break;
         for (;; name++, it->told++) {
-            atomic_store(&all.wanted, came + (unsigned)it->told + 1); /* before it can come */
+            /* Before it can come, which it does by what the call then stores. */
+            atomic_store_explicit(&all.wanted, came + (unsigned)it->told + 1, memory_order_relaxed);
             if (!is_told(it, name)) break;
         }
     }

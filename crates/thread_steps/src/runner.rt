@@ -125,8 +125,9 @@ impl<N: Name> Stepper<N> {
         let found = body.poll(row);
         if found != 0 {
             self.go_on(true);
+            return Ok(Poll::Stop(found));
         }
-        Ok(poll_of(found))
+        Ok(Poll::Go)
     }
 
     /// A back edge of a loop: the thread polls, by one load. A thread that isn't in Java is refused with its state.
@@ -143,8 +144,9 @@ impl<N: Name> Stepper<N> {
         let found = body.poll(row);
         if found != 0 {
             self.go_on(true);
+            return Ok(Poll::Stop(found));
         }
-        Ok(poll_of(found))
+        Ok(Poll::Go)
     }
 
     /// Publishes the stack: one load of the moment, a step for each code whose counts differ, and a store of the moment that was

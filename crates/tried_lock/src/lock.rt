@@ -82,7 +82,9 @@ impl<T: Drop> TriedLock<T> {
         requires { key ≡ self.now }
     {
         let Key { mut seat } = key;
-        let _ = self.table.shared.exchange(&mut seat, 0, Some(value));
+        let None = self.table.shared.exchange(&mut seat, 0, Some(value)) else {
+            unreachable!()
+        };
         self.table.shared.store::<PutsBack>(&mut seat, WORD, FREE);
     }
 }
