@@ -22,7 +22,7 @@ abbrev pub when : Bool → Stage → Option Stage
 when lawful stage = if lawful then Some stage else None
 
 abbrev pub turned : Stage → At → Stage
-turned stage to = record { at = to; place = stage.place; jobs = stage.jobs; served = stage.served; times = stage.times }
+turned stage to = record { at = to; place = stage.place; jobs = stage.jobs; served = stage.served; times = stage.times; asked = stage.asked; begun = stage.begun }
 
 -- A publication is Begin, some Changes, End.
 abbrev pub begins : Stage → Act → Answer → At → Option Stage
@@ -58,7 +58,7 @@ is_job false entry jobs reply = true
 is_job true entry jobs reply = has_reply (slice_get entry.jobs jobs) reply
 
 abbrev pub served_once : Stage → At → Stage
-served_once stage to = record { at = to; place = stage.place; jobs = stage.jobs + 1; served = true; times = stage.times }
+served_once stage to = record { at = to; place = stage.place; jobs = stage.jobs + 1; served = true; times = stage.times; asked = stage.asked; begun = stage.begun }
 
 abbrev pub finishes : Bool → Entry → Stage → Answer → At → Option Stage
 finishes recorded entry stage (answer.Reply reply) to = when (nat_lt stage.jobs 1000000 && is_job recorded entry stage.jobs reply) (served_once stage to)
@@ -69,7 +69,7 @@ clears stage act.Clear said to = when (is_done said) (turned stage to)
 clears stage other said to = None
 
 abbrev pub stopped : Stage → Stage
-stopped stage = record { at = at.Served; place = stage.place; jobs = stage.jobs; served = stage.served; times = 1 }
+stopped stage = record { at = at.Served; place = stage.place; jobs = stage.jobs; served = stage.served; times = 1; asked = stage.asked; begun = stage.begun }
 
 abbrev pub stop_word : Bool → Word
 stop_word true = word.Served
@@ -91,7 +91,7 @@ polls recorded entry stage act.Cross said = crosses stage said (turn_over entry 
 polls recorded entry stage other said = None
 
 abbrev pub taken : Stage → Stage
-taken stage = record { at = at.Taken; place = stage.place; jobs = stage.jobs; served = false; times = stage.times }
+taken stage = record { at = at.Taken; place = stage.place; jobs = stage.jobs; served = false; times = stage.times; asked = stage.asked; begun = stage.begun }
 
 abbrev pub takes_by : Entry → Stage → Answer → Option Stage
 takes_by entry stage answer.Done = Some (taken stage)
@@ -260,7 +260,7 @@ own recorded entry stage deed said = own_by stage.at recorded entry stage deed s
 
 abbrev pub in_drive : Option Stage → Stage → Option Stage
 in_drive None stage = None
-in_drive (Some made) stage = Some (record { at = at.Driving; place = stage.place; jobs = made.jobs; served = stage.served; times = stage.times })
+in_drive (Some made) stage = Some (record { at = at.Driving; place = stage.place; jobs = made.jobs; served = stage.served; times = stage.times; asked = stage.asked; begun = stage.begun })
 
 -- What is done at a place in a drive.
 abbrev pub drives_at : Bool → Entry → Stage → Act → Answer → Option Stage

@@ -1,5 +1,5 @@
 -- The runs of calls: events that are of no place, whole runs, and when a call is over.
-use Rattle.std.specs.Prelude.{ℕ, ◌+◌, ◌==◌, nat_lt, nat_le, Bool, true, false, not, ◌&&◌, ◌||◌, bytes_eq, length, drop, List, [], ◌∷◌, Option, Some, None, if◌then◌else◌}
+use Rattle.std.specs.Prelude.{ℕ, ◌+◌, ◌==◌, nat_lt, nat_le, Bool, true, false, not, ◌&&◌, ◌||◌, bytes_eq, length, drop, List, [], ◌∷◌, Option, Some, None, option_map, if◌then◌else◌}
 use Rattle.operations.specs.declared.Ask.{Ask as AskKind}
 use Rattle.operations.specs.declared.Ask.TheVariants.{Depth, CountOf, Top}
 use Rattle.operations.specs.declared.Request.{Request}
@@ -15,22 +15,29 @@ use Rattle.call_log.specs.Words.{word_text}
 use Rattle.call_runs.specs.declared.stage.At.{At}
 use Rattle.call_runs.specs.declared.stage.At.TheVariants as at
 use Rattle.call_runs.specs.declared.stage.Stage.{Stage}
-use Rattle.call_runs.specs.Says.{says, fits, is_done, counts_said, census_by}
-use Rattle.call_runs.specs.Runs.{arg, when, turned, at_place}
+use Rattle.call_runs.specs.Says.{says, fits, is_done, answers, counts_said, census_by}
+use Rattle.call_runs.specs.Runs.{arg, when, turned, is_sent, at_place}
+
+abbrev pub is_reclaim : Word → Bool
+is_reclaim word.Reclaim = true
+is_reclaim word.ReclaimDepth = true
+is_reclaim word.ReclaimTop = true
+is_reclaim word.ReclaimCount = true
+is_reclaim other = false
 
 abbrev pub closed_by : Bool → Entry → ℕ → Bool
 closed_by true entry n = census_by entry.answer entry.values n
 closed_by false entry n = says entry word.Handshake (n ∷ [])
 
 abbrev pub once_more : Stage → Stage
-once_more stage = record { at = stage.at; place = stage.place; jobs = stage.jobs; served = stage.served; times = stage.times + 1 }
+once_more stage = record { at = stage.at; place = stage.place; jobs = stage.jobs; served = stage.served; times = stage.times + 1; asked = stage.asked; begun = stage.begun }
 
 abbrev pub closes_by : Word → Entry → Stage → ℕ → Option Stage
 closes_by word.Drive entry stage n = when (closed_by stage.served entry n) (turned stage at.Over)
 closes_by word.DriveFour entry stage n = when (nat_lt stage.times 1000000) (once_more stage)
-closes_by other entry stage n = Some (turned stage at.Looking)
+closes_by other entry stage n = when (n == stage.asked) (turned stage at.Looking)
 
--- A drive ends by a Close; one of four handshakes by as many as it answers; a reclaiming goes on to look.
+-- A drive ends by a Close; one of four handshakes by as many as it answers; a reclaiming closes the handshake that it asked for, and goes on to look.
 abbrev pub closes : Entry → Stage → ℕ → Option Stage
 closes entry stage n = closes_by entry.call entry stage n
 
@@ -38,10 +45,10 @@ abbrev pub is_named : Entry → Word → Bool
 is_named entry w = bytes_eq (word_text entry.call) (word_text w)
 
 abbrev pub counted : Stage → Stage
-counted stage = record { at = stage.at; place = stage.place; jobs = stage.jobs; served = true; times = stage.times }
+counted stage = record { at = stage.at; place = stage.place; jobs = stage.jobs; served = true; times = stage.times; asked = stage.asked; begun = stage.begun }
 
 abbrev pub opens_next : Entry → Stage → Answer → Option Stage
-opens_next entry stage (answer.Opened n kind) = Some stage
+opens_next entry stage (answer.Opened n kind) = when (not (is_reclaim entry.call) || (n == stage.asked)) stage
 opens_next entry stage other = when (fits entry other) (turned stage at.Over)
 
 abbrev pub tells_one : Stage → Answer → Option Stage
@@ -91,7 +98,7 @@ is_request entry Census = is_named entry word.SubmitCensus
 is_request entry (Handshake targets ask) = is_handshake entry targets ask
 
 abbrev pub started : Stage → ℕ → Stage
-started stage place = record { at = at.Started; place = place; jobs = stage.jobs; served = stage.served; times = stage.times }
+started stage place = record { at = at.Started; place = place; jobs = stage.jobs; served = stage.served; times = stage.times; asked = stage.asked; begun = stage.begun }
 
 abbrev pub starts : Entry → Stage → Answer → Option Stage
 starts entry stage (answer.Thread name place) = when (says entry word.Thread (name ∷ place ∷ [])) (started stage place)
@@ -125,19 +132,15 @@ looks entry stage (event.Look serial place) said = looks_one entry stage serial 
 looks entry stage (event.Weigh serial) said = if serial == arg entry 0 then weighs entry stage said else None
 looks entry stage other said = None
 
-abbrev pub is_reclaim : Word → Bool
-is_reclaim word.Reclaim = true
-is_reclaim word.ReclaimDepth = true
-is_reclaim word.ReclaimTop = true
-is_reclaim word.ReclaimCount = true
-is_reclaim other = false
-
 abbrev pub is_refused : Answer → Bool
 is_refused (answer.Refused why) = true
 is_refused other = false
 
+abbrev pub asking : Stage → ℕ → Stage
+asking stage n = record { at = at.Asked; place = stage.place; jobs = stage.jobs; served = stage.served; times = stage.times; asked = n; begun = stage.begun }
+
 abbrev pub asks_first : Entry → Stage → Request → Answer → Option Stage
-asks_first entry stage request (answer.Asked n) = when (is_request entry request) (turned stage at.Asked)
+asks_first entry stage request (answer.Asked n) = when (is_request entry request) (asking stage n)
 asks_first entry stage request other = None
 
 -- A reclaiming asks for a handshake where it has jobs, and makes the moment; or it is refused.
@@ -148,9 +151,13 @@ reclaims entry stage (event.Weigh serial) said = when ((serial == arg entry 0) &
 reclaims entry stage (event.Resolve method) said = when (says entry word.AlreadyOpen []) (turned stage at.Over)
 reclaims entry stage other said = None
 
+-- The call looks, and answers what such a look does.
+abbrev pub is_look : Entry → Bool
+is_look entry = (is_named entry word.Live && answers entry word.Names) || (is_named entry word.Replies && answers entry word.Replies)
+
 abbrev pub others : Entry → Stage → Event → Answer → Option Stage
 others entry stage event.Start said = if is_named entry word.Start then starts entry stage said else None
-others entry stage (event.Resolve method) said = when (is_named entry word.Live || is_named entry word.Replies) (turned stage at.Over)
+others entry stage (event.Resolve method) said = when (is_look entry) (turned stage at.Over)
 others entry stage event said = when (sole entry event && fits entry said) (turned stage at.Over)
 
 abbrev pub fresh : Entry → Stage → Event → Answer → Option Stage
@@ -176,10 +183,20 @@ whole_by other entry stage event said = None
 abbrev pub whole : Entry → Stage → Event → Answer → Option Stage
 whole entry stage event said = whole_by stage.at entry stage event said
 
+abbrev pub goes_on : Bool → Entry → Stage → Event → Answer → Option Stage
+goes_on recorded entry stage (event.At place deed) said = at_place recorded entry stage place deed said
+goes_on recorded entry stage other said = whole entry stage other said
+
+-- A refused event is all of its call; or it is behind an entry that sent the thread away.
+abbrev pub comes_late : Stage → Answer → Bool
+comes_late stage said = stage.begun && is_refused said && not (is_sent stage.at)
+
+abbrev pub begun : Stage → Stage
+begun stage = record { at = stage.at; place = stage.place; jobs = stage.jobs; served = stage.served; times = stage.times; asked = stage.asked; begun = true }
+
 -- How far the call is after its next event, so answered; none where no run of the call goes on so.
 abbrev pub next : Bool → Entry → Stage → Event → Answer → Option Stage
-next recorded entry stage (event.At place deed) said = at_place recorded entry stage place deed said
-next recorded entry stage other said = whole entry stage other said
+next recorded entry stage event said = if comes_late stage said then None else option_map begun (goes_on recorded entry stage event said)
 
 abbrev pub first_at : Word → At
 first_at word.Stop = at.AtPoll
@@ -191,7 +208,7 @@ first_at other = at.Fresh
 
 -- Nothing of the call is made.
 abbrev pub first : Entry → Stage
-first entry = record { at = first_at entry.call; place = arg entry 0; jobs = 0; served = false; times = 0 }
+first entry = record { at = first_at entry.call; place = arg entry 0; jobs = 0; served = false; times = 0; asked = 0; begun = false }
 
 abbrev pub ended_by : At → Entry → Stage → Bool
 ended_by at.Over entry stage = true

@@ -4,6 +4,7 @@ ghost use Rattle.call_runs.specs.Runs.{drives_at, gathers};
 ghost use Rattle.call_runs.specs.Whole.{closes, drives, operates};
 
 use crate::parts::{finishes, is_changed, is_named, turned, when};
+use crate::reclaiming::is_reclaim;
 use crate::says::{counts, fits, is_census, is_done, says};
 use crate::stage::{At, Stage};
 use call_log::entry::Entry;
@@ -34,6 +35,8 @@ pub(crate) fn drives_at(
                 jobs: made.jobs,
                 served: stage.served,
                 times: stage.times,
+                asked: stage.asked,
+                begun: stage.begun,
             }),
         },
         Act::Clear => when(is_done(answer), stage),
@@ -54,7 +57,7 @@ pub(crate) fn gathers(stage: Stage, act: Act, answer: &Answer) -> Option<Stage>
     }
 }
 
-/// The last Close of a drive, or one of several.
+/// The last Close of a drive, or one of several; or that of the handshake that a reclaiming asked for.
 fn closes(entry: &Entry, stage: Stage, n: u64) -> Option<Stage>
     ensures { result ≡ closes entry.now stage n }
 {
@@ -75,12 +78,14 @@ fn closes(entry: &Entry, stage: Stage, n: u64) -> Option<Stage>
                     jobs: stage.jobs,
                     served: stage.served,
                     times: stage.times + 1,
+                    asked: stage.asked,
+                    begun: stage.begun,
                 })
             } else {
                 None
             }
         }
-        _ => Some(turned(stage, At::Looking)),
+        _ => when(n == stage.asked, turned(stage, At::Looking)),
     }
 }
 
@@ -90,7 +95,7 @@ pub(crate) fn drives(entry: &Entry, stage: Stage, event: &Event, answer: &Answer
 {
     match event {
         Event::Open => match answer {
-            Answer::Opened(_, _) => Some(stage),
+            Answer::Opened(n, _) => when(!is_reclaim(entry.call) || *n == stage.asked, stage),
             _ => when(fits(entry, answer), turned(stage, At::Over)),
         },
         Event::Tell(_) => match answer {
@@ -107,6 +112,8 @@ pub(crate) fn drives(entry: &Entry, stage: Stage, event: &Event, answer: &Answer
                     jobs: stage.jobs,
                     served: true,
                     times: stage.times,
+                    asked: stage.asked,
+                    begun: stage.begun,
                 },
             ),
             _ => None,

@@ -5,7 +5,7 @@
 
 mod driving;
 mod parts;
-mod reclaiming;
+pub mod reclaiming;
 mod requests;
 pub mod runs;
 pub mod says;

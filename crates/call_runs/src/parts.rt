@@ -32,6 +32,8 @@ pub(crate) fn turned(stage: Stage, at: At) -> Stage
         jobs: stage.jobs,
         served: stage.served,
         times: stage.times,
+        asked: stage.asked,
+        begun: stage.begun,
     }
 }
 
@@ -108,6 +110,8 @@ pub(crate) fn finishes(
                     jobs: stage.jobs + 1,
                     served: true,
                     times: stage.times,
+                    asked: stage.asked,
+                    begun: stage.begun,
                 })
             } else {
                 None

@@ -1,6 +1,6 @@
 //! The runs of a reclaiming.
 ghost use Rattle.std.specs.Prelude.{◌≡◌};
-ghost use Rattle.call_runs.specs.Whole.{is_freed, is_reclaim, is_refused, looks, reclaims, round, weighs};
+ghost use Rattle.call_runs.specs.Whole.{asking, is_freed, is_reclaim, is_refused, looks, reclaims, round, weighs};
 
 use crate::parts::{arg, is_named, turned, when};
 use crate::requests::is_request;
@@ -49,7 +49,8 @@ fn weighs(entry: &Entry, stage: Stage, answer: &Answer) -> Option<Stage>
     }
 }
 
-pub(crate) fn is_reclaim(call: Word) -> bool
+/// Whether the call reclaims a code.
+pub fn is_reclaim(call: Word) -> bool
     ensures { result ≡ is_reclaim call }
 {
     match call {
@@ -61,13 +62,27 @@ pub(crate) fn is_reclaim(call: Word) -> bool
     }
 }
 
+fn asking(stage: Stage, n: u64) -> Stage
+    ensures { result ≡ asking stage n }
+{
+    Stage {
+        at: At::Asked,
+        place: stage.place,
+        jobs: stage.jobs,
+        served: stage.served,
+        times: stage.times,
+        asked: n,
+        begun: stage.begun,
+    }
+}
+
 /// A reclaiming begins: it asks for a handshake where it has jobs, and makes the moment; or it is refused.
 pub(crate) fn reclaims(entry: &Entry, stage: Stage, event: &Event, answer: &Answer) -> Option<Stage>
     ensures { result ≡ reclaims entry.now stage event.now answer.now }
 {
     match event {
         Event::Ask(request) => match answer {
-            Answer::Asked(_) => when(is_request(entry, request), turned(stage, At::Asked)),
+            Answer::Asked(n) => when(is_request(entry, request), asking(stage, *n)),
             _ => None,
         },
         Event::Round => when(
@@ -83,7 +98,7 @@ pub(crate) fn reclaims(entry: &Entry, stage: Stage, event: &Event, answer: &Answ
     }
 }
 
-fn is_refused(answer: &Answer) -> bool
+pub(crate) fn is_refused(answer: &Answer) -> bool
     ensures { result ≡ is_refused answer.now }
 {
     match answer {

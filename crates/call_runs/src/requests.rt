@@ -58,6 +58,8 @@ pub(crate) fn starts(entry: &Entry, stage: Stage, answer: &Answer) -> Option<Sta
                 jobs: stage.jobs,
                 served: stage.served,
                 times: stage.times,
+                asked: stage.asked,
+                begun: stage.begun,
             },
         ),
         _ => when(fits(entry, answer), turned(stage, At::Over)),

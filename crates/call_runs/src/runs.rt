@@ -1,15 +1,15 @@
 //! The runs of calls: what a call's next event may be, and when the call is over.
 ghost use Rattle.std.specs.Prelude.{◌≡◌};
 ghost use Rattle.call_runs.specs.Runs.{at_place};
-ghost use Rattle.call_runs.specs.Whole.{first, first_at, fresh, is_ended, is_over, next, whole};
+ghost use Rattle.call_runs.specs.Whole.{begun, comes_late, first, first_at, fresh, goes_on, is_ended, is_look, is_over, next, whole};
 
 use crate::driving::{drives, drives_at, gathers, operates};
 use crate::parts::{arg, clears, is_named, turned, when};
-use crate::reclaiming::{is_freed, is_reclaim, looks, reclaims, round};
+use crate::reclaiming::{is_freed, is_reclaim, is_refused, looks, reclaims, round};
 use crate::requests::{sole, starts};
-use crate::says::{fits, says};
+use crate::says::{answers, fits, says};
 use crate::stage::{At, Stage};
-use crate::thread_calls::own;
+use crate::thread_calls::{is_sent, own};
 use call_log::entry::Entry;
 use call_log::word::Word;
 use system::answers::Answer;
@@ -39,6 +39,14 @@ fn at_place(
     }
 }
 
+/// Whether the call looks, and answers what such a look does.
+fn is_look(entry: &Entry) -> bool
+    ensures { result ≡ is_look entry.now }
+{
+    (is_named(entry, Word::Live) && answers(entry, Word::Names))
+        || (is_named(entry, Word::Replies) && answers(entry, Word::Replies))
+}
+
 /// The first event of a call, which is of no place.
 fn fresh(entry: &Entry, stage: Stage, event: &Event, answer: &Answer) -> Option<Stage>
     ensures { result ≡ fresh entry.now stage event.now answer.now }
@@ -54,10 +62,7 @@ fn fresh(entry: &Entry, stage: Stage, event: &Event, answer: &Answer) -> Option<
                 None
             }
         }
-        Event::Resolve(_) => when(
-            is_named(entry, Word::Live) || is_named(entry, Word::Replies),
-            turned(stage, At::Over),
-        ),
+        Event::Resolve(_) => when(is_look(entry), turned(stage, At::Over)),
         _ => when(
             sole(entry, event) && fits(entry, answer),
             turned(stage, At::Over),
@@ -80,6 +85,42 @@ fn whole(entry: &Entry, stage: Stage, event: &Event, answer: &Answer) -> Option<
     }
 }
 
+fn goes_on(
+    recorded: bool,
+    entry: &Entry,
+    stage: Stage,
+    event: &Event,
+    answer: &Answer,
+) -> Option<Stage>
+    ensures { result ≡ goes_on recorded entry.now stage event.now answer.now }
+{
+    match event {
+        Event::At(place, act) => at_place(recorded, entry, stage, *place, *act, answer),
+        _ => whole(entry, stage, event, answer),
+    }
+}
+
+/// Whether a refused event isn't all of its call. It may be behind an entry that sent the thread away.
+fn comes_late(stage: Stage, answer: &Answer) -> bool
+    ensures { result ≡ comes_late stage answer.now }
+{
+    stage.begun && is_refused(answer) && !is_sent(stage.at)
+}
+
+fn begun(stage: Stage) -> Stage
+    ensures { result ≡ begun stage }
+{
+    Stage {
+        at: stage.at,
+        place: stage.place,
+        jobs: stage.jobs,
+        served: stage.served,
+        times: stage.times,
+        asked: stage.asked,
+        begun: true,
+    }
+}
+
 /// How far the call is after its next event, so answered; none where no run of the call goes on so.
 pub fn next(
     recorded: bool,
@@ -90,9 +131,12 @@ pub fn next(
 ) -> Option<Stage>
     ensures { result ≡ next recorded entry.now stage event.now answer.now }
 {
-    match event {
-        Event::At(place, act) => at_place(recorded, entry, stage, *place, *act, answer),
-        _ => whole(entry, stage, event, answer),
+    if comes_late(stage, answer) {
+        return None;
+    }
+    match goes_on(recorded, entry, stage, event, answer) {
+        None => None,
+        Some(made) => Some(begun(made)),
     }
 }
 
@@ -119,6 +163,8 @@ pub fn first(entry: &Entry) -> Stage
         jobs: 0,
         served: false,
         times: 0,
+        asked: 0,
+        begun: false,
     }
 }
 

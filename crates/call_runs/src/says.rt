@@ -170,7 +170,7 @@ fn census_by(answer: Option<Word>, values: &[u64], n: u64) -> bool
 }
 
 /// Whether the call answers a census of that number.
-pub(crate) fn is_census(entry: &Entry, n: u64) -> bool
+pub fn is_census(entry: &Entry, n: u64) -> bool
     ensures { result ≡ census_by entry.now.answer entry.now.values n }
 {
     census_by(entry.answer, entry.values.as_slice(), n)

@@ -64,4 +64,8 @@ pub struct Stage {
     pub served: bool,
     /// How many stops an exit made, or how many operations were closed.
     pub times: u64,
+    /// The number of the handshake that a reclaiming asked for.
+    pub asked: u64,
+    /// Whether it had an event.
+    pub begun: bool,
 }

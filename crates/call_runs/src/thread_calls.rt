@@ -32,6 +32,8 @@ fn turn_over(entry: &Entry, stage: Stage) -> Option<Stage>
             jobs: stage.jobs,
             served: stage.served,
             times: 1,
+            asked: stage.asked,
+            begun: stage.begun,
         }),
         _ => {
             let word = if stage.served { Word::Served } else { Word::Ok };
@@ -63,6 +65,8 @@ fn takes(entry: &Entry, stage: Stage, act: Act, answer: &Answer) -> Option<Stage
                 jobs: stage.jobs,
                 served: false,
                 times: stage.times,
+                asked: stage.asked,
+                begun: stage.begun,
             }),
             _ => when(fits(entry, answer), turned(stage, At::Over)),
         },
@@ -169,7 +173,7 @@ fn enters(
     }
 }
 
-fn is_sent(at: At) -> bool
+pub(crate) fn is_sent(at: At) -> bool
     ensures { result ≡ is_sent at }
 {
     match at {

@@ -1,3 +1,4 @@
 pub mod Streams
+pub mod Owed
 pub mod Seen
 pub mod Walk

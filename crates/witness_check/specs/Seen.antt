@@ -1,27 +1,61 @@
 -- What the answers so far tell.
-use Rattle.std.specs.Prelude.{ℕ, ◌==◌, nat_lt, Bool, true, false, not, ◌&&◌, ◌||◌, List, [], ◌∷◌, ◌++◌, length, slice_index, Option, Some, None, if◌then◌else◌}
+use Rattle.std.specs.Prelude.{ℕ, ◌==◌, nat_le, Bool, true, false, not, ◌&&◌, ◌||◌, List, [], ◌∷◌, ◌++◌, map, filter, length, replicate, slice_get, slice_index, slice_set, Option, Some, None, option_map, option_and_then, if◌then◌else◌}
+use Rattle.std.specs.List.{position}
+use Rattle.system.specs.declared.events.Event.{Event}
+use Rattle.system.specs.declared.events.Event.TheVariants as event
 use Rattle.system.specs.declared.answers.Answer.{Answer}
 use Rattle.system.specs.declared.answers.Answer.TheVariants as answer
 use Rattle.call_log.specs.declared.word.Word.{Word}
 use Rattle.call_log.specs.declared.word.Word.TheVariants as word
 use Rattle.call_log.specs.declared.lists.Job.{Job}
 use Rattle.call_log.specs.declared.entry.Entry.{Entry}
+use Rattle.call_runs.specs.declared.stage.Stage.{Stage}
+use Rattle.call_runs.specs.Says.{census_by}
+use Rattle.call_runs.specs.Whole.{is_reclaim}
+use Rattle.witness_check.specs.declared.owed.Owed.{Owed}
+use Rattle.witness_check.specs.declared.seen.Replied.{Replied}
 use Rattle.witness_check.specs.declared.seen.Seen.{Seen}
+use Rattle.witness_check.specs.Owed.{is_of, may_owe, isnt_of, owed_to, asked_of, paid}
 
--- The names that were given out and those of them that exited; the last number of a request, which is how many were asked for, and those
--- that were closed; the jobs that ran.
+-- The names that were given out, the last of them, and those that exited; by place, the name that started last there; the last number of a
+-- request, which is how many were asked for, that of the operation that was opened last, and those that were closed; the replies to
+-- handshakes that are still to come, the oldest handshake first; and the replies.
 pub record Sight : Type 0 where
   pub started : List ℕ
   pub exited : List ℕ
+  pub newest : ℕ
+  pub here : List ℕ
   pub asked : ℕ
+  pub opened : ℕ
   pub closed : List ℕ
-  pub done : List Job
+  pub owed : List Owed
+  pub done : List Replied
 
 abbrev pub sight : Seen → Sight
-sight seen = record { started = seen.started.items; exited = seen.exited.items; asked = seen.asked; closed = seen.closed.items; done = seen.done.items }
+sight seen = record {
+  started = seen.started.items;
+  exited = seen.exited.items;
+  newest = seen.newest;
+  here = seen.here.items;
+  asked = seen.asked;
+  opened = seen.opened;
+  closed = seen.closed.items;
+  owed = seen.owed.items;
+  done = seen.done.items;
+}
 
 abbrev pub nothing_seen : Sight
-nothing_seen = record { started = []; exited = []; asked = 0; closed = []; done = [] }
+nothing_seen = record {
+  started = [];
+  exited = [];
+  newest = 0;
+  here = replicate 64 0;
+  asked = 0;
+  opened = 0;
+  closed = [];
+  owed = [];
+  done = [];
+}
 
 abbrev pub is_in : ℕ → List ℕ → Bool
 is_in name [] = false
@@ -46,12 +80,12 @@ are_live (name ∷ names) exited values =
     if is_in name exited then are_live names exited values
     else is_next name values && are_live names exited (behind values)
 
-abbrev pub is_reply : Job → List ℕ → Bool
+abbrev pub is_reply : Replied → List ℕ → Bool
 is_reply job (name ∷ reply ∷ values) = (name == job.name) && (reply == job.reply)
 is_reply job other = false
 
 -- The values are the names and replies of the operation's jobs, in the order of their Finishes.
-abbrev pub are_replies : List Job → ℕ → List ℕ → Bool
+abbrev pub are_replies : List Replied → ℕ → List ℕ → Bool
 are_replies [] op values = is_none values
 are_replies (job ∷ jobs) op values =
     if job.op == op then is_reply job values && are_replies jobs op (behind (behind values))
@@ -60,26 +94,87 @@ are_replies (job ∷ jobs) op values =
 abbrev pub op_of : Entry → ℕ
 op_of entry = slice_index entry.args 0
 
--- A call that looks sees what it answers: who is live, the replies of an operation, or that a request is open or waits.
-abbrev pub sees_by : Option Word → Bool → Sight → Entry → Bool
-sees_by None recorded seen entry = true
-sees_by (Some word.Names) recorded seen entry = are_live seen.started seen.exited entry.values
-sees_by (Some word.Replies) recorded seen entry = not recorded || are_replies seen.done (op_of entry) entry.values
-sees_by (Some word.AlreadyOpen) recorded seen entry = nat_lt (length seen.closed) seen.asked
-sees_by (Some other) recorded seen entry = false
+-- No request is open or waits.
+abbrev pub is_idle : Sight → Bool
+is_idle seen = nat_le seen.asked (length seen.closed)
 
-abbrev pub sees : Bool → Sight → Entry → Bool
-sees recorded seen entry = sees_by entry.answer recorded seen entry
+abbrev pub is_live_call : Word → Bool
+is_live_call word.Live = true
+is_live_call other = false
 
-abbrev pub with_job : Sight → Option Job → Sight
-with_job seen None = seen
-with_job seen (Some job) = record seen { done = seen.done ++ job ∷ [] }
+abbrev pub is_replies_call : Word → Bool
+is_replies_call word.Replies = true
+is_replies_call other = false
 
--- One more answer; where it is a reply, the job is that of the Finish.
-abbrev pub noted : Sight → Answer → Option Job → Sight
-noted seen (answer.Thread name place) job = record seen { started = seen.started ++ name ∷ [] }
-noted seen (answer.Exited name) job = record seen { exited = seen.exited ++ name ∷ [] }
-noted seen (answer.Asked n) job = record seen { asked = n }
-noted seen (answer.Closed n) job = record seen { closed = seen.closed ++ n ∷ [] }
-noted seen (answer.Reply n) job = with_job seen job
-noted seen other job = seen
+-- A call that looks sees what it answers: who is live, the replies of an operation, or of a reclaiming that a request is open or waits.
+abbrev pub sees_by : Option Word → Sight → Entry → Bool
+sees_by None seen entry = true
+sees_by (Some word.Names) seen entry = is_live_call entry.call && are_live seen.started seen.exited entry.values
+sees_by (Some word.Replies) seen entry = is_replies_call entry.call && are_replies seen.done (op_of entry) entry.values
+sees_by (Some word.AlreadyOpen) seen entry = is_reclaim entry.call && not (is_idle seen)
+sees_by (Some other) seen entry = false
+
+abbrev pub sees : Sight → Entry → Bool
+sees seen entry = sees_by entry.answer seen entry
+
+abbrev pub name_at : Sight → ℕ → ℕ
+name_at seen place = slice_index seen.here place
+
+-- What a Finish at a place is: the oldest reply that its thread owes.
+abbrev pub reply_of : Sight → ℕ → ℕ → Option Replied
+reply_of seen place reply =
+    option_map (λ owed. record { op = owed.op; name = name_at seen place; reply = reply })
+    (option_and_then (slice_get seen.owed) (position (is_of (name_at seen place)) seen.owed))
+
+-- The job is that of the reply.
+abbrev pub is_that : Option Job → Option Replied → Bool
+is_that (Some job) (Some replied) = (job.op == replied.op) && (job.name == replied.name) && (job.reply == replied.reply)
+is_that (Some job) None = false
+is_that None replied = false
+
+-- A reply is that of the call's next job.
+abbrev pub runs_next : Sight → Entry → Stage → ℕ → Answer → Bool
+runs_next seen entry stage place (answer.Reply reply) = is_that (slice_get entry.jobs stage.jobs) (reply_of seen place reply)
+runs_next seen entry stage place other = true
+
+abbrev pub counted_by : Word → Sight → Entry → Answer → Bool
+counted_by word.Operate seen entry (answer.Census list) = census_by entry.answer entry.values seen.opened
+counted_by other seen entry said = true
+
+-- A census by hand answers the number of its operation: a census is open alone, so it is the one that was opened last.
+abbrev pub is_counted : Sight → Entry → Answer → Bool
+is_counted seen entry said = counted_by entry.call seen entry said
+
+-- What a call does next is lawful for what was seen: a look sees what it answers, a job is the one that is recorded, a census is the one
+-- that is answered, and a reclaiming asks where no request is open or waits.
+abbrev pub allows : Bool → Sight → Entry → Stage → Event → Answer → Bool
+allows recorded seen entry stage (event.Resolve method) said = sees seen entry
+allows recorded seen entry stage (event.At place deed) said = not recorded || runs_next seen entry stage place said
+allows recorded seen entry stage event.Operate said = is_counted seen entry said
+allows recorded seen entry stage (event.Ask request) said = not (is_reclaim entry.call) || is_idle seen
+allows recorded seen entry stage other said = true
+
+-- A thread starts at a place.
+abbrev pub started_at : Sight → ℕ → ℕ → Sight
+started_at seen name place = record seen { started = seen.started ++ name ∷ []; newest = name; here = slice_set seen.here place name }
+
+abbrev pub replied_by : Sight → Option Replied → Sight
+replied_by seen None = seen
+replied_by seen (Some made) = record seen { owed = paid made.name seen.owed; done = seen.done ++ made ∷ [] }
+
+abbrev pub replied : Sight → ℕ → ℕ → Sight
+replied seen place reply = replied_by seen (reply_of seen place reply)
+
+abbrev pub replied_in : Sight → Event → ℕ → Sight
+replied_in seen (event.At place deed) reply = replied seen place reply
+replied_in seen other reply = seen
+
+-- One more event and its answer. An operation that opens is of no thread that starts later.
+abbrev pub noted : Sight → Event → Answer → Sight
+noted seen event (answer.Thread name place) = started_at seen name place
+noted seen event (answer.Exited name) = record seen { exited = seen.exited ++ name ∷ [] }
+noted seen event (answer.Asked n) = record seen { asked = n; owed = seen.owed ++ map (owed_to n) (asked_of event) }
+noted seen event (answer.Opened n kind) = record seen { opened = n; owed = filter (may_owe n seen.newest) seen.owed }
+noted seen event (answer.Closed n) = record seen { closed = seen.closed ++ n ∷ []; owed = filter (isnt_of n) seen.owed }
+noted seen event (answer.Reply reply) = replied_in seen event reply
+noted seen event other = seen

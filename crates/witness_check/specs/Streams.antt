@@ -1,5 +1,6 @@
 -- The tickets of each stream rise.
 use Rattle.std.specs.Prelude.{ℕ, ◌+◌, nat_lt, nat_le, Bool, true, false, ◌&&◌, List, [], ◌∷◌, replicate, slice_get, slice_set, Option, Some, None, if◌then◌else◌}
+use Rattle.call_log.specs.declared.lists.Job.{Job}
 use Rattle.call_log.specs.declared.entry.Entry.{Entry}
 
 -- The first ticket that may come behind a call.
@@ -7,11 +8,19 @@ abbrev pub free_from : Option ℕ → ℕ
 free_from None = 1099511627776
 free_from (Some ticket) = if nat_lt ticket 1099511627776 then ticket + 1 else 1099511627776
 
+-- The tickets of the jobs rise, from the first on and below the end.
+abbrev pub jobs_rise : ℕ → ℕ → List Job → Bool
+jobs_rise first end [] = true
+jobs_rise first end (job ∷ jobs) = nat_le first job.ticket && nat_lt job.ticket end && jobs_rise (job.ticket + 1) end jobs
+
 abbrev pub is_late : Option ℕ → Entry → Bool
 is_late None entry = false
-is_late (Some first) entry = nat_le first entry.before && nat_lt entry.before (free_from entry.after)
+is_late (Some first) entry =
+    nat_le first entry.before && nat_lt entry.before (free_from entry.after)
+    && jobs_rise entry.before (free_from entry.after) entry.jobs
 
--- The call has a lawful stream, begins behind the calls of its stream, and ends behind its beginning.
+-- The call has a lawful stream, begins behind the calls of its stream, and ends behind its beginning; its jobs ran in between, one after
+-- the other.
 abbrev pub starts_late : List ℕ → Entry → Bool
 starts_late least entry = is_late (slice_get least entry.stream) entry
 

@@ -1,19 +1,17 @@
 -- An order, event by event.
-use Rattle.std.specs.Prelude.{◌≡◌, ℕ, ◌+◌, nat_lt, nat_le, max, Bool, true, false, not, ◌&&◌, ◌||◌, List, [], ◌∷◌, map, slice_get, slice_set, Option, Some, None, option_and_then, if◌then◌else◌}
+use Rattle.std.specs.Prelude.{◌≡◌, ℕ, nat_le, max, Bool, true, false, not, ◌&&◌, List, [], ◌∷◌, map, slice_get, slice_set, Option, Some, None, option_and_then, if◌then◌else◌}
 use Rattle.system.specs.declared.events.Event.{Event}
-use Rattle.system.specs.declared.events.Event.TheVariants as event
 use Rattle.system.specs.declared.answers.Answer.{Answer}
-use Rattle.system.specs.World.{World, start_world}
+use Rattle.system.specs.World.{start_world}
 use Rattle.system.specs.Runs.{answers}
 use Rattle.system.specs.Stands.{are_sizes}
-use Rattle.call_log.specs.declared.lists.Job.{Job}
 use Rattle.call_log.specs.declared.entry.Entry.{Entry}
 use Rattle.call_log.specs.declared.log.Log.{Log}
 use Rattle.call_runs.specs.declared.stage.Stage.{Stage}
 use Rattle.call_runs.specs.Whole.{next, first, is_over}
 use Rattle.witness_check.specs.declared.walk.Walk.{Walk}
 use Rattle.witness_check.specs.Streams.{all_rise}
-use Rattle.witness_check.specs.Seen.{Sight, sight, nothing_seen, sees, noted}
+use Rattle.witness_check.specs.Seen.{Sight, sight, nothing_seen, allows, noted}
 
 -- How far the calls are: the stage of each, the latest ticket before a call that has had an event, and what the answers tell.
 pub record Walked : Type 0 where
@@ -32,19 +30,12 @@ before_end latest (Some after) = nat_le latest after
 abbrev pub in_time : ℕ → Entry → Bool
 in_time latest entry = before_end latest entry.after
 
-abbrev pub looks : Event → Bool
-looks (event.Resolve method) = true
-looks other = false
-
-abbrev pub job_of : Entry → Stage → Option Job
-job_of entry stage = slice_get entry.jobs stage.jobs
-
-abbrev pub moved : Walked → ℕ → Entry → Stage → Answer → Option Stage → Option Walked
-moved walk owner entry stage said None = None
-moved walk owner entry stage said (Some made) = Some (record {
+abbrev pub moved : Walked → ℕ → Entry → Event → Answer → Option Stage → Option Walked
+moved walk owner entry event said None = None
+moved walk owner entry event said (Some made) = Some (record {
   stages = slice_set walk.stages owner made;
   latest = max walk.latest entry.before;
-  seen = noted walk.seen said (job_of entry stage);
+  seen = noted walk.seen event said;
 })
 
 abbrev pub stepped_by : Option Entry → Option Stage → Bool → Walked → ℕ → Event → Answer → Option Walked
@@ -52,8 +43,8 @@ stepped_by None stage recorded walk owner event said = None
 stepped_by (Some entry) None recorded walk owner event said = None
 stepped_by (Some entry) (Some stage) recorded walk owner event said =
     if not (in_time walk.latest entry) then None
-    else if looks event && not (sees recorded walk.seen entry) then None
-    else moved walk owner entry stage said (next recorded entry stage event said)
+    else if not (allows recorded walk.seen entry stage event said) then None
+    else moved walk owner entry event said (next recorded entry stage event said)
 
 -- One event on, which is of the call of this number, and so answered: none where that isn't lawful.
 abbrev pub stepped : Bool → List Entry → Walked → ℕ → Event → Answer → Option Walked

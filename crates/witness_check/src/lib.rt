@@ -4,6 +4,7 @@
 #![tactic(auto)]
 
 pub mod check;
+pub mod owed;
 pub mod seen;
 pub mod streams;
 pub mod walk;

@@ -1,8 +1,9 @@
 //! Whether the tickets of each stream rise.
 ghost use Rattle.std.specs.Prelude.{◌≡◌, IfOk};
-ghost use Rattle.witness_check.specs.Streams.{free_from, starts_late, all_rise};
+ghost use Rattle.witness_check.specs.Streams.{free_from, jobs_rise, starts_late, all_rise};
 
 use call_log::entry::Entry;
+use call_log::lists::Job;
 use std::alloc::{AllocError, Global};
 
 /// Streams are numbered below this.
@@ -21,13 +22,35 @@ fn free_from(after: Option<u64>) -> u64
     }
 }
 
-/// Whether the call has a lawful stream, begins behind the calls of its stream, and ends behind its beginning.
+/// Whether the tickets of the jobs rise, from the first on and below the end.
+fn jobs_rise(first: u64, end: u64, jobs: &[Job]) -> bool
+    ensures { result ≡ jobs_rise first end jobs.now }
+{
+    let mut first = first;
+    let mut left = jobs;
+    while let [job, others @ ..] = left {
+        if job.ticket < first || job.ticket >= end {
+            return false;
+        }
+        first = job.ticket + 1;
+        left = others;
+    }
+    true
+}
+
+/// Whether the call has a lawful stream, begins behind the calls of its stream, and ends behind its beginning; and its jobs ran in
+/// between, one after the other.
 fn starts_late(least: &[u64], entry: &Entry) -> bool
     ensures { result ≡ starts_late least.now entry.now }
 {
     match least.get(entry.stream as usize) {
         None => false,
-        Some(first) => *first <= entry.before && entry.before < free_from(entry.after),
+        Some(first) => {
+            let end = free_from(entry.after);
+            *first <= entry.before
+                && entry.before < end
+                && jobs_rise(entry.before, end, entry.jobs.as_slice())
+        }
     }
 }
 

@@ -1,10 +1,9 @@
 //! An order, event by event.
 ghost use Rattle.std.specs.Prelude.{◌≡◌, ◌<◌, IfOk, Some, None, length, if◌then◌else◌};
-ghost use Rattle.witness_check.specs.Walk.{walked, in_time, looks, job_of, stepped, walk, all_over, fresh_walk};
+ghost use Rattle.witness_check.specs.Walk.{walked, in_time, stepped, walk, all_over, fresh_walk};
 
 use crate::seen::Seen;
 use call_log::entry::Entry;
-use call_log::lists::Job;
 use call_runs::runs::{first, is_over, next};
 use call_runs::stage::Stage;
 use std::alloc::{AllocError, Global};
@@ -31,22 +30,6 @@ fn in_time(latest: u64, entry: &Entry) -> bool
     }
 }
 
-/// Whether the event only looks.
-fn looks(event: &Event) -> bool
-    ensures { result ≡ looks event.now }
-{
-    match event {
-        Event::Resolve(_) => true,
-        _ => false,
-    }
-}
-
-fn job_of(entry: &Entry, stage: Stage) -> Option<Job>
-    ensures { result ≡ job_of entry.now stage }
-{
-    entry.jobs.as_slice().get(stage.jobs as usize).copied()
-}
-
 /// No call has had an event.
 pub fn fresh_walk(alloc: Global, calls: &[Entry]) -> Result<Walk, AllocError>
     ensures { IfOk result (λ walk. walked walk ≡ fresh_walk calls.now) }
@@ -58,7 +41,7 @@ pub fn fresh_walk(alloc: Global, calls: &[Entry]) -> Result<Walk, AllocError>
     Ok(Walk {
         stages,
         latest: 0,
-        seen: Seen::new(alloc),
+        seen: Seen::new(alloc)?,
     })
 }
 
@@ -83,13 +66,13 @@ impl Walk {
         if !in_time(self.latest, entry) {
             return Ok(false);
         }
-        if looks(event) && !self.seen.sees(recorded, entry) {
+        if !self.seen.allows(recorded, entry, stage, event, answer) {
             return Ok(false);
         }
         match next(recorded, entry, stage, event, answer) {
             None => Ok(false),
             Some(made) => {
-                self.seen.note(answer, job_of(entry, stage))?;
+                self.seen.note(event, answer)?;
                 self.latest = self.latest.max(entry.before);
                 self.stages[owner] = made;
                 Ok(true)

@@ -1,4 +1,4 @@
-use Rattle.std.proofs.Common.{◌≡◌, drop, length}
+use Rattle.std.proofs.Common.{◌≡◌, drop}
 use Rattle.witness_check.specs.Streams.{rise, all_rise}
 use Rattle.witness_check.proofs.streams.all_rise.Given as goal
 
