@@ -1,6 +1,7 @@
 -- What is known of a thread that serves.
-use Rattle.std.proofs.Common.{◌≡◌, ◌<◌, ◌==◌, ◌∙◌, ℕ, Option, Some, None, refl, sym, ap, subst, arith, true, false}
+use Rattle.std.proofs.Common.{◌≡◌, ◌⊎◌, ◌<◌, ◌==◌, ◌∙◌, ℕ, Option, Some, None, refl, sym, ap, subst, arith, true, false}
 use Rattle.std.proofs.lemmas.Bool.Decides.{nat_tests}
+use Rattle.std.proofs.Math.Logic.{⊎_map}
 use Rattle.thread_state.specs.declared.State.{State}
 use Rattle.thread_state.specs.declared.State.TheVariants.{Serving}
 use Rattle.thread_state.specs.declared.Back.{Back}
@@ -9,9 +10,11 @@ use Rattle.bodies.specs.Bodies.{BodyView}
 use Rattle.operations.specs.Jobs.{DoneView}
 use Rattle.operations.specs.Asks.{reply}
 use Rattle.desk.specs.declared.entries.Entry.{Entry}
+use Rattle.desk.specs.JobsFit.{is_asked_by}
+use Rattle.desk.specs.Machine.{State as DeskState, lawful}
 use Rattle.berths.specs.Berths.{Moved}
 use Rattle.thread_list.specs.Moves.{Running, IsOf}
-use Rattle.thread_steps.specs.Moves.{IsStepping, TakesUp, next_of}
+use Rattle.thread_steps.specs.Moves.{IsStepping, TakesUp, IsNotEntered, next_of}
 use Rattle.thread_steps.specs.BodyStates.{IsReady, IsAnswered, IsAnswer, last_of, serves}
 
 pub ready_of : (s : State) (o : Option BodyView) (back : Back) (b : BodyView) → (serves s ≡ true → IsReady o) → s ≡ Serving back → o ≡ Some b → IsSettled b.image
@@ -25,6 +28,17 @@ pub entry_of : (name place : ℕ) (o : Option BodyView) (b : BodyView) (crossed 
 entry_of name place o b crossed d e own here is entered =
     let mine : IsOf name place (Some b) = subst (IsOf name place) here own in
     entered ∙ (λ k. Entry.Finish d.op ((sym is.0 ∙ mine.0) k) (is.2 k))
+
+-- What the desk refuses of an answer it refuses by the job and the body's frames.
+pub refused_of : (s : DeskState) (old : Running) (place : ℕ) (b : BodyView) (d : DoneView) → IsOf old.name place (Some b) → IsAnswer b old.crossed d → old.body ≡ Some b
+    → (lawful s (Entry.Finish d.op d.target d.reply) ≡ false) ⊎ (is_asked_by d.op d.ask s.opened ≡ false) → IsNotEntered s old
+refused_of s old place b d own is body why = (
+  record { number = d.op; ask = d.ask },
+  b,
+  body,
+  is.3,
+  ⊎_map (λ e. sym (λ k. lawful s (Entry.Finish d.op ((sym is.0 ∙ own.0) k) (is.2 k))) ∙ e) (λ e. e) why,
+)
 
 -- Where the answer isn't entered the thread serves on.
 pub restored : (places name place : ℕ) (back : Back) (s : State) (o : Option BodyView) (a : Option DoneView) (given : Option Moved) (moved_in crossed : Moved) (b : BodyView) (d again : DoneView)

@@ -1,5 +1,5 @@
 -- What a stepper keeps, and what its steps lead to beside those of a running thread.
-use Rattle.std.specs.Prelude.{◌≡◌, ◌<◌, ◌==◌, [], ℕ, Option, Some, None, Bool, true, false}
+use Rattle.std.specs.Prelude.{◌≡◌, ◌⊎◌, ◌<◌, ◌==◌, [], ℕ, Option, Some, None, Bool, true, false}
 use Rattle.thread_state.specs.declared.State.{State}
 use Rattle.thread_state.specs.declared.State.TheVariants.{AtPoll, Serving}
 use Rattle.thread_state.specs.declared.Back.{Back}
@@ -9,6 +9,8 @@ use Rattle.operations.specs.Asks.{reply}
 use Rattle.operations.specs.Jobs.{DoneView}
 use Rattle.desk.specs.declared.entries.Entry.{Entry}
 use Rattle.desk.specs.Finishing.{FinishSeen}
+use Rattle.desk.specs.JobsFit.{is_asked_by}
+use Rattle.desk.specs.Machine.{State as DeskState, lawful}
 use Rattle.berths.specs.Berths.{Moved, Went}
 use Rattle.berths.specs.declared.room.ToldJob.{ToldJob}
 use Rattle.berths.specs.declared.room.BodyAct.TheVariants.{MovedIn, Served}
@@ -60,6 +62,12 @@ EndsServing old new said finish
     × (finish.stands.entry ≡ Entry.Finish job.number old.name (reply job.ask before.image.frames))
     × IsCleared job.number before after × (new.body ≡ Some (as_polled after found))
     × Crosses (Serving back) found said new.state
+
+-- The desk in this state doesn't enter what the job that came out with the body answered: it isn't lawful there, or asks for something else.
+abbrev pub IsNotEntered : DeskState → Running → Type 0
+IsNotEntered s old
+    = (job : ToldJob) × (body : BodyView) × (old.body ≡ Some body) × (old.crossed.act ≡ Served (Some job))
+    × ((lawful s (Entry.Finish job.number old.name (reply job.ask body.image.frames)) ≡ false) ⊎ (is_asked_by job.number job.ask s.opened ≡ false))
 
 -- A thread whose Start is entered.
 pub record Starting : Type 0 where

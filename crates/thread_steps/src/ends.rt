@@ -1,13 +1,15 @@
 //! The first steps of a thread, and its last.
-ghost use Rattle.std.specs.Prelude.{◌≡◌, ◌≢◌, ◌<◌, ◌==◌, [], ℕ, Some, None, true, false, IfOk, IfErr, IfSome, IfNone, length};
+ghost use Rattle.std.specs.Prelude.{◌≡◌, ◌≢◌, ◌<◌, ◌==◌, [], ℕ, Some, None, true, false, IfOk, IfErr, OnOk, OnErr, IfSome, IfNone, length};
 ghost use Rattle.berths.specs.Berths.{moved};
 ghost use Rattle.bodies.specs.Bodies.{BodyView, IsPublished};
 ghost use Rattle.frames.specs.Stack.{times};
 ghost use Rattle.frames.specs.declared.CodeId.{CodeId as Code};
 ghost use Rattle.thread_state.specs.declared.Back.TheVariants.{Java as OfJava};
 ghost use Rattle.thread_state.specs.declared.State.TheVariants.{InJava as IsInJava, AtPoll as IsAtPoll};
-ghost use Rattle.thread_list.specs.Moves.{SameThread, IsResumed};
+ghost use Rattle.thread_list.specs.Moves.{SameThread, IsResumed, IsVacated, IsGivenUp, is_running};
 ghost use Rattle.thread_steps.specs.Moves.{PollsIn};
+ghost use Rattle.thread_list.specs.Refused.{HasNoFrame};
+ghost use Rattle.thread_steps.specs.Rooms.{HasNoSeat, MovesIn, IsVacant};
 ghost use Rattle.thread_steps.specs.Refused.{exit_refused};
 
 use crate::body_state::{BodyState, OwnHand};
@@ -77,7 +79,7 @@ impl<N: Name> Entered<N> {
     }
 
     /// The thread takes its place, makes its first publication, and polls on its way into Java. It comes back where another has the
-    /// place.
+    /// place, or the room is of another.
     pub fn move_in<J: Errand>(
         self,
         room: &mut Room<N, J>,
@@ -89,7 +91,9 @@ impl<N: Name> Entered<N> {
         ensures started { IfOk result (λ r. (r.name ≡ self.name) × (r.place ≡ self.place) × (r.methods ≡ self.methods)) }
         ensures resumed { IfOk result (λ r. IsResumed r) }
         ensures polled { IfOk result (λ r. PollsIn r.crossed.body r OfJava) }
+        ensures room { IfOk result (λ r. MovesIn self.name r.crossed room.old room.new) }
         ensures handed_back { IfErr result (λ e. (e ≡ self) × (room.new ≡ room.old)) }
+        ensures taken { OnErr result (HasNoSeat room.old self.place) }
     {
         if room.place() != self.place {
             return Err(self);
@@ -132,7 +136,7 @@ pub enum ExitFault {
     /// It isn't in Java or in the VM.
     Illegal(State),
     StackNotEmpty,
-    /// Something is told to it: it polled, and this is what the poll answered.
+    /// Its room doesn't let it go, since something is told to it: it polled, and this is what the poll answered.
     Told(Poll),
 }
 
@@ -158,9 +162,13 @@ impl<N: Name> Stepper<N> {
     ) -> Result<BodyReceipt<N>, (ExitFault, Stepper<N>)>
         requires board { board.now ≡ N.board }
         requires row { row.now ≡ N.poll_row }
-        ensures vacated { IfOk result (λ r. (r.act ≡ BodyAct.Vacated) × (r.body.name ≡ self.name)) }
+        ensures accepted { OnOk result ((is_running self.state ≡ true) × HasNoFrame self.body) }
+        ensures vacated { IfOk result (λ r. IsVacated self.place self.name r) }
+        ensures given_up { IfOk result (λ r. IsGivenUp self.body r) }
+        ensures vacant { IfOk result (λ r. IsVacant r room.old room.new) }
         ensures same { IfErr result (λ e. SameThread self e.1) }
-        ensures refused { IfErr result (λ e. exit_refused self e.1 e.0) }
+        ensures refused { IfErr result (λ e. exit_refused room.old self e.1 e.0) }
+        ensures kept { OnErr result (room.new ≡ room.old) }
     {
         let state = self.state();
         if !matches!(state, State::InJava | State::InVm) {

@@ -6,11 +6,12 @@ ghost use Rattle.thread_state.specs.declared.Back.TheVariants.{Java as OfJava};
 ghost use Rattle.thread_state.specs.declared.Back.{Back as WayBack};
 ghost use Rattle.thread_state.specs.declared.Move.TheVariants as movement;
 ghost use Rattle.thread_state.specs.States as table;
-ghost use Rattle.berths.specs.Berths.{moved};
+ghost use Rattle.berths.specs.Berths.{moved, IsAbsent};
 ghost use Rattle.bodies.specs.Bodies.{BodyView, IsCalled, IsPublished};
 ghost use Rattle.thread_list.specs.Moves.{SameThread, Polls, Leaves, Gives, ComesBack, GoesBack, IsResumed, is_running};
 ghost use Rattle.thread_list.specs.Refused.{call_accepted, call_refused, return_refused};
 ghost use Rattle.thread_steps.specs.BodyStates.{state_in, body_in, answer_in, given_in, last_of, serves};
+ghost use Rattle.thread_steps.specs.Rooms.{Declines, GoesIn, ComesOut};
 
 use crate::body_state::{BodyState, OwnHand};
 use berths::{BodyReceipt, Room};
@@ -219,14 +220,16 @@ impl<N: Name> Stepper<N> {
     }
 
     /// From Java or the VM into native code, without a poll: the body goes into its room, where it may be held. A thread that is
-    /// in neither is refused with its state. `false` where the room isn't that of its place, and nothing is done.
+    /// in neither is refused with its state. `false` where the room doesn't take the body, and nothing is done.
     #[inline(always)]
     pub fn to_native<J: Errand>(&mut self, room: &mut Room<N, J>) -> Result<bool, State>
         ensures ok { IfOk result (λ done. done ≡ true → table.step self.old.state movement.ToNative ≡ Some self.new.state) }
         ensures given { IfOk result (λ done. done ≡ true → Gives self.old self.new) }
-        ensures again { IfOk result (λ done. done ≡ false → self.new ≡ self.old) }
+        ensures room { IfOk result (λ done. done ≡ true → GoesIn self.old room.old room.new) }
+        ensures again { IfOk result (λ done. done ≡ false → (self.new ≡ self.old) × (room.new ≡ room.old)) }
+        ensures declined { IfOk result (λ done. done ≡ false → Declines room.old self.old.name self.old.place) }
         ensures same { SameThread self.old self.new }
-        ensures err { IfErr result (λ s. (s ≡ self.old.state) × (table.step s movement.ToNative ≡ None) × (self.new ≡ self.old)) }
+        ensures err { IfErr result (λ s. (s ≡ self.old.state) × (table.step s movement.ToNative ≡ None) × (self.new ≡ self.old) × (room.new ≡ room.old)) }
     {
         let back = match &self.body_state {
             BodyState::InJava(_) => Back::Java,
@@ -253,9 +256,11 @@ impl<N: Name> Stepper<N> {
         requires row { row.now ≡ N.poll_row }
         ensures ok { IfOk result (λ done. IfSome done (λ said. (back : WayBack) × (self.old.state ≡ IsInNative back) × ComesBack self.new.crossed.body self.new (IsNativeTrans back) said)) }
         ensures resumed { IfOk result (λ done. IfSome done (λ said. IsResumed self.new)) }
-        ensures again { IfOk result (λ done. IfNone done (self.new ≡ self.old)) }
+        ensures room { IfOk result (λ done. IfSome done (λ said. ComesOut self.new room.old room.new)) }
+        ensures again { IfOk result (λ done. IfNone done ((self.new ≡ self.old) × (room.new ≡ room.old))) }
+        ensures absent { IfOk result (λ done. IfNone done (IsAbsent room.old self.old.name self.old.place)) }
         ensures same { SameThread self.old self.new }
-        ensures err { IfErr result (λ s. (s ≡ self.old.state) × ((back : WayBack) → s ≢ IsInNative back) × (self.new ≡ self.old)) }
+        ensures err { IfErr result (λ s. (s ≡ self.old.state) × ((back : WayBack) → s ≢ IsInNative back) × (self.new ≡ self.old) × (room.new ≡ room.old)) }
     {
         let BodyState::InNative(back) = &self.body_state else {
             return Err(self.state());
@@ -265,13 +270,15 @@ impl<N: Name> Stepper<N> {
     }
 
     /// From the VM into a wait that the runtime knows of, without a poll: the body goes into its room, where it may be held. A thread
-    /// that isn't in the VM is refused with its state. `false` where the room isn't that of its place, and nothing is done.
+    /// that isn't in the VM is refused with its state. `false` where the room doesn't take the body, and nothing is done.
     pub fn block<J: Errand>(&mut self, room: &mut Room<N, J>) -> Result<bool, State>
         ensures ok { IfOk result (λ done. done ≡ true → (self.old.state ≡ IsInVm) × (self.new.state ≡ IsBlocked)) }
         ensures given { IfOk result (λ done. done ≡ true → Gives self.old self.new) }
-        ensures again { IfOk result (λ done. done ≡ false → self.new ≡ self.old) }
+        ensures room { IfOk result (λ done. done ≡ true → GoesIn self.old room.old room.new) }
+        ensures again { IfOk result (λ done. done ≡ false → (self.new ≡ self.old) × (room.new ≡ room.old)) }
+        ensures declined { IfOk result (λ done. done ≡ false → Declines room.old self.old.name self.old.place) }
         ensures same { SameThread self.old self.new }
-        ensures err { IfErr result (λ s. (s ≡ self.old.state) × (s ≢ IsInVm) × (self.new ≡ self.old)) }
+        ensures err { IfErr result (λ s. (s ≡ self.old.state) × (s ≢ IsInVm) × (self.new ≡ self.old) × (room.new ≡ room.old)) }
     {
         let BodyState::InVm(_) = &self.body_state else {
             return Err(self.state());
@@ -289,9 +296,11 @@ impl<N: Name> Stepper<N> {
         requires row { row.now ≡ N.poll_row }
         ensures ok { IfOk result (λ done. IfSome done (λ said. (self.old.state ≡ IsBlocked) × ComesBack self.new.crossed.body self.new IsBlockedTrans said)) }
         ensures resumed { IfOk result (λ done. IfSome done (λ said. IsResumed self.new)) }
-        ensures again { IfOk result (λ done. IfNone done (self.new ≡ self.old)) }
+        ensures room { IfOk result (λ done. IfSome done (λ said. ComesOut self.new room.old room.new)) }
+        ensures again { IfOk result (λ done. IfNone done ((self.new ≡ self.old) × (room.new ≡ room.old))) }
+        ensures absent { IfOk result (λ done. IfNone done (IsAbsent room.old self.old.name self.old.place)) }
         ensures same { SameThread self.old self.new }
-        ensures err { IfErr result (λ s. (s ≡ self.old.state) × (s ≢ IsBlocked) × (self.new ≡ self.old)) }
+        ensures err { IfErr result (λ s. (s ≡ self.old.state) × (s ≢ IsBlocked) × (self.new ≡ self.old) × (room.new ≡ room.old)) }
     {
         let BodyState::Blocked = &self.body_state else {
             return Err(self.state());
@@ -307,7 +316,9 @@ impl<N: Name> Stepper<N> {
         requires away { (body_in to ≡ None) × (answer_in to ≡ None) × (given_in to ≡ None) }
         ensures state { result ≡ true → self.new.state ≡ state_in to }
         ensures given { result ≡ true → Gives self.old self.new }
-        ensures again { result ≡ false → self.new ≡ self.old }
+        ensures room { result ≡ true → GoesIn self.old room.old room.new }
+        ensures again { result ≡ false → (self.new ≡ self.old) × (room.new ≡ room.old) }
+        ensures declined { result ≡ false → Declines room.old self.old.name self.old.place }
         ensures same { SameThread self.old self.new }
     {
         let body = self.body_state.take_body();
@@ -335,7 +346,9 @@ impl<N: Name> Stepper<N> {
         requires row { row.now ≡ N.poll_row }
         ensures polled { IfSome result (λ said. GoesBack self.new.crossed.body self.new back said) }
         ensures resumed { IfSome result (λ said. IsResumed self.new) }
-        ensures again { IfNone result (self.new ≡ self.old) }
+        ensures room { IfSome result (λ said. ComesOut self.new room.old room.new) }
+        ensures again { IfNone result ((self.new ≡ self.old) × (room.new ≡ room.old)) }
+        ensures absent { IfNone result (IsAbsent room.old self.old.name self.old.place) }
         ensures same { SameThread self.old self.new }
     {
         let (outgoing, resumed) = room.resume(self.name, self.place)?;

@@ -1,8 +1,12 @@
 //! The steps of a thread that has stopped at a poll.
-ghost use Rattle.std.specs.Prelude.{◌≡◌, IfOk, IfErr, IfSome, IfNone};
-ghost use Rattle.thread_state.specs.declared.State.TheVariants.{AtPoll as IsAtPoll};
-ghost use Rattle.thread_list.specs.Moves.{SameThread};
-ghost use Rattle.thread_steps.specs.Moves.{StopsNext, EndsServing};
+ghost use Rattle.std.specs.Prelude.{◌≡◌, ◌≢◌, ◌⊎◌, Some, None, IfOk, IfErr, IfSome, IfNone};
+ghost use Rattle.thread_state.specs.declared.State.TheVariants.{AtPoll as IsAtPoll, Serving as IsServing};
+ghost use Rattle.thread_state.specs.declared.Back.{Back as WayBack};
+ghost use Rattle.thread_list.specs.Moves.{SameThread, Gives};
+ghost use Rattle.desk.specs.declared.entries.Entry.{Entry as EntryOf};
+ghost use Rattle.desk.specs.Fields.{at, Enters};
+ghost use Rattle.thread_steps.specs.Moves.{StopsNext, EndsServing, IsNotEntered};
+ghost use Rattle.thread_steps.specs.Rooms.{Declines, GoesIn, KeepsBody, HandsOut, PollsStill, StaysStopped};
 
 use crate::body_state::{BodyState, OwnHand, OwnRecorder};
 use crate::runner::{Stepper, after_poll};
@@ -29,9 +33,10 @@ impl<N: Name> Stepper<N> {
         requires board { board.now ≡ N.board }
         requires row { row.now ≡ N.poll_row }
         ensures next { IfOk result (λ o. IfSome o (StopsNext self.old self.new)) }
-        ensures again { IfOk result (λ o. IfNone o (self.new.state ≡ self.old.state)) }
+        ensures room { IfOk result (λ o. IfSome o (HandsOut self.old.name room.old room.new)) }
+        ensures again { IfOk result (λ o. IfNone o (StaysStopped self.old self.new room.old room.new)) }
         ensures same { SameThread self.old self.new }
-        ensures err { IfErr result (λ s. (s ≡ self.old.state) × (self.new ≡ self.old)) }
+        ensures err { IfErr result (λ s. (s ≡ self.old.state) × ((back : WayBack) → s ≢ IsAtPoll back) × (self.new ≡ self.old) × (room.new ≡ room.old)) }
     {
         let back = match &self.body_state {
             BodyState::AtPoll(back, _) => *back,
@@ -53,7 +58,9 @@ impl<N: Name> Stepper<N> {
     fn give_in<J: Errand>(&mut self, room: &mut Room<N, J>, back: Back)
         requires stopped { self.old.state ≡ IsAtPoll back }
         ensures state { self.new.state ≡ self.old.state }
-        ensures room { room.new.place ≡ room.old.place }
+        ensures room { room.new ≡ record room.old { holder = room.new.holder } }
+        ensures declined { (self.new ≡ self.old) × (room.new ≡ room.old) × ((b : _) → self.old.body ≡ Some b → Declines room.old self.old.name self.old.place)
+            ⊎ Gives self.old self.new × GoesIn self.old room.old room.new }
         ensures same { SameThread self.old self.new }
     {
         if let BodyState::Given(_, _) = &self.body_state {
@@ -79,7 +86,10 @@ impl<N: Name> Stepper<N> {
         requires stopped { self.old.state ≡ IsAtPoll back }
         requires place { room.old.place ≡ self.old.place }
         ensures next { IfSome result (StopsNext self.old self.new) }
-        ensures again { IfNone result (self.new.state ≡ self.old.state) }
+        ensures room { IfSome result (HandsOut self.old.name room.old room.new) }
+        ensures state { IfNone result (self.new.state ≡ self.old.state) }
+        ensures again { IfNone result ((self.new ≡ self.old) × (room.new ≡ room.old) × (self.old.body ≡ None → KeepsBody room.old self.old.name self.old.place)
+            ⊎ PollsStill self.old self.new room.old room.new) }
         ensures same { SameThread self.old self.new }
     {
         let given = self.body_state.take_given()?;
@@ -118,9 +128,12 @@ impl<N: Name> Stepper<N> {
     ) -> Result<Option<(Poll, Finished<N>)>, State>
         requires row { row.now ≡ N.poll_row }
         ensures ends { IfOk result (λ o. IfSome o (λ r. EndsServing self.old self.new r.0 r.1)) }
+        ensures entered { IfOk result (λ o. IfSome o (λ r. (e : EntryOf) × Enters desk.old desk.new e r.1.stands)) }
+        ensures desk { IfOk result (λ o. IfSome o (λ r. (desk.new.jobs ≡ desk.old.jobs) × (desk.new.keeper ≡ desk.old.keeper))) }
         ensures again { IfOk result (λ o. IfNone o ((self.new ≡ self.old) × (desk.new ≡ desk.old))) }
+        ensures not_entered { IfOk result (λ o. IfNone o (IsNotEntered (at desk.old) self.old)) }
         ensures same { SameThread self.old self.new }
-        ensures err { IfErr result (λ s. (s ≡ self.old.state) × (self.new ≡ self.old) × (desk.new ≡ desk.old)) }
+        ensures err { IfErr result (λ s. (s ≡ self.old.state) × ((back : WayBack) → s ≢ IsServing back) × (self.new ≡ self.old) × (desk.new ≡ desk.old)) }
     {
         let Some((back, mut body, done)) = self.body_state.take_answered() else {
             return Err(self.state());

@@ -1,10 +1,12 @@
-use Rattle.std.proofs.Common.{◌∙◌, ap, sym, rules}
-use Rattle.thread_steps.specs.BodyStates.{last_of, given_in}
-use Rattle.thread_steps.proofs.Answering.{ready_of, answer_of, entry_of, restored}
+use Rattle.std.proofs.Common.{◌∙◌, ℕ, Some, ap, subst, sym, rules}
+use Rattle.berths.specs.Berths.{Moved}
+use Rattle.desk.specs.Fields.{at}
+use Rattle.thread_steps.specs.BodyStates.{IsAnswer, last_of, given_in}
+use Rattle.thread_steps.proofs.Answering.{ready_of, answer_of, entry_of, refused_of, restored}
 use Rattle.desk.specs.Machine.{Stands}
 use Rattle.desk.specs.declared.entries.Entry.{Entry}
 use Rattle.operations.specs.Asks.{reply}
-use Rattle.thread_list.specs.Moves.{Running}
+use Rattle.thread_list.specs.Moves.{IsOf, Running}
 use Rattle.thread_steps.proofs.runner.Stepper.stop_serve.Goals as goal
 
 pub finish-requires-clause-name : goal.finish-requires-clause-name
@@ -35,6 +37,18 @@ returns-in-Ok-clause-ends g c =
       search rules,
       search rules,
     )
+
+pub returns-in-Err-clause-not_entered : goal.returns-in-Err-clause-not_entered
+returns-in-Err-clause-not_entered g c =
+    let s = c.in-Some.ensures.some in let i = c.self.invariant in
+    let v = c.self.view_is in let body = c.in-Some.body in let done = c.in-Some.done in let place = c.self.inside.place in
+    let crossed = last_of (given_in c.self.inside.body_state) c.self.inside.crossed in
+    let is = answer_of _ crossed _ body done i.answered s.1 s.2 in
+    let own : IsOf c.self.inside.name place (Some body) = subst (IsOf c.self.inside.name place) s.1 i.own in
+    refused_of (at c.args.desk.now) c.args.self.now place body done
+    (subst (λ (n : ℕ). IsOf n place (Some body)) (ap (λ (r : Running). r.name) v) own)
+    (subst (λ (m : Moved). IsAnswer body m done) (ap (λ (r : Running). r.crossed) v) is)
+    (sym (ap (λ (r : Running). r.body) v) ∙ s.1) c.in-Err.ensures.err.1
 
 pub invariant_of-self-in-Err : goal.invariant_of-self-in-Err
 invariant_of-self-in-Err g c =
