@@ -7,6 +7,8 @@ pub mod Streams
 pub mod Growth
 pub mod Splitting
 pub mod Feeds
+pub mod Lasts
+pub mod Ending
 pub mod Whole
 pub mod Taking
 pub mod Spellings

@@ -59,7 +59,7 @@ then_newline (x ∷ xs) h = by_byte (x == 10) refl h (then_newline xs)
     by_byte true e h more = let is : x ≡ 10 = grind arith in ap (λ z. z ∷ []) is
     by_byte false e h more = let s : suc (first_at 10 xs) + 1 ≡ suc (first_at 10 xs + 1) = omega arith in rw s (ap (λ z. x ∷ z) (more (omega (arith, h))))
 
-lines_piece : (rest : List ℕ) → IsPiece rest → lines rest ≡ last_of rest
+pub lines_piece : (rest : List ℕ) → IsPiece rest → lines rest ≡ last_of rest
 lines_piece [] h = refl
 lines_piece (b ∷ bytes) h = by_byte (b == 10) refl h (lines_piece bytes)
   where
@@ -71,7 +71,7 @@ lines_piece (b ∷ bytes) h = by_byte (b == 10) refl h (lines_piece bytes)
     by_byte true e h more = absurd (omega (arith, h))
     by_byte false e h more = ap (λ is. cond is ([] ∷ lines bytes) (onto_first b (lines bytes))) e ∙ ap (onto_first b) (more (omega (arith, h))) ∙ onto b bytes
 
-lines_line : (line bytes : List ℕ) → IsPiece line → lines (line ++ 10 ∷ bytes) ≡ line ∷ lines bytes
+pub lines_line : (line bytes : List ℕ) → IsPiece line → lines (line ++ 10 ∷ bytes) ≡ line ∷ lines bytes
 lines_line [] bytes h = refl
 lines_line (b ∷ line) bytes h = by_byte (b == 10) refl h (lines_line line bytes)
   where
@@ -79,7 +79,7 @@ lines_line (b ∷ line) bytes h = by_byte (b == 10) refl h (lines_line line byte
     by_byte true e h more = absurd (omega (arith, h))
     by_byte false e h more = ap (λ is. cond is ([] ∷ lines (line ++ 10 ∷ bytes)) (onto_first b (lines (line ++ 10 ∷ bytes)))) e ∙ ap (onto_first b) (more (omega (arith, h)))
 
-lines_front : (ls : List (List ℕ)) (rest : List ℕ) → AllByRecursion IsPiece ls → lines (flat_map ended ls ++ rest) ≡ ls ++ lines rest
+pub lines_front : (ls : List (List ℕ)) (rest : List ℕ) → AllByRecursion IsPiece ls → lines (flat_map ended ls ++ rest) ≡ ls ++ lines rest
 lines_front [] rest h = refl
 lines_front (l ∷ ls) rest h = ap lines (append_assoc (ended l) (flat_map ended ls) rest ∙ append_assoc l (10 ∷ []) (flat_map ended ls ++ rest)) ∙ lines_line l (flat_map ended ls ++ rest) h.0 ∙ ap (λ z. l ∷ z) (lines_front ls rest h.1)
 

@@ -1,8 +1,8 @@
 -- Bytes that are held, and bytes that are written.
-use Rattle.std.proofs.Common.{◌≡◌, ℕ, ◌+◌, ◌-◌, ◌<◌, ◌≤◌, ◌∙◌, sym, Bool, true, false, List, [], ◌∷◌, ◌++◌, length, take, drop, Option, Some, None, ap, subst, cond, arith, refl, append_assoc, length-append, length-take}
+use Rattle.std.proofs.Common.{◌≡◌, ◌≢◌, ℕ, ◌+◌, ◌-◌, ◌<◌, ◌≤◌, ◌∙◌, sym, Bool, true, false, List, [], ◌∷◌, ◌++◌, length, take, drop, Option, Some, None, ap, subst, cond, arith, refl, append_assoc, length-append, length-take}
 use Rattle.std.proofs.Math.Seq.{take-append-add}
 use Rattle.std.proofs.lemmas.List.{take-append-le}
-use Rattle.std.specs.Prelude.{nat_le}
+use Rattle.std.specs.Prelude.{◌==◌, nat_le}
 use Rattle.std.specs.Io.KnownBytes.{Appends}
 use Rattle.replay.specs.declared.grammar.Command.{Command}
 use Rattle.replay.specs.Words.{words}
@@ -34,10 +34,21 @@ same_line line = by_length (nat_le (length line) 1025) refl
         let long : 1025 < length line = grind arith in
         too_long (take 1025 line) (omega (arith, length-take 1025 line)) ∙ sym (too_long line (omega arith))
 
-pub turned_long : (old new : Option SystemView) (line whole w w' : List ℕ) → line ≡ take 1025 whole → Turned old line w w' new → Turned old whole w w' new
-turned_long old new line whole w w' e turned = λ world at.
+-- A line that spells what another does is answered as that one.
+pub turned_as : (old new : Option SystemView) (line whole w w' : List ℕ) → command_of line ≡ command_of whole → Turned old line w w' new → Turned old whole w w' new
+turned_as old new line whole w w' e turned = λ world at.
     let P : Option Command → Type 0 = λ command. (w' ≡ w ++ (reply_text (reply_to world command) ++ 10 ∷ [])) × IsAt new (world_after_command world command) in
-    subst P (ap command_of e ∙ same_line whole) (turned world at)
+    subst P e (turned world at)
+
+-- What is held of a line, or the line alone where nothing is, spells what the line does.
+pub joined : (held piece held' line : List ℕ) → held' ≡ cond (length held == 0) held (take 1025 (held ++ piece)) → line ≡ cond (length held' == 0) piece held' → command_of line ≡ command_of (held ++ piece)
+joined [] piece held' line e f = ap command_of (f ∙ ap (λ h. cond (length h == 0) piece h) e)
+joined (b ∷ bytes) piece held' line e f =
+    let no : (length (b ∷ bytes) == 0) ≡ false = grind arith in
+    let is : held' ≡ take 1025 ((b ∷ bytes) ++ piece) = e ∙ ap (λ t. cond t (b ∷ bytes) (take 1025 ((b ∷ bytes) ++ piece))) no in
+    let long : length held' ≢ 0 = λ z. omega (arith, z, ap length is, length-take 1025 ((b ∷ bytes) ++ piece), length-append (b ∷ bytes) piece) in
+    let some : (length held' == 0) ≡ false = grind (arith, long) in
+    ap command_of (f ∙ ap (λ t. cond t piece held') some ∙ is) ∙ same_line ((b ∷ bytes) ++ piece)
 
 -- What is held is enough of a line.
 pub enough : (rest piece : List ℕ) → command_of (take 1025 rest ++ piece) ≡ command_of (rest ++ piece)

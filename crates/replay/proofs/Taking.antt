@@ -1,5 +1,5 @@
 -- A reply that finds no room comes from a line that takes memory.
-use Rattle.std.proofs.Common.{◌≡◌, ◌∙◌, sym, ap, subst, refl, ℕ, Bool, true, false, cond, List, Option, Some, None, ⊎_elim, inr, take}
+use Rattle.std.proofs.Common.{◌≡◌, ◌∙◌, sym, ap, subst, refl, ℕ, Bool, true, false, cond, List, Option, Some, None, ⊎_elim, inr}
 use Rattle.std.proofs.lemmas.Bool.{false≢true, false_from_ne_true}
 use Rattle.std.specs.Prelude.{OnErr, Result, Ok, Err, nat_lt, nat_le}
 use Rattle.system.specs.declared.events.Event.{Event}
@@ -33,7 +33,6 @@ use Rattle.replay.specs.declared.grammar.Command.TheVariants.{Size, Do}
 use Rattle.replay.specs.Grammar.{command_of}
 use Rattle.replay.specs.Room.{is_short, is_short_reply, TakesIn, CommandTakes, LineTakes}
 use Rattle.replay.specs.Text.{SystemView, IsAt, Replied, reply_to}
-use Rattle.replay.proofs.Streams.{same_line}
 
 pub on_err : {A E P : Type 0} (result : Result A E) → P → OnErr result P
 on_err (Ok x) p = tt
@@ -132,9 +131,9 @@ long_line old new command said line is replied long world at =
     let takes : TakesIn world command = long_reply world command (ap is_short_reply (sym (replied.reply world at)) ∙ false_from_ne_true (is_short_reply said) long) in
     subst (λ (k : Option Command). CommandTakes world k) is (inr takes)
 
--- What is held of a line takes memory as the line does.
-pub held_takes : (world : Option World) (line whole : List ℕ) → line ≡ take 1025 whole → LineTakes world line → LineTakes world whole
-held_takes world line whole is takes = subst (λ (k : Option Command). CommandTakes world k) (ap command_of is ∙ same_line whole) takes
+-- A line that spells what another does takes memory as that one.
+pub takes_as : (world : Option World) (line whole : List ℕ) → command_of line ≡ command_of whole → LineTakes world line → LineTakes world whole
+takes_as world line whole same takes = subst (λ (k : Option Command). CommandTakes world k) same takes
 
 -- An event of a system that stands for the events before it.
 pub event_takes : (s : SystemView) (e : Event) → ((before : List Event) → StandsFor s before → NeedsMemory (world_by s before) e) → (world : Option World) → IsAt (Some s) world → TakesIn world (Some (Do e))

@@ -1,5 +1,5 @@
 -- Block after block, and how a call ends.
-use Rattle.std.proofs.Common.{◌≡◌, ◌≢◌, inl, inr, ℕ, ◌+◌, ◌∙◌, zero, suc, sym, cond, true, false, List, [], ◌∷◌, ◌++◌, length, take, drop, Option, Some, None, refl, ap, subst, arith, append_assoc}
+use Rattle.std.proofs.Common.{◌≡◌, ◌≢◌, inl, inr, ℕ, ◌+◌, ◌∙◌, zero, suc, sym, cond, false, List, [], ◌∷◌, ◌++◌, length, take, drop, Option, Some, None, refl, ap, subst, arith, append_assoc}
 use Rattle.std.specs.Prelude.{◌==◌, IfSome, Result, Ok, Err}
 use Rattle.replay.specs.declared.stream.Halt.{Halt}
 use Rattle.replay.specs.declared.stream.Halt.TheVariants as halt
@@ -14,8 +14,8 @@ use Rattle.replay.specs.declared.grammar.Command.{Command}
 use Rattle.replay.specs.Grammar.{command_of}
 use Rattle.replay.specs.Known.{AppendsPart, Grows}
 use Rattle.replay.specs.Room.{CommandTakes, LineTakes}
-use Rattle.replay.specs.Text.{SystemView, IsAt, line_text, told, text, reply_to}
-use Rattle.replay.specs.Streams.{Point, Front, after_lines, last_of, FedTo, Fed, ForEachStart, StoppedIn, BrokenIn, Turned, Ended, Finished, FedBy, GaveUp}
+use Rattle.replay.specs.Text.{SystemView, IsAt, told, text, reply_to}
+use Rattle.replay.specs.Streams.{Point, Front, after_lines, last_of, FedTo, Fed, ForEachStart, StoppedIn, BrokenIn, Finished, FedBy, GaveUp}
 use Rattle.replay.specs.Outcome.{SoFar, WroteAll, WroteLines, WrotePart, WroteBefore, Wrote}
 use Rattle.replay.proofs.Lists.{append_none}
 use Rattle.replay.proofs.Streams.{same_line}
@@ -236,16 +236,6 @@ finished_front left0 left left2 g0 g1 g2 s held so consumed end same takes =
       takes = subst (λ (k : Option Command). CommandTakes (after_lines None f.lines) k) (ap command_of f.holds ∙ same_line f.rest) (takes (after_lines None f.lines) f.at);
       written = subst (λ (z : Option (List ℕ)). Appends g0 z (told None f.lines)) (sym same) (appended g0 g1 (told None f.lines) f.grows);
     }
-
--- An empty rest is no line, another is one.
-pub ended_none : (old : Option SystemView) (held w : List ℕ) → (length held == 0) ≡ true → Ended old held w w
-ended_none old [] w h = λ world at. sym (append_none w)
-ended_none old (b ∷ bytes) w h = absurd (grind (arith, h))
-
-pub ended_some : (old new : Option SystemView) (held w w' : List ℕ) → (length held == 0) ≡ false → Turned old (held ++ []) w w' new → Ended old held w w'
-ended_some old new [] w w' h turned = absurd (grind (arith, h))
-ended_some old new (b ∷ bytes) w w' h turned = λ world at.
-    (turned world at).0 ∙ ap (λ z. w ++ z) (ap (line_text world) (append_none (b ∷ bytes)) ∙ sym (append_none (line_text world (b ∷ bytes))))
 
 -- Where the source and the sink tell their bytes.
 pub whole_text : (left left' got got' : Option (List ℕ)) → WroteAll left left' got got' → IfSome left (λ input. Appends got got' (text input))

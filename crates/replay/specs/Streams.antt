@@ -86,6 +86,12 @@ FedBy (Ok x) old bytes new = Fed old bytes new
 FedBy (Err halt.NoMemory) old bytes new = ForEachStart old (λ world tail. StoppedIn world (tail ++ bytes) old.waits old.got new.waits new.got)
 FedBy (Err halt.WriteFailed) old bytes new = ForEachStart old (λ world tail. BrokenIn world (tail ++ bytes) old.waits old.got new.got)
 
+-- Where memory was refused, the sink is as it was.
+abbrev pub SinkKept : {A : Type 0} → Result A Halt → Option (List ℕ) → Option (List ℕ) → Type 0
+SinkKept (Ok x) got got' = Unit {0}
+SinkKept (Err halt.NoMemory) got got' = got' ≡ got
+SinkKept (Err halt.WriteFailed) got got' = Unit {0}
+
 -- How many writes failed.
 abbrev pub failed_writes : Halt → ℕ
 failed_writes halt.NoMemory = 0
@@ -95,10 +101,6 @@ failed_writes halt.WriteFailed = 1
 abbrev pub last_of : List ℕ → List (List ℕ)
 last_of [] = []
 last_of (b ∷ bytes) = (b ∷ bytes) ∷ []
-
--- The line that was held, if any, was answered.
-abbrev pub Ended : Option SystemView → List ℕ → List ℕ → List ℕ → Type 0
-Ended old held waits waits' = (world : Option World) → IsAt old world → waits' ≡ waits ++ told world (last_of held)
 
 -- What is so after the last line, by how that ended. Nothing waited before.
 abbrev pub Finished : {A : Type 0} → Result A ReplayFault → Option SystemView → List ℕ → Option (List ℕ) → Option (List ℕ) → Type 0

@@ -1,5 +1,5 @@
 // The beginning of a line, as far as it matters.
-ghost use Rattle.std.specs.Prelude.{◌≡◌, ◌++◌, ◌<◌, ◌≤◌, ◌==◌, [], ℕ, List, length, take};
+ghost use Rattle.std.specs.Prelude.{◌≡◌, ◌++◌, ◌<◌, ◌≤◌, ◌==◌, if◌then◌else◌, [], ℕ, List, length, take};
 
 use std::marker::Model;
 
@@ -49,6 +49,26 @@ impl Held {
         ensures { self.new ≡ [] }
     {
         self.len = 0;
+    }
+
+    /// Adds bytes to a line of which a beginning is held.
+    pub fn join(&mut self, piece: &[u8])
+        ensures { self.new ≡ (if length self.old == 0 then self.old else take 1025 (self.old ++ piece.now)) }
+    {
+        if !self.is_empty() {
+            self.add(piece);
+        }
+    }
+
+    /// The line that the piece ends: what is held, where anything is, and else the piece alone.
+    pub fn line<'a>(&'a self, piece: &'a [u8]) -> &'a [u8]
+        ensures { result.now ≡ (if length self.now == 0 then piece.now else self.now) }
+    {
+        if self.is_empty() {
+            piece
+        } else {
+            self.as_slice()
+        }
     }
 
     /// Adds bytes, as far as there is room.

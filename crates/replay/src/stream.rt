@@ -1,11 +1,11 @@
 // Bytes in, text out.
-ghost use Rattle.std.specs.Prelude.{◌≡◌, ◌++◌, ◌∷◌, true, ◌^◌, ◌<◌, ◌≤◌, [], ℕ, List, Option, None, OnOk, OnErr, IfOk, IfSome, MatchResult, length, vec_len, vec_capacity};
+ghost use Rattle.std.specs.Prelude.{◌≡◌, ◌++◌, ◌∷◌, true, ◌^◌, ◌<◌, ◌≤◌, [], ℕ, List, Option, None, OnOk, OnErr, IfOk, IfSome, MatchResult, length, take, vec_len, vec_capacity};
 ghost use Rattle.std.specs.Io.KnownBytes.{Appends};
 ghost use Rattle.system.specs.World.{World};
 ghost use Rattle.replay.specs.Known.{AppendsPart, Grows};
 ghost use Rattle.replay.specs.Printed.{reply_text};
 ghost use Rattle.replay.specs.Room.{LineTakes, is_short_reply};
-ghost use Rattle.replay.specs.Streams.{Turned, FedBy, Ended, Finished, GaveUp, failed_writes};
+ghost use Rattle.replay.specs.Streams.{IsPiece, Turned, FedBy, SinkKept, Finished, GaveUp, failed_writes};
 ghost use Rattle.replay.specs.Outcome.{Wrote, FailedCalls};
 ghost use Rattle.replay.specs.Text.{IsAt, text};
 
@@ -116,7 +116,8 @@ fn put_long(text: &mut Vec<u8>, waits: &mut Vec<u8>, said: Reply) -> Result<(), 
     waits.extend_from_slice(text)
 }
 
-/// Answers a line.
+/// Answers a line. It stands in the one loop that calls it.
+#[inline(always)]
 fn turn(
     system: &mut Option<System>,
     text: &mut Vec<u8>,
@@ -165,11 +166,8 @@ fn end_line(
     ensures text_room { 2 ^ 16 ≤ vec_capacity text.new }
     ensures waits_room { 2 ^ 17 ≤ vec_capacity waits.new }
 {
-    if held.is_empty() {
-        return turn(system, text, waits, alloc, piece);
-    }
-    held.add(piece);
-    turn(system, text, waits, alloc, held.as_slice())?;
+    held.join(piece);
+    turn(system, text, waits, alloc, held.line(piece))?;
     held.clear();
     Ok(())
 }
@@ -193,6 +191,7 @@ fn feed<W: Sink>(
         (record { system = system.old; held = held.old; waits = waits.old.items; got = W.got sink.old })
         bytes.now
         (record { system = system.new; held = held.new; waits = waits.new.items; got = W.got sink.new }) }
+    ensures quiet { length bytes.now ≡ 1 → SinkKept result (W.got sink.old) (W.got sink.new) }
     ensures text_room { 2 ^ 16 ≤ vec_capacity text.new }
     ensures waits_room { 2 ^ 17 ≤ vec_capacity waits.new }
 {
@@ -313,29 +312,7 @@ fn give_up<W: Sink>(halt: Halt, waits: &mut Vec<u8>, sink: &mut W) -> ReplayFaul
     }
 }
 
-/// Answers a last line without an end.
-fn end_rest(
-    system: &mut Option<System>,
-    held: &mut Held,
-    text: &mut Vec<u8>,
-    waits: &mut Vec<u8>,
-    alloc: Global,
-) -> Result<(), AllocError>
-    requires text_room { 2 ^ 16 ≤ vec_capacity text.old }
-    requires waits_room { 2 ^ 17 ≤ vec_capacity waits.old }
-    requires few_wait { vec_len waits.old < 2 ^ 16 }
-    ensures done { OnOk result (Ended system.old held.old waits.old.items waits.new.items) }
-    ensures none { OnErr result (waits.new.items ≡ waits.old.items) }
-    ensures no_memory { (world : Option World) → IsAt system.old world → OnErr result (LineTakes world held.old) }
-{
-    if held.is_empty() {
-        Ok(())
-    } else {
-        end_line(system, held, text, waits, alloc, &[])
-    }
-}
-
-/// Answers a last line without an end, and writes all.
+/// Answers a last line without an end, as one with an end, and writes all.
 fn finish<W: Sink>(
     system: &mut Option<System>,
     held: &mut Held,
@@ -349,12 +326,18 @@ fn finish<W: Sink>(
     requires waits_room { 2 ^ 17 ≤ vec_capacity waits.old }
     requires few_wait { vec_len waits.old < 2 ^ 16 }
     requires none { waits.old.items ≡ [] }
+    requires piece { IsPiece held.old }
+    requires fits { held.old ≡ take 1025 held.old }
     ensures failed { FailedCalls result 0 0 (W.failures sink.new) }
     ensures finished { Finished result system.old held.old (W.got sink.old) (W.got sink.new) }
 {
-    match end_rest(system, held, text, waits, alloc) {
+    if held.is_empty() {
+        return Ok(());
+    }
+    match feed(system, held, text, waits, sink, alloc, b"\n") {
         Ok(()) => {}
-        Err(_) => return Err(ReplayFault::NoMemory),
+        Err(Halt::NoMemory) => return Err(ReplayFault::NoMemory),
+        Err(Halt::WriteFailed) => return Err(ReplayFault::WriteFailed),
     }
     match flush(waits, sink) {
         Ok(()) => Ok(()),

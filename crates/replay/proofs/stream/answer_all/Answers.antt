@@ -1,7 +1,14 @@
 use Rattle.std.proofs.Common.{◌<◌, ℕ, List, length, take, subst, arith}
 use Rattle.replay.specs.Streams.{Point, FedBy}
 use Rattle.replay.proofs.Whole.{so_far_more, more_read, unwritten, fed_all, finished_wrote, gave_up_wrote, unread, too_many, read_end, block_is}
+use Rattle.replay.proofs.Ending.{held_piece, held_fits}
 use Rattle.replay.proofs.stream.answer_all.Goals as goal
+
+pub finish-requires-clause-piece : goal.finish-requires-clause-piece
+finish-requires-clause-piece g c = held_piece (g.R.Source.left c.args.source.now) (g.R.Source.left c.loop-turn.source) (g.W.Sink.got c.args.sink.now) (g.W.Sink.got c.loop-turn.sink) c.loop-turn.system c.loop-turn.held c.loop-turn.invariant.so_far
+
+pub finish-requires-clause-fits : goal.finish-requires-clause-fits
+finish-requires-clause-fits g c = held_fits (g.R.Source.left c.args.source.now) (g.R.Source.left c.loop-turn.source) (g.W.Sink.got c.args.sink.now) (g.W.Sink.got c.loop-turn.sink) c.loop-turn.system c.loop-turn.held c.loop-turn.invariant.so_far
 
 pub returns-then-n-eq0-clause-wrote : goal.returns-then-n-eq0-clause-wrote
 returns-then-n-eq0-clause-wrote g c =

@@ -1,4 +1,4 @@
-use Rattle.std.proofs.Common.{◌≡◌, ◌-◌, take, drop, length, arith, ℕ, List, length-drop, length-take}
+use Rattle.std.proofs.Common.{◌≡◌, refl, ◌-◌, take, drop, length, arith, ℕ, List, length-drop, length-take}
 use Rattle.replay.proofs.Lists.{rest_all}
 use Rattle.replay.proofs.Feeds.{fed_none, next_line, last_piece, all_fed, stopped_at, broken_at}
 use Rattle.replay.proofs.stream.feed.Goals as goal
@@ -17,6 +17,7 @@ loop-at-init g c = record {
   text_room = c.requires.text_room;
   waits_room = c.requires.waits_room;
   few_wait = c.requires.few_wait;
+  start = λ first. refl;
   fed = λ world at tail piece holds. fed_none world tail c.args.bytes.now
       (record { system = c.args.system.now; held = c.args.held.now; waits = c.args.waits.now.items; got = g.W.Sink.got c.args.sink.now }) at piece holds;
 }
@@ -46,6 +47,7 @@ loop-at-preserved g c = record {
   text_room = c.end_line.ensures.text_room;
   waits_room = omega (arith, c.end_line.ensures.waits_room, c.relieve.ensures.kept);
   few_wait = c.in-Ok-relieve.ensures.few_wait;
+  start = λ first. absurd (omega (arith, first));
   fed = next_line (record { system = c.args.system.now; held = c.args.held.now; waits = c.args.waits.now.items; got = g.W.Sink.got c.args.sink.now })
       (record { system = c.loop-at.system; held = c.loop-at.held; waits = c.loop-at.waits.items; got = g.W.Sink.got c.loop-at.sink })
       c.args.bytes.now (piece_of c.loop-at.at c.args.bytes.now)
@@ -58,3 +60,6 @@ pub returns-clause-fed : goal.returns-clause-fed
 returns-clause-fed g c = all_fed (record { system = c.args.system.now; held = c.args.held.now; waits = c.args.waits.now.items; got = g.W.Sink.got c.args.sink.now })
     (record { system = c.loop-at.system; held = c.loop-at.held; waits = c.loop-at.waits.items; got = g.W.Sink.got c.loop-at.sink })
     c.args.bytes.now c.loop-at.at c.loop-at.invariant.fed (omega arith)
+
+pub returns-in-Err-clause-quiet : goal.returns-in-Err-clause-quiet
+returns-in-Err-clause-quiet g c = λ one. c.loop-at.invariant.start (omega (arith, one))

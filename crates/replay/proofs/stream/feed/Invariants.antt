@@ -12,6 +12,7 @@ invariant-loop-at g l = record {
   text_room : 2 ^ 16 ≤ vec_capacity l.text;
   waits_room : 2 ^ 17 ≤ vec_capacity l.waits;
   few_wait : vec_len l.waits < 2 ^ 16;
+  start : l.at ≡ 0 → g.W.Sink.got l.sink ≡ g.W.Sink.got l.fn.sink;
   fed : Fed (record { system = l.fn.system; held = l.fn.held; waits = l.fn.waits.items; got = g.W.Sink.got l.fn.sink }) (take l.at l.bytes)
       (record { system = l.system; held = l.held; waits = l.waits.items; got = g.W.Sink.got l.sink });
 }
