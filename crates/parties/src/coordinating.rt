@@ -1,4 +1,5 @@
-//! The steps of the coordinator: each tries the desk's lock, and behind it that of one room where it needs it.
+//! The steps of the coordinator: each tries the desk's lock, and behind it that of one room where it needs it. A release tries its
+//! room's, and the desk's only where none is held.
 ghost use Rattle.std.specs.Prelude.{◌≡◌, IfOk, IfErr};
 ghost use Rattle.parties.specs.Coordinated.{Opens, Tells, Holds, Serves, Releases, Operates, Closes, Weighs};
 
@@ -120,16 +121,18 @@ pub(crate) fn release<'s, 'c, N: Name>(
     if place >= system.places() {
         return Err(Fault::Release(ReleaseFault::NoSuchPlace));
     }
-    let Some(desk) = system.try_desk() else {
-        return Err(Fault::Again);
-    };
     let Some(mut room) = system.try_room(place) else {
         return Err(Fault::Again);
     };
-    match keeps.release(&*desk.value, &mut *room.value, place) {
-        Ok(Some(_receipt)) => Ok(0),
-        Ok(None) => Err(Fault::Again),
-        Err(fault) => Err(Fault::Release(fault)),
+    match keeps.release_held(&mut *room.value, place) {
+        Some(Some(_receipt)) => Ok(0),
+        Some(None) => Err(Fault::Again),
+        None => {
+            let Some(desk) = system.try_desk() else {
+                return Err(Fault::Again);
+            };
+            Err(Fault::Release(keeps.unheld(&*desk.value, place)))
+        }
     }
 }
 

@@ -23,6 +23,7 @@ pub(crate) fn number_of(poll: Poll) -> u64
     }
 }
 
+#[inline(always)]
 pub(crate) fn to_native<'s, 'r, N: Name>(
     system: &'s SharedSystem<N>,
     runner: &'r mut Stepper<N>,
@@ -40,6 +41,7 @@ pub(crate) fn to_native<'s, 'r, N: Name>(
     }
 }
 
+#[inline(always)]
 pub(crate) fn from_native<'s, 'r, N: Name>(
     system: &'s SharedSystem<N>,
     runner: &'r mut Stepper<N>,
@@ -51,7 +53,8 @@ pub(crate) fn from_native<'s, 'r, N: Name>(
         return Err(Fault::Again);
     };
     match runner.from_native(&mut *room.value, system.row()) {
-        Ok(Some(poll)) => Ok(number_of(poll)),
+        Ok(Some(Poll::Go)) => Ok(0),
+        Ok(Some(Poll::Stop(n))) => Ok(n),
         Ok(None) => Err(Fault::Again),
         Err(_state) => Err(Fault::Illegal),
     }

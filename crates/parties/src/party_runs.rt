@@ -10,7 +10,7 @@ use crate::party::{Party, Role};
 use bodies::{Called, Name};
 use frames::image::Image;
 use std::mem;
-use thread_list::{CallFault, ReturnFault};
+use thread_list::{CallFault, Poll, ReturnFault};
 use thread_state::State;
 use thread_steps::Entered;
 
@@ -41,8 +41,10 @@ impl<N: Name> Party<N> {
         let Role::Runs(runner) = &mut self.role else {
             return Err(Fault::NotThis);
         };
+        // In one match, of which the compiler makes one path where the thread goes on.
         match runner.back_edge(self.system.row()) {
-            Ok(poll) => Ok(number_of(poll)),
+            Ok(Poll::Go) => Ok(0),
+            Ok(Poll::Stop(n)) => Ok(n),
             Err(_state) => Err(Fault::Illegal),
         }
     }
@@ -74,7 +76,8 @@ impl<N: Name> Party<N> {
             return Err(Fault::NotThis);
         };
         match runner.ret(self.system.row()) {
-            Ok(poll) => Ok(number_of(poll)),
+            Ok(Poll::Go) => Ok(0),
+            Ok(Poll::Stop(n)) => Ok(n),
             Err(ReturnFault::Illegal(_)) => Err(Fault::Illegal),
             Err(ReturnFault::EmptyStack) => Err(Fault::EmptyStack),
         }
@@ -118,6 +121,7 @@ impl<N: Name> Party<N> {
     }
 
     /// Into native code.
+    #[inline(always)]
     pub fn to_native(&mut self) -> Result<u64, Fault>
         ensures { Acts N.board.places self.old Act.ToNative result self.new }
     {
@@ -128,6 +132,7 @@ impl<N: Name> Party<N> {
     }
 
     /// Back from native code: the number of the poll, 0 to go on.
+    #[inline(always)]
     pub fn from_native(&mut self) -> Result<u64, Fault>
         ensures { Acts N.board.places self.old Act.FromNative result self.new }
     {

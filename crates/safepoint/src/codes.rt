@@ -1,5 +1,5 @@
 // The numbers that C is told.
-ghost use Rattle.std.specs.Prelude.{◌≡◌};
+ghost use Rattle.std.specs.Prelude.{◌≡◌, Ok};
 ghost use Rattle.safepoint.specs.Codes.{code_of, fault_code};
 
 use coordinator_steps::{HoldFault, OperateFault, ReleaseFault, ServeFault, TellFault};
@@ -212,11 +212,66 @@ fn fault_code(fault: Fault) -> i64
 const GREATEST: u64 = 0x7fff_ffff_ffff_ffff;
 
 #[inline(always)]
+fn number_code(n: u64) -> i64
+    ensures { result ≡ code_of (Ok n) }
+{
+    if n > GREATEST { i64::MAX } else { n as i64 }
+}
+
+#[inline(always)]
 pub(crate) fn code_of(said: Result<u64, Fault>) -> i64
     ensures { result ≡ code_of said }
 {
     match said {
-        Ok(n) => { if n > GREATEST { i64::MAX } else { n as i64 } }
+        Ok(n) => number_code(n),
         Err(fault) => fault_code(fault),
+    }
+}
+
+// The reasons of the calls that a thread makes most come first, each by its number: such a call keeps its own alone.
+#[inline(always)]
+fn fault_code_of_step(fault: Fault) -> i64
+    ensures { result ≡ fault_code fault }
+{
+    match fault {
+        Fault::Again => -1,
+        Fault::NotThis => -3,
+        Fault::Illegal => -4,
+        Fault::NoSuchMethod => -5,
+        Fault::DepthFull => -6,
+        Fault::EmptyStack => -7,
+        other => fault_code(other),
+    }
+}
+
+/// The same for the calls that a thread makes most, and that don't poll.
+#[inline(always)]
+pub(crate) fn code_of_step(said: Result<u64, Fault>) -> i64
+    ensures { result ≡ code_of said }
+{
+    match said {
+        Ok(n) => number_code(n),
+        Err(fault) => fault_code_of_step(fault),
+    }
+}
+
+// It stands apart, since few polls stop.
+#[cold]
+#[inline(never)]
+fn code_of_stop(n: u64) -> i64
+    ensures { result ≡ code_of (Ok n) }
+{
+    number_code(n)
+}
+
+/// The same for those that poll: mostly the thread goes on.
+#[inline(always)]
+pub(crate) fn code_of_poll(said: Result<u64, Fault>) -> i64
+    ensures { result ≡ code_of said }
+{
+    match said {
+        Ok(0) => 0,
+        Ok(n) => code_of_stop(n),
+        Err(fault) => fault_code_of_step(fault),
     }
 }

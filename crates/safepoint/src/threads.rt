@@ -2,7 +2,7 @@
 ghost use Rattle.std.specs.Prelude.{◌≡◌};
 ghost use Rattle.safepoint.specs.Told.{Replies};
 
-use crate::codes::code_of;
+use crate::codes::{code_of, code_of_poll, code_of_step};
 use crate::handle::Place;
 use parties::acts::Act;
 
@@ -51,7 +51,7 @@ pub extern "C" fn sp_state(thread: &mut Place) -> i64
 pub extern "C" fn sp_call(thread: &mut Place, method: u32) -> i64
     ensures { Replies thread.old.handle.board.places result (Act.Call method) thread.old.handle.value thread.new.handle.value }
 {
-    code_of(thread.obey(Act::Call(method)))
+    code_of_step(thread.obey(Act::Call(method)))
 }
 
 /// Leaves the top method, and polls.
@@ -59,7 +59,7 @@ pub extern "C" fn sp_call(thread: &mut Place, method: u32) -> i64
 pub extern "C" fn sp_ret(thread: &mut Place) -> i64
     ensures { Replies thread.old.handle.board.places result Act.Ret thread.old.handle.value thread.new.handle.value }
 {
-    code_of(thread.obey(Act::Ret))
+    code_of_poll(thread.obey(Act::Ret))
 }
 
 /// Polls.
@@ -67,7 +67,7 @@ pub extern "C" fn sp_ret(thread: &mut Place) -> i64
 pub extern "C" fn sp_back_edge(thread: &mut Place) -> i64
     ensures { Replies thread.old.handle.board.places result Act.BackEdge thread.old.handle.value thread.new.handle.value }
 {
-    code_of(thread.obey(Act::BackEdge))
+    code_of_poll(thread.obey(Act::BackEdge))
 }
 
 /// Publishes the stack.
@@ -75,7 +75,7 @@ pub extern "C" fn sp_back_edge(thread: &mut Place) -> i64
 pub extern "C" fn sp_publish(thread: &mut Place) -> i64
     ensures { Replies thread.old.handle.board.places result Act.Publish thread.old.handle.value thread.new.handle.value }
 {
-    code_of(thread.obey(Act::Publish))
+    code_of_step(thread.obey(Act::Publish))
 }
 
 /// Into the VM.
@@ -83,7 +83,7 @@ pub extern "C" fn sp_publish(thread: &mut Place) -> i64
 pub extern "C" fn sp_to_vm(thread: &mut Place) -> i64
     ensures { Replies thread.old.handle.board.places result Act.ToVm thread.old.handle.value thread.new.handle.value }
 {
-    code_of(thread.obey(Act::ToVm))
+    code_of_step(thread.obey(Act::ToVm))
 }
 
 /// Out of the VM, and polls.
@@ -91,7 +91,7 @@ pub extern "C" fn sp_to_vm(thread: &mut Place) -> i64
 pub extern "C" fn sp_from_vm(thread: &mut Place) -> i64
     ensures { Replies thread.old.handle.board.places result Act.FromVm thread.old.handle.value thread.new.handle.value }
 {
-    code_of(thread.obey(Act::FromVm))
+    code_of_poll(thread.obey(Act::FromVm))
 }
 
 /// Into native code.
@@ -99,7 +99,7 @@ pub extern "C" fn sp_from_vm(thread: &mut Place) -> i64
 pub extern "C" fn sp_to_native(thread: &mut Place) -> i64
     ensures { Replies thread.old.handle.board.places result Act.ToNative thread.old.handle.value thread.new.handle.value }
 {
-    code_of(thread.obey(Act::ToNative))
+    code_of_step(thread.obey(Act::ToNative))
 }
 
 /// Back from native code, and polls.
@@ -107,7 +107,7 @@ pub extern "C" fn sp_to_native(thread: &mut Place) -> i64
 pub extern "C" fn sp_from_native(thread: &mut Place) -> i64
     ensures { Replies thread.old.handle.board.places result Act.FromNative thread.old.handle.value thread.new.handle.value }
 {
-    code_of(thread.obey(Act::FromNative))
+    code_of_poll(thread.obey(Act::FromNative))
 }
 
 /// From the VM into a wait.
@@ -115,7 +115,7 @@ pub extern "C" fn sp_from_native(thread: &mut Place) -> i64
 pub extern "C" fn sp_block(thread: &mut Place) -> i64
     ensures { Replies thread.old.handle.board.places result Act.Block thread.old.handle.value thread.new.handle.value }
 {
-    code_of(thread.obey(Act::Block))
+    code_of_step(thread.obey(Act::Block))
 }
 
 /// Back from a wait, and polls.
@@ -123,7 +123,7 @@ pub extern "C" fn sp_block(thread: &mut Place) -> i64
 pub extern "C" fn sp_unblock(thread: &mut Place) -> i64
     ensures { Replies thread.old.handle.board.places result Act.Unblock thread.old.handle.value thread.new.handle.value }
 {
-    code_of(thread.obey(Act::Unblock))
+    code_of_poll(thread.obey(Act::Unblock))
 }
 
 /// After a poll that stopped: the operation to serve now, 0 where the thread goes on.
