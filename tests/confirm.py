@@ -1,7 +1,7 @@
 #!/usr/bin/env python3
 """Runs the built program that checks orders from outside: confirm.py CONFIRM MONITOR
 
-CONFIRM is run on a log with an order that explains it, on one with an order that doesn't, on changes of both, on texts that are no log or no
+CONFIRM is run on logs with an order that explains them, on one with an order that doesn't, on changes of them, on texts that are no log or no
 order, with bad words, and with each fault that can be made from outside: what it writes on standard output and on standard error, and its
 status, must be just those that are stated here. MONITOR must take each line that it writes. The last line is `N passed, M failed`; the
 status is 0 where none failed.
@@ -33,6 +33,7 @@ BAD_LOGS = (
     ("witness 1\nsize 1 1 1\n0 5 4 start : thread 1 0\n", "tickets of a stream don't rise"),
     (LOG + "0 1 2 edge 0 : go\n", "tickets of a stream don't rise"),
     ("witness 1\nsize 1 1 1\n1024 0 1 start : thread 1 0\n", "tickets of a stream don't rise"),
+    ("witness 1 jobs\nsize 1 1 1\n0 0 1 start : thread 1 0 ; 1 1 0 2\n", "tickets of a stream don't rise"),
 )
 
 # An order that isn't one, and the number of its first line that is wrong.
@@ -99,6 +100,33 @@ def changed(order):
     yield "without lines", []
 
 
+def with_jobs(tally):
+    """Logs that list jobs: the order explains each, and none of its changes."""
+    for file, changes in (
+        ("jobs.txt", (
+            ("whose job is of another operation", "; 1 1 0 40", "; 2 1 0 40"),
+            ("whose job is of another thread", "; 1 1 0 40", "; 1 2 0 40"),
+            ("whose job has another reply", "; 1 1 0 40", "; 1 1 1 40"),
+            ("without a job", " ; 1 1 0 40", ""),
+            ("whose census has another number", "census 2", "census 3"),
+        )),
+        ("drives.txt", (
+            ("whose jobs are of one another's threads", "; 5 1 0 112 5 2 0 114", "; 5 2 0 112 5 1 0 114"),
+            ("with another reply of a thread", "replies 2 0 1 1", "replies 2 0 1 2"),
+            ("with a look that answers as another", "live : names 1 2", "live : replies"),
+        )),
+    ):
+        log, order = parts(file)
+        tally.run(f"an order of {file}", [], lines_of(log, order), given=both(log, order))
+        for name, old, new in changes:
+            tally.run(f"a log {name}", [], b"", UNEXPLAINED, 1, given=both(log.replace(old, new), order))
+    log, order = parts("drives.txt")
+    bare = "".join(line.partition(" ;")[0].rstrip("\n") + "\n" for line in log.replace("witness 1 jobs", "witness 1").splitlines(keepends=True))
+    tally.run("the same without jobs", [], lines_of(bare, order), given=both(bare, order))
+    lied = bare.replace("replies 2 0 1 1", "replies 2 0 1 2")
+    tally.run("another reply without jobs", [], b"", UNEXPLAINED, 1, given=both(lied, order))
+
+
 def unexplained(tally):
     log, order = parts("served.txt")
     for name, lines in changed(order):
@@ -148,6 +176,7 @@ def main():
     if os.access(tally.program, os.X_OK):
         orders(tally, os.path.abspath(sys.argv[2]))
         unexplained(tally)
+        with_jobs(tally)
         bad_texts(tally)
         bad_words(tally)
         devices(tally)

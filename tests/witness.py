@@ -56,6 +56,7 @@ BAD_LOGS = (
     ("witness 1\nsize 1 1 1\n0 0 1 start thread 1 0\n", "line 3: arguments"), ("witness 1\nsize 1 1 1\n0 0 1 start : thread 1\n", "line 3: values"),
     ("witness 1\nsize 1 1 1\n0 0 1 start : ?\n", "line 3: answer"), ("witness 1 jobs\nsize 1 1 1\n0 0 1 stop 0 : ok ; 1 2 3\n", "line 3: jobs"),
     ("witness 1\nsize 1 1 1\n0 5 4 start : thread 1 0\n", "tickets of a stream don't rise"),
+    ("witness 1 jobs\nsize 1 1 1\n0 0 2 start : thread 1 0 ; 1 1 0 3\n", "tickets of a stream don't rise"),
 )
 BAD_WORDS = (["--budget"], ["--budget", "x"], ["one"], ["--seconds", "-1"])
 

@@ -101,11 +101,21 @@ def jobs_of(numbers):
     return [Job(*numbers[at:at + 4]) for at in range(0, len(numbers), 4)]
 
 
+def jobs_rise(call):
+    """The jobs of a call ran between its tickets, one after the other."""
+    first = call.before
+    for job in call.jobs:
+        if not first <= job.ticket <= call.after:
+            return False
+        first = job.ticket + 1
+    return True
+
+
 def put_in_stream(streams, call):
-    """Streams rise: each call begins behind the one before it, and ends behind its own beginning."""
+    """Streams rise: each call begins behind the one before it, and ends behind its own beginning; its jobs ran in between."""
     stream = streams.setdefault(call.stream, [])
     last = stream[-1].after if stream else -1
-    if call.stream >= STREAMS or call.before <= last or call.after <= call.before:
+    if call.stream >= STREAMS or call.before <= last or call.after <= call.before or not jobs_rise(call):
         raise BadLog("tickets of a stream don't rise")
     call.index = len(stream)
     stream.append(call)

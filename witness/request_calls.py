@@ -205,7 +205,7 @@ class RequestCalls:
         if request is None or request.ask or request.operated or not all(thread.held for thread in world.live()):
             return WAIT
         counts = [number for counted in world.census() for number in counted]
-        if call.word and counts != call.values[1:]:
+        if call.word and [request.number, *counts] != call.values:
             return WAIT
         return (CHOICE if call.is_watched else EAGER), ((self.do_operate,),)
 
