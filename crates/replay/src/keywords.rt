@@ -74,7 +74,7 @@ pub(crate) fn first_word(line: &[u8]) -> Option<(Word, usize)>
 }
 
 /// The word at the beginning, of any length, also where nothing stands behind it.
-#[inline(never)]
+#[inline(always)]
 fn any_word(line: &[u8]) -> Option<(Word, usize)>
     ensures begun { option_map (λ it. (it.0, words_after (drop it.1 line.now))) result ≡ begun (words line.now) }
     ensures bound { IfSome result (λ it. it.1 ≤ length line.now) }
@@ -87,6 +87,7 @@ fn any_word(line: &[u8]) -> Option<(Word, usize)>
 }
 
 /// The keyword of the text. Each length has a function of its own, which looks at a byte once.
+#[inline(always)]
 fn word_of(text: &[u8]) -> Option<Word>
     ensures { result ≡ word_of text.now }
 {

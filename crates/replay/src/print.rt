@@ -306,6 +306,7 @@ fn put_census(text: &mut Vec<u8>, counts: &[CodeCount]) -> Result<(), AllocError
     Ok(())
 }
 
+#[inline(always)]
 fn put_thread(text: &mut Vec<u8>, name: u64, place: usize) -> Result<(), AllocError>
     ensures text { OnOk result (text.new.items ≡ text.old.items ++ ((codes "thread " ++ decimal name ++ codes " place " ++ decimal place) ++ 10 ∷ [])) }
     ensures grows { OnOk result (vec_len text.new ≤ vec_len text.old + 95) }
@@ -316,6 +317,7 @@ fn put_thread(text: &mut Vec<u8>, name: u64, place: usize) -> Result<(), AllocEr
     put_counted_line(text, b" place ", place as u64)
 }
 
+#[inline(always)]
 fn put_change(text: &mut Vec<u8>, serial: u64, by: i32) -> Result<(), AllocError>
     ensures text { OnOk result (text.new.items ≡ text.old.items ++ ((codes "change " ++ decimal serial ++ codes " " ++ signed_text by) ++ 10 ∷ [])) }
     ensures grows { OnOk result (vec_len text.new ≤ vec_len text.old + 90) }
@@ -326,6 +328,7 @@ fn put_change(text: &mut Vec<u8>, serial: u64, by: i32) -> Result<(), AllocError
     put_signed(text, by)
 }
 
+#[inline(always)]
 fn put_opened(text: &mut Vec<u8>, operation: u64, kind: Kind) -> Result<(), AllocError>
     ensures text { OnOk result (text.new.items ≡ text.old.items ++ ((codes "open " ++ decimal operation ++ kind_text kind) ++ 10 ∷ [])) }
     ensures grows { OnOk result (vec_len text.new ≤ vec_len text.old + 56) }
@@ -339,6 +342,7 @@ fn put_opened(text: &mut Vec<u8>, operation: u64, kind: Kind) -> Result<(), Allo
     }
 }
 
+#[inline(always)]
 fn put_code_state(text: &mut Vec<u8>, state: CodeState) -> Result<(), AllocError>
     ensures text { OnOk result (text.new.items ≡ text.old.items ++ (code_state_text state ++ 10 ∷ [])) }
     ensures grows { OnOk result (vec_len text.new ≤ vec_len text.old + 12) }
@@ -353,6 +357,7 @@ fn put_code_state(text: &mut Vec<u8>, state: CodeState) -> Result<(), AllocError
     }
 }
 
+#[inline(always)]
 fn put_refused(text: &mut Vec<u8>, why: Refusal) -> Result<(), AllocError>
     ensures text { OnOk result (text.new.items ≡ text.old.items ++ ((codes "refused " ++ refusal_text why) ++ 10 ∷ [])) }
     ensures grows { OnOk result (vec_len text.new ≤ vec_len text.old + 41) }

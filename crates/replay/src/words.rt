@@ -84,6 +84,7 @@ pub(crate) fn is_end(tail: &[u8]) -> bool
 }
 
 /// The digits up to a space, and what stands from the space on.
+#[inline(always)]
 fn digits(bytes: &[u8]) -> Option<(u64, &[u8])>
     ensures taken { option_map (λ taken. (taken.0, taken.1.now)) result ≡ digits_from 0 bytes.now }
     ensures rest { IfSome result (λ taken. length taken.1.now ≤ length bytes.now) }
@@ -151,6 +152,7 @@ pub(crate) fn next(tail: &[u8]) -> Option<(u64, &[u8])>
 }
 
 /// The same of a number of any length.
+#[inline(always)]
 fn next_number(tail: &[u8]) -> Option<(u64, &[u8])>
     ensures taken { option_map (λ taken. (taken.0, words_after taken.1.now)) result ≡ took (words_after tail.now) }
     ensures shorter { IfSome result (λ taken. length taken.1.now < length tail.now) }
@@ -166,6 +168,7 @@ fn next_number(tail: &[u8]) -> Option<(u64, &[u8])>
 }
 
 /// The number that is the next and last word.
+#[inline(always)]
 pub(crate) fn last(tail: &[u8]) -> Option<u64>
     ensures { result ≡ last_number (words_after tail.now) }
 {
