@@ -52,7 +52,8 @@ pub fn time_grown<N: Name, R: Wait + Clock>(
         name: thread.name(),
     };
     let timed = grown.time_turns(plan, times);
-    if gone && comes_back(rt, &mut thread) && lives::exits(rt, thread) {
+    let is_back = comes_back(rt, &mut thread);
+    if lives::exits(rt, thread) && gone && is_back {
         timed
     } else {
         Err(Wrong::Answer)
