@@ -1,39 +1,56 @@
 //! The calls of one thread, in loops. Each loop is a function of its own, which the compiler gives registers of its own: in line, its
 //! counters would lie in memory. It has the thread by value, as a runtime's thread has its own, and ends at the first call that is refused
-//! or tells the thread to stop.
+//! or tells the thread to stop. What such a function lends the thread to is in line in it.
 ghost use Rattle.std.specs.Prelude.{◌≡◌};
 
+use crate::lists::keep;
 use crate::plan::{Kind, Plan};
-use crate::stops::nanoseconds;
 use crate::wrong::Wrong;
+use crate::{clock, lives};
 use bodies::{Called, Name};
 use operations::job::Errand;
 use std::alloc::Global;
 use std::sync::Wait;
-use std::time::{Clock, Instant};
+use std::time::Clock;
 use thread_list::{Mutator, Poll, Shared};
 use thread_state::State;
 
 // The method that is called again and again.
 const METHOD: u32 = 3;
 
-/// The time of the plan's turns.
+/// Appends the time of the plan's turns.
 pub fn time_calls<N: Name, J: Errand, R: Wait + Clock>(
     rt: &R,
     alloc: Global,
     plan: Plan,
     shared: &Shared<N, J>,
-) -> Result<u64, Wrong> {
-    let Ok((thread, _receipt)) = shared.start(rt, alloc) else {
+    times: &mut Vec<u64>,
+) -> Result<(), Wrong> {
+    let Some(thread) = lives::begin(rt, alloc, shared) else {
         return Err(Wrong::Answer);
     };
-    let start = Instant::now(rt)?;
-    let (mut thread, goes_on) = turns_of(rt, plan, shared, thread);
-    let took = start.elapsed(rt)?;
-    if !goes_on || thread.publish().is_err() || thread.exit(rt).is_err() {
-        return Err(Wrong::Answer);
+    let time = time_turns(rt, plan, shared, thread)?;
+    keep(times, time)?;
+    Ok(())
+}
+
+// The time of the turns of a thread, which ends behind them.
+fn time_turns<N: Name, J: Errand, R: Wait + Clock>(
+    rt: &R,
+    plan: Plan,
+    shared: &Shared<N, J>,
+    thread: Mutator<'_, N, J>,
+) -> Result<u64, Wrong> {
+    let start = clock::begin(rt);
+    let (thread, goes_on) = turns_of(rt, plan, shared, thread);
+    let time = clock::time_since(rt, start);
+    let has_ended = lives::ends(rt, thread);
+    let time = time?;
+    if goes_on && has_ended {
+        Ok(time)
+    } else {
+        Err(Wrong::Answer)
     }
-    Ok(nanoseconds(took))
 }
 
 // Makes the plan's turns. Answers the thread, and whether each call was taken and none told it to stop.
@@ -74,18 +91,24 @@ fn publish<N: Name, J: Errand>(thread: &mut Mutator<'_, N, J>) -> bool {
     thread.publish().is_ok()
 }
 
+#[inline(always)]
+fn make_back_edges<N: Name, J: Errand>(thread: &mut Mutator<'_, N, J>, turns: u64) -> bool {
+    for _ in 0..turns {
+        if !goes_on(thread.back_edge()) {
+            return false;
+        }
+    }
+    true
+}
+
 #[inline(never)]
 fn back_edges<'a, N: Name, J: Errand>(
     thread: Mutator<'a, N, J>,
     turns: u64,
 ) -> (Mutator<'a, N, J>, bool) {
     let mut thread = thread;
-    for _ in 0..turns {
-        if !goes_on(thread.back_edge()) {
-            return (thread, false);
-        }
-    }
-    (thread, true)
+    let all = make_back_edges(&mut thread, turns);
+    (thread, all)
 }
 
 // A call of the method by its hint.
@@ -98,9 +121,8 @@ fn call<N: Name, J: Errand>(
     thread.call(method, shared.hint(method)).is_ok()
 }
 
-/// Calls the method by its hint and returns, so many times.
-#[inline(never)]
-pub fn pairs<N: Name, J: Errand>(
+#[inline(always)]
+fn make_pairs<N: Name, J: Errand>(
     shared: &Shared<N, J>,
     thread: &mut Mutator<'_, N, J>,
     method: u32,
@@ -114,6 +136,17 @@ pub fn pairs<N: Name, J: Errand>(
     true
 }
 
+/// Calls the method by its hint and returns, so many times.
+#[inline(never)]
+pub fn pairs<N: Name, J: Errand>(
+    shared: &Shared<N, J>,
+    thread: &mut Mutator<'_, N, J>,
+    method: u32,
+    turns: u64,
+) -> bool {
+    make_pairs(shared, thread, method, turns)
+}
+
 // Calls the method by its hint and returns, so many times.
 #[inline(never)]
 fn hinted_pairs<'a, N: Name, J: Errand>(
@@ -122,12 +155,18 @@ fn hinted_pairs<'a, N: Name, J: Errand>(
     turns: u64,
 ) -> (Mutator<'a, N, J>, bool) {
     let mut thread = thread;
+    let all = make_pairs(shared, &mut thread, METHOD, turns);
+    (thread, all)
+}
+
+#[inline(always)]
+fn interpret_pairs<N: Name, J: Errand>(thread: &mut Mutator<'_, N, J>, turns: u64) -> bool {
     for _ in 0..turns {
-        if !(call(shared, &mut thread, METHOD) && ret(&mut thread)) {
-            return (thread, false);
+        if !(interpret(thread) && ret(thread)) {
+            return false;
         }
     }
-    (thread, true)
+    true
 }
 
 #[inline(never)]
@@ -136,12 +175,8 @@ fn interpreted_pairs<'a, N: Name, J: Errand>(
     turns: u64,
 ) -> (Mutator<'a, N, J>, bool) {
     let mut thread = thread;
-    for _ in 0..turns {
-        if !(interpret(&mut thread) && ret(&mut thread)) {
-            return (thread, false);
-        }
-    }
-    (thread, true)
+    let all = interpret_pairs(&mut thread, turns);
+    (thread, all)
 }
 
 // So many calls, of each method whose number is the step times that of the call.
@@ -171,6 +206,22 @@ fn go_up<N: Name, J: Errand>(thread: &mut Mutator<'_, N, J>, depth: u64) -> bool
     true
 }
 
+// So many stacks of this depth.
+#[inline(always)]
+fn make_stacks<N: Name, J: Errand>(
+    shared: &Shared<N, J>,
+    thread: &mut Mutator<'_, N, J>,
+    count: u64,
+    depth: u64,
+) -> bool {
+    for _ in 0..count {
+        if !(go_down(shared, thread, depth, 7) && go_up(thread, depth)) {
+            return false;
+        }
+    }
+    true
+}
+
 // So many calls in all, a stack of this depth at a time.
 #[inline(never)]
 fn stacks<'a, N: Name, J: Errand>(
@@ -180,12 +231,28 @@ fn stacks<'a, N: Name, J: Errand>(
     depth: u64,
 ) -> (Mutator<'a, N, J>, bool) {
     let mut thread = thread;
-    for _ in 0..turns.checked_div(depth).unwrap_or(0) {
-        if !(go_down(shared, &mut thread, depth, 7) && go_up(&mut thread, depth)) {
-            return (thread, false);
+    let count = turns.checked_div(depth).unwrap_or(0);
+    let all = make_stacks(shared, &mut thread, count, depth);
+    (thread, all)
+}
+
+#[inline(always)]
+fn make_publications<N: Name, J: Errand>(
+    shared: &Shared<N, J>,
+    thread: &mut Mutator<'_, N, J>,
+    turns: u64,
+    codes: u64,
+) -> bool {
+    for _ in 0..turns {
+        if !(go_down(shared, thread, codes, 1)
+            && publish(thread)
+            && go_up(thread, codes)
+            && publish(thread))
+        {
+            return false;
         }
     }
-    (thread, true)
+    true
 }
 
 #[inline(never)]
@@ -196,16 +263,18 @@ fn publications<'a, N: Name, J: Errand>(
     codes: u64,
 ) -> (Mutator<'a, N, J>, bool) {
     let mut thread = thread;
+    let all = make_publications(shared, &mut thread, turns, codes);
+    (thread, all)
+}
+
+#[inline(always)]
+fn cross<N: Name, J: Errand, R: Wait>(rt: &R, thread: &mut Mutator<'_, N, J>, turns: u64) -> bool {
     for _ in 0..turns {
-        if !(go_down(shared, &mut thread, codes, 1)
-            && publish(&mut thread)
-            && go_up(&mut thread, codes)
-            && publish(&mut thread))
-        {
-            return (thread, false);
+        if !(thread.to_native(rt).is_ok() && goes_on(thread.from_native(rt))) {
+            return false;
         }
     }
-    (thread, true)
+    true
 }
 
 #[inline(never)]
@@ -215,12 +284,8 @@ fn crossings<'a, N: Name, J: Errand, R: Wait>(
     turns: u64,
 ) -> (Mutator<'a, N, J>, bool) {
     let mut thread = thread;
-    for _ in 0..turns {
-        if !(thread.to_native(rt).is_ok() && goes_on(thread.from_native(rt))) {
-            return (thread, false);
-        }
-    }
-    (thread, true)
+    let all = cross(rt, &mut thread, turns);
+    (thread, all)
 }
 
 /// So many pairs by one of several threads, which publishes after as many pairs as are given with the code on its stack and without it;

@@ -8,9 +8,12 @@
 
 ghost use Rattle.std.specs.Prelude.{◌≡◌};
 
+mod acts;
 mod calls;
+mod clock;
 mod grown;
 mod lists;
+mod lives;
 mod plan;
 mod requests;
 mod running;
@@ -39,16 +42,11 @@ fn main(rt: HostRuntime) -> ExitCode {
         let _ = eprintln!(rt; "running_bench: bad words");
         return ExitCode::from(2);
     };
-    let done = match form {
-        Form::Short => try_each(&rt, rt.alloc()),
-        Form::Run(plan) => make_run(&rt, rt.alloc(), plan),
+    let is_done = match form {
+        Form::Short => tell_tried(&rt, try_each(&rt, rt.alloc())),
+        Form::Run(plan) => tell_times(&rt, times_of(&rt, rt.alloc(), plan)),
     };
-    let printed = match (&done, form) {
-        (Ok(_), Form::Short) => println!(rt; "ok"),
-        (Ok(times), Form::Run(_)) => print_times(&rt, times.as_slice()),
-        (Err(wrong), _) => eprintln!(rt; "running_bench: {wrong}"),
-    };
-    if done.is_ok() && printed.is_ok() {
+    if is_done {
         ExitCode::SUCCESS
     } else {
         ExitCode::FAILURE
@@ -64,18 +62,49 @@ enum Form {
 
 fn read_words(rt: &HostRuntime, alloc: Global) -> Option<Form> {
     let words: Vec<String> = env::args(rt).ok()?.collect(alloc).ok()?;
-    match words.as_slice() {
+    form_of(words.as_slice())
+}
+
+fn form_of(words: &[String]) -> Option<Form> {
+    match words {
         [_] => Some(Form::Short),
         [_, kind, threads, turns, arg] => {
-            let kind = kind.as_str().parse::<u64>().ok()?;
-            let threads = threads.as_str().parse::<u64>().ok()?;
-            let turns = turns.as_str().parse::<u64>().ok()?;
-            let arg = arg.as_str().parse::<u64>().ok()?;
-            let plan = Plan::new(Kind::of(kind)?, threads, turns, arg)?;
+            let kind = Kind::of(number_of(kind)?)?;
+            let plan = Plan::new(
+                kind,
+                number_of(threads)?,
+                number_of(turns)?,
+                number_of(arg)?,
+            )?;
             Some(Form::Run(plan))
         }
         _ => None,
     }
+}
+
+fn number_of(word: &String) -> Option<u64> {
+    word.as_str().parse::<u64>().ok()
+}
+
+// Answers whether all was done, and was told.
+fn tell_tried(rt: &HostRuntime, tried: Result<(), Wrong>) -> bool {
+    match tried {
+        Ok(()) => println!(rt; "ok").is_ok(),
+        Err(wrong) => tell_wrong(rt, wrong),
+    }
+}
+
+// Answers whether all was done, and the times were printed.
+fn tell_times(rt: &HostRuntime, times: Result<Vec<u64>, Wrong>) -> bool {
+    match &times {
+        Ok(times) => print_times(rt, times.as_slice()).is_ok(),
+        Err(wrong) => tell_wrong(rt, *wrong),
+    }
+}
+
+fn tell_wrong(rt: &HostRuntime, wrong: Wrong) -> bool {
+    let _ = eprintln!(rt; "running_bench: {wrong}");
+    false
 }
 
 fn print_times(rt: &HostRuntime, times: &[u64]) -> io::Result<()> {
@@ -88,24 +117,36 @@ fn print_times(rt: &HostRuntime, times: &[u64]) -> io::Result<()> {
 }
 
 // A few turns of each kind.
-fn try_each<R: Threads + Wait + Clock + Sync>(rt: &R, alloc: Global) -> Result<Vec<u64>, Wrong> {
+fn try_each<R: Threads + Wait + Clock + Sync>(rt: &R, alloc: Global) -> Result<(), Wrong> {
     for kind in KINDS {
         for arg in 0..2 {
             if let Some(plan) = Plan::new(kind, 2, 4, arg) {
-                make_run(rt, alloc, plan)?;
+                times_of(rt, alloc, plan)?;
             }
         }
     }
-    Ok(Vec::new(alloc))
+    Ok(())
 }
 
-fn make_run<R: Threads + Wait + Clock + Sync>(
+fn times_of<R: Threads + Wait + Clock + Sync>(
     rt: &R,
     alloc: Global,
     plan: Plan,
 ) -> Result<Vec<u64>, Wrong> {
+    let mut times = Vec::new(alloc);
+    make_run(rt, alloc, plan, &mut times)?;
+    Ok(times)
+}
+
+// Appends the times of the plan's turns.
+fn make_run<R: Threads + Wait + Clock + Sync>(
+    rt: &R,
+    alloc: Global,
+    plan: Plan,
+    times: &mut Vec<u64>,
+) -> Result<(), Wrong> {
     let Ok(parts) = Parts::new(alloc, plan.places(), plan.slots(), METHODS) else {
         return Err(Wrong::NoMemory);
     };
-    run::<Brand, R>(rt, alloc, plan, parts)
+    run::<Brand, R>(rt, alloc, plan, parts, times)
 }

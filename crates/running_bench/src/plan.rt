@@ -147,6 +147,11 @@ impl Plan {
         )
     }
 
+    /// Whether a coordinator works beside those who call.
+    pub fn is_coordinated(&self) -> bool {
+        self.has_threads() || self.is_grown()
+    }
+
     /// How many entries the history has before its turns.
     pub fn entries(&self) -> u64 {
         match self.kind {

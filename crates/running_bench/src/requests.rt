@@ -1,26 +1,25 @@
 //! What the main thread asks of the others, once.
+use crate::acts::{handshake_of, is_asked, time_reclaim};
+use crate::clock;
 use crate::lists::keep;
 use crate::plan::Kind;
 use crate::wrong::Wrong;
 use bodies::Name;
-use coordinator::{Coordinator, Driven, Reclaimed};
+use coordinator::{Coordinator, Driven};
+use operations::Request;
 use operations::job::Query;
-use operations::{Ask, Request, Targets};
 use std::alloc::{AllocError, Global};
 use std::sync::Wait;
-use std::time::{Clock, Duration, Instant};
+use std::time::Clock;
 use thread_list::Shared;
-
-// The method whose code is reclaimed.
-const METHOD: u32 = 1;
 
 /// The main thread's part of a run.
 #[derive(Drop)]
-pub struct Asker<'a, N: Name, R> {
-    rt: &'a R,
+pub struct Asker<'c, 'a, N: Name, R> {
+    rt: &'c R,
     alloc: Global,
-    shared: &'a Shared<N, Query>,
-    coordinator: Coordinator<'a, N, Query>,
+    shared: &'c Shared<N, Query>,
+    coordinator: &'c mut Coordinator<'a, N, Query>,
     // Of the threads, which are live throughout: they have the names from 1 on, in the order in which they started.
     names: Vec<u64>,
     // What the last census counted.
@@ -44,45 +43,33 @@ fn names_of(alloc: Global, threads: usize) -> Result<Vec<u64>, AllocError> {
     Ok(names)
 }
 
-/// A query for each of the names, how deep its thread's stack is.
-pub fn queries_of(alloc: Global, names: &[u64]) -> Result<Vec<Query>, AllocError> {
-    let mut queries = Vec::with_capacity(alloc, names.len())?;
-    for name in names {
-        keep(&mut queries, Query::new(*name, Ask::Depth))?;
-    }
-    Ok(queries)
-}
-
-impl<'a, N: Name, R: Wait + Clock> Asker<'a, N, R> {
+impl<'c, 'a, N: Name, R: Wait + Clock> Asker<'c, 'a, N, R> {
     /// It asks so many threads.
     pub fn new(
-        rt: &'a R,
+        rt: &'c R,
         alloc: Global,
-        shared: &'a Shared<N, Query>,
-        coordinator: Coordinator<'a, N, Query>,
+        shared: &'c Shared<N, Query>,
+        coordinator: &'c mut Coordinator<'a, N, Query>,
         threads: usize,
-    ) -> Result<Asker<'a, N, R>, AllocError> {
+    ) -> Result<Asker<'c, 'a, N, R>, AllocError> {
+        let names = names_of(alloc, threads)?;
         Ok(Asker {
             rt,
             alloc,
             shared,
             coordinator,
-            names: names_of(alloc, threads)?,
+            names,
             counted: Vec::new(alloc),
         })
     }
 
     /// Makes one stop of the kind. Answers the time that it took.
-    pub fn ask(&mut self, kind: Kind) -> Result<Duration, Wrong> {
+    pub fn ask(&mut self, kind: Kind) -> Result<u64, Wrong> {
         match kind {
             Kind::Handshake => self.shake_hands(),
             Kind::Census => self.count(),
             _ => self.reclaim(),
         }
-    }
-
-    fn is_asked(&self, request: Request, jobs: Vec<Query>) -> bool {
-        self.shared.submit(self.rt, request, jobs).is_ok()
     }
 
     // The oldest request is worked on to its Close.
@@ -101,36 +88,31 @@ impl<'a, N: Name, R: Wait + Clock> Asker<'a, N, R> {
     }
 
     // The time of a request from its Ask to its Close, and what it was.
-    fn time(&mut self, request: Request, jobs: Vec<Query>) -> Result<(Duration, Done), Wrong> {
-        let start = Instant::now(self.rt);
-        let is_asked = self.is_asked(request, jobs);
+    fn time(&mut self, request: Request, jobs: Vec<Query>) -> Result<(u64, Done), Wrong> {
+        let start = clock::begin(self.rt);
+        let is_asked = is_asked(self.rt, self.shared, request, jobs);
         let done = self.drive();
-        let took = start?.elapsed(self.rt)?;
+        let time = clock::time_since(self.rt, start)?;
         if is_asked {
-            Ok((took, done))
+            Ok((time, done))
         } else {
             Err(Wrong::Answer)
         }
     }
 
-    fn shake_hands(&mut self) -> Result<Duration, Wrong> {
-        let jobs = queries_of(self.alloc, self.names.as_slice())?;
-        let names = Vec::from_slice(self.alloc, self.names.as_slice())?;
-        let request = Request::Handshake {
-            targets: Targets::from_vec(names),
-            ask: Ask::Depth,
-        };
+    fn shake_hands(&mut self) -> Result<u64, Wrong> {
+        let (request, jobs) = handshake_of(self.alloc, self.names.as_slice())?;
         match self.time(request, jobs)? {
-            (took, Done::Handshake) => Ok(took),
+            (time, Done::Handshake) => Ok(time),
             _ => Err(Wrong::Answer),
         }
     }
 
-    fn count(&mut self) -> Result<Duration, Wrong> {
+    fn count(&mut self) -> Result<u64, Wrong> {
         // The list of the last census goes before the time begins.
         self.counted = Vec::new(self.alloc);
         match self.time(Request::Census, Vec::new(self.alloc))? {
-            (took, Done::Census) if self.are_counted() => Ok(took),
+            (time, Done::Census) if self.are_counted() => Ok(time),
             _ => Err(Wrong::Answer),
         }
     }
@@ -143,39 +125,13 @@ impl<'a, N: Name, R: Wait + Clock> Asker<'a, N, R> {
         }
     }
 
-    fn install(&self) -> Result<u64, Wrong> {
-        match self.shared.install(self.rt, METHOD) {
-            Ok((serial, _receipt)) => Ok(serial),
-            Err(_) => Err(Wrong::Answer),
-        }
-    }
-
-    fn is_invalidated(&self, serial: u64) -> bool {
-        self.shared.invalidate(self.rt, serial).is_ok()
-    }
-
-    fn is_freed(&mut self, serial: u64, jobs: Vec<Query>) -> bool {
-        matches!(
-            self.coordinator.reclaim(self.rt, serial, jobs),
-            Ok(Reclaimed::Freed(_))
+    fn reclaim(&mut self) -> Result<u64, Wrong> {
+        time_reclaim(
+            self.rt,
+            self.alloc,
+            self.shared,
+            self.coordinator,
+            self.names.as_slice(),
         )
-    }
-
-    fn reclaim(&mut self) -> Result<Duration, Wrong> {
-        let serial = self.install()?;
-        let jobs = queries_of(self.alloc, self.names.as_slice())?;
-        self.time_reclaim(serial, jobs)
-    }
-
-    fn time_reclaim(&mut self, serial: u64, jobs: Vec<Query>) -> Result<Duration, Wrong> {
-        let start = Instant::now(self.rt);
-        let is_invalidated = self.is_invalidated(serial);
-        let is_freed = self.is_freed(serial, jobs);
-        let took = start?.elapsed(self.rt)?;
-        if is_invalidated && is_freed {
-            Ok(took)
-        } else {
-            Err(Wrong::Answer)
-        }
     }
 }

@@ -16,66 +16,91 @@ use operations::job::Query;
 use poll::Armer;
 use std::alloc::Global;
 use std::sync::Wait;
-use std::thread::{self, JoinHandle, Scope, Threads};
+use std::thread::{self, Scope, Threads};
 use std::time::Clock;
 use thread_list::{Parts, Shared};
 
-/// Runs the plan over a system that is made of the parts, and answers its times. No other thread runs any more when it returns.
+/// Runs the plan over a system that is made of the parts, and appends its times. No other thread runs any more when it returns.
 pub fn run<N: Name + Send, R: Threads + Wait + Clock + Sync>(
     rt: &R,
     alloc: Global,
     plan: Plan,
     parts: Parts,
-) -> Result<Vec<u64>, Wrong>
+    times: &mut Vec<u64>,
+) -> Result<(), Wrong>
     requires tables { (parts.board ≡ N.board) × (parts.row ≡ N.poll_row) }
 {
     let Ok((shared, armer)) = Shared::<N, Query>::new(alloc, parts) else {
         return Err(Wrong::NoMemory);
     };
-    for method in 0..plan.codes() {
-        if shared.install(rt, method).is_err() {
-            return Err(Wrong::Answer);
-        }
-    }
-    let times = if plan.has_threads() {
-        run_threads(rt, alloc, plan, &shared, &Signals::new(), armer)
-    } else if plan.is_grown() {
-        run_grown(rt, alloc, plan, &shared, armer)
-    } else {
-        run_alone(rt, alloc, plan, &shared)
-    };
-    if shared.peek_counts() == 0 {
-        times
-    } else {
-        Err(Wrong::Answer)
-    }
+    run_over(rt, alloc, plan, &shared, armer, times)
 }
 
-fn run_alone<N: Name, R: Wait + Clock>(
-    rt: &R,
-    alloc: Global,
-    plan: Plan,
-    shared: &Shared<N, Query>,
-) -> Result<Vec<u64>, Wrong> {
-    let time = time_calls(rt, alloc, plan, shared)?;
-    let mut times = Vec::with_capacity(alloc, 1)?;
-    times.push_reserved(time);
-    Ok(times)
-}
-
-fn run_grown<'a, N: Name, R: Wait + Clock>(
+fn run_over<'a, N: Name + Send, R: Threads + Wait + Clock + Sync>(
     rt: &'a R,
     alloc: Global,
     plan: Plan,
     shared: &'a Shared<N, Query>,
     armer: Armer,
-) -> Result<Vec<u64>, Wrong>
+    times: &mut Vec<u64>,
+) -> Result<(), Wrong>
     requires armer { armer ≡ full_armer N.poll_row N.board.places }
 {
-    match Coordinator::new(shared, armer, alloc) {
-        Ok(coordinator) => time_grown(rt, alloc, plan, shared, coordinator),
-        Err(_) => Err(Wrong::NoMemory),
+    if !are_installed(rt, shared, plan.codes()) {
+        return Err(Wrong::Answer);
     }
+    let done = if plan.is_coordinated() {
+        run_coordinated(rt, alloc, plan, shared, armer, times)
+    } else {
+        time_calls(rt, alloc, plan, shared, times)
+    };
+    if shared.peek_counts() == 0 {
+        done
+    } else {
+        Err(Wrong::Answer)
+    }
+}
+
+// A code of each of the first methods is installed, where none is refused.
+fn are_installed<N: Name, R: Wait>(rt: &R, shared: &Shared<N, Query>, methods: u32) -> bool {
+    for method in 0..methods {
+        if shared.install(rt, method).is_err() {
+            return false;
+        }
+    }
+    true
+}
+
+fn run_coordinated<'a, N: Name + Send, R: Threads + Wait + Clock + Sync>(
+    rt: &'a R,
+    alloc: Global,
+    plan: Plan,
+    shared: &'a Shared<N, Query>,
+    armer: Armer,
+    times: &mut Vec<u64>,
+) -> Result<(), Wrong>
+    requires armer { armer ≡ full_armer N.poll_row N.board.places }
+{
+    let Ok(mut coordinator) = Coordinator::new(shared, armer, alloc) else {
+        return Err(Wrong::NoMemory);
+    };
+    if plan.has_threads() {
+        run_beside(rt, alloc, plan, shared, &mut coordinator, times)
+    } else {
+        time_grown(rt, alloc, plan, shared, &mut coordinator, times)
+    }
+}
+
+fn run_beside<N: Name + Send, R: Threads + Wait + Clock + Sync>(
+    rt: &R,
+    alloc: Global,
+    plan: Plan,
+    shared: &Shared<N, Query>,
+    coordinator: &mut Coordinator<'_, N, Query>,
+    times: &mut Vec<u64>,
+) -> Result<(), Wrong> {
+    let signals = Signals::new();
+    run_threads(rt, alloc, plan, shared, &signals, coordinator, times)
 }
 
 fn run_threads<'a, N: Name + Send, R: Threads + Wait + Clock + Sync>(
@@ -84,17 +109,13 @@ fn run_threads<'a, N: Name + Send, R: Threads + Wait + Clock + Sync>(
     plan: Plan,
     shared: &'a Shared<N, Query>,
     signals: &'a Signals,
-    armer: Armer,
-) -> Result<Vec<u64>, Wrong>
-    requires armer { armer ≡ full_armer N.poll_row N.board.places }
-{
-    let Ok(coordinator) = Coordinator::new(shared, armer, alloc) else {
-        return Err(Wrong::NoMemory);
-    };
+    coordinator: &mut Coordinator<'_, N, Query>,
+    times: &mut Vec<u64>,
+) -> Result<(), Wrong> {
     thread::scope(
         thread::scope_env(),
         rt,
-        move |scope| run_in(scope, rt, alloc, plan, shared, signals, coordinator),
+        move |scope| run_in(scope, rt, alloc, plan, shared, signals, coordinator, times),
     )
 }
 
@@ -106,38 +127,35 @@ fn run_in<'s, 'a: 's, N: Name + Send, R: Threads + Wait + Clock + Sync, E>(
     plan: Plan,
     shared: &'a Shared<N, Query>,
     signals: &'a Signals,
-    coordinator: Coordinator<'a, N, Query>,
-) -> Result<Vec<u64>, Wrong> {
+    coordinator: &mut Coordinator<'_, N, Query>,
+    times: &mut Vec<u64>,
+) -> Result<(), Wrong> {
     let mut handles = Vec::new(alloc);
     let asked = match start_all(scope, rt, alloc, plan, shared, signals, &mut handles) {
-        Ok(()) => ask_all(rt, alloc, plan, shared, signals, coordinator),
+        Ok(()) => ask_all(rt, alloc, plan, shared, signals, coordinator, times),
         Err(wrong) => Err(wrong),
     };
     signals.begin();
     signals.end();
-    let called = join_all(rt, alloc, handles);
-    let asked = asked?;
-    let called = called?;
-    if plan.kind == Kind::Together {
-        Ok(called)
-    } else {
-        Ok(asked)
-    }
+    let called = join_all(rt, plan, handles, times);
+    asked?;
+    called
 }
 
 // The main thread's part, once all threads are ready.
-fn ask_all<'a, N: Name, R: Wait + Clock>(
-    rt: &'a R,
+fn ask_all<N: Name, R: Wait + Clock>(
+    rt: &R,
     alloc: Global,
     plan: Plan,
-    shared: &'a Shared<N, Query>,
+    shared: &Shared<N, Query>,
     signals: &Signals,
-    coordinator: Coordinator<'a, N, Query>,
-) -> Result<Vec<u64>, Wrong> {
+    coordinator: &mut Coordinator<'_, N, Query>,
+    times: &mut Vec<u64>,
+) -> Result<(), Wrong> {
     signals.wait_ready(rt, plan.threads);
-    if plan.kind == Kind::Together {
-        return Ok(Vec::new(alloc));
+    if matches!(plan.kind, Kind::Together) {
+        return Ok(());
     }
     let mut asker = Asker::new(rt, alloc, shared, coordinator, plan.threads)?;
-    time_stops(rt, alloc, plan, &mut asker)
+    time_stops(rt, plan, &mut asker, times)
 }

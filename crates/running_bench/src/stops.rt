@@ -1,41 +1,35 @@
 //! The stops of a run, one after the other.
+use crate::clock;
 use crate::lists::keep;
 use crate::plan::Plan;
 use crate::requests::Asker;
 use crate::wrong::Wrong;
 use bodies::Name;
-use std::alloc::Global;
 use std::sync::Wait;
-use std::time::{Clock, Duration, Instant};
+use std::time::Clock;
 
 /// So many stops come before those that are measured.
 pub const WARM_UP: u64 = 2;
 
-// A run makes no further stop after so many seconds.
-const LONGEST: u64 = 6;
+// A run makes no further stop after so many nanoseconds.
+const LONGEST: u64 = 6_000_000_000;
 
-/// The time of each of the plan's stops.
+/// Appends the time of each of the plan's stops.
 pub fn time_stops<N: Name, R: Wait + Clock>(
     rt: &R,
-    alloc: Global,
     plan: Plan,
-    asker: &mut Asker<'_, N, R>,
-) -> Result<Vec<u64>, Wrong> {
-    let start = Instant::now(rt)?;
-    let mut times = Vec::new(alloc);
+    asker: &mut Asker<'_, '_, N, R>,
+    times: &mut Vec<u64>,
+) -> Result<(), Wrong> {
+    let start = clock::begin(rt)?;
     for turn in 0..plan.turns.saturating_add(WARM_UP) {
-        let took = asker.ask(plan.kind)?;
+        let time = asker.ask(plan.kind)?;
         if turn >= WARM_UP {
-            keep(&mut times, nanoseconds(took))?;
+            keep(times, time)?;
         }
-        if start.elapsed(rt)? >= Duration::from_secs(LONGEST) {
+        if clock::time_since(rt, Ok(start))? >= LONGEST {
             break;
         }
     }
-    Ok(times)
-}
-
-/// A time as a whole number.
-pub fn nanoseconds(time: Duration) -> u64 {
-    u64::try_from(time.as_nanos()).unwrap_or(u64::MAX)
+    Ok(())
 }

@@ -3,14 +3,14 @@ use crate::calls::publishing_pairs;
 use crate::lists::keep;
 use crate::plan::{Kind, Plan};
 use crate::signals::Signals;
-use crate::stops::nanoseconds;
 use crate::wrong::Wrong;
+use crate::{clock, lives};
 use bodies::Name;
 use operations::job::Errand;
 use std::alloc::Global;
 use std::sync::Wait;
 use std::thread::{JoinHandle, Scope, Threads};
-use std::time::{Clock, Instant};
+use std::time::Clock;
 use thread_list::{Mutator, Poll, Shared};
 
 // How many back edges a thread makes between two looks whether the run is over.
@@ -39,26 +39,29 @@ pub fn start_all<'s, 'a: 's, N: Name + Send, J: Errand + Send, R: Threads + Wait
     Ok(())
 }
 
-/// Waits for all threads. Answers the time of each.
+/// Waits for all threads. Appends the time of each where the plan measures their calls.
 pub fn join_all<R: Threads>(
     rt: &R,
-    alloc: Global,
+    plan: Plan,
     handles: Vec<JoinHandle<Result<u64, Wrong>>>,
-) -> Result<Vec<u64>, Wrong> {
-    let mut times = Vec::new(alloc);
+    times: &mut Vec<u64>,
+) -> Result<(), Wrong> {
     let mut all = Ok(());
     for handle in handles {
-        match handle.join(rt) {
-            Ok(time) => {
-                if times.push(time).is_err() {
-                    all = Err(Wrong::NoMemory);
-                }
-            }
-            Err(wrong) => all = Err(wrong),
+        let time = handle.join(rt);
+        if let Err(wrong) = keep_time(plan, time, times) {
+            all = Err(wrong);
         }
     }
-    all?;
-    Ok(times)
+    all
+}
+
+fn keep_time(plan: Plan, time: Result<u64, Wrong>, times: &mut Vec<u64>) -> Result<(), Wrong> {
+    let time = time?;
+    if matches!(plan.kind, Kind::Together) {
+        keep(times, time)?;
+    }
+    Ok(())
 }
 
 // A thread from its start to its exit. Answers the time of its calls, where they are measured.
@@ -70,18 +73,30 @@ fn live<N: Name, J: Errand, R: Wait + Clock>(
     signals: &Signals,
     method: u32,
 ) -> Result<u64, Wrong> {
-    let Ok((mut thread, _receipt)) = shared.start(rt, alloc) else {
+    let Some(mut thread) = lives::begin(rt, alloc, shared) else {
         signals.note_ready();
         return Err(Wrong::Answer);
     };
-    let time = match plan.kind {
-        Kind::Together => time_pairs(rt, plan, shared, signals, &mut thread, method),
-        _ => be_stopped(rt, plan, shared, signals, &mut thread),
-    };
-    if thread.publish().is_err() || thread.exit(rt).is_err() {
-        return Err(Wrong::Answer);
+    let time = time_thread(rt, plan, shared, signals, &mut thread, method);
+    if lives::ends(rt, thread) {
+        time
+    } else {
+        Err(Wrong::Answer)
     }
-    time
+}
+
+fn time_thread<N: Name, J: Errand, R: Wait + Clock>(
+    rt: &R,
+    plan: Plan,
+    shared: &Shared<N, J>,
+    signals: &Signals,
+    thread: &mut Mutator<'_, N, J>,
+    method: u32,
+) -> Result<u64, Wrong> {
+    match plan.kind {
+        Kind::Together => time_pairs(rt, plan, shared, signals, thread, method),
+        _ => be_stopped(rt, plan, shared, signals, thread),
+    }
 }
 
 // Calls of a method of its own.
@@ -95,14 +110,10 @@ fn time_pairs<N: Name, J: Errand, R: Wait + Clock>(
 ) -> Result<u64, Wrong> {
     signals.note_ready();
     signals.wait_begun(rt);
-    let start = Instant::now(rt)?;
+    let start = clock::begin(rt);
     let all = publishing_pairs(shared, thread, method, plan.turns, plan.arg);
-    let took = start.elapsed(rt)?;
-    if all {
-        Ok(nanoseconds(took))
-    } else {
-        Err(Wrong::Answer)
-    }
+    let time = clock::time_since(rt, start)?;
+    if all { Ok(time) } else { Err(Wrong::Answer) }
 }
 
 // Stops for whatever the main thread asks, with one frame on the stack, until the run is over.
