@@ -26,7 +26,7 @@ class Drives:
         request = self.world.opened[0] if self.world.opened else None
         if request is None:
             return self.has_closed(stream, call)
-        if stage == COUNTED or self.may_close(request):
+        if stage == COUNTED or self.may_close(request) and not self.has_more(stream, call):
             return self.closes(stream, call, request)
         return self.gathers(call, request) if request.ask is None else self.serves_next(stream, call)
 
@@ -116,6 +116,10 @@ class Drives:
             self.world.release(thread)
             self.make(call, f"release {thread.place}")
         self.put(stream, STAGE, COUNTED)
+
+    def has_more(self, stream, call):
+        """A drive that closes one has jobs of others before its Close."""
+        return call.call == "drive" and self.states[stream][RAN] < len(call.jobs)
 
     def may_close(self, request):
         world = self.world

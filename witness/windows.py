@@ -6,6 +6,7 @@ from lives import POLLS, Span, least_poll, lives_of, put_span
 
 HOLDS = ("hold", "drive", "drivefour", "operate")
 TELLS = ("tell", "drive", "drivefour")
+DRIVES = ("drive", "drivefour")
 
 
 class Windows:
@@ -69,7 +70,8 @@ class Windows:
     def note_overlaps(self):
         calls = self.log.calls
         reclaims = [call for call in calls if call.call.startswith("reclaim") and not call.is_refused]
-        holds, tells = [], []
+        # A census that is driven has holds of which no job tells.
+        holds = tells = [call for call in calls if call.call in DRIVES and not call.is_refused and not call.jobs]
         if not self.log.has_jobs:
             holds = [call for call in calls if call.call in HOLDS and not call.is_refused] + reclaims
             tells = [call for call in calls if call.call in TELLS and not call.is_refused] + reclaims
@@ -131,8 +133,10 @@ class Windows:
                 self.note_close(call, opened)
             elif kind in ("serve", "release", "operate") and not call.is_refused:
                 self.note_held(call, held)
-            elif call.jobs and kind.startswith(("drive", "reclaim")):
+            elif kind.startswith(("drive", "reclaim")):
                 self.note_drive(call)
+                if kind in DRIVES and not call.is_refused:
+                    self.note_closed(call, opened, told)
         for span in held.values():
             self.put(span)
 
@@ -161,6 +165,15 @@ class Windows:
             self.not_done[number] = call
         if call.word == "closed" and call.values[0] in opened:
             opened.remove(call.values[0])
+
+    def note_closed(self, call, opened, told):
+        """A drive tells all that are open, and closes the oldest, or as one of four all."""
+        for number in opened:
+            for name in self.requests.get(number, (None, ()))[1]:
+                if number not in told.setdefault(name, []) and (not self.log.has_jobs or (number, name) in self.jobs):
+                    told[name].append(number)
+        closed = call.values[:1] if call.call == "drive" else list(opened)
+        opened[:] = [number for number in opened if number not in closed]
 
     def note_held(self, call, held):
         """What is done for those that are held makes their time longer."""
