@@ -11,6 +11,7 @@ mod coordinating;
 mod crosses;
 mod crossing;
 mod fault_texts;
+mod pairs;
 pub mod party;
 mod party_asks;
 mod party_coordinates;

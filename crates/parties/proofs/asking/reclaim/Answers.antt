@@ -1,8 +1,20 @@
+use Rattle.std.proofs.Common.{◌∙◌, ap, rules, subst, true}
+use Rattle.std.specs.Prelude.{Option}
+use Rattle.operations.specs.declared.Request.{Request}
 use Rattle.desk.specs.Fields.{at}
+use Rattle.desk.specs.Refusals.{reclaim_refused}
+use Rattle.parties.specs.Asked.{reclaiming_for}
+use Rattle.parties.proofs.Fits.{reclaim_fits}
 use Rattle.parties.proofs.asking.reclaim.Goals as goal
 
-pub returns-clause-said : goal.returns-clause-said
-returns-clause-said g c =
+pub returns-clause-refused : goal.returns-clause-refused
+returns-clause-refused g c =
     let desk = c.deref_mut.result.now in
-    let err = c.in-Err.ensures.err in
-    (at desk, c.in-Ok.request, _, desk.book, desk.keeper.moment, err.1)
+    let ok = c.in-Ok.ensures in
+    let is = ok.request ∙ ap (reclaiming_for c.args.serial) c.as_slice.ensures.value in
+    let f = c.in-Err.refused.fault in (
+      desk,
+      search rules,
+      subst (λ (r : Option Request). reclaim_refused (at desk) c.args.serial r (λ _. true) desk.book desk.keeper.moment f) is
+          (reclaim_fits (at desk) c.args.serial c.in-Ok.request _ desk.book desk.keeper.moment f ok.jobs c.in-Err.ensures.err.1),
+    )
