@@ -1,5 +1,5 @@
 -- Rows of lanes.
-use Rattle.std.specs.Prelude.{ℕ, suc, List, [], ◌∷◌, ◌++◌, ◌-◌, ◌==◌, ◌&&◌, Bool, Option, None, Some, is_some, is_none, nat_le, length, replicate, unwrap_or}
+use Rattle.std.specs.Prelude.{◌≡◌, ◌≢◌, slice_get, slice_set, ℕ, suc, List, [], ◌∷◌, ◌++◌, ◌-◌, ◌==◌, ◌&&◌, Bool, Option, None, Some, is_some, is_none, nat_le, length, replicate, unwrap_or}
 use Rattle.std.specs.List.{position}
 use Rattle.run_lanes.specs.declared.looks.Lane.{Lane}
 use Rattle.run_lanes.specs.declared.looks.Paint.{Paint}
@@ -24,6 +24,12 @@ blank = record { number = 0; paint = None; since = 0; begun = 0 }
 -- The rows with blank ones behind them, so that there is this row.
 abbrev pub wide : ℕ → List Row → List Row
 wide row rows = rows ++ replicate (suc row - length rows) blank
+
+-- From a line on a row is in another colour, or shows nothing.
+abbrev pub IsTurned : List Row → List Row → ℕ → Option Paint → ℕ → Type 0
+IsTurned before after row paint at =
+    (kept : Row) → slice_get (wide row before) row ≡ Some kept → kept.paint ≢ paint
+    → after ≡ slice_set (wide row before) row (record kept { paint = paint; since = at })
 
 -- The bar of what a row shows, to before a line.
 abbrev pub bar_in : Lane → ℕ → ℕ → Option Paint → List Span

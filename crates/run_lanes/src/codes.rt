@@ -1,6 +1,11 @@
 // What the lanes of the codes show.
-ghost use Rattle.std.specs.Prelude.{◌≡◌, [], IfSome, Some, option_map, slice_get};
-ghost use Rattle.run_lanes.specs.Codes.{in_use_for};
+ghost use Rattle.std.specs.Prelude.{◌≡◌, ◌<◌, ◌++◌, [], length, remove, false, OnOk, IfSome, None, Some, option_map, slice_get};
+ghost use Rattle.run_lanes.specs.declared.codes.Kept.{Kept as KeptOf};
+ghost use Rattle.run_lanes.specs.declared.looks.Group.TheVariants.{Codes as CodesGroup};
+ghost use Rattle.run_lanes.specs.declared.looks.Paint.TheVariants.{Zombie};
+ghost use Rattle.run_lanes.specs.Painted.{drawn_life};
+ghost use Rattle.run_lanes.specs.Rows.{IsTurned};
+ghost use Rattle.run_lanes.specs.Codes.{in_use_for, code_life, changes, frees};
 
 use crate::looks::{Group, Lane, Paint};
 use crate::painted::{Name, Painted};
@@ -28,7 +33,8 @@ pub(crate) struct Codes {
 
 impl Codes {
     pub(crate) fn new(alloc: Global) -> Codes
-        ensures { result.kept.items ≡ [] }
+        ensures kept { result.kept.items ≡ [] }
+        ensures group { result.rows.group ≡ CodesGroup }
     {
         Codes {
             rows: Rows::new(alloc, Group::Codes),
@@ -95,7 +101,10 @@ impl Codes {
     }
 
     // The code is in use no more.
-    fn leave(&mut self, painted: &mut Painted, serial: u64, at: u64) -> Result<(), AllocError> {
+    fn leave(&mut self, painted: &mut Painted, serial: u64, at: u64) -> Result<(), AllocError>
+        ensures group { self.new.rows.group ≡ self.old.rows.group }
+        ensures lives { painted.new.lives.items ≡ painted.old.lives.items }
+    {
         let Some(place) = self.find(serial) else {
             return Ok(());
         };
@@ -108,7 +117,19 @@ impl Codes {
     }
 
     // The lane of the code at this place of the list is free again.
-    fn end(&mut self, painted: &mut Painted, place: usize, at: u64) -> Result<(), AllocError> {
+    fn end(&mut self, painted: &mut Painted, place: usize, at: u64) -> Result<(), AllocError>
+        ensures group { self.new.rows.group ≡ self.old.rows.group }
+        ensures first { painted.new.first ≡ painted.old.first }
+        ensures kept { place < length self.old.kept.items →
+            self.new.kept.items ≡ remove self.old.kept.items place }
+        ensures life { OnOk result ((code : KeptOf) →
+            slice_get self.old.kept.items place ≡ Some code →
+            painted.new.lives.items ≡ painted.old.lives.items
+            ++ drawn_life painted.old.first (code_life self.old.rows code at)) }
+        ensures row { OnOk result ((code : KeptOf) →
+            slice_get self.old.kept.items place ≡ Some code →
+            IsTurned self.old.rows.rows.items self.new.rows.rows.items code.row None at) }
+    {
         if place >= self.kept.len() {
             return Ok(());
         }
@@ -135,7 +156,13 @@ impl Codes {
         touch: Touch,
         answer: &Answer,
         at: u64,
-    ) -> Result<(), AllocError> {
+    ) -> Result<(), AllocError>
+        ensures group { self.new.rows.group ≡ self.old.rows.group }
+        ensures looked { changes touch answer.now ≡ false →
+            (self.new ≡ self.old) × (painted.new ≡ painted.old) }
+        ensures lives { frees touch ≡ false →
+            painted.new.lives.items ≡ painted.old.lives.items }
+    {
         let Some(place) = self.find(serial) else {
             return Ok(());
         };
@@ -147,7 +174,14 @@ impl Codes {
         }
     }
 
-    fn retire(&mut self, painted: &mut Painted, place: usize, at: u64) -> Result<(), AllocError> {
+    fn retire(&mut self, painted: &mut Painted, place: usize, at: u64) -> Result<(), AllocError>
+        ensures group { self.new.rows.group ≡ self.old.rows.group }
+        ensures kept { self.new.kept ≡ self.old.kept }
+        ensures lives { painted.new.lives.items ≡ painted.old.lives.items }
+        ensures row { OnOk result ((code : KeptOf) →
+            slice_get self.old.kept.items place ≡ Some code →
+            IsTurned self.old.rows.rows.items self.new.rows.rows.items code.row (Some Zombie) at) }
+    {
         match self.kept.get(place) {
             None => Ok(()),
             Some(code) => {
@@ -158,7 +192,10 @@ impl Codes {
     }
 
     /// The lines end.
-    pub(crate) fn finish(&mut self, painted: &mut Painted, at: u64) -> Result<(), AllocError> {
+    pub(crate) fn finish(&mut self, painted: &mut Painted, at: u64) -> Result<(), AllocError>
+        ensures group { self.new.rows.group ≡ self.old.rows.group }
+        ensures first { painted.new.first ≡ painted.old.first }
+    {
         for _ in 0..self.kept.len() {
             self.end(painted, 0, at)?;
         }

@@ -1,9 +1,14 @@
 // All lanes of a run, line by line, and where the mark of a line stands.
-ghost use Rattle.std.specs.Prelude.{◌≡◌, ℕ, true, false, None, IfOk};
-ghost use Rattle.system.specs.declared.answers.Answer.TheVariants.{Stop, Told};
-ghost use Rattle.run_lanes.specs.declared.subject.Subject.TheVariants.{Tell};
+ghost use Rattle.std.specs.Prelude.{◌≡◌, ◌++◌, ◌∷◌, ℕ, [], true, false, None, Some, IfOk, OnOk};
+ghost use Rattle.system.specs.declared.answers.Answer.{Answer as TheAnswer};
+ghost use Rattle.system.specs.declared.answers.Answer.TheVariants.{Thread, Stop, Asked, Opened, Closed, Told, Refused};
+ghost use Rattle.system.specs.declared.events.Act.{Act as TheAct};
+ghost use Rattle.replay.specs.declared.engine.Reply.TheVariants.{Answered};
+ghost use Rattle.run_lanes.specs.declared.subject.Subject.TheVariants.{Size, Place, Tell};
+ghost use Rattle.run_lanes.specs.Rows.{vacant_row};
+ghost use Rattle.run_lanes.specs.Threads.{lane_at};
 ghost use Rattle.run_lanes.specs.Requests.{lane_in};
-ghost use Rattle.run_lanes.specs.Lanes.{served_by, serves, is_stop, is_accepted};
+ghost use Rattle.run_lanes.specs.Lanes.{served_by, serves, is_stop, is_accepted, is_bad, lines, or_lines, lane_of_target, told_lane, looked_at, IsAbout};
 
 use crate::codes::Codes;
 use crate::looks::{LINES, Lane};
@@ -62,7 +67,9 @@ fn tied(lane: Lane, tie: Option<Lane>) -> Spot
     }
 }
 
-fn or_lines(lane: Option<Lane>) -> Lane {
+fn or_lines(lane: Option<Lane>) -> Lane
+    ensures { result ≡ or_lines lane }
+{
     match lane {
         Some(lane) => lane,
         None => LINES,
@@ -71,7 +78,16 @@ fn or_lines(lane: Option<Lane>) -> Lane {
 
 impl Lanes {
     /// The lanes before the first line. Lines are painted from this one on.
-    pub fn new(alloc: Global, first: u64) -> Lanes {
+    pub fn new(alloc: Global, first: u64) -> Lanes
+        ensures first { result.painted.first ≡ first }
+        ensures spans { result.painted.spans.items ≡ [] }
+        ensures lives { result.painted.lives.items ≡ [] }
+        ensures sizes { result.sizes ≡ None }
+        ensures places { result.threads.places.items ≡ [] }
+        ensures newest { result.threads.newest ≡ 0 }
+        ensures asked { result.operations.asked.items ≡ [] }
+        ensures kept { result.codes.kept.items ≡ [] }
+    {
         Lanes {
             painted: Painted::new(alloc, first),
             sizes: None,
@@ -82,7 +98,10 @@ impl Lanes {
     }
 
     /// The lines that are painted end before this one.
-    pub fn finish(&mut self, at: u64) -> Result<(), AllocError> {
+    pub fn finish(&mut self, at: u64) -> Result<(), AllocError>
+        ensures sizes { self.new.sizes ≡ self.old.sizes }
+        ensures first { self.new.painted.first ≡ self.old.painted.first }
+    {
         self.threads.finish(&mut self.painted, at)?;
         self.operations.finish(&mut self.painted, at)?;
         self.codes.finish(&mut self.painted, at)
@@ -92,6 +111,19 @@ impl Lanes {
     pub fn follow(&mut self, subject: Subject, reply: &Reply, at: u64) -> Result<Spot, AllocError>
         ensures untouched { is_accepted reply.now ≡ false → self.new ≡ self.old }
         ensures untied { is_accepted reply.now ≡ false → IfOk result (λ spot. (spot.tie ≡ None) × (spot.depth ≡ None)) }
+        ensures refused { (why : _) → reply.now ≡ Answered (Refused why) →
+            IfOk result (λ spot. IsAbout self.old.threads self.old.operations subject spot.lane) }
+        ensures bad { is_bad reply.now ≡ true → IfOk result (λ spot. spot.lane ≡ lines) }
+        ensures stop { (place : ℕ) (act : TheAct) (number : ℕ) → subject ≡ Place place act →
+            reply.now ≡ Answered (Stop number) →
+            IfOk result (λ spot. spot.tie ≡ lane_in self.old.operations.rows number) }
+        ensures served { (place : ℕ) (act : TheAct) (said : TheAnswer) → subject ≡ Place place act →
+            reply.now ≡ Answered said → is_accepted reply.now ≡ true →
+            serves act ≡ true → is_stop said ≡ false →
+            IfOk result (λ spot. spot.tie
+            ≡ served_by self.old.threads self.old.operations place act) }
+        ensures told { (name : ℕ) → subject ≡ Tell name → reply.now ≡ Answered Told →
+            IfOk result (λ spot. spot.tie ≡ lane_in self.old.threads.threads name) }
     {
         match reply {
             Reply::BadLine | Reply::BadSize => Ok(on(LINES)),
@@ -101,7 +133,9 @@ impl Lanes {
     }
 
     // The lane of what a line is about, if it has one yet.
-    fn lane_of(&self, subject: &Subject) -> Lane {
+    fn lane_of(&self, subject: &Subject) -> Lane
+        ensures { IsAbout self.now.threads self.now.operations subject.now result }
+    {
         or_lines(match subject {
             Subject::Place(place, _) => self.threads.lane(*place),
             Subject::Code(serial, _) => self.codes.lane(*serial),
@@ -114,14 +148,30 @@ impl Lanes {
     }
 
     // The lane of the oldest open operation that lists a thread, or else of the thread.
-    fn lane_of_target(&self, name: u64) -> Option<Lane> {
+    fn lane_of_target(&self, name: u64) -> Option<Lane>
+        ensures { result ≡ lane_of_target self.now.threads self.now.operations name }
+    {
         match self.operations.listing(name) {
             Some(lane) => Some(lane),
             None => self.threads.lane_of(name),
         }
     }
 
-    fn accepted(&mut self, subject: Subject, answer: &Answer, at: u64) -> Result<Spot, AllocError> {
+    fn accepted(&mut self, subject: Subject, answer: &Answer, at: u64) -> Result<Spot, AllocError>
+        ensures stop { (place : ℕ) (act : TheAct) (number : ℕ) → subject ≡ Place place act →
+            answer.now ≡ Stop number →
+            IfOk result (λ spot. spot.tie ≡ lane_in self.old.operations.rows number) }
+        ensures served { (place : ℕ) (act : TheAct) → subject ≡ Place place act →
+            serves act ≡ true → is_stop answer.now ≡ false →
+            IfOk result (λ spot. spot.tie
+            ≡ served_by self.old.threads self.old.operations place act) }
+        ensures told { (name : ℕ) → subject ≡ Tell name → answer.now ≡ Told →
+            IfOk result (λ spot. spot.tie ≡ lane_in self.old.threads.threads name) }
+        ensures sized { (places slots methods : ℕ) → subject ≡ Size places slots methods →
+            IfOk result (λ spot. (spot ≡ record { lane = lines; tie = None; depth = None })
+            × (self.new.sizes
+            ≡ Some (record { places = places; slots = slots; methods = methods }))) }
+    {
         match subject {
             Subject::Place(place, act) => self.at_place(place, act, answer, at),
             Subject::Code(serial, touch) => self.on_code(serial, touch, answer, at),
@@ -148,6 +198,9 @@ impl Lanes {
     ) -> Result<Spot, AllocError>
         ensures stop { (number : ℕ) → answer.now ≡ Stop number → IfOk result (λ spot. spot.tie ≡ lane_in self.old.operations.rows number) }
         ensures served { serves act ≡ true → is_stop answer.now ≡ false → IfOk result (λ spot. spot.tie ≡ served_by self.old.threads self.old.operations place act) }
+        ensures lane { IfOk result (λ spot. spot.lane
+            ≡ or_lines (lane_at self.new.threads.threads place)) }
+        ensures sizes { self.new.sizes ≡ self.old.sizes }
     {
         let tie = self.tie_of(place, act, answer);
         let before = self.threads.depth(place);
@@ -189,7 +242,13 @@ impl Lanes {
         touch: Touch,
         answer: &Answer,
         at: u64,
-    ) -> Result<Spot, AllocError> {
+    ) -> Result<Spot, AllocError>
+        ensures tie { IfOk result (λ spot. spot.tie
+            ≡ looked_at self.old.threads.threads touch answer.now) }
+        ensures depth { IfOk result (λ spot. spot.depth ≡ None) }
+        ensures others { (self.new.threads ≡ self.old.threads)
+            × (self.new.operations ≡ self.old.operations) × (self.new.sizes ≡ self.old.sizes) }
+    {
         let lane = or_lines(self.codes.lane(serial));
         self.codes
             .follow(&mut self.painted, serial, touch, answer, at)?;
@@ -210,7 +269,22 @@ impl Lanes {
         Ok(tied(lane, replaced))
     }
 
-    fn ask(&mut self, request: Request, answer: &Answer, at: u64) -> Result<Spot, AllocError> {
+    fn ask(&mut self, request: Request, answer: &Answer, at: u64) -> Result<Spot, AllocError>
+        ensures asked { (number : ℕ) → answer.now ≡ Asked number →
+            IfOk result (λ spot. spot ≡ record {
+              lane = record {
+                group = self.old.operations.rows.group;
+                row = vacant_row at self.old.operations.rows.rows.items;
+              };
+              tie = None;
+              depth = None;
+            }) }
+        ensures waits { (number : ℕ) → answer.now ≡ Asked number →
+            OnOk result (self.new.operations.asked.items ≡ self.old.operations.asked.items
+            ++ record { number = number; request = request; newest = None } ∷ []) }
+        ensures others { (self.new.threads ≡ self.old.threads)
+            × (self.new.codes ≡ self.old.codes) × (self.new.sizes ≡ self.old.sizes) }
+    {
         let Answer::Asked(number) = answer else {
             return Ok(on(LINES));
         };
@@ -220,12 +294,22 @@ impl Lanes {
         Ok(on(lane))
     }
 
-    fn on_whole(
-        &mut self,
-        subject: &Subject,
-        answer: &Answer,
-        at: u64,
-    ) -> Result<Spot, AllocError> {
+    fn on_whole(&mut self, subject: &Subject, answer: &Answer, at: u64) -> Result<Spot, AllocError>
+        ensures started { (name place : ℕ) → answer.now ≡ Thread name place →
+            IfOk result (λ spot. (spot.lane
+            ≡ record { group = self.old.threads.threads.group; row = place })
+            × (spot.tie ≡ None) × (self.new.threads.newest ≡ name)) }
+        ensures opened { (number : ℕ) (kind : _) → answer.now ≡ Opened number kind →
+            IfOk result (λ spot. (spot.lane
+            ≡ or_lines (lane_in self.new.operations.rows number)) × (spot.tie ≡ None)) }
+        ensures closed { (number : ℕ) → answer.now ≡ Closed number →
+            IfOk result (λ spot. (spot.lane
+            ≡ or_lines (lane_in self.old.operations.rows number)) × (spot.tie ≡ None)) }
+        ensures told { (name : ℕ) → subject.now ≡ Tell name → answer.now ≡ Told →
+            IfOk result (λ spot. spot.tie ≡ lane_in self.old.threads.threads name) }
+        ensures codes { self.new.codes ≡ self.old.codes }
+        ensures sizes { self.new.sizes ≡ self.old.sizes }
+    {
         match answer {
             Answer::Thread(name, place) => {
                 let lane = self.threads.start(&mut self.painted, *name, *place, at)?;
@@ -249,7 +333,10 @@ impl Lanes {
 
     // The thread of this name is told an operation, whose lane this is.
     fn tell(&mut self, name: u64) -> Option<Lane>
-        ensures { self.new.threads ≡ self.old.threads }
+        ensures threads { self.new.threads ≡ self.old.threads }
+        ensures codes { self.new.codes ≡ self.old.codes }
+        ensures sizes { self.new.sizes ≡ self.old.sizes }
+        ensures lane { result ≡ told_lane self.old.threads self.old.operations name }
     {
         let place = self.threads.place_of(name)?;
         self.operations.tell(place, name)
@@ -258,6 +345,11 @@ impl Lanes {
     // A thread is told, or nothing changes.
     fn told(&mut self, subject: &Subject, answer: &Answer) -> Result<Spot, AllocError>
         ensures told { (name : ℕ) → subject.now ≡ Tell name → answer.now ≡ Told → IfOk result (λ spot. spot.tie ≡ lane_in self.old.threads.threads name) }
+        ensures lane { (name : ℕ) → subject.now ≡ Tell name → answer.now ≡ Told →
+            IfOk result (λ spot. spot.lane
+            ≡ or_lines (told_lane self.old.threads self.old.operations name)) }
+        ensures codes { self.new.codes ≡ self.old.codes }
+        ensures sizes { self.new.sizes ≡ self.old.sizes }
     {
         match (subject, answer) {
             (Subject::Tell(name), Answer::Told) => {

@@ -1,9 +1,12 @@
 // What the lanes of the operations show.
-ghost use Rattle.std.specs.Prelude.{◌≡◌, ◌++◌, ◌∷◌, ℕ, [], OnOk, IfOk, None, Some, option_and_then, slice_get, slice_set};
+ghost use Rattle.std.specs.Prelude.{◌≡◌, ◌<◌, ◌++◌, ◌∷◌, ℕ, [], length, remove, OnOk, IfOk, None, Some, option_and_then, slice_get, slice_set};
+ghost use Rattle.std.specs.List.{position};
+ghost use Rattle.run_lanes.specs.declared.requests.Asked.{Asked as AskedOf};
+ghost use Rattle.run_lanes.specs.Painted.{drawn_life};
 ghost use Rattle.run_lanes.specs.declared.served.Served.{Served as ServedOf};
-ghost use Rattle.run_lanes.specs.Rows.{vacant_row};
+ghost use Rattle.run_lanes.specs.Rows.{shows, vacant_row, IsTurned};
 ghost use Rattle.run_lanes.specs.Served.{served_at};
-ghost use Rattle.run_lanes.specs.Requests.{lane_in, is_for, is_above, is_listing, first_listing, first_above, up_to, undone, uncleared};
+ghost use Rattle.run_lanes.specs.Requests.{lane_in, is_for, is_above, is_listing, first_listing, first_above, up_to, undone, uncleared, is_number, oldest_in, chosen_in, paint_of_kind, life_of};
 ghost use Rattle.run_lanes.specs.Lanes.{undone_of, uncleared_of};
 
 use crate::looks::{Group, Lane, Paint};
@@ -47,6 +50,16 @@ impl Asked {
     }
 }
 
+// The colour of an open operation.
+fn paint_of_kind(kind: Kind) -> Paint
+    ensures { result ≡ paint_of_kind kind }
+{
+    match kind {
+        Kind::Handshake => Paint::Handshake,
+        Kind::Census => Paint::Census,
+    }
+}
+
 // The number, where it isn't above the last.
 fn up_to(last: u64, number: u64) -> Option<u64>
     ensures { result ≡ up_to last number }
@@ -82,7 +95,9 @@ impl Operations {
     }
 
     /// The lane of the operation of this number, or without one of the oldest that is open.
-    pub(crate) fn chosen(&self, number: Option<u64>) -> Option<Lane> {
+    pub(crate) fn chosen(&self, number: Option<u64>) -> Option<Lane>
+        ensures { result ≡ chosen_in self.now.rows number self.now.asked.items }
+    {
         match number {
             Some(number) => self.lane_of(number),
             None => self.oldest(),
@@ -90,7 +105,9 @@ impl Operations {
     }
 
     /// The lane of the oldest open operation.
-    pub(crate) fn oldest(&self) -> Option<Lane> {
+    pub(crate) fn oldest(&self) -> Option<Lane>
+        ensures { result ≡ oldest_in self.now.rows self.now.asked.items }
+    {
         let asked = self.asked.first()?;
         asked.newest?;
         self.lane_of(asked.number)
@@ -132,7 +149,9 @@ impl Operations {
         Ok(self.rows.lane(row))
     }
 
-    fn find(&self, number: u64) -> Option<usize> {
+    fn find(&self, number: u64) -> Option<usize>
+        ensures { result ≡ position (is_number number) self.now.asked.items }
+    {
         self.asked.iter().position(|asked| asked.number == number)
     }
 
@@ -144,7 +163,22 @@ impl Operations {
         kind: Kind,
         newest: u64,
         at: u64,
-    ) -> Result<(), AllocError> {
+    ) -> Result<(), AllocError>
+        ensures opened { (place : ℕ) (kept : AskedOf) →
+            position (is_number number) self.old.asked.items ≡ Some place →
+            slice_get self.old.asked.items place ≡ Some kept →
+            self.new.asked.items
+            ≡ slice_set self.old.asked.items place (record kept { newest = Some newest }) }
+        ensures unknown { position (is_number number) self.old.asked.items ≡ None →
+            self.new.asked ≡ self.old.asked }
+        ensures served { self.new.served ≡ self.old.served }
+        ensures group { self.new.rows.group ≡ self.old.rows.group }
+        ensures lives { painted.new.lives.items ≡ painted.old.lives.items }
+        ensures painted { OnOk result ((row : ℕ) →
+            position (λ row. shows row number) self.old.rows.rows.items ≡ Some row →
+            IsTurned self.old.rows.rows.items self.new.rows.rows.items row
+            (Some (paint_of_kind kind)) at) }
+    {
         if let Some(place) = self.find(number) {
             if let Some(asked) = self.asked.get_mut(place) {
                 asked.newest = Some(newest);
@@ -153,11 +187,7 @@ impl Operations {
         let Some(row) = self.rows.find(number) else {
             return Ok(());
         };
-        let paint = match kind {
-            Kind::Handshake => Paint::Handshake,
-            Kind::Census => Paint::Census,
-        };
-        self.rows.turn(painted, row, Some(paint), at)
+        self.rows.turn(painted, row, Some(paint_of_kind(kind)), at)
     }
 
     /// A thread starts at the place.
@@ -236,6 +266,12 @@ impl Operations {
         at: u64,
     ) -> Result<(), AllocError>
         ensures served { self.new.served ≡ self.old.served }
+        ensures group { self.new.rows.group ≡ self.old.rows.group }
+        ensures closed { (place : ℕ) →
+            position (is_number number) self.old.asked.items ≡ Some place →
+            self.new.asked.items ≡ remove self.old.asked.items place }
+        ensures unknown { position (is_number number) self.old.asked.items ≡ None →
+            (self.new ≡ self.old) × (painted.new ≡ painted.old) }
     {
         let Some(place) = self.find(number) else {
             return Ok(());
@@ -245,7 +281,21 @@ impl Operations {
 
     // The lane of the operation at this place of the list is free again.
     fn end(&mut self, painted: &mut Painted, place: usize, at: u64) -> Result<(), AllocError>
-        ensures { self.new.served ≡ self.old.served }
+        ensures served { self.new.served ≡ self.old.served }
+        ensures group { self.new.rows.group ≡ self.old.rows.group }
+        ensures first { painted.new.first ≡ painted.old.first }
+        ensures asked { place < length self.old.asked.items →
+            self.new.asked.items ≡ remove self.old.asked.items place }
+        ensures life { OnOk result ((kept : AskedOf) (row : ℕ) →
+            slice_get self.old.asked.items place ≡ Some kept →
+            position (λ row. shows row kept.number) self.old.rows.rows.items ≡ Some row →
+            painted.new.lives.items
+            ≡ painted.old.lives.items
+            ++ drawn_life painted.old.first (life_of self.old.rows kept row at)) }
+        ensures vacant { OnOk result ((kept : AskedOf) (row : ℕ) →
+            slice_get self.old.asked.items place ≡ Some kept →
+            position (λ row. shows row kept.number) self.old.rows.rows.items ≡ Some row →
+            IsTurned self.old.rows.rows.items self.new.rows.rows.items row None at) }
     {
         if place >= self.asked.len() {
             return Ok(());
@@ -264,7 +314,11 @@ impl Operations {
     }
 
     /// The lines end.
-    pub(crate) fn finish(&mut self, painted: &mut Painted, at: u64) -> Result<(), AllocError> {
+    pub(crate) fn finish(&mut self, painted: &mut Painted, at: u64) -> Result<(), AllocError>
+        ensures served { self.new.served ≡ self.old.served }
+        ensures group { self.new.rows.group ≡ self.old.rows.group }
+        ensures first { painted.new.first ≡ painted.old.first }
+    {
         for _ in 0..self.asked.len() {
             self.end(painted, 0, at)?;
         }

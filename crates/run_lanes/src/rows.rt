@@ -176,6 +176,8 @@ impl Rows {
     /// The lines end: what the rows show is spans.
     pub(crate) fn finish(&mut self, painted: &mut Painted, at: u64) -> Result<(), AllocError>
         ensures lives { painted.new.lives.items ≡ painted.old.lives.items }
+        ensures group { self.new.group ≡ self.old.group }
+        ensures first { painted.new.first ≡ painted.old.first }
     {
         for row in 0..self.rows.len() {
             self.turn(painted, row, None, at)?;

@@ -1,10 +1,15 @@
 // What the lanes of the places show.
-ghost use Rattle.std.specs.Prelude.{◌≡◌, ◌<◌, ◌^◌, ◌-◌, [], OnOk, IfOk, IfSome, Some, None, option_map, option_and_then, unwrap_or, slice_get};
+ghost use Rattle.std.specs.Prelude.{◌≡◌, ◌<◌, ◌^◌, ◌-◌, ◌++◌, ℕ, true, false, [], OnOk, IfOk, Some, None, option_map, option_and_then, unwrap_or, slice_get, slice_set};
 ghost use Rattle.std.specs.List.{position};
-ghost use Rattle.run_lanes.specs.Rows.{shows};
+ghost use Rattle.system.specs.declared.events.Act.TheVariants.{Begin, End, Hold, Release, Exit};
+ghost use Rattle.run_lanes.specs.declared.looks.Paint.TheVariants.{Publishing, Held};
+ghost use Rattle.run_lanes.specs.declared.threads.Thread.{Thread as ThreadOf};
+ghost use Rattle.run_lanes.specs.Looks.{paint_of};
+ghost use Rattle.run_lanes.specs.Painted.{drawn_life};
+ghost use Rattle.run_lanes.specs.Rows.{shows, IsTurned};
 ghost use Rattle.run_lanes.specs.Lanes.{name_at};
 ghost use Rattle.run_lanes.specs.Requests.{lane_in};
-ghost use Rattle.run_lanes.specs.Threads.{state_after, depth_after};
+ghost use Rattle.run_lanes.specs.Threads.{state_after, depth_after, is_bar, is_going, nobody, lane_at, thread_life};
 
 use crate::looks::{Group, Lane, Paint};
 use crate::painted::{Name, Painted};
@@ -53,7 +58,7 @@ impl Threads {
 
     /// The lane of a place, if it ever had a thread.
     pub(crate) fn lane(&self, place: usize) -> Option<Lane>
-        ensures { IfSome result (λ lane. lane ≡ record { group = self.now.threads.group; row = place }) }
+        ensures { result ≡ lane_at self.now.threads place }
     {
         if place < self.threads.len() {
             Some(self.threads.lane(place))
@@ -130,7 +135,28 @@ impl Threads {
         act: Act,
         answer: &Answer,
         at: u64,
-    ) -> Result<(), AllocError> {
+    ) -> Result<(), AllocError>
+        ensures newest { self.new.newest ≡ self.old.newest }
+        ensures begin { act ≡ Begin → OnOk result (IsTurned self.old.publications.rows.items
+            self.new.publications.rows.items place (Some Publishing) at) }
+        ensures end { act ≡ End → OnOk result (IsTurned self.old.publications.rows.items
+            self.new.publications.rows.items place None at) }
+        ensures hold { act ≡ Hold → OnOk result (IsTurned self.old.holds.rows.items
+            self.new.holds.rows.items place (Some Held) at) }
+        ensures release { act ≡ Release → OnOk result (IsTurned self.old.holds.rows.items
+            self.new.holds.rows.items place None at) }
+        ensures bars { is_bar act ≡ true →
+            (self.new.threads ≡ self.old.threads) × (self.new.places ≡ self.old.places) }
+        ensures exit { act ≡ Exit → OnOk result ((name : ℕ) → name_at self.old place ≡ Some name →
+            painted.new.lives.items ≡ painted.old.lives.items
+            ++ drawn_life painted.old.first (thread_life self.old.threads name place at)) }
+        ensures others { is_bar act ≡ false → (self.new.publications ≡ self.old.publications)
+            × (self.new.holds ≡ self.old.holds) }
+        ensures state { is_going act ≡ true → OnOk result
+            (option_map (λ thread. thread.state) (slice_get self.new.places.items place)
+            ≡ option_map (λ thread. state_after thread.state act answer.now)
+            (slice_get self.old.places.items place)) }
+    {
         match act {
             Act::Begin => {
                 self.publications
@@ -154,6 +180,13 @@ impl Threads {
         at: u64,
     ) -> Result<(), AllocError>
         ensures newest { self.new.newest ≡ self.old.newest }
+        ensures bars { (self.new.publications ≡ self.old.publications)
+            × (self.new.holds ≡ self.old.holds) }
+        ensures lives { painted.new.lives.items ≡ painted.old.lives.items }
+        ensures colour { OnOk result ((thread : ThreadOf) →
+            slice_get self.old.places.items place ≡ Some thread →
+            IsTurned self.old.threads.rows.items self.new.threads.rows.items place
+            (paint_of (state_after thread.state act answer.now)) at) }
         ensures state { OnOk result (option_map (λ thread. thread.state) (slice_get self.new.places.items place) ≡ option_map (λ thread. state_after thread.state act answer.now) (slice_get self.old.places.items place)) }
     {
         let Some(thread) = self.places.get_mut(place) else {
@@ -166,7 +199,22 @@ impl Threads {
     }
 
     // The thread at the place ends.
-    fn exit(&mut self, painted: &mut Painted, place: usize, at: u64) -> Result<(), AllocError> {
+    fn exit(&mut self, painted: &mut Painted, place: usize, at: u64) -> Result<(), AllocError>
+        ensures newest { self.new.newest ≡ self.old.newest }
+        ensures bars { (self.new.publications ≡ self.old.publications)
+            × (self.new.holds ≡ self.old.holds) }
+        ensures first { painted.new.first ≡ painted.old.first }
+        ensures nobody { name_at self.old place ≡ None →
+            (self.new ≡ self.old) × (painted.new ≡ painted.old) }
+        ensures life { OnOk result ((name : ℕ) → name_at self.old place ≡ Some name →
+            painted.new.lives.items ≡ painted.old.lives.items
+            ++ drawn_life painted.old.first (thread_life self.old.threads name place at)) }
+        ensures vacant { (name : ℕ) (kept : ThreadOf) → name_at self.old place ≡ Some name →
+            slice_get self.old.places.items place ≡ Some kept →
+            self.new.places.items ≡ slice_set self.old.places.items place nobody }
+        ensures row { OnOk result ((name : ℕ) → name_at self.old place ≡ Some name →
+            IsTurned self.old.threads.rows.items self.new.threads.rows.items place None at) }
+    {
         let Some(name) = self.threads.number(place) else {
             return Ok(());
         };
@@ -179,7 +227,10 @@ impl Threads {
     }
 
     /// The lines end.
-    pub(crate) fn finish(&mut self, painted: &mut Painted, at: u64) -> Result<(), AllocError> {
+    pub(crate) fn finish(&mut self, painted: &mut Painted, at: u64) -> Result<(), AllocError>
+        ensures newest { self.new.newest ≡ self.old.newest }
+        ensures first { painted.new.first ≡ painted.old.first }
+    {
         for place in 0..self.threads.len() {
             self.exit(painted, place, at)?;
         }
