@@ -1,6 +1,5 @@
 //! What the main thread does meanwhile: it installs, invalidates and reclaims codes, and asks the other threads.
 ghost use Rattle.std.specs.Prelude.{◌≡◌};
-ghost use Rattle.poll.specs.Rows.{full_armer};
 
 use crate::asked::{AskedList, jobs_of};
 use crate::codes::Codes;
@@ -14,8 +13,8 @@ use bodies::Name;
 use coordinator::{Coordinator, NotReclaimed, ReclaimFault, Reclaimed};
 use desk::CodeFault;
 use method_table::table::{InstallFault, InvalidateFault};
+use operations::Ask;
 use operations::job::Query;
-use poll::Armer;
 use std::alloc::{AllocError, Global};
 use std::sync::Wait;
 use std::thread;
@@ -29,16 +28,16 @@ const YIELDS: u64 = 128;
 
 /// The main thread's part of a run.
 #[derive(Drop)]
-pub struct Driver<'a, N: Name, R> {
-    pub(crate) rt: &'a R,
+pub struct Driver<'c, 'a, N: Name, R> {
+    pub(crate) rt: &'c R,
     pub(crate) alloc: Global,
-    pub(crate) shared: &'a Shared<N, Query>,
-    pub(crate) signals: &'a Signals,
-    pub(crate) coordinator: Coordinator<'a, N, Query>,
+    pub(crate) shared: &'c Shared<N, Query>,
+    pub(crate) signals: &'c Signals,
+    pub(crate) coordinator: &'c mut Coordinator<'a, N, Query>,
     pub(crate) places: usize,
     pub(crate) choices: Choices,
     pub(crate) codes: Codes,
-    pub(crate) words: Words<'a, N, Query>,
+    pub(crate) words: Words<'c, N, Query>,
     pub(crate) asked: AskedList,
     /// What the last census counted.
     pub(crate) counted: Vec<(u64, u32)>,
@@ -75,43 +74,60 @@ pub struct Sizes {
     pub methods: u32,
 }
 
-impl<'a, N: Name, R: Wait> Driver<'a, N, R> {
+/// What a run is to be.
+#[derive(Clone, Copy, Drop)]
+pub struct Plan {
+    pub sizes: Sizes,
+    pub rounds: u64,
+    pub seed: u64,
+    /// How many threads exit for another in each round at most.
+    pub renewals: u64,
+    /// Whether what is closed is forgotten now and then.
+    pub forgets: bool,
+}
+
+impl<'c, 'a, N: Name, R: Wait> Driver<'c, 'a, N, R> {
     pub fn new(
-        rt: &'a R,
+        rt: &'c R,
         alloc: Global,
-        shared: &'a Shared<N, Query>,
-        signals: &'a Signals,
-        armer: Armer,
-        sizes: Sizes,
-        seed: u64,
-        forgets: bool,
-    ) -> Result<Driver<'a, N, R>, Wrong>
-        requires armer { armer ≡ full_armer N.poll_row N.board.places }
-        requires slots { sizes.slots ≡ N.board.slots }
+        shared: &'c Shared<N, Query>,
+        signals: &'c Signals,
+        coordinator: &'c mut Coordinator<'a, N, Query>,
+        plan: Plan,
+    ) -> Result<Driver<'c, 'a, N, R>, Wrong>
+        requires slots { plan.sizes.slots ≡ N.board.slots }
     {
-        let codes = Codes::new(alloc, sizes.methods, sizes.slots)?;
-        let Ok(coordinator) = Coordinator::new(shared, armer, alloc) else {
-            return Err(Wrong::NoMemory);
-        };
+        let codes = Codes::new(alloc, plan.sizes.methods, plan.sizes.slots)?;
         Ok(Driver {
             rt,
             alloc,
             shared,
             signals,
             coordinator,
-            places: sizes.places,
-            choices: Choices::new(seed),
+            places: plan.sizes.places,
+            choices: Choices::new(plan.seed),
             codes,
-            words: Words::new(shared, sizes.slots),
+            words: Words::new(shared, plan.sizes.slots),
             asked: AskedList::new(alloc),
             counted: Vec::new(alloc),
             tally: Tally::new(),
-            forgets,
+            forgets: plan.forgets,
         })
     }
 
-    /// Makes so many rounds, or as many as go well. In each so many threads more may exit for another.
-    pub fn work(&mut self, rounds: u64, renewals: u64) -> Result<(), Wrong> {
+    /// Makes so many rounds. Answers what goes wrong first, behind which all is closed that was asked.
+    pub fn drive_threads(&mut self, rounds: u64, renewals: u64) -> Option<Wrong> {
+        match self.work(rounds, renewals) {
+            Ok(()) => None,
+            Err(found) => {
+                self.close_all();
+                Some(found)
+            }
+        }
+    }
+
+    // Makes so many rounds, or as many as go well. In each so many threads more may exit for another.
+    fn work(&mut self, rounds: u64, renewals: u64) -> Result<(), Wrong> {
         for round in 0..rounds {
             self.signals.allow(round.saturating_mul(renewals));
             self.round()?;
@@ -125,6 +141,12 @@ impl<'a, N: Name, R: Wait> Driver<'a, N, R> {
         for _ in 0..self.choices.below(YIELDS) {
             thread::yield_now();
         }
+        self.change_codes()?;
+        self.ask_something()?;
+        self.reclaim()
+    }
+
+    fn change_codes(&mut self) -> Result<(), Wrong> {
         for _ in 0..self.choices.below(CODE_ACTS) {
             let method = self.pick_method();
             if self.choices.one_in(2) {
@@ -133,6 +155,10 @@ impl<'a, N: Name, R: Wait> Driver<'a, N, R> {
                 self.invalidate(method)?;
             }
         }
+        Ok(())
+    }
+
+    fn ask_something(&mut self) -> Result<(), Wrong> {
         match self.choices.below(8) {
             0 => self.ask_and_drive(),
             1 | 2 => self.ask_and_drive_four(),
@@ -141,8 +167,7 @@ impl<'a, N: Name, R: Wait> Driver<'a, N, R> {
             5 => self.shake_four_by_hand(),
             6 => self.reclaim_with_jobs(),
             _ => self.reclaim(),
-        }?;
-        self.reclaim()
+        }
     }
 
     fn pick_method(&mut self) -> u32 {
@@ -154,22 +179,31 @@ impl<'a, N: Name, R: Wait> Driver<'a, N, R> {
 
     // Installs a code for the method, which is refused where no slot is free. Where the method has one, that is out of use then.
     fn install(&mut self, method: u32) -> Result<(), Wrong> {
-        let replaced = self.codes.current(method);
         let are_full = self.codes.are_full();
-        match self.shared.install(self.rt, method) {
-            Ok((serial, _receipt)) => {
-                if are_full {
-                    return Err(Wrong::Answer(Step::Install));
-                }
-                if let Some(old) = replaced {
-                    self.signals.note_invalidated(method, old);
-                    self.codes.note_invalidated(method, old)?;
-                }
+        match self.try_install(method) {
+            Ok(serial) if !are_full => {
+                self.note_replaced(method)?;
                 self.note_installed(method, serial)
             }
             Err(CodeFault::Install(InstallFault::TableFull)) if are_full => Ok(()),
-            Err(_) => Err(Wrong::Answer(Step::Install)),
+            _ => Err(Wrong::Answer(Step::Install)),
         }
+    }
+
+    fn try_install(&self, method: u32) -> Result<u64, CodeFault> {
+        match self.shared.install(self.rt, method) {
+            Ok((serial, _receipt)) => Ok(serial),
+            Err(fault) => Err(fault),
+        }
+    }
+
+    // The code that the method had is invalidated.
+    fn note_replaced(&mut self, method: u32) -> Result<(), Wrong> {
+        if let Some(old) = self.codes.current(method) {
+            self.signals.note_invalidated(method, old);
+            self.codes.note_invalidated(method, old)?;
+        }
+        Ok(())
     }
 
     // A code was installed, and is its method's hint.
@@ -237,17 +271,27 @@ impl<'a, N: Name, R: Wait> Driver<'a, N, R> {
         };
         let live = self.shared.live(self.rt)?;
         let ask = self.pick_ask();
-        let jobs = jobs_of(self.alloc, live.as_slice(), ask)?;
-        let came = self.try_reclaim(serial, jobs);
-        if let Came::Open | Came::Wrong = came {
-            return Err(Wrong::Answer(Step::Reclaim));
-        }
+        let came = self.reclaim_asking(serial, live.as_slice(), ask)?;
         // The replies are of stacks on which the code may have stood before it was freed.
-        if !live.is_empty() {
-            let op = self.asked.note(Some(ask), live)?;
-            self.check_handshake(op)?;
-        }
+        self.check_asked(live, ask)?;
         self.note_reclaimed(serial, came)
+    }
+
+    fn reclaim_asking(&mut self, serial: u64, names: &[u64], ask: Ask) -> Result<Came, Wrong> {
+        let jobs = jobs_of(self.alloc, names, ask)?;
+        match self.try_reclaim(serial, jobs) {
+            Came::Open | Came::Wrong => Err(Wrong::Answer(Step::Reclaim)),
+            came => Ok(came),
+        }
+    }
+
+    // A handshake of these names was just closed, where there are any.
+    fn check_asked(&mut self, names: Vec<u64>, ask: Ask) -> Result<(), Wrong> {
+        if names.is_empty() {
+            return Ok(());
+        }
+        let op = self.asked.note(Some(ask), names)?;
+        self.check_handshake(op)
     }
 
     fn try_reclaim(&mut self, serial: u64, jobs: Vec<Query>) -> Came {
@@ -300,25 +344,39 @@ impl<'a, N: Name, R: Wait> Driver<'a, N, R> {
 
     /// After all threads exited: none is live, each code is freed once it is invalidated, and nothing is counted.
     pub fn finish(&mut self) -> Result<(), Wrong> {
-        let live = self.shared.live(self.rt)?;
-        if !live.is_empty() {
+        if self.is_any_live()? {
             return Err(Wrong::Live);
         }
+        self.invalidate_all()?;
+        self.reclaim_all()?;
+        match self.shared.peek_counts() {
+            0 => Ok(()),
+            sum => Err(Wrong::Counted(sum)),
+        }
+    }
+
+    fn is_any_live(&self) -> Result<bool, AllocError> {
+        let live = self.shared.live(self.rt)?;
+        Ok(!live.is_empty())
+    }
+
+    fn invalidate_all(&mut self) -> Result<(), Wrong> {
         for method in 0..self.shared.methods() {
             if self.codes.current(method).is_some() {
                 self.invalidate(method)?;
             }
         }
+        Ok(())
+    }
+
+    fn reclaim_all(&mut self) -> Result<(), Wrong> {
         for _ in 0..self.codes.last() {
             let Some(serial) = self.codes.left(0) else {
                 break;
             };
             self.reclaim_last(serial)?;
         }
-        match self.shared.peek_counts() {
-            0 => Ok(()),
-            sum => Err(Wrong::Counted(sum)),
-        }
+        Ok(())
     }
 
     // A code on which no thread can stand is freed.

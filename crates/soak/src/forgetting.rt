@@ -1,5 +1,6 @@
 //! The main thread compares what the threads saw where they stopped, and forgets what is closed.
 use crate::driver::Driver;
+use crate::tally::Seen;
 use crate::verdict::check_reply;
 use crate::wrong::Wrong;
 use bodies::Name;
@@ -8,16 +9,20 @@ use std::sync::Wait;
 // What is closed is forgotten once in so many times where it may be.
 const TIMES: u64 = 6;
 
-impl<'a, N: Name, R: Wait> Driver<'a, N, R> {
+impl<'c, 'a, N: Name, R: Wait> Driver<'c, 'a, N, R> {
     /// Each thread that stopped for an operation before this one has a reply of it, by the stack that it had there. Those are closed.
     pub fn check_stops(&mut self, op: u64) -> Result<(), Wrong> {
         for stop in self.signals.take_stops(self.rt, self.alloc) {
-            if stop.op < op {
-                check_reply(self.rt, self.shared, &self.asked, &stop)?;
-            } else {
-                self.signals.note_stop(self.rt, stop)?;
-            }
+            self.check_stop(op, stop)?;
         }
+        Ok(())
+    }
+
+    fn check_stop(&self, op: u64, stop: Seen) -> Result<(), Wrong> {
+        if stop.op < op {
+            return check_reply(self.rt, self.shared, &self.asked, &stop);
+        }
+        self.signals.note_stop(self.rt, stop)?;
         Ok(())
     }
 

@@ -26,8 +26,8 @@ mod words;
 mod wrong;
 
 use command::{Command, Form, read_words};
-use driver::Sizes;
-use running::{Plan, run};
+use driver::{Plan, Sizes};
+use running::run;
 use std::alloc::Global;
 use std::marker::Brand;
 use std::process::ExitCode;

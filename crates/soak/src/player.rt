@@ -81,47 +81,64 @@ impl<'a, N: Name, J: Errand, R: Wait> Player<'a, N, J, R> {
                     self.report.names = self.report.names.saturating_add(1);
                     return Some(thread);
                 }
-                Err(StartFault::SafepointOpen) => {}
-                Err(StartFault::NoMemory) => {
-                    self.note(Wrong::NoMemory);
-                    return None;
-                }
-                Err(_) => {
-                    self.note(Wrong::Answer(Step::Start));
-                    return None;
+                Err(fault) => {
+                    if !self.may_start(fault) {
+                        return None;
+                    }
                 }
             }
-            if self.signals.is_over() {
-                return None;
-            }
-            thread::yield_now();
         }
         unreachable!()
     }
 
+    // Whether a start may be tried again that was refused.
+    fn may_start(&mut self, fault: StartFault) -> bool {
+        match fault {
+            StartFault::SafepointOpen => {
+                if self.signals.is_over() {
+                    return false;
+                }
+                thread::yield_now();
+                true
+            }
+            StartFault::NoMemory => {
+                self.note(Wrong::NoMemory);
+                false
+            }
+            _ => {
+                self.note(Wrong::Answer(Step::Start));
+                false
+            }
+        }
+    }
+
     // Acts until the thread exits. Answers whether another is to start.
     fn live(&mut self, thread: Mutator<'a, N, J>) -> bool {
-        let rt = self.rt;
         let mut thread = thread;
-        let mut again = false;
-        for _ in rt.forever() {
-            if self.signals.is_over() {
-                break;
-            }
-            if self.choices.one_in(ACTS) && self.signals.may_renew() {
-                again = true;
-                break;
-            }
-            self.act(&mut thread);
-        }
+        let again = self.act_on(&mut thread);
         self.exit(thread);
         again
     }
 
+    // Acts until the thread is to exit. Answers whether another is to start.
+    fn act_on(&mut self, thread: &mut Mutator<'_, N, J>) -> bool {
+        let rt = self.rt;
+        for _ in rt.forever() {
+            if self.signals.is_over() {
+                return false;
+            }
+            if self.choices.one_in(ACTS) && self.signals.may_renew() {
+                return true;
+            }
+            self.act(thread);
+        }
+        unreachable!()
+    }
+
     fn act(&mut self, thread: &mut Mutator<'_, N, J>) {
         match self.choices.below(20) {
-            0 | 1 | 2 | 3 | 4 | 5 => self.call(thread),
-            6 | 7 | 8 | 9 | 10 | 11 => self.return_from(thread),
+            0..=5 => self.call(thread),
+            6..=11 => self.return_from(thread),
             12 | 13 => self.turn(thread),
             14 => self.publish(thread),
             15 => self.go_native(thread),
@@ -131,33 +148,42 @@ impl<'a, N: Name, J: Errand, R: Wait> Player<'a, N, J, R> {
         }
     }
 
-    // Calls a method by its hint. What was invalidated before isn't entered.
+    // Calls a method by its hint, where there is any.
     fn call(&mut self, thread: &mut Mutator<'_, N, J>) {
         let methods = self.shared.methods();
-        if methods == 0 {
-            return;
+        if methods != 0 {
+            let method = self.choices.below(methods as u64) as u32;
+            self.call_method(thread, method);
         }
-        let method = self.choices.below(methods as u64) as u32;
+    }
+
+    // What was invalidated before isn't entered.
+    fn call_method(&mut self, thread: &mut Mutator<'_, N, J>, method: u32) {
         let hint = self.shared.hint(method);
         if self.choices.one_in(64) {
             thread::yield_now();
         }
         let invalidated = self.signals.invalidated(method);
         match thread.call(method, hint) {
-            Ok(Called::Compiled(serial)) => {
-                if serial <= invalidated {
-                    self.note(Wrong::Entered(serial));
-                }
-                self.report.compiled = self.report.compiled.saturating_add(1);
-                self.push(serial);
-            }
+            Ok(Called::Compiled(serial)) => self.enter(serial, invalidated),
             Ok(Called::Interpreted) => self.push(0),
-            Err(CallFault::DepthFull) => {
-                if self.stack.len() != DEEPEST {
-                    self.note(Wrong::Answer(Step::Call));
-                }
-            }
-            Err(_) => self.note(Wrong::Answer(Step::Call)),
+            Err(fault) => self.note_refused(fault),
+        }
+    }
+
+    // Code was entered. The codes up to the one serial were invalidated before.
+    fn enter(&mut self, serial: u64, invalidated: u64) {
+        if serial <= invalidated {
+            self.note(Wrong::Entered(serial));
+        }
+        self.report.compiled = self.report.compiled.saturating_add(1);
+        self.push(serial);
+    }
+
+    // A call was refused, which is right where the stack is full.
+    fn note_refused(&mut self, fault: CallFault) {
+        if fault != CallFault::DepthFull || self.stack.len() != DEEPEST {
+            self.note(Wrong::Answer(Step::Call));
         }
     }
 
@@ -297,18 +323,29 @@ impl<'a, N: Name, J: Errand, R: Wait> Player<'a, N, J, R> {
     }
 
     // Returns from all methods, and exits. A thread that may not exit tries again, since the others would wait for it.
-    fn exit(&mut self, thread: Mutator<'_, N, J>) {
+    fn exit(&mut self, thread: Mutator<'a, N, J>) {
         let rt = self.rt;
         let mut thread = thread;
         for _ in rt.forever() {
             self.unwind(&mut thread);
-            match thread.exit(rt) {
-                Ok(_receipt) => return,
-                Err((_, back)) => thread = back,
+            match refused_exit(rt, thread) {
+                None => return,
+                Some(back) => thread = back,
             }
             self.note(Wrong::Answer(Step::Exit));
             self.return_from(&mut thread);
         }
         unreachable!()
+    }
+}
+
+// The thread exits, or comes back where that is refused.
+fn refused_exit<'a, N: Name, J: Errand, R: Wait>(
+    rt: &R,
+    thread: Mutator<'a, N, J>,
+) -> Option<Mutator<'a, N, J>> {
+    match thread.exit(rt) {
+        Ok(_receipt) => None,
+        Err((_, back)) => Some(back),
     }
 }

@@ -56,16 +56,16 @@ fn least_of(ops: &[u64], other: u64) -> u64 {
     least
 }
 
-impl<'a, N: Name, R: Wait> Driver<'a, N, R> {
+impl<'c, 'a, N: Name, R: Wait> Driver<'c, 'a, N, R> {
     /// Some requests wait, and are driven one after the other. No code is reclaimed while one waits.
     pub fn ask_and_drive(&mut self) -> Result<(), Wrong> {
         let count = self.choices.below(BATCH) + 1;
         let last = self.submit_some(count)?;
         self.reclaim_in_vain()?;
-        self.may_forget(last.saturating_sub(count).saturating_add(1))?;
-        for before in 0..count {
-            let op = last.saturating_sub(count).saturating_add(before);
-            self.drive(op.saturating_add(1))?;
+        let before = last.saturating_sub(count);
+        self.may_forget(before.saturating_add(1))?;
+        for behind in 0..count {
+            self.drive(before.saturating_add(behind).saturating_add(1))?;
         }
         match self.drive_next() {
             Gone::Empty => Ok(()),
@@ -82,14 +82,18 @@ impl<'a, N: Name, R: Wait> Driver<'a, N, R> {
             return Err(Wrong::Answer(Step::Drive));
         }
         for before in 0..count {
-            let op = last.saturating_sub(before);
-            if self.is_census(op) {
-                self.tally.censuses = self.tally.censuses.saturating_add(1);
-            } else {
-                self.check_handshake(op)?;
-            }
+            self.check_closed(last.saturating_sub(before))?;
         }
         Ok(())
+    }
+
+    // A request that was just closed. The list of a census is gone.
+    fn check_closed(&mut self, op: u64) -> Result<(), Wrong> {
+        if self.is_census(op) {
+            self.tally.censuses = self.tally.censuses.saturating_add(1);
+            return Ok(());
+        }
+        self.check_handshake(op)
     }
 
     // Some requests wait. Answers the number of the last.
@@ -133,10 +137,15 @@ impl<'a, N: Name, R: Wait> Driver<'a, N, R> {
             return Ok(None);
         }
         let ask = self.pick_ask();
-        let jobs = jobs_of(self.alloc, live.as_slice(), ask)?;
-        let targets = Targets::from_vec(Vec::from_slice(self.alloc, live.as_slice())?);
-        self.ask(Request::Handshake { targets, ask }, jobs)?;
+        self.ask_names(ask, live.as_slice())?;
         Ok(Some(self.asked.note(Some(ask), live)?))
+    }
+
+    // A handshake of the names waits under the next number.
+    fn ask_names(&self, ask: Ask, names: &[u64]) -> Result<(), Wrong> {
+        let jobs = jobs_of(self.alloc, names, ask)?;
+        let targets = Targets::from_vec(Vec::from_slice(self.alloc, names)?);
+        self.ask(Request::Handshake { targets, ask }, jobs)
     }
 
     fn submit_census(&mut self) -> Result<u64, Wrong> {
@@ -211,13 +220,18 @@ impl<'a, N: Name, R: Wait> Driver<'a, N, R> {
 
     fn check_replies_of(&self, op: u64, replies: &[(u64, u64)]) -> Result<(), Wrong> {
         let live = self.shared.live(self.rt)?;
+        self.check_beside(op, live.as_slice(), replies)
+    }
+
+    // The replies, beside the names that are live.
+    fn check_beside(&self, op: u64, live: &[u64], replies: &[(u64, u64)]) -> Result<(), Wrong> {
         let Some(asked) = self.asked.of(op) else {
             return Err(Wrong::Answer(Step::Drive));
         };
         let Some(ask) = asked.ask else {
             return Err(Wrong::Answer(Step::Drive));
         };
-        check_names(op, asked.targets.as_slice(), live.as_slice(), replies)?;
+        check_names(op, asked.targets.as_slice(), live, replies)?;
         check_replies(op, ask, &self.codes, replies)
     }
 
@@ -259,17 +273,26 @@ impl<'a, N: Name, R: Wait> Driver<'a, N, R> {
         self.tell_live()?;
         self.operate()?;
         let are_counted = self.words.are(self.counted.as_slice(), &self.codes);
-        for place in 0..self.places {
-            self.is_released(place);
-        }
-        match self.try_close() {
-            Closed::Of(closed) if closed == op => {}
-            _ => return Err(Wrong::Answer(Step::Close)),
-        }
+        self.release_all();
+        self.close(op)?;
         if !are_counted {
             return Err(Wrong::Counts(op));
         }
         self.check_counted(op)
+    }
+
+    fn release_all(&mut self) {
+        for place in 0..self.places {
+            self.is_released(place);
+        }
+    }
+
+    // Closes the oldest request, which is to be this one.
+    fn close(&mut self, op: u64) -> Result<(), Wrong> {
+        match self.try_close() {
+            Closed::Of(closed) if closed == op => Ok(()),
+            _ => Err(Wrong::Answer(Step::Close)),
+        }
     }
 
     fn is_released(&mut self, place: usize) -> bool {
@@ -298,17 +321,22 @@ impl<'a, N: Name, R: Wait> Driver<'a, N, R> {
     fn operate(&mut self) -> Result<(), Wrong> {
         let rt = self.rt;
         for _ in rt.forever() {
-            for place in 0..self.places {
-                if let Held::NotFor | Held::Wrong = self.try_hold(place) {
-                    return Err(Wrong::Answer(Step::Hold));
-                }
-            }
+            self.hold_all()?;
             if self.is_operated()? {
                 return Ok(());
             }
             thread::yield_now();
         }
         unreachable!()
+    }
+
+    fn hold_all(&mut self) -> Result<(), Wrong> {
+        for place in 0..self.places {
+            if let Held::NotFor | Held::Wrong = self.try_hold(place) {
+                return Err(Wrong::Answer(Step::Hold));
+            }
+        }
+        Ok(())
     }
 
     // Whether the open census is operated, for which all must be held.

@@ -1,4 +1,5 @@
 //! The threads of a run.
+use crate::driver::Plan;
 use crate::lists::keep;
 use crate::player::play;
 use crate::signals::Signals;
@@ -16,14 +17,14 @@ pub fn start_all<'s, 'a: 's, N: Name + Send, J: Errand + Send, R: Threads + Wait
     scope: &Scope<'s, E>,
     rt: &'a R,
     alloc: Global,
-    places: usize,
-    seed: u64,
+    plan: Plan,
     shared: &'a Shared<N, J>,
     signals: &'a Signals,
     handles: &mut Vec<JoinHandle<Report>>,
 ) -> Result<(), Wrong> {
-    for place in 0..places {
-        let seed = seed
+    for place in 0..plan.sizes.places {
+        let seed = plan
+            .seed
             .wrapping_mul(1009)
             .wrapping_add(place as u64)
             .wrapping_add(1);
