@@ -33,6 +33,8 @@ from search import FOUND, Search
 
 CONFIRM = ROOT / "crates" / "confirm" / "out" / "confirm"
 TIMELINE = ROOT / "crates" / "timeline" / "out" / "timeline"
+# Where the log of a run goes that has no order.
+OUT = ROOT / "out"
 # Threads and seconds of a run of examples/jit.
 JIT_RUNS = ((1, "0.02"), (3, "0.1"))
 THREADS = (2, 3, 4, 6, 8, 12, 16)
@@ -266,6 +268,7 @@ def liars(tests):
 def many(tests, runs, first):
     """Prints how many runs have an order, and how long a processor read and searched their logs."""
     program = tests.built("many", TESTS / "witness_threads.c")
+    OUT.mkdir(exist_ok=True)
     found = calls = taken = slowest = 0
     for run in range(first, first + runs):
         count = 2 + run % 15
@@ -277,6 +280,8 @@ def many(tests, runs, first):
         why = None if search.run() == FOUND else "none was found"
         lasted = time.process_time() - begun
         why = why or tests.fault_of_order(log, order_text(log, search.made))
+        if why:
+            (OUT / f"run_{run}.log").write_text(log)
         found += tests.judge(f"{count} threads, run {run}: an order", why)
         calls, taken, slowest = calls + search.total, taken + lasted, max(slowest, lasted)
         if run % 100 == 99 or run == first + runs - 1:

@@ -75,8 +75,8 @@ class Windows:
         if not self.log.has_jobs:
             holds = [call for call in calls if call.call in HOLDS and not call.is_refused] + reclaims
             tells = [call for call in calls if call.call in TELLS and not call.is_refused] + reclaims
-        # A call that finds no code sees that it isn't installed yet.
-        self.mark("is_watched", reclaims + [call for call in calls if call.word == "Unknown"])
+        # A refusal may see that a code isn't installed yet, or still in use.
+        self.mark("is_watched", reclaims + [call for call in calls if call.word in ("Unknown", "NotInUse", "NotNotEntrant")])
         self.mark("is_held", holds)
         self.mark("is_told", tells)
         self.mark("is_queue_seen", [call for call in calls if call.call == "open" and call.is_refused or call.call.startswith(("drive", "reclaim"))])
