@@ -46,9 +46,15 @@ impl<N: Name> Steps<N> {
         place: usize,
     ) -> Result<(u64, BodyReceipt<N>), HoldFault>
         ensures held { IfOk result (λ r. HoldsBy (In (at desk.now)) self.old self.new place r.1) }
-        ensures number { IfOk result (λ r. progress (at desk.now) r.1.body.name (slice_index self.old.armer.armed place) ≡ IsUndone r.0) }
-        ensures refused { IfErr result (λ e. hold_refused_by (In (at desk.now)) self.old N.board.places place e × (self.new ≡ self.old)) }
-        ensures withheld { IfErr result (λ e. e ≡ HoldFault.NotSafe → (name : ℕ) × MayHoldBy (In (at desk.now)) self.old place name × Withholds room.old name place) }
+        ensures number { IfOk result
+            (λ r. progress (at desk.now) r.1.body.name (slice_index self.old.armer.armed place)
+            ≡ IsUndone r.0) }
+        ensures refused { IfErr result
+            (λ e. hold_refused_by (In (at desk.now)) self.old N.board.places place e
+            × (self.new ≡ self.old)) }
+        ensures withheld { IfErr result
+            (λ e. e ≡ HoldFault.NotSafe → (name : ℕ)
+            × MayHoldBy (In (at desk.now)) self.old place name × Withholds room.old name place) }
         ensures same { IfErr result (λ e. room.new ≡ room.old) }
     {
         let (name, number) = match self.holdable(desk, place) {
@@ -65,9 +71,14 @@ impl<N: Name> Steps<N> {
     // that it owes; or why there is none.
     #[tactic(auto, using(crate::proofs::Owing::owes))]
     fn holdable<J: Errand>(&self, desk: &Desk<N, J>, place: usize) -> Result<(u64, u64), HoldFault>
-        ensures may { IfOk result (λ r. (place < N.board.places) × MayHoldBy (In (at desk.now)) self.now place r.0) }
-        ensures number { IfOk result (λ r. progress (at desk.now) r.0 (slice_index self.now.armer.armed place) ≡ IsUndone r.1) }
-        ensures refused { IfErr result (λ e. hold_refused_by (In (at desk.now)) self.now N.board.places place e × (e ≢ HoldFault.NotSafe)) }
+        ensures may { IfOk result
+            (λ r. (place < N.board.places) × MayHoldBy (In (at desk.now)) self.now place r.0) }
+        ensures number { IfOk result
+            (λ r. progress (at desk.now) r.0 (slice_index self.now.armer.armed place)
+            ≡ IsUndone r.1) }
+        ensures refused { IfErr result
+            (λ e. hold_refused_by (In (at desk.now)) self.now N.board.places place e
+            × (e ≢ HoldFault.NotSafe)) }
     {
         if place >= self.places {
             return Err(HoldFault::NoSuchPlace);
@@ -107,9 +118,13 @@ impl<N: Name> Steps<N> {
         place: usize,
     ) -> Result<Option<BodyReceipt<N>>, ReleaseFault>
         ensures released { IfOk result (λ o. IfSome o (Releases self.old self.new place)) }
-        ensures again { IfOk result (λ o. IfNone o ((self.new ≡ self.old) × (room.new ≡ room.old))) }
+        ensures again { IfOk result
+            (λ o. IfNone o ((self.new ≡ self.old) × (room.new ≡ room.old))) }
         ensures elsewhere { IfOk result (λ o. IfNone o (IsElsewhere self.old place room.old)) }
-        ensures refused { IfErr result (λ e. (is_held place self.old.held ≡ false) × HasNoHeldBy (In (at desk.now)) N.board.places place e × (self.new ≡ self.old) × (room.new ≡ room.old)) }
+        ensures refused { IfErr result
+            (λ e. (is_held place self.old.held ≡ false)
+            × HasNoHeldBy (In (at desk.now)) N.board.places place e × (self.new ≡ self.old)
+            × (room.new ≡ room.old)) }
     {
         match self.release_held(room, place) {
             Some(released) => Ok(released),
@@ -117,7 +132,7 @@ impl<N: Name> Steps<N> {
         }
     }
 
-    /// The same without the desk. None where no thread of the place is held: `unheld` tells why.
+    /// Lets go of a held thread as `release` does, without the desk. None where no thread of the place is held: `unheld` tells why.
     #[inline(always)]
     pub fn release_held<J: Errand>(
         &mut self,
@@ -125,9 +140,11 @@ impl<N: Name> Steps<N> {
         place: usize,
     ) -> Option<Option<BodyReceipt<N>>>
         ensures released { IfSome result (λ o. IfSome o (Releases self.old self.new place)) }
-        ensures again { IfSome result (λ o. IfNone o ((self.new ≡ self.old) × (room.new ≡ room.old))) }
+        ensures again { IfSome result
+            (λ o. IfNone o ((self.new ≡ self.old) × (room.new ≡ room.old))) }
         ensures elsewhere { IfSome result (λ o. IfNone o (IsElsewhere self.old place room.old)) }
-        ensures refused { IfNone result ((is_held place self.old.held ≡ false) × (self.new ≡ self.old) × (room.new ≡ room.old)) }
+        ensures refused { IfNone result ((is_held place self.old.held ≡ false)
+            × (self.new ≡ self.old) × (room.new ≡ room.old)) }
     {
         let index = self.bodies.index_of(place)?;
         Some(self.bodies.release_into(index, room, self.operated))
@@ -146,12 +163,24 @@ impl<N: Name> Steps<N> {
     ) -> Result<Result<(u64, Finished<N>), Unserved>, ServeFault>
         requires board { board.now ≡ N.board }
         requires row { row.now ≡ N.poll_row }
-        ensures served { IfOk result (λ r. IfOk r (λ f. ServesBy (In (at desk.old)) self.old self.new place f.0 f.1)) }
-        ensures ran { IfOk result (λ r. IfOk r (λ f. Runs J.number J.whom J.asks J.may_answer f.0 f.1.ask f.1.body room.old room.new)) }
-        ensures left { IfOk result (λ r. IfErr r (Leaves J.number J.whom J.asks J.may_answer self.old self.new place room.old room.new)) }
-        ensures unserved { IfOk result (λ r. IfErr r (λ e. IsUnserved (at desk.old) self.old place room.old e × (desk.new ≡ desk.old))) }
-        ensures refused { IfErr result (λ e. serve_refused_by (In (at desk.old)) self.old N.board.places place e × (self.new ≡ self.old) × (desk.new ≡ desk.old)) }
-        ensures others { (self.new.armer ≡ self.old.armer) × (self.new.operated ≡ self.old.operated) }
+        ensures served { IfOk result
+            (λ r. IfOk r (λ f. ServesBy (In (at desk.old)) self.old self.new place f.0 f.1)) }
+        ensures ran { IfOk result
+            (λ r. IfOk r
+            (λ f. Runs J.number J.whom J.asks J.may_answer f.0 f.1.ask f.1.body room.old
+            room.new)) }
+        ensures left { IfOk result
+            (λ r. IfErr r
+            (Leaves J.number J.whom J.asks J.may_answer self.old self.new place room.old
+            room.new)) }
+        ensures unserved { IfOk result
+            (λ r. IfErr r
+            (λ e. IsUnserved (at desk.old) self.old place room.old e × (desk.new ≡ desk.old))) }
+        ensures refused { IfErr result
+            (λ e. serve_refused_by (In (at desk.old)) self.old N.board.places place e
+            × (self.new ≡ self.old) × (desk.new ≡ desk.old)) }
+        ensures others { (self.new.armer ≡ self.old.armer)
+            × (self.new.operated ≡ self.old.operated) }
     {
         let Some(index) = self.bodies.index_of(place) else {
             return Err(unserved(self.unheld(desk, place)));

@@ -32,7 +32,8 @@ impl<N: Name> Model for Steps<N> {
 
     ghost view = { λ c. record { held = c.bodies; armer = c.armer.seen; operated = c.operated } };
 
-    ghost invariant = { λ c. (c.armer.table ≡ N.poll_row) × (c.places ≡ length c.armer.seen.armed) × (c.places ≡ N.board.places) × (c.places ≤ 64) };
+    ghost invariant = { λ c. (c.armer.table ≡ N.poll_row) × (c.places ≡ length c.armer.seen.armed)
+        × (c.places ≡ N.board.places) × (c.places ≤ 64) };
 }
 
 impl<N: Name> Steps<N> {
@@ -69,9 +70,13 @@ impl<N: Name> Steps<N> {
         desk: &mut Desk<N, J>,
         number: Option<u64>,
     ) -> Result<(u64, Closing<N>), CloseFault>
-        ensures closed { IfOk result (λ r. Enters desk.old desk.new (Entry.Close r.0) r.1.stands × MayCloseIn (at desk.old) self.old number r.0) }
+        ensures closed { IfOk result
+            (λ r. Enters desk.old desk.new (Entry.Close r.0) r.1.stands
+            × MayCloseIn (at desk.old) self.old number r.0) }
         ensures same { OnOk result (self.new ≡ record self.old { operated = false }) }
-        ensures refused { IfErr result (λ e. close_refused (at desk.old) number self.old.held e × (desk.new ≡ desk.old) × (self.new ≡ self.old)) }
+        ensures refused { IfErr result
+            (λ e. close_refused (at desk.old) number self.old.held e × (desk.new ≡ desk.old)
+            × (self.new ≡ self.old)) }
     {
         match desk.close(number, self.bodies.as_slice()) {
             Ok((op, jobs, receipt)) => {

@@ -30,10 +30,14 @@ fn job_in<N: Name, J: Errand>(
     untold: &Untold,
     hand: &mut Option<J>,
 ) -> Option<J>
-    ensures job { IfSome result (λ j. (J.whom j ≡ untold.now.name) × (J.number j ≡ untold.now.number)) }
-    ensures from { IfSome result (λ j. CameFrom untold.now.number untold.now.name (at_hand desk.old hand.old) desk.new j) }
+    ensures job { IfSome result
+        (λ j. (J.whom j ≡ untold.now.name) × (J.number j ≡ untold.now.number)) }
+    ensures from { IfSome result
+        (λ j. CameFrom untold.now.number untold.now.name (at_hand desk.old hand.old) desk.new j) }
     ensures gone { OnSome result (hand.new ≡ None) }
-    ensures none { IfNone result (HasNoJob J.number J.whom untold.now.number untold.now.name (at_hand desk.old hand.old) (at_hand desk.new hand.new)) }
+    ensures none { IfNone result
+        (HasNoJob J.number J.whom untold.now.number untold.now.name (at_hand desk.old hand.old)
+        (at_hand desk.new hand.new)) }
     ensures same { (desk.new.book ≡ desk.old.book) × (desk.new.keeper ≡ desk.old.keeper) }
 {
     match hand.take() {
@@ -57,9 +61,16 @@ impl<N: Name> Steps<N> {
         name: u64,
     ) -> Result<Option<Untold>, Result<Told<N>, TellFault>>
         ensures said { IfErr result (tell_stays (at desk.now) name self.now.armer) }
-        ensures untold { IfOk result (λ o. IfSome o (λ t. (t.name ≡ name) × IsUntold (at desk.now) name self.now.armer t.target t.number)) }
-        ensures bounds { IfOk result (λ o. IfSome o (λ t. (t.target.place < N.board.places) × (slice_index self.now.armer.armed t.target.place < t.number))) }
-        ensures no_place { IfOk result (λ o. IfNone o ((t : TargetOf) × IsAsked (at desk.now) name t × (N.board.places ≤ t.place))) }
+        ensures untold { IfOk result
+            (λ o. IfSome o
+            (λ t. (t.name ≡ name) × IsUntold (at desk.now) name self.now.armer t.target t.number)) }
+        ensures bounds { IfOk result
+            (λ o. IfSome o
+            (λ t. (t.target.place < N.board.places)
+            × (slice_index self.now.armer.armed t.target.place < t.number))) }
+        ensures no_place { IfOk result
+            (λ o. IfNone o ((t : TargetOf) × IsAsked (at desk.now) name t
+            × (N.board.places ≤ t.place))) }
     {
         match look_up(desk, &self.armer, self.places, name) {
             Found::Untold(target, number) => Ok(Some(Untold {
@@ -85,12 +96,22 @@ impl<N: Name> Steps<N> {
     ) -> Option<BerthReceipt<N>>
         requires row { row.now ≡ N.poll_row }
         requires place { untold.now.target.place < N.board.places }
-        requires later { slice_index self.old.armer.armed untold.now.target.place < untold.now.number }
-        ensures armed { OnSome result (self.new.armer ≡ armed_with self.old.armer untold.now.target.place untold.now.number) }
-        ensures receipt { IfSome result (λ r. r ≡ acted untold.now.target.place untold.now.name (told_act untold.now.target.kind untold.now.number)) }
+        requires later { slice_index self.old.armer.armed untold.now.target.place <
+            untold.now.number }
+        ensures armed { OnSome result (self.new.armer
+            ≡ armed_with self.old.armer untold.now.target.place untold.now.number) }
+        ensures receipt { IfSome result
+            (λ r. r
+            ≡ acted untold.now.target.place untold.now.name
+            (told_act untold.now.target.kind untold.now.number)) }
         ensures refused { IfNone result ((self.new ≡ self.old) × (room.new ≡ room.old)) }
-        ensures why { IfNone result (IsNotPut J.number J.whom untold.now.target.kind untold.now.number untold.now.name untold.now.target.place room.old (at_hand desk.old hand.old) (at_hand desk.new hand.new)) }
-        ensures hand { OnSome result (IsPut J.number J.whom untold.now.target.kind untold.now.number untold.now.name (at_hand desk.old hand.old) (at_hand desk.new hand.new)) }
+        ensures why { IfNone result
+            (IsNotPut J.number J.whom untold.now.target.kind untold.now.number untold.now.name
+            untold.now.target.place room.old (at_hand desk.old hand.old)
+            (at_hand desk.new hand.new)) }
+        ensures hand { OnSome result
+            (IsPut J.number J.whom untold.now.target.kind untold.now.number untold.now.name
+            (at_hand desk.old hand.old) (at_hand desk.new hand.new)) }
         ensures held { (self.new.held ≡ self.old.held) × (self.new.operated ≡ self.old.operated) }
         ensures book { (desk.new.book ≡ desk.old.book) × (desk.new.keeper ≡ desk.old.keeper) }
     {

@@ -87,7 +87,8 @@ pub(crate) fn submit<'s, 'n, N: Name>(
 ) -> Result<u64, Fault>
     ensures said { Submits ask names.old.items result }
     ensures again { result ≡ Err Fault.Again → names.new.items ≡ names.old.items }
-    ensures no_memory { result ≡ Err (Fault.Ask AskFault.NoMemory) → names.new.items ≡ names.old.items }
+    ensures no_memory { result ≡ Err (Fault.Ask AskFault.NoMemory)
+        → names.new.items ≡ names.old.items }
 {
     let Some(mut desk) = system.try_desk() else {
         return Err(Fault::Again);

@@ -133,7 +133,9 @@ pub(crate) fn enter_start<N: Name>(
     system: &SharedSystem<N>,
     has_image: bool,
 ) -> Result<(u64, usize), Fault>
-    ensures entered { IfOk result (λ r. (0 < r.0) × (r.1 < N.board.places) × (has_image ≡ true) × WasEntered (Entry.Start r.0 r.1)) }
+    ensures entered { IfOk result
+        (λ r. (0 < r.0) × (r.1 < N.board.places) × (has_image ≡ true)
+        × WasEntered (Entry.Start r.0 r.1)) }
     ensures refused { IfErr result (StartFails N.board.places) }
 {
     let Some(mut desk) = system.try_desk() else {
@@ -149,7 +151,8 @@ pub(crate) fn move_in<N: Name>(
     system: &SharedSystem<N>,
     entered: Entered<N>,
 ) -> Result<Stepper<N>, Entered<N>>
-    ensures started { IfOk result (λ r. (r.name ≡ entered.name) × (r.place ≡ entered.place) × IsResumed r) }
+    ensures started { IfOk result
+        (λ r. (r.name ≡ entered.name) × (r.place ≡ entered.place) × IsResumed r) }
     ensures handed_back { IfErr result (λ e. e ≡ entered) }
 {
     let Some(mut room) = system.try_room(entered.place()) else {

@@ -230,7 +230,8 @@ impl<N: Name> Party<N> {
 
     fn enter_start(&mut self) -> Result<(), Fault>
         requires { self.old ≡ Role.Shares }
-        ensures ok { IfOk result (λ _. (e : _) × (self.new ≡ Role.Starts e) × WasEntered (Entry.Start e.name e.place)) }
+        ensures ok { IfOk result
+            (λ _. (e : _) × (self.new ≡ Role.Starts e) × WasEntered (Entry.Start e.name e.place)) }
         ensures err { IfErr result (λ e. (self.new ≡ self.old) × StartFails N.board.places e) }
     {
         let image = Image::new(self.alloc);
@@ -275,8 +276,11 @@ impl<N: Name> Party<N> {
 
     fn vacate(&mut self) -> Result<u64, Fault>
         requires { (r : _) × (self.old ≡ Role.Runs r) }
-        ensures ok { IfOk result (λ n. n ≡ 0 → (m : _) × (r : _) × (self.old ≡ Role.Runs r) × (self.new ≡ Role.Leaves m) × (m.body.name ≡ r.name)) }
-        ensures told { IfOk result (λ n. n ≢ 0 → Acts N.board.places self.old Act.Exit (Ok n) self.new) }
+        ensures ok { IfOk result
+            (λ n. n ≡ 0 → (m : _) × (r : _) × (self.old ≡ Role.Runs r) × (self.new ≡ Role.Leaves m)
+            × (m.body.name ≡ r.name)) }
+        ensures told { IfOk result
+            (λ n. n ≢ 0 → Acts N.board.places self.old Act.Exit (Ok n) self.new) }
         ensures err { IfErr result (λ e. Acts N.board.places self.old Act.Exit (Err e) self.new) }
     {
         let Role::Runs(runner) = mem::replace(&mut self.role, Role::Gone) else {

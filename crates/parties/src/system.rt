@@ -33,7 +33,8 @@ impl<N: Name> Model for SharedSystem<N> {
 
     ghost view = { λ s. record { methods = s.hints.methods } };
 
-    ghost invariant = { λ s. (s.board ≡ N.board) × (s.row ≡ N.poll_row) × (length s.rooms.items ≡ N.board.places) × (s.hints.slots ≡ N.board.slots) };
+    ghost invariant = { λ s. (s.board ≡ N.board) × (s.row ≡ N.poll_row)
+        × (length s.rooms.items ≡ N.board.places) × (s.hints.slots ≡ N.board.slots) };
 }
 
 // A lock round each room.

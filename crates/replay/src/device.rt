@@ -25,8 +25,10 @@ pub trait Source {
         requires few { reads self.old < 2 ^ 40 - 1 }
         ensures bound { IfOk result (λ n. n ≤ length buf.new) }
         ensures bytes { ReadConsumes (left self.old) (left self.new) result buf.new }
-        ensures reads { IfOk result (λ n. reads self.new ≡ (if n == 0 then reads self.old else reads self.old + 1)) }
-        ensures failures { MatchResult result (λ _. failures self.new ≡ 0) (λ _. failures self.new ≡ 1) };
+        ensures reads { IfOk result
+            (λ n. reads self.new ≡ (if n == 0 then reads self.old else reads self.old + 1)) }
+        ensures failures { MatchResult result (λ _. failures self.new ≡ 0)
+            (λ _. failures self.new ≡ 1) };
 }
 
 /// Takes bytes. A call that failed is counted, and none may be made after it.
@@ -43,7 +45,8 @@ pub trait Sink {
         requires some { 0 < length bytes.now }
         ensures bound { IfOk result (λ n. (0 < n) × (n ≤ length bytes.now)) }
         ensures bytes { WriteAppends (got self.old) (got self.new) result bytes.now }
-        ensures failures { MatchResult result (λ _. failures self.new ≡ 0) (λ _. failures self.new ≡ 1) };
+        ensures failures { MatchResult result (λ _. failures self.new ≡ 0)
+            (λ _. failures self.new ≡ 1) };
 }
 
 /// A source over a reader of std.

@@ -28,7 +28,8 @@ pub fn obey(
     command: Option<Command>,
 ) -> Result<Reply, AllocError>
     ensures replied { IfOk result (λ said. Replied system.old command said system.new) }
-    ensures no_memory { (world : Option World) → IsAt system.old world → OnErr result (TakesIn world command) }
+    ensures no_memory { (world : Option World) → IsAt system.old world
+        → OnErr result (TakesIn world command) }
     ensures kept { OnErr result (system.new ≡ system.old) }
 {
     match command {
@@ -45,8 +46,10 @@ fn size(
     y: u64,
     z: u64,
 ) -> Result<Reply, AllocError>
-    ensures replied { IfOk result (λ said. Replied system.old (Some (Command.Size x y z)) said system.new) }
-    ensures no_memory { (world : Option World) → IsAt system.old world → OnErr result (TakesIn world (Some (Command.Size x y z))) }
+    ensures replied { IfOk result
+        (λ said. Replied system.old (Some (Command.Size x y z)) said system.new) }
+    ensures no_memory { (world : Option World) → IsAt system.old world
+        → OnErr result (TakesIn world (Some (Command.Size x y z))) }
     ensures kept { OnErr result (system.new ≡ system.old) }
 {
     if system.is_some() {
@@ -68,8 +71,10 @@ fn event_reply(
     alloc: Global,
     event: Event,
 ) -> Result<Reply, AllocError>
-    ensures replied { IfOk result (λ said. Replied system.old (Some (Command.Do event)) said system.new) }
-    ensures no_memory { (world : Option World) → IsAt system.old world → OnErr result (TakesIn world (Some (Command.Do event))) }
+    ensures replied { IfOk result
+        (λ said. Replied system.old (Some (Command.Do event)) said system.new) }
+    ensures no_memory { (world : Option World) → IsAt system.old world
+        → OnErr result (TakesIn world (Some (Command.Do event))) }
     ensures kept { OnErr result (system.new ≡ system.old) }
 {
     match system {

@@ -166,7 +166,8 @@ fn are_numbers(tail: &[u8]) -> bool
 
 /// All words as numbers.
 fn numbers(alloc: Global, tail: &[u8]) -> Result<Option<Vec<u64>>, AllocError>
-    ensures { IfOk result (λ read. option_map (λ names. names.items) read ≡ numbers (words_after tail.now)) }
+    ensures { IfOk result
+        (λ read. option_map (λ names. names.items) read ≡ numbers (words_after tail.now)) }
 {
     let mut names = Vec::new(alloc);
     let mut rest = tail;

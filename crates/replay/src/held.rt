@@ -53,7 +53,8 @@ impl Held {
 
     /// Adds bytes to a line of which a beginning is held.
     pub fn join(&mut self, piece: &[u8])
-        ensures { self.new ≡ (if length self.old == 0 then self.old else take 1025 (self.old ++ piece.now)) }
+        ensures { self.new
+            ≡ (if length self.old == 0 then self.old else take 1025 (self.old ++ piece.now)) }
     {
         if !self.is_empty() {
             self.add(piece);

@@ -42,7 +42,8 @@ pub(crate) enum AskWord {
 /// are looked at before any space is searched.
 #[inline(always)]
 pub(crate) fn first_word(line: &[u8]) -> Option<(Word, usize)>
-    ensures begun { option_map (λ it. (it.0, words_after (drop it.1 line.now))) result ≡ begun (words line.now) }
+    ensures begun { option_map (λ it. (it.0, words_after (drop it.1 line.now))) result
+        ≡ begun (words line.now) }
     ensures bound { IfSome result (λ it. it.1 ≤ length line.now) }
 {
     if line.len() > 5 && line[5] == b' ' {
@@ -76,7 +77,8 @@ pub(crate) fn first_word(line: &[u8]) -> Option<(Word, usize)>
 /// The word at the beginning, of any length, also where nothing stands behind it.
 #[inline(always)]
 fn any_word(line: &[u8]) -> Option<(Word, usize)>
-    ensures begun { option_map (λ it. (it.0, words_after (drop it.1 line.now))) result ≡ begun (words line.now) }
+    ensures begun { option_map (λ it. (it.0, words_after (drop it.1 line.now))) result
+        ≡ begun (words line.now) }
     ensures bound { IfSome result (λ it. it.1 ≤ length line.now) }
 {
     let end = find(b' ', line);

@@ -136,7 +136,8 @@ fn put_last_digit(text: &mut Vec<u8>, n: u64) -> Result<(), AllocError>
 fn put_counted(text: &mut Vec<u8>, word: &[u8], n: u64) -> Result<(), AllocError>
     ensures text { OnOk result (text.new.items ≡ text.old.items ++ (word.now ++ decimal n)) }
     ensures grows { OnOk result (vec_len text.new ≤ vec_len text.old + (length word.now + 40)) }
-    ensures room { OnErr result (vec_capacity text.old < vec_len text.old + (length word.now + 40)) }
+    ensures room { OnErr result
+        (vec_capacity text.old < vec_len text.old + (length word.now + 40)) }
     ensures kept { vec_capacity text.old ≤ vec_capacity text.new }
 {
     put_text(text, word)?;
@@ -146,9 +147,11 @@ fn put_counted(text: &mut Vec<u8>, word: &[u8], n: u64) -> Result<(), AllocError
 /// A line of a word and a number.
 #[inline(always)]
 fn put_counted_line(text: &mut Vec<u8>, word: &[u8], n: u64) -> Result<(), AllocError>
-    ensures text { OnOk result (text.new.items ≡ text.old.items ++ ((word.now ++ decimal n) ++ 10 ∷ [])) }
+    ensures text { OnOk result (text.new.items ≡ text.old.items
+        ++ ((word.now ++ decimal n) ++ 10 ∷ [])) }
     ensures grows { OnOk result (vec_len text.new ≤ vec_len text.old + (length word.now + 41)) }
-    ensures room { OnErr result (vec_capacity text.old < vec_len text.old + (length word.now + 41)) }
+    ensures room { OnErr result
+        (vec_capacity text.old < vec_len text.old + (length word.now + 41)) }
     ensures kept { vec_capacity text.old ≤ vec_capacity text.new }
 {
     put_text(text, word)?;
@@ -249,7 +252,8 @@ fn put_refusal(text: &mut Vec<u8>, refusal: Refusal) -> Result<(), AllocError>
 
 /// A space and a number with its sign, which end a line.
 fn put_signed(text: &mut Vec<u8>, by: i32) -> Result<(), AllocError>
-    ensures text { OnOk result (text.new.items ≡ text.old.items ++ ((codes " " ++ signed_text by) ++ 10 ∷ [])) }
+    ensures text { OnOk result (text.new.items ≡ text.old.items
+        ++ ((codes " " ++ signed_text by) ++ 10 ∷ [])) }
     ensures grows { OnOk result (vec_len text.new ≤ vec_len text.old + 43) }
     ensures room { OnErr result (vec_capacity text.old < vec_len text.old + 43) }
     ensures kept { vec_capacity text.old ≤ vec_capacity text.new }
@@ -275,7 +279,8 @@ fn put_frame(text: &mut Vec<u8>, frame: Frame) -> Result<(), AllocError>
 }
 
 fn put_frames(text: &mut Vec<u8>, frames: &[Frame]) -> Result<(), AllocError>
-    ensures text { OnOk result (text.new.items ≡ text.old.items ++ codes "stack" ++ flat_map frame_text frames.now) }
+    ensures text { OnOk result (text.new.items ≡ text.old.items ++ codes "stack"
+        ++ flat_map frame_text frames.now) }
     ensures kept { vec_capacity text.old ≤ vec_capacity text.new }
 {
     text.extend_from_slice(b"stack")?;
@@ -296,7 +301,8 @@ fn put_code_count(text: &mut Vec<u8>, counted: CodeCount) -> Result<(), AllocErr
 }
 
 fn put_census(text: &mut Vec<u8>, counts: &[CodeCount]) -> Result<(), AllocError>
-    ensures text { OnOk result (text.new.items ≡ text.old.items ++ codes "census" ++ flat_map counted_text counts.now) }
+    ensures text { OnOk result (text.new.items ≡ text.old.items ++ codes "census"
+        ++ flat_map counted_text counts.now) }
     ensures kept { vec_capacity text.old ≤ vec_capacity text.new }
 {
     text.extend_from_slice(b"census")?;
@@ -308,7 +314,8 @@ fn put_census(text: &mut Vec<u8>, counts: &[CodeCount]) -> Result<(), AllocError
 
 #[inline(always)]
 fn put_thread(text: &mut Vec<u8>, name: u64, place: usize) -> Result<(), AllocError>
-    ensures text { OnOk result (text.new.items ≡ text.old.items ++ ((codes "thread " ++ decimal name ++ codes " place " ++ decimal place) ++ 10 ∷ [])) }
+    ensures text { OnOk result (text.new.items ≡ text.old.items
+        ++ ((codes "thread " ++ decimal name ++ codes " place " ++ decimal place) ++ 10 ∷ [])) }
     ensures grows { OnOk result (vec_len text.new ≤ vec_len text.old + 95) }
     ensures room { OnErr result (vec_capacity text.old < vec_len text.old + 95) }
     ensures kept { vec_capacity text.old ≤ vec_capacity text.new }
@@ -319,7 +326,8 @@ fn put_thread(text: &mut Vec<u8>, name: u64, place: usize) -> Result<(), AllocEr
 
 #[inline(always)]
 fn put_change(text: &mut Vec<u8>, serial: u64, by: i32) -> Result<(), AllocError>
-    ensures text { OnOk result (text.new.items ≡ text.old.items ++ ((codes "change " ++ decimal serial ++ codes " " ++ signed_text by) ++ 10 ∷ [])) }
+    ensures text { OnOk result (text.new.items ≡ text.old.items
+        ++ ((codes "change " ++ decimal serial ++ codes " " ++ signed_text by) ++ 10 ∷ [])) }
     ensures grows { OnOk result (vec_len text.new ≤ vec_len text.old + 90) }
     ensures room { OnErr result (vec_capacity text.old < vec_len text.old + 90) }
     ensures kept { vec_capacity text.old ≤ vec_capacity text.new }
@@ -330,7 +338,8 @@ fn put_change(text: &mut Vec<u8>, serial: u64, by: i32) -> Result<(), AllocError
 
 #[inline(always)]
 fn put_opened(text: &mut Vec<u8>, operation: u64, kind: Kind) -> Result<(), AllocError>
-    ensures text { OnOk result (text.new.items ≡ text.old.items ++ ((codes "open " ++ decimal operation ++ kind_text kind) ++ 10 ∷ [])) }
+    ensures text { OnOk result (text.new.items ≡ text.old.items
+        ++ ((codes "open " ++ decimal operation ++ kind_text kind) ++ 10 ∷ [])) }
     ensures grows { OnOk result (vec_len text.new ≤ vec_len text.old + 56) }
     ensures room { OnErr result (vec_capacity text.old < vec_len text.old + 56) }
     ensures kept { vec_capacity text.old ≤ vec_capacity text.new }
@@ -344,7 +353,8 @@ fn put_opened(text: &mut Vec<u8>, operation: u64, kind: Kind) -> Result<(), Allo
 
 #[inline(always)]
 fn put_code_state(text: &mut Vec<u8>, state: CodeState) -> Result<(), AllocError>
-    ensures text { OnOk result (text.new.items ≡ text.old.items ++ (code_state_text state ++ 10 ∷ [])) }
+    ensures text { OnOk result (text.new.items ≡ text.old.items
+        ++ (code_state_text state ++ 10 ∷ [])) }
     ensures grows { OnOk result (vec_len text.new ≤ vec_len text.old + 12) }
     ensures room { OnErr result (vec_capacity text.old < vec_len text.old + 12) }
     ensures kept { vec_capacity text.old ≤ vec_capacity text.new }
@@ -359,7 +369,8 @@ fn put_code_state(text: &mut Vec<u8>, state: CodeState) -> Result<(), AllocError
 
 #[inline(always)]
 fn put_refused(text: &mut Vec<u8>, why: Refusal) -> Result<(), AllocError>
-    ensures text { OnOk result (text.new.items ≡ text.old.items ++ ((codes "refused " ++ refusal_text why) ++ 10 ∷ [])) }
+    ensures text { OnOk result (text.new.items ≡ text.old.items
+        ++ ((codes "refused " ++ refusal_text why) ++ 10 ∷ [])) }
     ensures grows { OnOk result (vec_len text.new ≤ vec_len text.old + 41) }
     ensures room { OnErr result (vec_capacity text.old < vec_len text.old + 41) }
     ensures kept { vec_capacity text.old ≤ vec_capacity text.new }
@@ -372,9 +383,12 @@ fn put_refused(text: &mut Vec<u8>, why: Refusal) -> Result<(), AllocError>
 /// The line of an answer.
 #[inline(always)]
 fn put_answer(text: &mut Vec<u8>, answer: &Answer) -> Result<(), AllocError>
-    ensures text { OnOk result (text.new.items ≡ text.old.items ++ (answer_text answer.now ++ 10 ∷ [])) }
-    ensures grows { is_short answer.now ≡ true → OnOk result (vec_len text.new ≤ vec_len text.old + 97) }
-    ensures room { is_short answer.now ≡ true → OnErr result (vec_capacity text.old < vec_len text.old + 97) }
+    ensures text { OnOk result (text.new.items ≡ text.old.items
+        ++ (answer_text answer.now ++ 10 ∷ [])) }
+    ensures grows { is_short answer.now ≡ true
+        → OnOk result (vec_len text.new ≤ vec_len text.old + 97) }
+    ensures room { is_short answer.now ≡ true
+        → OnErr result (vec_capacity text.old < vec_len text.old + 97) }
     ensures kept { vec_capacity text.old ≤ vec_capacity text.new }
 {
     match answer {
@@ -434,9 +448,12 @@ pub(crate) fn is_short_reply(reply: &Reply) -> bool
 /// Puts the line of text for a reply behind the text.
 #[inline(always)]
 pub fn put_reply(text: &mut Vec<u8>, reply: &Reply) -> Result<(), AllocError>
-    ensures text { OnOk result (text.new.items ≡ text.old.items ++ (reply_text reply.now ++ 10 ∷ [])) }
-    ensures grows { is_short_reply reply.now ≡ true → OnOk result (vec_len text.new ≤ vec_len text.old + 97) }
-    ensures room { is_short_reply reply.now ≡ true → OnErr result (vec_capacity text.old < vec_len text.old + 97) }
+    ensures text { OnOk result (text.new.items ≡ text.old.items
+        ++ (reply_text reply.now ++ 10 ∷ [])) }
+    ensures grows { is_short_reply reply.now ≡ true
+        → OnOk result (vec_len text.new ≤ vec_len text.old + 97) }
+    ensures room { is_short_reply reply.now ≡ true
+        → OnErr result (vec_capacity text.old < vec_len text.old + 97) }
     ensures kept { vec_capacity text.old ≤ vec_capacity text.new }
 {
     match reply {

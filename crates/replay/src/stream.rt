@@ -60,8 +60,10 @@ pub(crate) enum Halt {
 /// Writes all that waits. No call that failed is made again.
 pub fn flush<W: Sink>(waits: &mut Vec<u8>, sink: &mut W) -> Result<(), Failed>
     requires { W.failures sink.old ≡ 0 }
-    ensures done { OnOk result (Appends (W.got sink.old) (W.got sink.new) waits.old.items × (waits.new.items ≡ []) × (W.failures sink.new ≡ 0)) }
-    ensures part { OnErr result (AppendsPart (W.got sink.old) (W.got sink.new) waits.old.items × (W.failures sink.new ≡ 1)) }
+    ensures done { OnOk result (Appends (W.got sink.old) (W.got sink.new) waits.old.items
+        × (waits.new.items ≡ []) × (W.failures sink.new ≡ 0)) }
+    ensures part { OnErr result (AppendsPart (W.got sink.old) (W.got sink.new) waits.old.items
+        × (W.failures sink.new ≡ 1)) }
     ensures none_wait { OnOk result (vec_len waits.new ≡ 0) }
     ensures kept { vec_capacity waits.old ≤ vec_capacity waits.new }
 {
@@ -76,9 +78,12 @@ pub fn flush<W: Sink>(waits: &mut Vec<u8>, sink: &mut W) -> Result<(), Failed>
 /// Writes all that waits, if that is much.
 fn relieve<W: Sink>(waits: &mut Vec<u8>, sink: &mut W) -> Result<(), Failed>
     requires { W.failures sink.old ≡ 0 }
-    ensures done { OnOk result (Grows (W.got sink.old) waits.old.items (W.got sink.new) waits.new.items [] × (W.failures sink.new ≡ 0)) }
+    ensures done { OnOk result
+        (Grows (W.got sink.old) waits.old.items (W.got sink.new) waits.new.items []
+        × (W.failures sink.new ≡ 0)) }
     ensures little { OnOk result (vec_len waits.new < BLOCK) }
-    ensures part { OnErr result (AppendsPart (W.got sink.old) (W.got sink.new) waits.old.items × (W.failures sink.new ≡ 1)) }
+    ensures part { OnErr result (AppendsPart (W.got sink.old) (W.got sink.new) waits.old.items
+        × (W.failures sink.new ≡ 1)) }
     ensures few_wait { OnOk result (vec_len waits.new < 2 ^ 16) }
     ensures kept { vec_capacity waits.old ≤ vec_capacity waits.new }
 {
@@ -128,9 +133,11 @@ fn turn(
     requires text_room { 2 ^ 16 ≤ vec_capacity text.old }
     requires waits_room { 2 ^ 17 ≤ vec_capacity waits.old }
     requires few_wait { vec_len waits.old < 2 ^ 16 }
-    ensures done { OnOk result (Turned system.old line.now waits.old.items waits.new.items system.new) }
+    ensures done { OnOk result
+        (Turned system.old line.now waits.old.items waits.new.items system.new) }
     ensures none { OnErr result (waits.new.items ≡ waits.old.items) }
-    ensures no_memory { (world : Option World) → IsAt system.old world → OnErr result (LineTakes world line.now) }
+    ensures no_memory { (world : Option World) → IsAt system.old world
+        → OnErr result (LineTakes world line.now) }
     ensures text_room { 2 ^ 16 ≤ vec_capacity text.new }
     ensures waits_room { 2 ^ 17 ≤ vec_capacity waits.new }
 {
@@ -159,10 +166,12 @@ fn end_line(
     requires text_room { 2 ^ 16 ≤ vec_capacity text.old }
     requires waits_room { 2 ^ 17 ≤ vec_capacity waits.old }
     requires few_wait { vec_len waits.old < 2 ^ 16 }
-    ensures done { OnOk result (Turned system.old (held.old ++ piece.now) waits.old.items waits.new.items system.new) }
+    ensures done { OnOk result (Turned system.old (held.old
+        ++ piece.now) waits.old.items waits.new.items system.new) }
     ensures held { OnOk result (held.new ≡ []) }
     ensures none { OnErr result (waits.new.items ≡ waits.old.items) }
-    ensures no_memory { (world : Option World) → IsAt system.old world → OnErr result (LineTakes world (held.old ++ piece.now)) }
+    ensures no_memory { (world : Option World) → IsAt system.old world
+        → OnErr result (LineTakes world (held.old ++ piece.now)) }
     ensures text_room { 2 ^ 16 ≤ vec_capacity text.new }
     ensures waits_room { 2 ^ 17 ≤ vec_capacity waits.new }
 {
@@ -186,7 +195,8 @@ fn feed<W: Sink>(
     requires text_room { 2 ^ 16 ≤ vec_capacity text.old }
     requires waits_room { 2 ^ 17 ≤ vec_capacity waits.old }
     requires few_wait { vec_len waits.old < 2 ^ 16 }
-    ensures failures { MatchResult result (λ _. W.failures sink.new ≡ 0) (λ halt. W.failures sink.new ≡ failed_writes halt) }
+    ensures failures { MatchResult result (λ _. W.failures sink.new ≡ 0)
+        (λ halt. W.failures sink.new ≡ failed_writes halt) }
     ensures fed { FedBy result
         (record { system = system.old; held = held.old; waits = waits.old.items; got = W.got sink.old })
         bytes.now
@@ -228,9 +238,12 @@ pub fn replay<R: Source, W: Sink>(
     requires source { R.failures source.old ≡ 0 }
     requires unread { R.reads source.old ≡ 0 }
     requires sink { W.failures sink.old ≡ 0 }
-    ensures text { OnOk result (IfSome (R.left source.old) (λ input. Appends (W.got sink.old) (W.got sink.new) (text input))) }
-    ensures wrote { Wrote result (R.left source.old) (R.left source.new) (W.got sink.old) (W.got sink.new) }
-    ensures failed { FailedCalls result (R.reads source.new) (R.failures source.new) (W.failures sink.new) }
+    ensures text { OnOk result (IfSome (R.left source.old)
+        (λ input. Appends (W.got sink.old) (W.got sink.new) (text input))) }
+    ensures wrote { Wrote result (R.left source.old) (R.left source.new) (W.got sink.old)
+        (W.got sink.new) }
+    ensures failed { FailedCalls result (R.reads source.new) (R.failures source.new)
+        (W.failures sink.new) }
 {
     match buffers(alloc) {
         Ok((block, text, waits)) => answer_all(alloc, source, sink, block, text, waits),
@@ -241,7 +254,8 @@ pub fn replay<R: Source, W: Sink>(
 fn buffers(alloc: Global) -> Result<(Vec<u8>, Vec<u8>, Vec<u8>), AllocError>
     ensures block { IfOk result (λ all. 0 < vec_len all.0) }
     ensures text { IfOk result (λ all. 2 ^ 16 ≤ vec_capacity all.1) }
-    ensures waits { IfOk result (λ all. (2 ^ 17 ≤ vec_capacity all.2) × (vec_len all.2 ≡ 0) × (all.2.items ≡ [])) }
+    ensures waits { IfOk result
+        (λ all. (2 ^ 17 ≤ vec_capacity all.2) × (vec_len all.2 ≡ 0) × (all.2.items ≡ [])) }
 {
     let block = vec![in alloc; 0u8; BLOCK]?;
     let text = Vec::with_capacity(alloc, BLOCK)?;
@@ -266,8 +280,10 @@ fn answer_all<R: Source, W: Sink>(
     requires waits_room { 2 ^ 17 ≤ vec_capacity waits }
     requires none_wait { vec_len waits ≡ 0 }
     requires none { waits.items ≡ [] }
-    ensures wrote { Wrote result (R.left source.old) (R.left source.new) (W.got sink.old) (W.got sink.new) }
-    ensures failed { FailedCalls result (R.reads source.new) (R.failures source.new) (W.failures sink.new) }
+    ensures wrote { Wrote result (R.left source.old) (R.left source.new) (W.got sink.old)
+        (W.got sink.new) }
+    ensures failed { FailedCalls result (R.reads source.new) (R.failures source.new)
+        (W.failures sink.new) }
 {
     let mut held = Held::new();
     let mut system = None;
@@ -301,7 +317,8 @@ fn answer_all<R: Source, W: Sink>(
 /// Says which fault stops the call. For want of memory, the answers before that event are written first.
 fn give_up<W: Sink>(halt: Halt, waits: &mut Vec<u8>, sink: &mut W) -> ReplayFault
     requires { W.failures sink.old ≡ failed_writes halt }
-    ensures { GaveUp halt result waits.old.items (W.got sink.old) (W.got sink.new) (W.failures sink.new) }
+    ensures { GaveUp halt result waits.old.items (W.got sink.old) (W.got sink.new)
+        (W.failures sink.new) }
 {
     match halt {
         Halt::WriteFailed => ReplayFault::WriteFailed,

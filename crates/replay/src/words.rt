@@ -120,7 +120,8 @@ fn begins_well(bytes: &[u8]) -> bool
 /// The number that is the next word, and what stands after it. One of at most three digits with more words behind it is read at once.
 #[inline(always)]
 pub(crate) fn next(tail: &[u8]) -> Option<(u64, &[u8])>
-    ensures taken { option_map (λ taken. (taken.0, words_after taken.1.now)) result ≡ took (words_after tail.now) }
+    ensures taken { option_map (λ taken. (taken.0, words_after taken.1.now)) result
+        ≡ took (words_after tail.now) }
     ensures shorter { IfSome result (λ taken. length taken.1.now < length tail.now) }
 {
     if tail.len() > 2 && tail[2] == b' ' && b'0' <= tail[1] && tail[1] <= b'9' {
@@ -151,10 +152,11 @@ pub(crate) fn next(tail: &[u8]) -> Option<(u64, &[u8])>
     next_number(tail)
 }
 
-/// The same of a number of any length.
+/// The number of any length that is the next word, and what stands after it.
 #[inline(always)]
 fn next_number(tail: &[u8]) -> Option<(u64, &[u8])>
-    ensures taken { option_map (λ taken. (taken.0, words_after taken.1.now)) result ≡ took (words_after tail.now) }
+    ensures taken { option_map (λ taken. (taken.0, words_after taken.1.now)) result
+        ≡ took (words_after tail.now) }
     ensures shorter { IfSome result (λ taken. length taken.1.now < length tail.now) }
 {
     let [_, bytes @ ..] = tail else {

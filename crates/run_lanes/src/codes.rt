@@ -38,7 +38,9 @@ impl Codes {
 
     // Where the code of this serial stands.
     fn find(&self, serial: u64) -> Option<usize>
-        ensures { IfSome result (λ at. option_map (λ code. code.serial) (slice_get self.now.kept.items at) ≡ Some serial) }
+        ensures { IfSome result
+            (λ at. option_map (λ code. code.serial) (slice_get self.now.kept.items at)
+            ≡ Some serial) }
     {
         let at = self.kept.partition_point(|code| code.serial < serial);
         if self.kept.get(at)?.serial == serial {

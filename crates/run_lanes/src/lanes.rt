@@ -91,7 +91,8 @@ impl Lanes {
     /// What the line of this number changes in the lanes, and where its mark stands.
     pub fn follow(&mut self, subject: Subject, reply: &Reply, at: u64) -> Result<Spot, AllocError>
         ensures untouched { is_accepted reply.now ≡ false → self.new ≡ self.old }
-        ensures untied { is_accepted reply.now ≡ false → IfOk result (λ spot. (spot.tie ≡ None) × (spot.depth ≡ None)) }
+        ensures untied { is_accepted reply.now ≡ false
+            → IfOk result (λ spot. (spot.tie ≡ None) × (spot.depth ≡ None)) }
     {
         match reply {
             Reply::BadLine | Reply::BadSize => Ok(on(LINES)),
@@ -146,8 +147,11 @@ impl Lanes {
         answer: &Answer,
         at: u64,
     ) -> Result<Spot, AllocError>
-        ensures stop { (number : ℕ) → answer.now ≡ Stop number → IfOk result (λ spot. spot.tie ≡ lane_in self.old.operations.rows number) }
-        ensures served { serves act ≡ true → is_stop answer.now ≡ false → IfOk result (λ spot. spot.tie ≡ served_by self.old.threads self.old.operations place act) }
+        ensures stop { (number : ℕ) → answer.now ≡ Stop number
+            → IfOk result (λ spot. spot.tie ≡ lane_in self.old.operations.rows number) }
+        ensures served { serves act ≡ true → is_stop answer.now ≡ false
+            → IfOk result
+            (λ spot. spot.tie ≡ served_by self.old.threads self.old.operations place act) }
     {
         let tie = self.tie_of(place, act, answer);
         let before = self.threads.depth(place);
@@ -163,8 +167,10 @@ impl Lanes {
 
     // The lane of the operation that is served, or of the code that is changed or entered.
     fn tie_of(&mut self, place: usize, act: Act, answer: &Answer) -> Option<Lane>
-        ensures stop { (number : ℕ) → answer.now ≡ Stop number → result ≡ lane_in self.old.operations.rows number }
-        ensures served { serves act ≡ true → is_stop answer.now ≡ false → result ≡ served_by self.old.threads self.old.operations place act }
+        ensures stop { (number : ℕ) → answer.now ≡ Stop number
+            → result ≡ lane_in self.old.operations.rows number }
+        ensures served { serves act ≡ true → is_stop answer.now ≡ false
+            → result ≡ served_by self.old.threads self.old.operations place act }
     {
         match (act, answer) {
             (_, Answer::Stop(number)) => self.operations.lane_of(*number),
@@ -257,7 +263,8 @@ impl Lanes {
 
     // A thread is told, or nothing changes.
     fn told(&mut self, subject: &Subject, answer: &Answer) -> Result<Spot, AllocError>
-        ensures told { (name : ℕ) → subject.now ≡ Tell name → answer.now ≡ Told → IfOk result (λ spot. spot.tie ≡ lane_in self.old.threads.threads name) }
+        ensures told { (name : ℕ) → subject.now ≡ Tell name → answer.now ≡ Told
+            → IfOk result (λ spot. spot.tie ≡ lane_in self.old.threads.threads name) }
     {
         match (subject, answer) {
             (Subject::Tell(name), Answer::Told) => {

@@ -61,7 +61,8 @@ impl Painted {
     /// A span that is drawn as far as its lines are.
     pub fn add_span(&mut self, span: Span) -> Result<(), AllocError>
         ensures first { self.new.first ≡ self.old.first }
-        ensures spans { OnOk result (self.new.spans.items ≡ self.old.spans.items ++ drawn_span self.old.first span) }
+        ensures spans { OnOk result (self.new.spans.items ≡ self.old.spans.items
+            ++ drawn_span self.old.first span) }
         ensures lives { self.new.lives.items ≡ self.old.lives.items }
     {
         if span.to <= self.first {
@@ -76,7 +77,9 @@ impl Painted {
     pub fn add_life(&mut self, lane: Lane, name: Name, from: u64, to: u64) -> Result<(), AllocError>
         ensures first { self.new.first ≡ self.old.first }
         ensures spans { self.new.spans.items ≡ self.old.spans.items }
-        ensures lives { OnOk result (self.new.lives.items ≡ self.old.lives.items ++ drawn_life self.old.first (record { lane = lane; name = name; from = from; to = to })) }
+        ensures lives { OnOk result (self.new.lives.items ≡ self.old.lives.items
+            ++ drawn_life self.old.first
+            (record { lane = lane; name = name; from = from; to = to })) }
     {
         if to <= self.first {
             return Ok(());

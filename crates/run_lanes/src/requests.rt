@@ -98,7 +98,8 @@ impl Operations {
 
     /// The lane of the oldest open operation that lists the name.
     pub(crate) fn listing(&self, name: u64) -> Option<Lane>
-        ensures { result ≡ option_and_then (lane_in self.now.rows) (first_listing name self.now.asked.items) }
+        ensures { result
+            ≡ option_and_then (lane_in self.now.rows) (first_listing name self.now.asked.items) }
     {
         self.lane_of(self.first_listing(name)?)
     }
@@ -118,8 +119,14 @@ impl Operations {
         request: Request,
         at: u64,
     ) -> Result<Lane, AllocError>
-        ensures asked { OnOk result (self.new.asked.items ≡ self.old.asked.items ++ record { number = number; request = request; newest = None } ∷ []) }
-        ensures lane { IfOk result (λ lane. lane ≡ record { group = self.old.rows.group; row = vacant_row at self.old.rows.rows.items }) }
+        ensures asked { OnOk result (self.new.asked.items ≡ self.old.asked.items
+            ++ record { number = number; request = request; newest = None } ∷ []) }
+        ensures lane { IfOk result
+            (λ lane. lane
+            ≡ record {
+              group = self.old.rows.group;
+              row = vacant_row at self.old.rows.rows.items;
+            }) }
         ensures served { self.new.served ≡ self.old.served }
     {
         let row = self.rows.vacant(at);
@@ -190,8 +197,17 @@ impl Operations {
 
     /// The thread of this name at this place is told the oldest open operation that is of it and new to it, whose lane this is.
     pub(crate) fn tell(&mut self, place: usize, name: u64) -> Option<Lane>
-        ensures lane { result ≡ option_and_then (lane_in self.old.rows) (first_above (served_at self.old.served.places.items place).told name self.old.asked.items) }
-        ensures told { (number : ℕ) (kept : ServedOf) → slice_get self.old.served.places.items place ≡ Some kept → first_above (served_at self.old.served.places.items place).told name self.old.asked.items ≡ Some number → self.new.served.places.items ≡ slice_set self.old.served.places.items place (record (served_at self.old.served.places.items place) { told = number }) }
+        ensures lane { result
+            ≡ option_and_then (lane_in self.old.rows)
+            (first_above (served_at self.old.served.places.items place).told name
+            self.old.asked.items) }
+        ensures told { (number : ℕ) (kept : ServedOf)
+            → slice_get self.old.served.places.items place ≡ Some kept
+            → first_above (served_at self.old.served.places.items place).told name
+            self.old.asked.items ≡ Some number
+            → self.new.served.places.items
+            ≡ slice_set self.old.served.places.items place
+            (record (served_at self.old.served.places.items place) { told = number }) }
     {
         let served = self.served.at(place);
         let told = self.first_above(served.told, name)?;
@@ -209,7 +225,13 @@ impl Operations {
     /// The callback of the thread ran; the lane of which operation.
     pub(crate) fn finish_of(&mut self, place: usize, name: u64) -> Option<Lane>
         ensures lane { result ≡ undone_of self.old place name }
-        ensures done { (number : ℕ) (kept : ServedOf) → slice_get self.old.served.places.items place ≡ Some kept → undone (served_at self.old.served.places.items place) name self.old.asked.items ≡ Some number → self.new.served.places.items ≡ slice_set self.old.served.places.items place (record (served_at self.old.served.places.items place) { done = number }) }
+        ensures done { (number : ℕ) (kept : ServedOf)
+            → slice_get self.old.served.places.items place ≡ Some kept
+            → undone (served_at self.old.served.places.items place) name self.old.asked.items
+            ≡ Some number
+            → self.new.served.places.items
+            ≡ slice_set self.old.served.places.items place
+            (record (served_at self.old.served.places.items place) { done = number }) }
     {
         let served = self.served.at(place);
         let done = self.undone(served, name)?;
@@ -220,7 +242,13 @@ impl Operations {
     /// The thread is cleared; the lane of which operation.
     pub(crate) fn clear_of(&mut self, place: usize, name: u64) -> Option<Lane>
         ensures lane { result ≡ uncleared_of self.old place name }
-        ensures cleared { (number : ℕ) (kept : ServedOf) → slice_get self.old.served.places.items place ≡ Some kept → uncleared (served_at self.old.served.places.items place) name self.old.asked.items ≡ Some number → self.new.served.places.items ≡ slice_set self.old.served.places.items place (record (served_at self.old.served.places.items place) { cleared = number }) }
+        ensures cleared { (number : ℕ) (kept : ServedOf)
+            → slice_get self.old.served.places.items place ≡ Some kept
+            → uncleared (served_at self.old.served.places.items place) name self.old.asked.items
+            ≡ Some number
+            → self.new.served.places.items
+            ≡ slice_set self.old.served.places.items place
+            (record (served_at self.old.served.places.items place) { cleared = number }) }
     {
         let served = self.served.at(place);
         let cleared = self.uncleared(served, name)?;

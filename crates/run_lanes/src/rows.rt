@@ -99,7 +99,9 @@ impl Rows {
 
     /// The number that a row shows, if any.
     pub(crate) fn number(&self, row: usize) -> Option<u64>
-        ensures { result ≡ option_and_then (λ row. number_in row.number row.paint) (slice_get self.now.rows.items row) }
+        ensures { result
+            ≡ option_and_then
+            (λ row. number_in row.number row.paint) (slice_get self.now.rows.items row) }
     {
         let row = self.rows.get(row)?;
         row.paint?;
@@ -108,7 +110,8 @@ impl Rows {
 
     /// The line at which the row began to show what it shows.
     pub(crate) fn begun(&self, row: usize) -> u64
-        ensures { result ≡ unwrap_or (option_map (λ row. row.begun) (slice_get self.now.rows.items row)) 0 }
+        ensures { result
+            ≡ unwrap_or (option_map (λ row. row.begun) (slice_get self.now.rows.items row)) 0 }
     {
         match self.rows.get(row) {
             Some(row) => row.begun,
@@ -128,8 +131,16 @@ impl Rows {
         ensures group { self.new.group ≡ self.old.group }
         ensures first { painted.new.first ≡ painted.old.first }
         ensures lives { painted.new.lives.items ≡ painted.old.lives.items }
-        ensures begun { OnOk result ((kept : RowOf) → slice_get (wide row self.old.rows.items) row ≡ Some kept → self.new.rows.items ≡ slice_set (wide row self.old.rows.items) row (record { number = number; paint = Some paint; since = at; begun = at })) }
-        ensures bar { OnOk result ((kept : RowOf) → slice_get (wide row self.old.rows.items) row ≡ Some kept → painted.new.spans.items ≡ painted.old.spans.items ++ flat_map (drawn_span painted.old.first) (bar_in (record { group = self.old.group; row = row }) kept.since at kept.paint)) }
+        ensures begun { OnOk result ((kept : RowOf)
+            → slice_get (wide row self.old.rows.items) row ≡ Some kept
+            → self.new.rows.items
+            ≡ slice_set (wide row self.old.rows.items) row
+            (record { number = number; paint = Some paint; since = at; begun = at })) }
+        ensures bar { OnOk result ((kept : RowOf)
+            → slice_get (wide row self.old.rows.items) row ≡ Some kept
+            → painted.new.spans.items ≡ painted.old.spans.items
+            ++ flat_map (drawn_span painted.old.first) (bar_in
+            (record { group = self.old.group; row = row }) kept.since at kept.paint)) }
     {
         widen(&mut self.rows, row)?;
         let lane = self.lane(row);
@@ -155,9 +166,20 @@ impl Rows {
         ensures group { self.new.group ≡ self.old.group }
         ensures lives { painted.new.lives.items ≡ painted.old.lives.items }
         ensures first { painted.new.first ≡ painted.old.first }
-        ensures same { OnOk result ((kept : RowOf) → slice_get (wide row self.old.rows.items) row ≡ Some kept → kept.paint ≡ paint → (self.new.rows.items ≡ wide row self.old.rows.items) × (painted.new.spans.items ≡ painted.old.spans.items)) }
-        ensures turned { OnOk result ((kept : RowOf) → slice_get (wide row self.old.rows.items) row ≡ Some kept → kept.paint ≢ paint → self.new.rows.items ≡ slice_set (wide row self.old.rows.items) row (record kept { paint = paint; since = at })) }
-        ensures bar { OnOk result ((kept : RowOf) → slice_get (wide row self.old.rows.items) row ≡ Some kept → kept.paint ≢ paint → painted.new.spans.items ≡ painted.old.spans.items ++ flat_map (drawn_span painted.old.first) (bar_in (record { group = self.old.group; row = row }) kept.since at kept.paint)) }
+        ensures same { OnOk result ((kept : RowOf)
+            → slice_get (wide row self.old.rows.items) row ≡ Some kept → kept.paint ≡ paint
+            → (self.new.rows.items ≡ wide row self.old.rows.items)
+            × (painted.new.spans.items ≡ painted.old.spans.items)) }
+        ensures turned { OnOk result ((kept : RowOf)
+            → slice_get (wide row self.old.rows.items) row ≡ Some kept → kept.paint ≢ paint
+            → self.new.rows.items
+            ≡ slice_set (wide row self.old.rows.items) row
+            (record kept { paint = paint; since = at })) }
+        ensures bar { OnOk result ((kept : RowOf)
+            → slice_get (wide row self.old.rows.items) row ≡ Some kept → kept.paint ≢ paint
+            → painted.new.spans.items ≡ painted.old.spans.items
+            ++ flat_map (drawn_span painted.old.first) (bar_in
+            (record { group = self.old.group; row = row }) kept.since at kept.paint)) }
     {
         widen(&mut self.rows, row)?;
         let lane = self.lane(row);
@@ -201,7 +223,8 @@ fn widen(rows: &mut Vec<Row>, row: usize) -> Result<(), AllocError>
 fn end_bar(painted: &mut Painted, lane: Lane, row: Row, at: u64) -> Result<(), AllocError>
     ensures first { painted.new.first ≡ painted.old.first }
     ensures lives { painted.new.lives.items ≡ painted.old.lives.items }
-    ensures spans { OnOk result (painted.new.spans.items ≡ painted.old.spans.items ++ flat_map (drawn_span painted.old.first) (bar_in lane row.since at row.paint)) }
+    ensures spans { OnOk result (painted.new.spans.items ≡ painted.old.spans.items
+        ++ flat_map (drawn_span painted.old.first) (bar_in lane row.since at row.paint)) }
 {
     match row.paint {
         None => Ok(()),

@@ -46,7 +46,9 @@ impl AllServed {
 
     /// A thread starts at the place.
     pub(crate) fn start(&mut self, place: usize) -> Result<(), AllocError>
-        ensures { OnOk result ((kept : ServedOf) → slice_get (wide place self.old.places.items) place ≡ Some kept → self.new.places.items ≡ slice_set (wide place self.old.places.items) place fresh) }
+        ensures { OnOk result ((kept : ServedOf)
+            → slice_get (wide place self.old.places.items) place ≡ Some kept
+            → self.new.places.items ≡ slice_set (wide place self.old.places.items) place fresh) }
     {
         widen(&mut self.places, place)?;
         self.set(place, FRESH);
@@ -55,7 +57,8 @@ impl AllServed {
 
     /// The thread at the place is so far.
     pub(crate) fn set(&mut self, place: usize, served: Served)
-        ensures { (kept : ServedOf) → slice_get self.old.places.items place ≡ Some kept → self.new.places.items ≡ slice_set self.old.places.items place served }
+        ensures { (kept : ServedOf) → slice_get self.old.places.items place ≡ Some kept
+            → self.new.places.items ≡ slice_set self.old.places.items place served }
     {
         if let Some(kept) = self.places.get_mut(place) {
             *kept = served;

@@ -53,7 +53,8 @@ impl Threads {
 
     /// The lane of a place, if it ever had a thread.
     pub(crate) fn lane(&self, place: usize) -> Option<Lane>
-        ensures { IfSome result (λ lane. lane ≡ record { group = self.now.threads.group; row = place }) }
+        ensures { IfSome result
+            (λ lane. lane ≡ record { group = self.now.threads.group; row = place }) }
     {
         if place < self.threads.len() {
             Some(self.threads.lane(place))
@@ -85,7 +86,9 @@ impl Threads {
 
     /// How many frames the thread at a place has.
     pub(crate) fn depth(&self, place: usize) -> u32
-        ensures { result ≡ unwrap_or (option_map (λ thread. thread.depth) (slice_get self.now.places.items place)) 0 }
+        ensures { result
+            ≡ unwrap_or (option_map
+            (λ thread. thread.depth) (slice_get self.now.places.items place)) 0 }
     {
         match self.places.get(place) {
             Some(thread) => thread.depth,
@@ -109,7 +112,8 @@ impl Threads {
         at: u64,
     ) -> Result<Lane, AllocError>
         ensures newest { OnOk result (self.new.newest ≡ name) }
-        ensures lane { IfOk result (λ lane. lane ≡ record { group = self.old.threads.group; row = place }) }
+        ensures lane { IfOk result
+            (λ lane. lane ≡ record { group = self.old.threads.group; row = place }) }
     {
         if self.places.len() <= place {
             self.places.resize(place.saturating_add(1), NONE)?;
@@ -154,7 +158,11 @@ impl Threads {
         at: u64,
     ) -> Result<(), AllocError>
         ensures newest { self.new.newest ≡ self.old.newest }
-        ensures state { OnOk result (option_map (λ thread. thread.state) (slice_get self.new.places.items place) ≡ option_map (λ thread. state_after thread.state act answer.now) (slice_get self.old.places.items place)) }
+        ensures state { OnOk result (option_map
+            (λ thread. thread.state) (slice_get self.new.places.items place)
+            ≡ option_map
+            (λ thread. state_after thread.state act answer.now)
+            (slice_get self.old.places.items place)) }
     {
         let Some(thread) = self.places.get_mut(place) else {
             return Ok(());

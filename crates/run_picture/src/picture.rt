@@ -40,8 +40,10 @@ pub fn draw_run<R: Source, W: Sink>(
     requires source { R.failures source.old ≡ 0 }
     requires unread { R.reads source.old ≡ 0 }
     requires sink { W.failures sink.old ≡ 0 }
-    ensures drew { Drew asked result (R.left source.old) (R.left source.new) (W.got sink.old) (W.got sink.new) }
-    ensures failed { FailedCalls result (R.reads source.new) (R.failures source.new) (W.failures sink.new) }
+    ensures drew { Drew asked result (R.left source.old) (R.left source.new) (W.got sink.old)
+        (W.got sink.new) }
+    ensures failed { FailedCalls result (R.reads source.new) (R.failures source.new)
+        (W.failures sink.new) }
 {
     let run = read_run(alloc, source, asked.part)?;
     let Ok(mut text) = text_of(alloc, run, asked.form) else {

@@ -47,7 +47,8 @@ impl Reading {
     /// One byte more.
     fn take(&mut self, alloc: Global, byte: u8) -> Result<(), AllocError>
         requires few { self.old.run.lines < 2 ^ 62 }
-        ensures read { OnOk result (Read self.old.system self.old.held (seen self.old.run) (byte ∷ []) self.new.system self.new.held (seen self.new.run)) }
+        ensures read { OnOk result (Read self.old.system self.old.held (seen self.old.run) (byte
+            ∷ []) self.new.system self.new.held (seen self.new.run)) }
         ensures few { OnOk result (self.new.run.lines ≤ self.old.run.lines + 1) }
     {
         if byte == b'\n' {
@@ -61,7 +62,9 @@ impl Reading {
     /// The line that is held has ended.
     fn end_line(&mut self, alloc: Global) -> Result<(), AllocError>
         requires few { self.old.run.lines < 2 ^ 62 }
-        ensures noted { OnOk result (Noted self.old.system self.old.held (seen self.old.run) self.new.system (seen self.new.run)) }
+        ensures noted { OnOk result
+            (Noted self.old.system self.old.held (seen self.old.run) self.new.system
+            (seen self.new.run)) }
         ensures held { OnOk result (self.new.held ≡ []) }
         ensures lines { OnOk result (self.new.run.lines ≡ self.old.run.lines + 1) }
     {
@@ -78,7 +81,9 @@ impl Reading {
     /// The bytes, one after another.
     fn take_all(&mut self, alloc: Global, bytes: &[u8]) -> Result<(), AllocError>
         requires few { self.old.run.lines + length bytes.now < 2 ^ 62 }
-        ensures read { OnOk result (Read self.old.system self.old.held (seen self.old.run) bytes.now self.new.system self.new.held (seen self.new.run)) }
+        ensures read { OnOk result
+            (Read self.old.system self.old.held (seen self.old.run) bytes.now self.new.system
+            self.new.held (seen self.new.run)) }
         ensures few { OnOk result (self.new.run.lines ≤ self.old.run.lines + length bytes.now) }
     {
         for byte in bytes {
@@ -104,7 +109,8 @@ impl Reading {
 pub fn read_run<R: Source>(alloc: Global, source: &mut R, part: Part) -> Result<Run, ReplayFault>
     requires source { R.failures source.old ≡ 0 }
     requires unread { R.reads source.old ≡ 0 }
-    ensures marked { IfOk result (λ run. Marked (R.left source.old) (R.left source.new) part (shown_by run.marks.items)) }
+    ensures marked { IfOk result
+        (λ run. Marked (R.left source.old) (R.left source.new) part (shown_by run.marks.items)) }
     ensures failed { FailedReads result (R.reads source.new) (R.failures source.new) }
 {
     let Ok(mut block) = new_block(alloc) else {

@@ -47,7 +47,9 @@ impl Run {
         requires few { self.old.lines < 2 ^ 63 }
         ensures part { OnOk result (self.new.part ≡ self.old.part) }
         ensures lines { OnOk result (self.new.lines ≡ self.old.lines + 1) }
-        ensures shown { OnOk result (shown_by self.new.marks.items ≡ grown self.old.part (self.old.lines + 1) (told_by line.now deed reply.now) (shown_by self.old.marks.items)) }
+        ensures shown { OnOk result (shown_by self.new.marks.items
+            ≡ grown self.old.part (self.old.lines + 1) (told_by line.now deed reply.now)
+            (shown_by self.old.marks.items)) }
     {
         self.lines += 1;
         if !is_before(self.lines, self.part.end) {
@@ -71,7 +73,8 @@ impl Run {
     ) -> Result<(), AllocError>
         ensures part { OnOk result (self.new.part ≡ self.old.part) }
         ensures lines { OnOk result (self.new.lines ≡ self.old.lines) }
-        ensures shown { OnOk result (shown_by self.new.marks.items ≡ shown_by self.old.marks.items ++ record { line = self.old.lines; told = told_by line.now deed reply.now } ∷ []) }
+        ensures shown { OnOk result (shown_by self.new.marks.items ≡ shown_by self.old.marks.items
+            ++ record { line = self.old.lines; told = told_by line.now deed reply.now } ∷ []) }
     {
         let title = title_of(alloc, line, reply)?;
         self.marks.push(Mark {

@@ -11,7 +11,8 @@ use parties::acts::Act;
 /// The name is one of the targets of the next request.
 #[unsafe(no_mangle)]
 pub extern "C" fn sp_target(party: &mut Place, name: u64) -> i64
-    ensures { Replies party.old.handle.board.places result (Act.Target name) party.old.handle.value party.new.handle.value }
+    ensures { Replies party.old.handle.board.places result (Act.Target name) party.old.handle.value
+        party.new.handle.value }
 {
     code_of(party.obey(Act::Target(name)))
 }
@@ -31,7 +32,8 @@ fn ask_of(asks: u32, serial: u64) -> Option<Ask>
 /// A handshake of the targets waits: its number. It asks for the depth (0), for the frames of the code of a serial (1), or for the top (2).
 #[unsafe(no_mangle)]
 pub extern "C" fn sp_submit(party: &mut Place, asks: u32, serial: u64) -> i64
-    ensures { Submits party.old.handle.board.places (ask_of asks serial) bad_ask_code result party.old.handle.value party.new.handle.value }
+    ensures { Submits party.old.handle.board.places (ask_of asks serial) bad_ask_code result
+        party.old.handle.value party.new.handle.value }
 {
     match ask_of(asks, serial) {
         Some(ask) => code_of(party.obey(Act::Submit(Some(ask)))),
@@ -42,7 +44,8 @@ pub extern "C" fn sp_submit(party: &mut Place, asks: u32, serial: u64) -> i64
 /// A census waits: its number.
 #[unsafe(no_mangle)]
 pub extern "C" fn sp_census(party: &mut Place) -> i64
-    ensures { Replies party.old.handle.board.places result (Act.Submit None) party.old.handle.value party.new.handle.value }
+    ensures { Replies party.old.handle.board.places result (Act.Submit None) party.old.handle.value
+        party.new.handle.value }
 {
     code_of(party.obey(Act::Submit(None)))
 }
@@ -50,7 +53,8 @@ pub extern "C" fn sp_census(party: &mut Place) -> i64
 /// The first step of reclaiming a code: the number of the handshake of the targets, 0 without any.
 #[unsafe(no_mangle)]
 pub extern "C" fn sp_reclaim_begin(party: &mut Place, serial: u64) -> i64
-    ensures { Replies party.old.handle.board.places result (Act.Reclaim serial) party.old.handle.value party.new.handle.value }
+    ensures { Replies party.old.handle.board.places result (Act.Reclaim serial)
+        party.old.handle.value party.new.handle.value }
 {
     code_of(party.obey(Act::Reclaim(serial)))
 }
@@ -58,7 +62,8 @@ pub extern "C" fn sp_reclaim_begin(party: &mut Place, serial: u64) -> i64
 /// A new code for the method: its serial.
 #[unsafe(no_mangle)]
 pub extern "C" fn sp_install(party: &mut Place, method: u32) -> i64
-    ensures { Replies party.old.handle.board.places result (Act.Install method) party.old.handle.value party.new.handle.value }
+    ensures { Replies party.old.handle.board.places result (Act.Install method)
+        party.old.handle.value party.new.handle.value }
 {
     code_of(party.obey(Act::Install(method)))
 }
@@ -66,7 +71,8 @@ pub extern "C" fn sp_install(party: &mut Place, method: u32) -> i64
 /// No thread enters the code any more.
 #[unsafe(no_mangle)]
 pub extern "C" fn sp_invalidate(party: &mut Place, serial: u64) -> i64
-    ensures { Replies party.old.handle.board.places result (Act.Invalidate serial) party.old.handle.value party.new.handle.value }
+    ensures { Replies party.old.handle.board.places result (Act.Invalidate serial)
+        party.old.handle.value party.new.handle.value }
 {
     code_of(party.obey(Act::Invalidate(serial)))
 }
@@ -74,7 +80,8 @@ pub extern "C" fn sp_invalidate(party: &mut Place, serial: u64) -> i64
 /// The reply of a name in an operation.
 #[unsafe(no_mangle)]
 pub extern "C" fn sp_reply(party: &mut Place, op: u64, name: u64) -> i64
-    ensures { Replies party.old.handle.board.places result (Act.Reply op name) party.old.handle.value party.new.handle.value }
+    ensures { Replies party.old.handle.board.places result (Act.Reply op name)
+        party.old.handle.value party.new.handle.value }
 {
     code_of(party.obey(Act::Reply(op, name)))
 }
@@ -82,7 +89,8 @@ pub extern "C" fn sp_reply(party: &mut Place, op: u64, name: u64) -> i64
 /// The least name above this one that is live, 0 for none.
 #[unsafe(no_mangle)]
 pub extern "C" fn sp_live_after(party: &mut Place, name: u64) -> i64
-    ensures { Replies party.old.handle.board.places result (Act.LiveAfter name) party.old.handle.value party.new.handle.value }
+    ensures { Replies party.old.handle.board.places result (Act.LiveAfter name)
+        party.old.handle.value party.new.handle.value }
 {
     code_of(party.obey(Act::LiveAfter(name)))
 }
@@ -90,7 +98,8 @@ pub extern "C" fn sp_live_after(party: &mut Place, name: u64) -> i64
 /// Forgets what was entered so far.
 #[unsafe(no_mangle)]
 pub extern "C" fn sp_forget(party: &mut Place) -> i64
-    ensures { Replies party.old.handle.board.places result Act.Forget party.old.handle.value party.new.handle.value }
+    ensures { Replies party.old.handle.board.places result Act.Forget party.old.handle.value
+        party.new.handle.value }
 {
     code_of(party.obey(Act::Forget))
 }

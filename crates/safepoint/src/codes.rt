@@ -244,7 +244,7 @@ fn fault_code_of_step(fault: Fault) -> i64
     }
 }
 
-/// The same for the calls that a thread makes most, and that don't poll.
+/// What C gets of the calls that a thread makes most, and that don't poll.
 #[inline(always)]
 pub(crate) fn code_of_step(said: Result<u64, Fault>) -> i64
     ensures { result ≡ code_of said }
@@ -264,7 +264,7 @@ fn code_of_stop(n: u64) -> i64
     number_code(n)
 }
 
-/// The same for those that poll: mostly the thread goes on.
+/// What C gets of the calls that poll: mostly the thread goes on.
 #[inline(always)]
 pub(crate) fn code_of_poll(said: Result<u64, Fault>) -> i64
     ensures { result ≡ code_of said }

@@ -9,7 +9,8 @@ use parties::acts::Act;
 /// Opens the oldest request: its number.
 #[unsafe(no_mangle)]
 pub extern "C" fn sp_open(coordinator: &mut Place) -> i64
-    ensures { Replies coordinator.old.handle.board.places result Act.Open coordinator.old.handle.value coordinator.new.handle.value }
+    ensures { Replies coordinator.old.handle.board.places result Act.Open
+        coordinator.old.handle.value coordinator.new.handle.value }
 {
     code_of(coordinator.obey(Act::Open))
 }
@@ -17,7 +18,8 @@ pub extern "C" fn sp_open(coordinator: &mut Place) -> i64
 /// Tells a name: the number that its place is armed with, 0 where the name is gone.
 #[unsafe(no_mangle)]
 pub extern "C" fn sp_tell(coordinator: &mut Place, name: u64) -> i64
-    ensures { Replies coordinator.old.handle.board.places result (Act.Tell name) coordinator.old.handle.value coordinator.new.handle.value }
+    ensures { Replies coordinator.old.handle.board.places result (Act.Tell name)
+        coordinator.old.handle.value coordinator.new.handle.value }
 {
     code_of(coordinator.obey(Act::Tell(name)))
 }
@@ -25,7 +27,8 @@ pub extern "C" fn sp_tell(coordinator: &mut Place, name: u64) -> i64
 /// Holds the thread of a place: the oldest operation that it owes.
 #[unsafe(no_mangle)]
 pub extern "C" fn sp_hold(coordinator: &mut Place, place: usize) -> i64
-    ensures { Replies coordinator.old.handle.board.places result (Act.Hold place) coordinator.old.handle.value coordinator.new.handle.value }
+    ensures { Replies coordinator.old.handle.board.places result (Act.Hold place)
+        coordinator.old.handle.value coordinator.new.handle.value }
 {
     code_of(coordinator.obey(Act::Hold(place)))
 }
@@ -33,7 +36,8 @@ pub extern "C" fn sp_hold(coordinator: &mut Place, place: usize) -> i64
 /// The operation of a held thread is served: its number.
 #[unsafe(no_mangle)]
 pub extern "C" fn sp_serve(coordinator: &mut Place, place: usize) -> i64
-    ensures { Replies coordinator.old.handle.board.places result (Act.Serve place) coordinator.old.handle.value coordinator.new.handle.value }
+    ensures { Replies coordinator.old.handle.board.places result (Act.Serve place)
+        coordinator.old.handle.value coordinator.new.handle.value }
 {
     code_of(coordinator.obey(Act::Serve(place)))
 }
@@ -41,7 +45,8 @@ pub extern "C" fn sp_serve(coordinator: &mut Place, place: usize) -> i64
 /// A held thread is let go.
 #[unsafe(no_mangle)]
 pub extern "C" fn sp_release(coordinator: &mut Place, place: usize) -> i64
-    ensures { Replies coordinator.old.handle.board.places result (Act.Release place) coordinator.old.handle.value coordinator.new.handle.value }
+    ensures { Replies coordinator.old.handle.board.places result (Act.Release place)
+        coordinator.old.handle.value coordinator.new.handle.value }
 {
     code_of(coordinator.obey(Act::Release(place)))
 }
@@ -49,7 +54,8 @@ pub extern "C" fn sp_release(coordinator: &mut Place, place: usize) -> i64
 /// The open census is operated over the held threads: its number.
 #[unsafe(no_mangle)]
 pub extern "C" fn sp_operate(coordinator: &mut Place) -> i64
-    ensures { Replies coordinator.old.handle.board.places result Act.Operate coordinator.old.handle.value coordinator.new.handle.value }
+    ensures { Replies coordinator.old.handle.board.places result Act.Operate
+        coordinator.old.handle.value coordinator.new.handle.value }
 {
     code_of(coordinator.obey(Act::Operate))
 }
@@ -57,7 +63,8 @@ pub extern "C" fn sp_operate(coordinator: &mut Place) -> i64
 /// The frames of a code in the census that was operated last.
 #[unsafe(no_mangle)]
 pub extern "C" fn sp_counted(coordinator: &mut Place, serial: u64) -> i64
-    ensures { Replies coordinator.old.handle.board.places result (Act.Counted serial) coordinator.old.handle.value coordinator.new.handle.value }
+    ensures { Replies coordinator.old.handle.board.places result (Act.Counted serial)
+        coordinator.old.handle.value coordinator.new.handle.value }
 {
     code_of(coordinator.obey(Act::Counted(serial)))
 }
@@ -65,7 +72,8 @@ pub extern "C" fn sp_counted(coordinator: &mut Place, serial: u64) -> i64
 /// Closes the oldest open request: its number.
 #[unsafe(no_mangle)]
 pub extern "C" fn sp_close(coordinator: &mut Place) -> i64
-    ensures { Replies coordinator.old.handle.board.places result (Act.Close None) coordinator.old.handle.value coordinator.new.handle.value }
+    ensures { Replies coordinator.old.handle.board.places result (Act.Close None)
+        coordinator.old.handle.value coordinator.new.handle.value }
 {
     code_of(coordinator.obey(Act::Close(None)))
 }
@@ -73,7 +81,8 @@ pub extern "C" fn sp_close(coordinator: &mut Place) -> i64
 /// Closes the open request of the number.
 #[unsafe(no_mangle)]
 pub extern "C" fn sp_close_of(coordinator: &mut Place, number: u64) -> i64
-    ensures { Replies coordinator.old.handle.board.places result (Act.Close (Some number)) coordinator.old.handle.value coordinator.new.handle.value }
+    ensures { Replies coordinator.old.handle.board.places result (Act.Close (Some number))
+        coordinator.old.handle.value coordinator.new.handle.value }
 {
     code_of(coordinator.obey(Act::Close(Some(number))))
 }
@@ -81,7 +90,8 @@ pub extern "C" fn sp_close_of(coordinator: &mut Place, number: u64) -> i64
 /// The last step of reclaiming a code: 0 where it is freed, or how many activations stand.
 #[unsafe(no_mangle)]
 pub extern "C" fn sp_reclaim_end(coordinator: &mut Place, serial: u64) -> i64
-    ensures { Replies coordinator.old.handle.board.places result (Act.Weigh serial) coordinator.old.handle.value coordinator.new.handle.value }
+    ensures { Replies coordinator.old.handle.board.places result (Act.Weigh serial)
+        coordinator.old.handle.value coordinator.new.handle.value }
 {
     code_of(coordinator.obey(Act::Weigh(serial)))
 }

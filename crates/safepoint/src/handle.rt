@@ -123,7 +123,9 @@ impl Handle {
 
     fn fork(self) -> (Handle, (Handle, bool))
         requires { is_some self.value ≡ true }
-        ensures { Forks self.value result.0.value result.1.0.value result.1.1 × (result.0.board ≡ self.board) × (result.0.row ≡ self.row) × (result.1.0.board ≡ self.board) × (result.1.0.row ≡ self.row) }
+        ensures { Forks self.value result.0.value result.1.0.value result.1.1
+            × (result.0.board ≡ self.board) × (result.0.row ≡ self.row)
+            × (result.1.0.board ≡ self.board) × (result.1.0.row ≡ self.row) }
     {
         let Handle { at, alloc } = self;
         let (parts, more) = fork::<Brand>(Loose {
@@ -145,7 +147,8 @@ impl Handle {
     }
 
     fn make(alloc: Global, parts: Parts) -> (Handle, bool)
-        ensures { Begins result.0.board result.0.row result.0.value result.1 × (result.0.board ≡ parts.board) }
+        ensures { Begins result.0.board result.0.row result.0.value result.1
+            × (result.0.board ≡ parts.board) }
     {
         let (other, made) = make::<Brand>(alloc, parts);
         let Loose { at, alloc } = other;
@@ -205,7 +208,8 @@ impl Place {
 
     #[inline(always)]
     fn take(&mut self, alloc: Global) -> Handle
-        ensures party { (result.value ≡ self.old.handle.value) × (result.board ≡ self.old.handle.board) × (result.row ≡ self.old.handle.row) }
+        ensures party { (result.value ≡ self.old.handle.value)
+            × (result.board ≡ self.old.handle.board) × (result.row ≡ self.old.handle.row) }
         ensures none { self.new.handle.value ≡ None }
     {
         replace(self, Place::none(alloc)).handle
@@ -214,7 +218,8 @@ impl Place {
     #[inline(always)]
     fn put(&mut self, handle: Handle, made: bool)
         requires { is_some handle.value ≡ made }
-        ensures { (self.new.handle.value ≡ handle.value) × (self.new.handle.board ≡ handle.board) × (self.new.handle.row ≡ handle.row) }
+        ensures { (self.new.handle.value ≡ handle.value) × (self.new.handle.board ≡ handle.board)
+            × (self.new.handle.row ≡ handle.row) }
     {
         *self = Place { made, handle };
     }
@@ -222,8 +227,10 @@ impl Place {
     /// Does an act of the party that is here.
     #[inline(always)]
     pub(crate) fn obey(&mut self, act: Act) -> Result<u64, Fault>
-        ensures said { Answers self.old.handle.board.places self.old.handle.value act result self.new.handle.value }
-        ensures same { (self.new.handle.board ≡ self.old.handle.board) × (self.new.handle.row ≡ self.old.handle.row) }
+        ensures said { Answers self.old.handle.board.places self.old.handle.value act result
+            self.new.handle.value }
+        ensures same { (self.new.handle.board ≡ self.old.handle.board)
+            × (self.new.handle.row ≡ self.old.handle.row) }
     {
         if !self.made {
             return Err(Fault::NotThis);
@@ -238,7 +245,8 @@ impl Place {
         ensures zero { IfOk result (λ n. n ≡ 0) }
         ensures fresh { OnOk result (IsFresh other.new.handle.value) }
         ensures none { OnErr result (is_some other.new.handle.value ≡ false) }
-        ensures same { OnOk result ((other.new.handle.board ≡ self.old.handle.board) × (other.new.handle.row ≡ self.old.handle.row)) }
+        ensures same { OnOk result ((other.new.handle.board ≡ self.old.handle.board)
+            × (other.new.handle.row ≡ self.old.handle.row)) }
     {
         if !self.made {
             return Err(Fault::NotThis);
@@ -252,7 +260,9 @@ impl Place {
 
     pub(crate) fn make(&mut self, alloc: Global, parts: Parts) -> Result<u64, Fault>
         ensures zero { IfOk result (λ n. n ≡ 0) }
-        ensures begun { OnOk result (IsBegun self.new.handle.board self.new.handle.row self.new.handle.value × (self.new.handle.board ≡ parts.board)) }
+        ensures begun { OnOk result
+            (IsBegun self.new.handle.board self.new.handle.row self.new.handle.value
+            × (self.new.handle.board ≡ parts.board)) }
         ensures none { OnErr result (is_some self.new.handle.value ≡ false) }
     {
         let (handle, made) = Handle::make(alloc, parts);

@@ -16,8 +16,11 @@ pub extern "C" fn sp_make(
     slots: usize,
     methods: usize,
 ) -> i64
-    ensures made { result ≡ pos 0 → IsBegun coordinator.new.handle.board coordinator.new.handle.row coordinator.new.handle.value }
-    ensures sizes { result ≡ pos 0 → (coordinator.new.handle.board.places ≡ places) × (coordinator.new.handle.board.slots ≡ slots) }
+    ensures made { result ≡ pos 0
+        → IsBegun coordinator.new.handle.board coordinator.new.handle.row
+        coordinator.new.handle.value }
+    ensures sizes { result ≡ pos 0 → (coordinator.new.handle.board.places ≡ places)
+        × (coordinator.new.handle.board.slots ≡ slots) }
     ensures kept { result ≢ pos 0 → coordinator.new.handle.value ≡ coordinator.old.handle.value }
 {
     if coordinator.is_made() {
@@ -34,7 +37,9 @@ pub extern "C" fn sp_make(
 #[unsafe(no_mangle)]
 pub extern "C" fn sp_fork(alloc: Global, party: &mut Place, other: &mut Place) -> i64
     ensures same { party.new.handle.value ≡ party.old.handle.value }
-    ensures fresh { result ≡ pos 0 → IsFresh other.new.handle.value × (other.new.handle.board ≡ party.old.handle.board) × (other.new.handle.row ≡ party.old.handle.row) }
+    ensures fresh { result ≡ pos 0 → IsFresh other.new.handle.value
+        × (other.new.handle.board ≡ party.old.handle.board)
+        × (other.new.handle.row ≡ party.old.handle.row) }
     ensures kept { result ≢ pos 0 → other.new.handle.value ≡ other.old.handle.value }
 {
     if other.is_made() {

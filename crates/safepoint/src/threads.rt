@@ -9,7 +9,8 @@ use parties::acts::Act;
 /// The party becomes a thread, and starts: its name.
 #[unsafe(no_mangle)]
 pub extern "C" fn sp_start(thread: &mut Place) -> i64
-    ensures { Replies thread.old.handle.board.places result Act.Start thread.old.handle.value thread.new.handle.value }
+    ensures { Replies thread.old.handle.board.places result Act.Start thread.old.handle.value
+        thread.new.handle.value }
 {
     code_of(thread.obey(Act::Start))
 }
@@ -17,7 +18,8 @@ pub extern "C" fn sp_start(thread: &mut Place) -> i64
 /// The thread ends.
 #[unsafe(no_mangle)]
 pub extern "C" fn sp_exit(thread: &mut Place) -> i64
-    ensures { Replies thread.old.handle.board.places result Act.Exit thread.old.handle.value thread.new.handle.value }
+    ensures { Replies thread.old.handle.board.places result Act.Exit thread.old.handle.value
+        thread.new.handle.value }
 {
     code_of(thread.obey(Act::Exit))
 }
@@ -25,7 +27,8 @@ pub extern "C" fn sp_exit(thread: &mut Place) -> i64
 /// The thread's name.
 #[unsafe(no_mangle)]
 pub extern "C" fn sp_name(thread: &mut Place) -> i64
-    ensures { Replies thread.old.handle.board.places result Act.Name thread.old.handle.value thread.new.handle.value }
+    ensures { Replies thread.old.handle.board.places result Act.Name thread.old.handle.value
+        thread.new.handle.value }
 {
     code_of(thread.obey(Act::Name))
 }
@@ -33,7 +36,8 @@ pub extern "C" fn sp_name(thread: &mut Place) -> i64
 /// The place whose words are the thread's.
 #[unsafe(no_mangle)]
 pub extern "C" fn sp_place(thread: &mut Place) -> i64
-    ensures { Replies thread.old.handle.board.places result Act.Place thread.old.handle.value thread.new.handle.value }
+    ensures { Replies thread.old.handle.board.places result Act.Place thread.old.handle.value
+        thread.new.handle.value }
 {
     code_of(thread.obey(Act::Place))
 }
@@ -41,7 +45,8 @@ pub extern "C" fn sp_place(thread: &mut Place) -> i64
 /// The thread's state.
 #[unsafe(no_mangle)]
 pub extern "C" fn sp_state(thread: &mut Place) -> i64
-    ensures { Replies thread.old.handle.board.places result Act.State thread.old.handle.value thread.new.handle.value }
+    ensures { Replies thread.old.handle.board.places result Act.State thread.old.handle.value
+        thread.new.handle.value }
 {
     code_of(thread.obey(Act::State))
 }
@@ -49,7 +54,8 @@ pub extern "C" fn sp_state(thread: &mut Place) -> i64
 /// Enters a method: the serial of its code, 0 where it is interpreted.
 #[unsafe(no_mangle)]
 pub extern "C" fn sp_call(thread: &mut Place, method: u32) -> i64
-    ensures { Replies thread.old.handle.board.places result (Act.Call method) thread.old.handle.value thread.new.handle.value }
+    ensures { Replies thread.old.handle.board.places result (Act.Call method)
+        thread.old.handle.value thread.new.handle.value }
 {
     code_of_step(thread.obey(Act::Call(method)))
 }
@@ -57,7 +63,8 @@ pub extern "C" fn sp_call(thread: &mut Place, method: u32) -> i64
 /// Leaves the top method, and polls.
 #[unsafe(no_mangle)]
 pub extern "C" fn sp_ret(thread: &mut Place) -> i64
-    ensures { Replies thread.old.handle.board.places result Act.Ret thread.old.handle.value thread.new.handle.value }
+    ensures { Replies thread.old.handle.board.places result Act.Ret thread.old.handle.value
+        thread.new.handle.value }
 {
     code_of_poll(thread.obey(Act::Ret))
 }
@@ -65,7 +72,8 @@ pub extern "C" fn sp_ret(thread: &mut Place) -> i64
 /// Polls.
 #[unsafe(no_mangle)]
 pub extern "C" fn sp_back_edge(thread: &mut Place) -> i64
-    ensures { Replies thread.old.handle.board.places result Act.BackEdge thread.old.handle.value thread.new.handle.value }
+    ensures { Replies thread.old.handle.board.places result Act.BackEdge thread.old.handle.value
+        thread.new.handle.value }
 {
     code_of_poll(thread.obey(Act::BackEdge))
 }
@@ -73,7 +81,8 @@ pub extern "C" fn sp_back_edge(thread: &mut Place) -> i64
 /// Publishes the stack.
 #[unsafe(no_mangle)]
 pub extern "C" fn sp_publish(thread: &mut Place) -> i64
-    ensures { Replies thread.old.handle.board.places result Act.Publish thread.old.handle.value thread.new.handle.value }
+    ensures { Replies thread.old.handle.board.places result Act.Publish thread.old.handle.value
+        thread.new.handle.value }
 {
     code_of_step(thread.obey(Act::Publish))
 }
@@ -81,7 +90,8 @@ pub extern "C" fn sp_publish(thread: &mut Place) -> i64
 /// Into the VM.
 #[unsafe(no_mangle)]
 pub extern "C" fn sp_to_vm(thread: &mut Place) -> i64
-    ensures { Replies thread.old.handle.board.places result Act.ToVm thread.old.handle.value thread.new.handle.value }
+    ensures { Replies thread.old.handle.board.places result Act.ToVm thread.old.handle.value
+        thread.new.handle.value }
 {
     code_of_step(thread.obey(Act::ToVm))
 }
@@ -89,7 +99,8 @@ pub extern "C" fn sp_to_vm(thread: &mut Place) -> i64
 /// Out of the VM, and polls.
 #[unsafe(no_mangle)]
 pub extern "C" fn sp_from_vm(thread: &mut Place) -> i64
-    ensures { Replies thread.old.handle.board.places result Act.FromVm thread.old.handle.value thread.new.handle.value }
+    ensures { Replies thread.old.handle.board.places result Act.FromVm thread.old.handle.value
+        thread.new.handle.value }
 {
     code_of_poll(thread.obey(Act::FromVm))
 }
@@ -97,7 +108,8 @@ pub extern "C" fn sp_from_vm(thread: &mut Place) -> i64
 /// Into native code.
 #[unsafe(no_mangle)]
 pub extern "C" fn sp_to_native(thread: &mut Place) -> i64
-    ensures { Replies thread.old.handle.board.places result Act.ToNative thread.old.handle.value thread.new.handle.value }
+    ensures { Replies thread.old.handle.board.places result Act.ToNative thread.old.handle.value
+        thread.new.handle.value }
 {
     code_of_step(thread.obey(Act::ToNative))
 }
@@ -105,7 +117,8 @@ pub extern "C" fn sp_to_native(thread: &mut Place) -> i64
 /// Back from native code, and polls.
 #[unsafe(no_mangle)]
 pub extern "C" fn sp_from_native(thread: &mut Place) -> i64
-    ensures { Replies thread.old.handle.board.places result Act.FromNative thread.old.handle.value thread.new.handle.value }
+    ensures { Replies thread.old.handle.board.places result Act.FromNative thread.old.handle.value
+        thread.new.handle.value }
 {
     code_of_poll(thread.obey(Act::FromNative))
 }
@@ -113,7 +126,8 @@ pub extern "C" fn sp_from_native(thread: &mut Place) -> i64
 /// From the VM into a wait.
 #[unsafe(no_mangle)]
 pub extern "C" fn sp_block(thread: &mut Place) -> i64
-    ensures { Replies thread.old.handle.board.places result Act.Block thread.old.handle.value thread.new.handle.value }
+    ensures { Replies thread.old.handle.board.places result Act.Block thread.old.handle.value
+        thread.new.handle.value }
 {
     code_of_step(thread.obey(Act::Block))
 }
@@ -121,7 +135,8 @@ pub extern "C" fn sp_block(thread: &mut Place) -> i64
 /// Back from a wait, and polls.
 #[unsafe(no_mangle)]
 pub extern "C" fn sp_unblock(thread: &mut Place) -> i64
-    ensures { Replies thread.old.handle.board.places result Act.Unblock thread.old.handle.value thread.new.handle.value }
+    ensures { Replies thread.old.handle.board.places result Act.Unblock thread.old.handle.value
+        thread.new.handle.value }
 {
     code_of_poll(thread.obey(Act::Unblock))
 }
@@ -129,7 +144,8 @@ pub extern "C" fn sp_unblock(thread: &mut Place) -> i64
 /// After a poll that stopped: the operation to serve now, 0 where the thread goes on.
 #[unsafe(no_mangle)]
 pub extern "C" fn sp_stop_next(thread: &mut Place) -> i64
-    ensures { Replies thread.old.handle.board.places result Act.StopNext thread.old.handle.value thread.new.handle.value }
+    ensures { Replies thread.old.handle.board.places result Act.StopNext thread.old.handle.value
+        thread.new.handle.value }
 {
     code_of(thread.obey(Act::StopNext))
 }
@@ -137,7 +153,8 @@ pub extern "C" fn sp_stop_next(thread: &mut Place) -> i64
 /// The operation is served: what the poll after it answers.
 #[unsafe(no_mangle)]
 pub extern "C" fn sp_stop_serve(thread: &mut Place) -> i64
-    ensures { Replies thread.old.handle.board.places result Act.StopServe thread.old.handle.value thread.new.handle.value }
+    ensures { Replies thread.old.handle.board.places result Act.StopServe thread.old.handle.value
+        thread.new.handle.value }
 {
     code_of(thread.obey(Act::StopServe))
 }

@@ -27,6 +27,7 @@ fn code_counts(alloc: Global, counts: &[(u64, u32)]) -> Result<Vec<CodeCount>, A
 
 impl Core {
     /// The thread at the place counts its next change, and the index takes the difference.
+    #[inline(always)]
     pub fn change(&mut self, place: usize) -> Answer
         requires few { length self.old.places.items ≤ 64 }
         requires world { OfWorld self.old }

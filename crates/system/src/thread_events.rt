@@ -32,6 +32,7 @@ impl Core {
     }
 
     /// The thread at the place leaves it.
+    #[inline(always)]
     pub fn exit(&mut self, place: usize) -> Answer
         ensures { Does (events.At place acts.Exit) self.old result self.new }
     {
@@ -39,6 +40,7 @@ impl Core {
     }
 
     /// The frames of the thread at the place.
+    #[inline(always)]
     pub fn stack(&self, alloc: Global, place: usize) -> Result<Answer, AllocError>
         ensures does { IfOk result
             (λ answer. Does (events.At place acts.Stack) self.now answer self.now) }

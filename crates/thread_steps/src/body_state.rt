@@ -70,7 +70,8 @@ impl<N: Name> BodyState<N> {
 
     /// The receipt that the body of a thread that has stopped is in its berth comes out, and what stays is written over.
     pub(crate) fn take_given(&mut self) -> Option<BodyReceipt<N>>
-        ensures some { IfSome result (λ r. (given_in self.old ≡ Some r) × (body_in self.old ≡ None)) }
+        ensures some { IfSome result
+            (λ r. (given_in self.old ≡ Some r) × (body_in self.old ≡ None)) }
         ensures none { IfNone result ((self.new ≡ self.old) × (given_in self.old ≡ None)) }
     {
         let BodyState::Given(_, _) = self else {
@@ -89,8 +90,11 @@ impl<N: Name> BodyState<N> {
 
     /// The body comes out with what its job answered, and what stays is written over.
     pub(crate) fn take_answered(&mut self) -> Option<(Back, Body<N>, Done)>
-        ensures some { IfSome result (λ r. (state_in self.old ≡ IsServing r.0) × (body_in self.old ≡ Some r.1) × (answer_in self.old ≡ Some r.2) × (given_in self.old ≡ None)) }
-        ensures none { IfNone result ((self.new ≡ self.old) × ((back : WayBack) → state_in self.old ≢ IsServing back)) }
+        ensures some { IfSome result
+            (λ r. (state_in self.old ≡ IsServing r.0) × (body_in self.old ≡ Some r.1)
+            × (answer_in self.old ≡ Some r.2) × (given_in self.old ≡ None)) }
+        ensures none { IfNone result ((self.new ≡ self.old)
+            × ((back : WayBack) → state_in self.old ≢ IsServing back)) }
     {
         let BodyState::Serves(_, _, _) = self else {
             return None;

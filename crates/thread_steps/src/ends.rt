@@ -44,14 +44,16 @@ impl<N: Name> Model for Entered<N> {
 
     ghost view = { λ e. record { name = e.name; place = e.place; methods = e.methods } };
 
-    ghost invariant = { λ e. (0 < e.name) × (e.place < N.board.places) × (e.image ≡ record { frames = []; counted = []; changed = []; publishing = false }) };
+    ghost invariant = { λ e. (0 < e.name) × (e.place < N.board.places)
+        × (e.image ≡ record { frames = []; counted = []; changed = []; publishing = false }) };
 }
 
 impl<N: Name> Entered<N> {
     pub fn new(name: u64, place: usize, methods: u32, image: Image) -> Entered<N>
         requires name { 0 < name }
         requires place { place < N.board.places }
-        requires image { image ≡ record { frames = []; counted = []; changed = []; publishing = false } }
+        requires image { image
+            ≡ record { frames = []; counted = []; changed = []; publishing = false } }
         ensures { result ≡ record { name = name; place = place; methods = methods } }
     {
         Entered {
@@ -88,7 +90,8 @@ impl<N: Name> Entered<N> {
     ) -> Result<Stepper<N>, Entered<N>>
         requires board { board.now ≡ N.board }
         requires row { row.now ≡ N.poll_row }
-        ensures started { IfOk result (λ r. (r.name ≡ self.name) × (r.place ≡ self.place) × (r.methods ≡ self.methods)) }
+        ensures started { IfOk result
+            (λ r. (r.name ≡ self.name) × (r.place ≡ self.place) × (r.methods ≡ self.methods)) }
         ensures resumed { IfOk result (λ r. IsResumed r) }
         ensures polled { IfOk result (λ r. PollsIn r.crossed.body r OfJava) }
         ensures room { IfOk result (λ r. MovesIn self.name r.crossed room.old room.new) }

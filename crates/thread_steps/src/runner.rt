@@ -45,9 +45,18 @@ impl<N: Name> Model for Stepper<N> {
 
     ghost Value = { Running };
 
-    ghost view = { λ m. record { name = m.name; place = m.place; methods = m.methods; state = state_in m.body_state; body = body_in m.body_state; crossed = last_of (given_in m.body_state) m.crossed } };
+    ghost view = { λ m. record {
+      name = m.name;
+      place = m.place;
+      methods = m.methods;
+      state = state_in m.body_state;
+      body = body_in m.body_state;
+      crossed = last_of (given_in m.body_state) m.crossed;
+    } };
 
-    ghost invariant = { λ m. IsStepping N.board.places m.name m.place (state_in m.body_state) (body_in m.body_state) (answer_in m.body_state) m.moved_in (last_of (given_in m.body_state) m.crossed) };
+    ghost invariant = { λ m. IsStepping N.board.places m.name m.place (state_in m.body_state)
+        (body_in m.body_state) (answer_in m.body_state) m.moved_in
+        (last_of (given_in m.body_state) m.crossed) };
 }
 
 impl<N: Name> Stepper<N> {
@@ -87,7 +96,10 @@ impl<N: Name> Stepper<N> {
         requires board { board.now ≡ N.board }
         requires slot { IfSome hint (λ c. c.slot < N.board.slots) }
         ensures accepted { OnOk result (call_accepted self.old method) }
-        ensures step { IfOk result (λ said. (old : BodyView) × (new : BodyView) × (self.old.body ≡ Some old) × (self.new.body ≡ Some new) × IsCalled old new method hint said × (new.name ≡ old.name) × (new.poller ≡ old.poller)) }
+        ensures step { IfOk result
+            (λ said. (old : BodyView) × (new : BodyView) × (self.old.body ≡ Some old)
+            × (self.new.body ≡ Some new) × IsCalled old new method hint said
+            × (new.name ≡ old.name) × (new.poller ≡ old.poller)) }
         ensures state { self.new.state ≡ self.old.state }
         ensures same { SameThread self.old self.new }
         ensures err { IfErr result (λ e. (self.new ≡ self.old) × call_refused self.old method e) }
@@ -135,9 +147,11 @@ impl<N: Name> Stepper<N> {
     #[inline(always)]
     pub fn back_edge(&mut self, row: &PollRow) -> Result<Poll, State>
         requires row { row.now ≡ N.poll_row }
-        ensures ok { IfOk result (λ said. (self.old.state ≡ IsInJava) × Polls self.old self.new IsInJava said) }
+        ensures ok { IfOk result
+            (λ said. (self.old.state ≡ IsInJava) × Polls self.old self.new IsInJava said) }
         ensures same { SameThread self.old self.new }
-        ensures err { IfErr result (λ s. (s ≡ self.old.state) × (s ≢ IsInJava) × (self.new ≡ self.old)) }
+        ensures err { IfErr result
+            (λ s. (s ≡ self.old.state) × (s ≢ IsInJava) × (self.new ≡ self.old)) }
     {
         let BodyState::InJava(body) = &mut self.body_state else {
             return Err(self.state());
@@ -155,11 +169,13 @@ impl<N: Name> Stepper<N> {
     #[inline(always)]
     pub fn publish(&mut self, board: &Board) -> Result<(), State>
         requires board { board.now ≡ N.board }
-        ensures published { OnOk result ((old : BodyView) × (new : BodyView) × (self.old.body ≡ Some old) × (self.new.body ≡ Some new) × IsPublished old new) }
+        ensures published { OnOk result ((old : BodyView) × (new : BodyView)
+            × (self.old.body ≡ Some old) × (self.new.body ≡ Some new) × IsPublished old new) }
         ensures lawful { OnOk result (is_running self.old.state ≡ true) }
         ensures state { self.new.state ≡ self.old.state }
         ensures same { SameThread self.old self.new }
-        ensures err { IfErr result (λ s. (s ≡ self.old.state) × (is_running s ≡ false) × (self.new ≡ self.old)) }
+        ensures err { IfErr result
+            (λ s. (s ≡ self.old.state) × (is_running s ≡ false) × (self.new ≡ self.old)) }
     {
         match &mut self.body_state {
             BodyState::InJava(body) => body.publish(board),
@@ -177,8 +193,10 @@ impl<N: Name> Stepper<N> {
 
     /// From Java into the VM, without a poll. A thread that isn't in Java is refused with its state.
     pub fn to_vm(&mut self) -> Result<(), State>
-        ensures ok { OnOk result ((self.old.state ≡ IsInJava) × (self.new ≡ record self.old { state = IsInVm })) }
-        ensures err { IfErr result (λ s. (s ≡ self.old.state) × (s ≢ IsInJava) × (self.new ≡ self.old)) }
+        ensures ok { OnOk result ((self.old.state ≡ IsInJava)
+            × (self.new ≡ record self.old { state = IsInVm })) }
+        ensures err { IfErr result
+            (λ s. (s ≡ self.old.state) × (s ≢ IsInJava) × (self.new ≡ self.old)) }
     {
         let BodyState::InJava(_) = &self.body_state else {
             return Err(self.state());
@@ -191,9 +209,11 @@ impl<N: Name> Stepper<N> {
     /// From the VM back into Java: the thread polls, by one load. A thread that isn't in the VM is refused with its state.
     pub fn from_vm(&mut self, row: &PollRow) -> Result<Poll, State>
         requires row { row.now ≡ N.poll_row }
-        ensures ok { IfOk result (λ said. (self.old.state ≡ IsInVm) × Polls self.old self.new IsInVm said) }
+        ensures ok { IfOk result
+            (λ said. (self.old.state ≡ IsInVm) × Polls self.old self.new IsInVm said) }
         ensures same { SameThread self.old self.new }
-        ensures err { IfErr result (λ s. (s ≡ self.old.state) × (s ≢ IsInVm) × (self.new ≡ self.old)) }
+        ensures err { IfErr result
+            (λ s. (s ≡ self.old.state) × (s ≢ IsInVm) × (self.new ≡ self.old)) }
     {
         let BodyState::InVm(body) = &mut self.body_state else {
             return Err(self.state());
@@ -209,7 +229,8 @@ impl<N: Name> Stepper<N> {
     #[inline(never)]
     fn go_on(&mut self, stops: bool)
         requires running { is_running self.old.state ≡ true }
-        ensures { self.new ≡ record self.old { state = if stops then IsAtPoll OfJava else IsInJava } }
+        ensures { self.new
+            ≡ record self.old { state = if stops then IsAtPoll OfJava else IsInJava } }
     {
         let body = self.body_state.take_body();
         self.body_state = if stops {
@@ -223,13 +244,19 @@ impl<N: Name> Stepper<N> {
     /// in neither is refused with its state. `false` where the room doesn't take the body, and nothing is done.
     #[inline(always)]
     pub fn to_native<J: Errand>(&mut self, room: &mut Room<N, J>) -> Result<bool, State>
-        ensures ok { IfOk result (λ done. done ≡ true → table.step self.old.state movement.ToNative ≡ Some self.new.state) }
+        ensures ok { IfOk result
+            (λ done. done ≡ true
+            → table.step self.old.state movement.ToNative ≡ Some self.new.state) }
         ensures given { IfOk result (λ done. done ≡ true → Gives self.old self.new) }
         ensures room { IfOk result (λ done. done ≡ true → GoesIn self.old room.old room.new) }
-        ensures again { IfOk result (λ done. done ≡ false → (self.new ≡ self.old) × (room.new ≡ room.old)) }
-        ensures declined { IfOk result (λ done. done ≡ false → Declines room.old self.old.name self.old.place) }
+        ensures again { IfOk result
+            (λ done. done ≡ false → (self.new ≡ self.old) × (room.new ≡ room.old)) }
+        ensures declined { IfOk result
+            (λ done. done ≡ false → Declines room.old self.old.name self.old.place) }
         ensures same { SameThread self.old self.new }
-        ensures err { IfErr result (λ s. (s ≡ self.old.state) × (table.step s movement.ToNative ≡ None) × (self.new ≡ self.old) × (room.new ≡ room.old)) }
+        ensures err { IfErr result
+            (λ s. (s ≡ self.old.state) × (table.step s movement.ToNative ≡ None)
+            × (self.new ≡ self.old) × (room.new ≡ room.old)) }
     {
         let back = match &self.body_state {
             BodyState::InJava(_) => Back::Java,
@@ -254,13 +281,21 @@ impl<N: Name> Stepper<N> {
         row: &PollRow,
     ) -> Result<Option<Poll>, State>
         requires row { row.now ≡ N.poll_row }
-        ensures ok { IfOk result (λ done. IfSome done (λ said. (back : WayBack) × (self.old.state ≡ IsInNative back) × ComesBack self.new.crossed.body self.new (IsNativeTrans back) said)) }
+        ensures ok { IfOk result
+            (λ done. IfSome done
+            (λ said. (back : WayBack) × (self.old.state ≡ IsInNative back)
+            × ComesBack self.new.crossed.body self.new (IsNativeTrans back) said)) }
         ensures resumed { IfOk result (λ done. IfSome done (λ said. IsResumed self.new)) }
-        ensures room { IfOk result (λ done. IfSome done (λ said. ComesOut self.new room.old room.new)) }
-        ensures again { IfOk result (λ done. IfNone done ((self.new ≡ self.old) × (room.new ≡ room.old))) }
-        ensures absent { IfOk result (λ done. IfNone done (IsAbsent room.old self.old.name self.old.place)) }
+        ensures room { IfOk result
+            (λ done. IfSome done (λ said. ComesOut self.new room.old room.new)) }
+        ensures again { IfOk result
+            (λ done. IfNone done ((self.new ≡ self.old) × (room.new ≡ room.old))) }
+        ensures absent { IfOk result
+            (λ done. IfNone done (IsAbsent room.old self.old.name self.old.place)) }
         ensures same { SameThread self.old self.new }
-        ensures err { IfErr result (λ s. (s ≡ self.old.state) × ((back : WayBack) → s ≢ IsInNative back) × (self.new ≡ self.old) × (room.new ≡ room.old)) }
+        ensures err { IfErr result
+            (λ s. (s ≡ self.old.state) × ((back : WayBack) → s ≢ IsInNative back)
+            × (self.new ≡ self.old) × (room.new ≡ room.old)) }
     {
         let BodyState::InNative(back) = &self.body_state else {
             return Err(self.state());
@@ -272,13 +307,18 @@ impl<N: Name> Stepper<N> {
     /// From the VM into a wait that the runtime knows of, without a poll: the body goes into its room, where it may be held. A thread
     /// that isn't in the VM is refused with its state. `false` where the room doesn't take the body, and nothing is done.
     pub fn block<J: Errand>(&mut self, room: &mut Room<N, J>) -> Result<bool, State>
-        ensures ok { IfOk result (λ done. done ≡ true → (self.old.state ≡ IsInVm) × (self.new.state ≡ IsBlocked)) }
+        ensures ok { IfOk result
+            (λ done. done ≡ true → (self.old.state ≡ IsInVm) × (self.new.state ≡ IsBlocked)) }
         ensures given { IfOk result (λ done. done ≡ true → Gives self.old self.new) }
         ensures room { IfOk result (λ done. done ≡ true → GoesIn self.old room.old room.new) }
-        ensures again { IfOk result (λ done. done ≡ false → (self.new ≡ self.old) × (room.new ≡ room.old)) }
-        ensures declined { IfOk result (λ done. done ≡ false → Declines room.old self.old.name self.old.place) }
+        ensures again { IfOk result
+            (λ done. done ≡ false → (self.new ≡ self.old) × (room.new ≡ room.old)) }
+        ensures declined { IfOk result
+            (λ done. done ≡ false → Declines room.old self.old.name self.old.place) }
         ensures same { SameThread self.old self.new }
-        ensures err { IfErr result (λ s. (s ≡ self.old.state) × (s ≢ IsInVm) × (self.new ≡ self.old) × (room.new ≡ room.old)) }
+        ensures err { IfErr result
+            (λ s. (s ≡ self.old.state) × (s ≢ IsInVm) × (self.new ≡ self.old)
+            × (room.new ≡ room.old)) }
     {
         let BodyState::InVm(_) = &self.body_state else {
             return Err(self.state());
@@ -294,13 +334,21 @@ impl<N: Name> Stepper<N> {
         row: &PollRow,
     ) -> Result<Option<Poll>, State>
         requires row { row.now ≡ N.poll_row }
-        ensures ok { IfOk result (λ done. IfSome done (λ said. (self.old.state ≡ IsBlocked) × ComesBack self.new.crossed.body self.new IsBlockedTrans said)) }
+        ensures ok { IfOk result
+            (λ done. IfSome done
+            (λ said. (self.old.state ≡ IsBlocked)
+            × ComesBack self.new.crossed.body self.new IsBlockedTrans said)) }
         ensures resumed { IfOk result (λ done. IfSome done (λ said. IsResumed self.new)) }
-        ensures room { IfOk result (λ done. IfSome done (λ said. ComesOut self.new room.old room.new)) }
-        ensures again { IfOk result (λ done. IfNone done ((self.new ≡ self.old) × (room.new ≡ room.old))) }
-        ensures absent { IfOk result (λ done. IfNone done (IsAbsent room.old self.old.name self.old.place)) }
+        ensures room { IfOk result
+            (λ done. IfSome done (λ said. ComesOut self.new room.old room.new)) }
+        ensures again { IfOk result
+            (λ done. IfNone done ((self.new ≡ self.old) × (room.new ≡ room.old))) }
+        ensures absent { IfOk result
+            (λ done. IfNone done (IsAbsent room.old self.old.name self.old.place)) }
         ensures same { SameThread self.old self.new }
-        ensures err { IfErr result (λ s. (s ≡ self.old.state) × (s ≢ IsBlocked) × (self.new ≡ self.old) × (room.new ≡ room.old)) }
+        ensures err { IfErr result
+            (λ s. (s ≡ self.old.state) × (s ≢ IsBlocked) × (self.new ≡ self.old)
+            × (room.new ≡ room.old)) }
     {
         let BodyState::Blocked = &self.body_state else {
             return Err(self.state());
@@ -364,7 +412,8 @@ impl<N: Name> Stepper<N> {
 #[inline(always)]
 pub(crate) fn after_poll<N: Name>(back: Back, body: Body<N>, found: u64) -> BodyState<N>
     ensures state { table.either (found == 0) (table.state_of back) back ≡ Some (state_in result) }
-    ensures body { (body_in result ≡ Some body) × (answer_in result ≡ None) × (given_in result ≡ None) }
+    ensures body { (body_in result ≡ Some body) × (answer_in result ≡ None)
+        × (given_in result ≡ None) }
 {
     if found == 0 {
         going_on(back, body)
@@ -377,7 +426,8 @@ pub(crate) fn after_poll<N: Name>(back: Back, body: Body<N>, found: u64) -> Body
 #[inline(always)]
 pub(crate) fn going_on<N: Name>(back: Back, body: Body<N>) -> BodyState<N>
     ensures state { state_in result ≡ table.state_of back }
-    ensures body { (body_in result ≡ Some body) × (answer_in result ≡ None) × (given_in result ≡ None) }
+    ensures body { (body_in result ≡ Some body) × (answer_in result ≡ None)
+        × (given_in result ≡ None) }
 {
     match back {
         Back::Java => BodyState::InJava(body),

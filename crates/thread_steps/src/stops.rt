@@ -34,9 +34,12 @@ impl<N: Name> Stepper<N> {
         requires row { row.now ≡ N.poll_row }
         ensures next { IfOk result (λ o. IfSome o (StopsNext self.old self.new)) }
         ensures room { IfOk result (λ o. IfSome o (HandsOut self.old.name room.old room.new)) }
-        ensures again { IfOk result (λ o. IfNone o (StaysStopped self.old self.new room.old room.new)) }
+        ensures again { IfOk result
+            (λ o. IfNone o (StaysStopped self.old self.new room.old room.new)) }
         ensures same { SameThread self.old self.new }
-        ensures err { IfErr result (λ s. (s ≡ self.old.state) × ((back : WayBack) → s ≢ IsAtPoll back) × (self.new ≡ self.old) × (room.new ≡ room.old)) }
+        ensures err { IfErr result
+            (λ s. (s ≡ self.old.state) × ((back : WayBack) → s ≢ IsAtPoll back)
+            × (self.new ≡ self.old) × (room.new ≡ room.old)) }
     {
         let back = match &self.body_state {
             BodyState::AtPoll(back, _) => *back,
@@ -59,7 +62,8 @@ impl<N: Name> Stepper<N> {
         requires stopped { self.old.state ≡ IsAtPoll back }
         ensures state { self.new.state ≡ self.old.state }
         ensures room { room.new ≡ record room.old { holder = room.new.holder } }
-        ensures declined { (self.new ≡ self.old) × (room.new ≡ room.old) × ((b : _) → self.old.body ≡ Some b → Declines room.old self.old.name self.old.place)
+        ensures declined { (self.new ≡ self.old) × (room.new ≡ room.old)
+            × ((b : _) → self.old.body ≡ Some b → Declines room.old self.old.name self.old.place)
             ⊎ Gives self.old self.new × GoesIn self.old room.old room.new }
         ensures same { SameThread self.old self.new }
     {
@@ -88,7 +92,8 @@ impl<N: Name> Stepper<N> {
         ensures next { IfSome result (StopsNext self.old self.new) }
         ensures room { IfSome result (HandsOut self.old.name room.old room.new) }
         ensures state { IfNone result (self.new.state ≡ self.old.state) }
-        ensures again { IfNone result ((self.new ≡ self.old) × (room.new ≡ room.old) × (self.old.body ≡ None → KeepsBody room.old self.old.name self.old.place)
+        ensures again { IfNone result ((self.new ≡ self.old) × (room.new ≡ room.old)
+            × (self.old.body ≡ None → KeepsBody room.old self.old.name self.old.place)
             ⊎ PollsStill self.old self.new room.old room.new) }
         ensures same { SameThread self.old self.new }
     {
@@ -128,12 +133,18 @@ impl<N: Name> Stepper<N> {
     ) -> Result<Option<(Poll, Finished<N>)>, State>
         requires row { row.now ≡ N.poll_row }
         ensures ends { IfOk result (λ o. IfSome o (λ r. EndsServing self.old self.new r.0 r.1)) }
-        ensures entered { IfOk result (λ o. IfSome o (λ r. (e : EntryOf) × Enters desk.old desk.new e r.1.stands)) }
-        ensures desk { IfOk result (λ o. IfSome o (λ r. (desk.new.jobs ≡ desk.old.jobs) × (desk.new.keeper ≡ desk.old.keeper))) }
-        ensures again { IfOk result (λ o. IfNone o ((self.new ≡ self.old) × (desk.new ≡ desk.old))) }
+        ensures entered { IfOk result
+            (λ o. IfSome o (λ r. (e : EntryOf) × Enters desk.old desk.new e r.1.stands)) }
+        ensures desk { IfOk result
+            (λ o. IfSome o
+            (λ r. (desk.new.jobs ≡ desk.old.jobs) × (desk.new.keeper ≡ desk.old.keeper))) }
+        ensures again { IfOk result
+            (λ o. IfNone o ((self.new ≡ self.old) × (desk.new ≡ desk.old))) }
         ensures not_entered { IfOk result (λ o. IfNone o (IsNotEntered (at desk.old) self.old)) }
         ensures same { SameThread self.old self.new }
-        ensures err { IfErr result (λ s. (s ≡ self.old.state) × ((back : WayBack) → s ≢ IsServing back) × (self.new ≡ self.old) × (desk.new ≡ desk.old)) }
+        ensures err { IfErr result
+            (λ s. (s ≡ self.old.state) × ((back : WayBack) → s ≢ IsServing back)
+            × (self.new ≡ self.old) × (desk.new ≡ desk.old)) }
     {
         let Some((back, mut body, done)) = self.body_state.take_answered() else {
             return Err(self.state());

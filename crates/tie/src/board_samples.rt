@@ -40,14 +40,18 @@ pub fn two_threads()
 /// What a seat knows in the middle of a publication, and what it no longer knows once it has ended.
 pub fn amid_a_publication()
     ensures amid { Knows (seat_at (core_after amid_a_publication) 0) 2 true 2 1 true }
-    ensures ended { Knows (seat_at (core_after (amid_a_publication ++ event.At 0 act.End ∷ [])) 0) 2 false 0 2 true }
+    ensures ended { Knows (seat_at (core_after (amid_a_publication ++ event.At 0 act.End
+        ∷ [])) 0) 2 false 0 2 true }
 {}
 
 /// What the keeper knows of a slot: nothing at first; the moment of the invalidation and the places that were found clear; and
 /// all of it, and that the code was weighed clear, still after the code was freed.
 pub fn what_the_keeper_knows()
     ensures at_first { slot_at (core_after []) 0 ≡ first_slot }
-    ensures late { ((slot_at (core_after amid_a_publication) 0).left ≡ 1) × ((slot_at (core_after amid_a_publication) 0).looked 0 ≡ false) × ((slot_at (core_after amid_a_publication) 0).clear ≡ false) }
-    ensures freed { ((slot_at (core_after (place_given_up ++ event.Free 1 ∷ [])) 0).serial ≡ 1) × ((slot_at (core_after (place_given_up ++ event.Free 1 ∷ [])) 0).left ≡ 1)
+    ensures late { ((slot_at (core_after amid_a_publication) 0).left ≡ 1)
+        × ((slot_at (core_after amid_a_publication) 0).looked 0 ≡ false)
+        × ((slot_at (core_after amid_a_publication) 0).clear ≡ false) }
+    ensures freed { ((slot_at (core_after (place_given_up ++ event.Free 1 ∷ [])) 0).serial ≡ 1)
+        × ((slot_at (core_after (place_given_up ++ event.Free 1 ∷ [])) 0).left ≡ 1)
         × ((slot_at (core_after (place_given_up ++ event.Free 1 ∷ [])) 0).looked 0 ≡ true) × ((slot_at (core_after (place_given_up ++ event.Free 1 ∷ [])) 0).clear ≡ true) }
 {}

@@ -20,7 +20,8 @@ impl<T: Drop> Model for TriedLock<T> {
 
     ghost view = { λ l. l.table.shared.table_id };
 
-    ghost invariant = { λ l. (l.table.shared.table_id.words ≡ 15) × (l.table.shared.table_id.slots ≡ 1) };
+    ghost invariant = { λ l. (l.table.shared.table_id.words ≡ 15)
+        × (l.table.shared.table_id.slots ≡ 1) };
 }
 
 /// Has the value of a lock, and puts it back where it is dropped.

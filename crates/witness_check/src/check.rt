@@ -20,7 +20,10 @@ fn are_lawful(
     events: &[Event],
     answers: &[Answer],
 ) -> Result<bool, AllocError>
-    ensures { IfOk result (λ yes. yes ≡ ends recorded calls.now (walk recorded calls.now (fresh_walk calls.now) owners.now events.now answers.now)) }
+    ensures { IfOk result
+        (λ yes. yes
+        ≡ ends recorded calls.now
+        (walk recorded calls.now (fresh_walk calls.now) owners.now events.now answers.now)) }
 {
     let mut walk = fresh_walk(alloc, calls)?;
     let mut owners = owners;
@@ -49,7 +52,9 @@ pub fn answers_of(
     log: &Log,
     events: &[Event],
 ) -> Result<Option<Vec<Answer>>, AllocError>
-    ensures { IfOk result (λ told. MatchOption told (is_sized log.now ≡ false) (λ said. AreAnswers log.now events.now said.items)) }
+    ensures { IfOk result
+        (λ told. MatchOption told (is_sized log.now ≡ false)
+        (λ said. AreAnswers log.now events.now said.items)) }
 {
     match System::new(
         alloc,

@@ -36,7 +36,8 @@ fn owe(owed: &mut Vec<Owed>, op: u64, targets: &[u64]) -> Result<(), AllocError>
 
 /// What is asked for has this number.
 pub(crate) fn ask(owed: &mut Vec<Owed>, op: u64, event: &Event) -> Result<(), AllocError>
-    ensures { OnOk result (owed.new.items ≡ owed.old.items ++ map (owed_to op) (asked_of event.now)) }
+    ensures { OnOk result (owed.new.items ≡ owed.old.items
+        ++ map (owed_to op) (asked_of event.now)) }
 {
     owe(owed, op, asked_of(event))
 }

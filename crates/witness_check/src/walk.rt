@@ -56,7 +56,9 @@ impl Walk {
         event: &Event,
         answer: &Answer,
     ) -> Result<bool, AllocError>
-        ensures { IfOk result (λ lawful. stepped recorded calls.now (walked self.old) owner event.now answer.now ≡ (if lawful then Some (walked self.new) else None)) }
+        ensures { IfOk result
+            (λ lawful. stepped recorded calls.now (walked self.old) owner event.now answer.now
+            ≡ (if lawful then Some (walked self.new) else None)) }
     {
         if owner >= calls.len() || owner >= self.stages.len() {
             return Ok(false);
