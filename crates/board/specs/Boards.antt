@@ -187,7 +187,7 @@ pub record IsKeptBy (b : BoardState) (k : KeeperView) : Type 0 where
   pub now_is : b.now ≡ k.moment
   pub slot_is : (i : ℕ) → b.slot i ≡ slot_state (slot_of k i)
 
--- the same of the keeper
+-- a step of the keeper, on some board where it knows what it knows
 pub record KeeperSteps (board : BoardId) (old new : KeeperView) : Type 0 where
   pub before : BoardState
   pub after : BoardState

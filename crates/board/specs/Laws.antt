@@ -51,7 +51,7 @@ abbrev pub AnswersStand : Type 0
 AnswersStand = (n : ℕ × ℕ) (slots p i stamp : ℕ) (t : SeatView) (u : ℕ → SeatView) (f : ℕ → ℕ) (s : Whole) → IsFoundAt n slots i s → HasSeat s p t → ThreadMay n slots p stamp t i f u
     → IsToldBy (word_in n.0 (slice_set s.words i (f (slice_index s.words i)))) (u (slice_index s.words i)).place (u (slice_index s.words i)).last
 
--- The same of the keeper, on each board where some thread has its seat.
+-- The keeper's step too leaves the words as its view says, on each board where some thread has its seat.
 abbrev pub KeeperAnswersStand : Type 0
 KeeperAnswersStand = (n : ℕ × ℕ) (slots i stamp p : ℕ) (k : KeeperView) (t : SeatView) (u : ℕ → KeeperView) (f : ℕ → ℕ) (s : Whole) → IsFoundAt n slots i s → HasKeeper s k → HasSeat s p t
     → KeeperMay n slots stamp k i f u → IsToldBy (word_in n.0 (slice_set s.words i (f (slice_index s.words i)))) 0 (u (slice_index s.words i)).last
@@ -63,18 +63,18 @@ abbrev pub MomentsElsewhereRefused : Type 0
 MomentsElsewhereRefused = (n : ℕ × ℕ) (slots p i stamp : ℕ) (k : KeeperView) (t : SeatView) (u : ℕ → SeatView) (f h : ℕ → ℕ) (s : Whole) → IsFoundAt n slots i s → HasKeeper s k → HasSeat s p t
     → k.moment + 1 < 2 ^ 40 → i ≢ index_of n.0 the_moment → ((x : ℕ) → (u x).last ≡ LoadMoment (h x)) → ¬ ThreadMay n slots p stamp t i f u
 
--- The same of an entry and a load of it: where there is a board on which the thread knows what it knows, and a code in the slot is in use.
+-- No step elsewhere than at a code's entry tells a thread that it loaded that entry: where there is a board on which the thread knows what it knows, and a code in the slot is in use.
 abbrev pub EntriesElsewhereRefused : Type 0
 EntriesElsewhereRefused = (n : ℕ × ℕ) (slots p i stamp : ℕ) (k : KeeperView) (t : SeatView) (u : ℕ → SeatView) (c : CodeId) (f h : ℕ → ℕ) (s : Whole) → IsFoundAt n slots i s → HasKeeper s k → HasSeat s p t
     → c.slot < n.0 → (slot_of k c.slot).state ≡ InUse → i ≢ index_of n.0 (entry_of c.slot) → ((x : ℕ) → (u x).last ≡ LoadEntry c (h x)) → ¬ ThreadMay n slots p stamp t i f u
 
--- The same of a place's moment and the keeper's look at it: where there is a board on which the keeper knows what it knows, and the
+-- No step elsewhere than at a place's moment tells the keeper that it looked at the place: where there is a board on which the keeper knows what it knows, and the
 -- place's thread hasn't published in this moment.
 abbrev pub LooksElsewhereRefused : Type 0
 LooksElsewhereRefused = (n : ℕ × ℕ) (slots p i stamp : ℕ) (k : KeeperView) (t : SeatView) (u : ℕ → KeeperView) (c : CodeId) (f h : ℕ → ℕ) (s : Whole) → IsFoundAt n slots i s → HasKeeper s k → HasSeat s p t
     → t.stored ≢ k.moment → i ≢ index_of n.0 (place_of p) → ((x : ℕ) → (u x).last ≡ LoadPlace c p (h x)) → ¬ KeeperMay n slots stamp k i f u
 
--- The same of a count and the keeper's weighing: where there is a board on which the keeper knows what it knows, and some thread
+-- No step elsewhere than at a code's count tells the keeper that it weighed the code: where there is a board on which the keeper knows what it knows, and some thread
 -- counts the code.
 abbrev pub WeightsElsewhereRefused : Type 0
 WeightsElsewhereRefused = (n : ℕ × ℕ) (slots p i stamp : ℕ) (k : KeeperView) (t : SeatView) (u : ℕ → KeeperView) (c : CodeId) (f h : ℕ → ℕ) (s : Whole) → IsFoundAt n slots i s → HasKeeper s k → HasSeat s p t → n.1 ≤ 64

@@ -24,7 +24,7 @@ take_all (suc n) (x ∷ xs) h = ap (λ ys. x ∷ ys) (take_all n xs (omega arith
 rest_all : (at : ℕ) (xs : List ℕ) → take (length xs - at) (drop at xs) ≡ drop at xs
 rest_all at xs = take_all (length xs - at) (drop at xs) (omega (arith, length-drop at xs))
 
--- The same, where the newline stands first at n.
+-- A text is what stands before its first newline, that newline, and what comes behind it.
 pub cut_plain : (xs : List ℕ) (n : ℕ) → n ≡ end_of xs → n < length xs → xs ≡ take n xs ++ 10 ∷ drop (n + 1) xs
 cut_plain xs n e h = subst (λ (k : ℕ). k < length xs → xs ≡ take k xs ++ 10 ∷ drop (k + 1) xs) (sym e) (cut_whole xs) h
 

@@ -41,7 +41,7 @@ call_range word.ReclaimTop = Some (2, 65)
 call_range word.ReclaimCount = Some (3, 66)
 call_range other = None
 
--- The same of a word that is answered.
+-- How many numbers follow a word that is answered.
 abbrev pub answer_range : Word → Option (ℕ × ℕ)
 answer_range word.Ok = Some (0, 0)
 answer_range word.Thread = Some (2, 2)

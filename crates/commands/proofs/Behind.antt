@@ -41,7 +41,7 @@ more_begun first all w k long (rest, is) e =
     let (more, next) = at_next first rest w (next_is first all rest (Some w) k is long e) in
     (more, is ∙ ap (λ ws. first ++ ws) next ∙ sym (append_assoc first (w ∷ []) more))
 
--- the same of a command line that tells its words, or doesn't
+-- all words were read of a command line that tells its words; one that doesn't tell them says nothing
 pub all_words : (known : Option (List (List ℕ))) (first : List (List ℕ)) (k : ℕ) → length first ≡ k → IfSome known (λ all. Begins first all)
     → IfSome known (λ all. None ≡ slice_get all (k + 1)) → IfSome known (λ all. first ≡ drop 1 all)
 all_words None first k long b e = tt

@@ -33,7 +33,7 @@ pub record WroteOrder (left left' got got' : Option (List ℕ)) : Type 0 where
   pub explains : Explains text lines
   pub written : Appends got got' lines
 
--- The same of a beginning of the lines.
+-- It wrote a beginning of such lines.
 pub record WrotePart (left left' got got' : Option (List ℕ)) : Type 0 where
   pub text : List ℕ
   pub lines : List ℕ

@@ -13,7 +13,7 @@ together : (xs ys zs : List BodyView) → (xs ++ ys) ++ zs ≡ xs ++ (ys ++ zs)
 together [] ys zs = refl
 together (x ∷ xs) ys zs = ap (λ t. x ∷ t) (together xs ys zs)
 
--- the same is held
+-- what holds as before holds on
 pub holds_same : (old new : Holding) → new ≡ old → HoldsOn old new
 holds_same old new e =
     (([], ap (λ (h : Holding). h.held) e ∙ none_more old.held), ap (λ (h : Holding). h.operated) e, arms_same old.armer new.armer (ap (λ (h : Holding). h.armer) e))

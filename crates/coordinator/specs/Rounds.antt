@@ -25,7 +25,7 @@ pub record Beginning : Type 0 where
 abbrev pub Begins : Option Request → Beginning → Type 0
 Begins request b = (b.after.keeper ≡ went_round b.before.keeper b.before.keeper.moment) × IsAskOf request b.asked
 
--- The same, and the handshake is closed.
+-- It made a round, its request waited, and the handshake is closed.
 pub record Shaking : Type 0 where
   pub begun : Beginning
   pub closed : Option Stands

@@ -30,7 +30,7 @@ abbrev pub telling_of : State → Kind → Arming → Live → Option Telling
 telling_of s k armer l =
     if nat_lt l.place (length armer.armed) then telling_by k l (untold s l.name (slice_index armer.armed l.place)) else None
 
--- The same of each of these, in their order.
+-- What each of these live threads is to be told next, in their order.
 abbrev pub tellings : State → Kind → Arming → List Live → List Telling
 tellings s k armer ls = filter_map (telling_of s k armer) ls
 

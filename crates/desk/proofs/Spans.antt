@@ -53,7 +53,7 @@ get_lists all [] k d e low = absurd (omega arith)
 get_lists all (s ∷ ss) zero d e low = refl
 get_lists all (s ∷ ss) (suc k) d e low = get_lists all ss k d e (omega arith)
 
--- the same of a span that was read
+-- a span that was read lies between the ends
 pub read_in : (ss : List Span) (from to k : ℕ) (s : Span) → AreBehind from ss to → k < length ss → s ≡ get_or ss k s → (from ≤ s.start) × (end_of s ≤ to)
 read_in ss from to k s h low is = subst (λ (z : Span). (from ≤ z.start) × (end_of z ≤ to)) (sym is) (span_in ss from to k s h low)
 

@@ -431,7 +431,7 @@ sum_moved serial es code by =
     none true z s e = omega (arith, ints)
     none false z s e = omega (arith, ints)
 
--- the same of the nets in any order
+-- the settled nets have the sum of the nets that they were made of
 pub sum_settled : (serial : ℕ) (es : List Change) → net_sum serial (settled es) ≡ net_sum serial es
 sum_settled serial [] = refl
 sum_settled serial (e ∷ es) =

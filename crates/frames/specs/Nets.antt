@@ -32,7 +32,7 @@ add (e ∷ es) code by =
     else if same_code e.code code then with_net code (e.by +ℤ by) es
     else net_of code by ∷ e ∷ es
 
--- the same, and as they are where it moves by 0
+-- the nets after a move of a code by so much: as they are where that is 0
 abbrev pub moved : List Change → CodeId → ℤ → List Change
 moved es code by = if is_zero by then es else add es code by
 

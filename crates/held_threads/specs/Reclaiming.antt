@@ -39,6 +39,6 @@ pub record IsReclaimed {N : Type 0} (places serial : ℕ) (said : Reclaimed N) :
   pub looks : LooksAtAll serial places before looked
   pub frees : Frees places serial looked after said
 
--- The same from this desk.
+-- What became of the code where the reclaiming began at this desk.
 abbrev pub IsReclaimedFrom : {N : Type 0} → DeskSeen → ℕ → ℕ → Reclaimed N → Type 0
 IsReclaimedFrom desk places serial said = (r : IsReclaimed places serial said) × (r.before ≡ desk)

@@ -73,7 +73,7 @@ abbrev pub last_of : Stands → Option Stands → Stands
 last_of first None = first
 last_of first (Some last) = last
 
--- The same, with a job that its thread was told meanwhile.
+-- What was served, with a job that its thread was told meanwhile.
 pub record Told (J : Type 0) : Type 0 where
   pub served : Behind
   pub job : J

@@ -25,12 +25,12 @@ abbrev pub PollsElsewhereRefused : Type 0
 PollsElsewhereRefused = (places i stamp : ℕ) (w : Watching) (u : ℕ → Watching) (f g : ℕ → ℕ) → w.place < places → i < words_of places → i ≢ word_at w.place
     → ((x : ℕ) → ((u x).place ≡ w.place) × ((u x).last ≡ Load (g x))) → ¬ PollerMay places stamp w i f u
 
--- The same of a compare-exchange of n.
+-- No such step tells its poller that it compared n and exchanged it.
 abbrev pub ClearsElsewhereRefused : Type 0
 ClearsElsewhereRefused = (places i stamp n : ℕ) (w : Watching) (u : ℕ → Watching) (f g : ℕ → ℕ) → w.place < places → i < words_of places → i ≢ word_at w.place
     → ((x : ℕ) → ((u x).place ≡ w.place) × ((u x).last ≡ Exchange n (g x))) → ¬ PollerMay places stamp w i f u
 
--- The same of the armer's store of n at the place p: on each row, which isn't being closed, where n is above what the place was armed with.
+-- No step elsewhere than at the place p tells the armer that it stored n there: on each row, which isn't being closed, where n is above what the place was armed with.
 abbrev pub ArmsElsewhereRefused : Type 0
 ArmsElsewhereRefused = (places slots p i n stamp : ℕ) (a : Arming) (f : ℕ → ℕ) (s : State (Unit {0}) Watch) → IsRow places s → length s.homes ≡ slots → get_elem? s.views 0 ≡ some (Armer a [] stamp)
     → slice_index s.words i < 18446744073709551616 → p < places → slice_index a.armed p < n → i ≢ word_at p

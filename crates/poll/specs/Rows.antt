@@ -46,7 +46,7 @@ pub record PollerSteps (old new : Watching) : Type 0 where
   pub cleared_before : (before old.place).cleared ≡ old.cleared
   pub cleared_after : (after old.place).cleared ≡ new.cleared
 
--- The same of the armer, of a row with as many places as it knows: each is armed with the number that it knows, before and after.
+-- A step of the armer, on a row with as many places as it knows: each is armed with the number that it knows, before and after.
 pub record ArmerSteps (old new : Arming) : Type 0 where
   pub places : ℕ
   pub count : length old.armed ≡ places

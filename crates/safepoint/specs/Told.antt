@@ -19,7 +19,7 @@ abbrev pub Obeys : {N : Type 0} → ℕ → Option (Role N) → Act → Told →
 Obeys places (Some old) act said (Some new) = Acts places old act said new
 Obeys places old act said new = ⊥
 
--- The same of one that may not be there.
+-- An act of a party that may not be there.
 abbrev pub Answers : {N : Type 0} → ℕ → Option (Role N) → Act → Told → Option (Role N) → Type 0
 Answers places None act said new = (said ≡ Err fault.NotThis) × (new ≡ None)
 Answers places (Some old) act said new = Obeys places (Some old) act said new

@@ -100,7 +100,7 @@ covered_is w h s p k is used = by (thread_at w p) refl
     by None x = refl
     by (Some t) x = let m = h.seats p t (there_of w p t x) in two t t.published m.ended_is m.closed
 
--- The same, for the thread at a place.
+-- A place is covered as its thread's last publication says.
 pub covered_where : (w : World) → IsReclaimed w.places w.codes w.log → (s p : ℕ) (k : Code) (t : Thread) → code_of w.codes s ≡ Some k → is_in_use k.state ≡ false → thread_at w p ≡ Some t
     → covered w p s ≡ (not t.published || nat_lt (left_at s w.log) (ended p w.log))
 covered_where w h s p k t is used there =

@@ -49,7 +49,7 @@ vacant_place [] = None
 vacant_place (None ∷ places) = Some 0
 vacant_place (Some t ∷ places) = option_map (λ place. 1 + place) (vacant_place places)
 
--- The same of a place: a vacant one counts nothing.
+-- How often a place counts the code: a vacant one counts nothing.
 abbrev pub part_at : CodeId → Option Thread → ℕ
 part_at code None = 0
 part_at code (Some t) = part code t

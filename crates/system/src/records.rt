@@ -4,9 +4,6 @@ ghost use Rattle.system.specs.Kept.Records.{new_record, with_look};
 
 use std::alloc::{AllocError, Global};
 
-/// How many places there can be.
-pub const PLACES: usize = 64;
-
 /// The moment of the invalidation, and the places that were looked at and found clear.
 #[derive(Clone, Copy, Debug, PartialEq, Eq, Drop)]
 pub struct Record {

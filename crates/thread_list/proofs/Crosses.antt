@@ -63,6 +63,6 @@ module _ (N J : RattleType) (n : name.Ghosts N.Denot) (j : errand.Ghosts J.Denot
   shared_sync : IsSync (Shared.the_row N J n j)
   shared_sync = search (sendable, crosses, board.the_sync, row.the_sync, hints_sync, desk_send, berth_sync) depth 40
 
--- the same as a function sees it whose first two type parameters are N and J
+-- a shared list crosses, as a function sees it whose first two type parameters are N and J
 pub shared_crosses : (N J : RattleType) (n : name.Ghosts N.Denot) (j : errand.Ghosts J.Denot) → IsSend (param 0 N) → IsSend (param 1 J) → IsSync (Shared.the_row (param 0 N) (param 1 J) n j)
 shared_crosses N J n j sn sj = shared_sync (param 0 N) (param 1 J) n j sn sj

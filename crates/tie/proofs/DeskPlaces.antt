@@ -26,7 +26,7 @@ lacks_cons : (name : ℕ) (o : Option Thread) (places : List (Option Thread)) �
 lacks_cons name None places h = refl
 lacks_cons name (Some t) places h = seat_cons_not name t places (h t refl)
 
--- The same head before two lists in which the name stands at one place.
+-- One head before two lists in which the name stands at one place.
 cons_same : (name : ℕ) (o : Option Thread) (ps qs : List (Option Thread)) → seat_of name ps ≡ seat_of name qs → seat_of name (o ∷ ps) ≡ seat_of name (o ∷ qs)
 cons_same name None ps qs h = ap (option_map (λ place. 1 + place)) h
 cons_same name (Some t) ps qs h = ap (λ r. cond (t.name == name) (Some 0) (option_map (λ place. 1 + place) r)) h

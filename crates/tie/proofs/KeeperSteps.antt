@@ -73,7 +73,7 @@ module _ (w : World) (s : ℕ) (k : Code) (from : CodeState) (h : IsReached w) (
   pub steps_for : (steps : CodeId → List Made) → for_code (code_of w.codes s) steps ≡ steps (id_of k)
   steps_for steps = ap (λ o. for_code o steps) code_here
 
--- The same codes are given out after a change of state.
+-- A change of state gives out no code and takes none back.
 given_with : (codes : List Code) (s : ℕ) (to : CodeState) (c : CodeId) → is_given (with_state codes s to) c ≡ is_given codes c
 given_with codes s to c = ap (λ o. stands_in o c.slot) (code_with_state codes s to c.serial) ∙ by (code_of codes c.serial)
   where

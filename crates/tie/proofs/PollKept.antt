@@ -61,7 +61,7 @@ pub record IsRow (places : List (Option Thread)) (requests : Requests) (log : Li
   pub names : (p : ℕ) → name_in p log ≤ names_given log
   pub apart : (p q : ℕ) → 0 < name_in p log → name_in p log ≡ name_in q log → p ≡ q
 
--- The same thread at a place, or none any more.
+-- What waits at each place stays where the thread at one changes and keeps its name.
 pub seated_waits : (places : List (Option Thread)) (p : ℕ) (t u : Thread) → slice_get places p ≡ Some (Some t) → p < length places → u.name ≡ t.name → (requests : Requests) (q : ℕ)
     → pending_at requests (found (slice_get (slice_set places p (Some u)) q)) ≡ pending_at requests (found (slice_get places q))
 seated_waits places p t u there low same requests q = dite (ℕ_discrete q p)

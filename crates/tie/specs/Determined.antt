@@ -39,7 +39,7 @@ unmet (step.SubCount c by found) = step.SubCount c by 0
 unmet (step.LoadPlace c place found) = step.LoadPlace c place 0
 unmet (step.LoadCount c found) = step.LoadCount c 0
 
--- The same step of the same seat leaves the same words where the words were the same, and the same views where those were.
+-- A step of one seat, made on two boards, leaves the same words where the words were the same, and the same views where those were.
 abbrev pub BoardStepsAreDetermined : Type 0
 BoardStepsAreDetermined = (slots places : ℕ) (old new other next : BoardState) (actor : Actor) (made : StepMade)
     → BoardStep slots places old new actor made → BoardStep slots places other next actor made
@@ -67,7 +67,7 @@ unmet_deed (deed.Load found) = deed.Load 0
 unmet_deed (deed.Store place n) = deed.Store place n
 unmet_deed (deed.Exchange n found) = deed.Exchange n 0
 
--- The same step at the same place leaves the same words where the words were the same, and the same row where the row was.
+-- A step at one place, made on two rows, leaves the same words where the words were the same, and the same row where the row was.
 -- Steps that differ in what they met alone met the same.
 abbrev pub RowStepsAreDetermined : Type 0
 RowStepsAreDetermined = (places p : ℕ) (made met : Deed) (old new other next : ℕ → PlaceState)

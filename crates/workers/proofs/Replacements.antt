@@ -21,7 +21,7 @@ installs_more method (x ∷ ss) (y ∷ rs) s r (first, rest) is =
     let here : method + suc (length ss) ≡ suc method + length ss = omega arith in
     (first, installs_more (suc method) ss rs s r rest (subst (λ (m : ℕ). IsInstall m s r) here is))
 
--- the same of the next method's, where that is what the lists are now
+-- the installs of all methods and of the next one, where these are the lists now
 pub installs_next : (ss : List ℕ) (rs : List Stands) (s : ℕ) (r : Stands) (method : ℕ) (ss' : List ℕ) (rs' : List Stands)
     → length ss ≡ method → AreInstalls 0 ss rs → IsInstall method s r → ss' ≡ ss ++ s ∷ [] → rs' ≡ rs ++ r ∷ [] → AreInstalls 0 ss' rs'
 installs_next ss rs s r method ss' rs' long are is more another =
@@ -47,7 +47,7 @@ left_of places serial (Freed x) is left = absurd left
 left_of places serial (Used n w) is left = (places, is.before, is.looked, is.after, is.looks, inl (n, is.frees.0))
 left_of places serial (Late place w) is left = (places, is.before, is.looked, is.after, is.looks, inr (place, is.frees.0))
 
--- the same where it answers no receipt
+-- what reclaiming leaves where it answers no receipt
 pub left_unless : {A : Type 0} (N : Type 0) (places serial : ℕ) (said : Option A) → said ≡ None
     → IfNone said ((r : Reclaimed N) × IsReclaimed places serial r × IsLeft r) → WasLeft serial
 left_unless {A} N places serial said is stays =
@@ -66,7 +66,7 @@ kept_counts serial freed left freed' left' (inr (was, same, more)) =
     let rest : length freed' ≡ length freed = ap length same in
     omega (arith, long, rest)
 
--- the same code, of what is freed and left by other names
+-- a code is kept among what is freed and left, by whatever names these go
 pub kept_from : (serial other : ℕ) (freed was : List Stands) (left had : List ℕ) (freed' : List Stands) (left' : List ℕ)
     → serial ≡ other → freed ≡ was → left ≡ had → IsKept serial freed left freed' left' → IsKept other was had freed' left'
 kept_from serial other freed was left had freed' left' one is has (inl (r, free, more, same)) =
@@ -103,7 +103,7 @@ pub none_replaced : (old : Codes) → ReplacedFirst 0 old old
 unfolding ReplacedFirst
 none_replaced old = refl
 
--- the same of receipts behind others
+-- a code that was left, behind others that were left, frees nothing
 pub some_more : (ss : List ℕ) (s : ℕ) (old new : List Stands) → WasLeft s → FreesSome ss old new → FreesSome (ss ++ s ∷ []) old new
 some_more ss s old new left (more, is, freed) = (more, is, frees_none ss more s left freed)
 

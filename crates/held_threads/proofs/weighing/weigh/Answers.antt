@@ -11,7 +11,7 @@ from_desk : {N : Type 0} (places serial : ℕ) (before looked after : DeskSeen) 
 from_desk places serial before looked after looks None h = tt
 from_desk places serial before looked after looks (Some said) h = (record { before = before; looked = looked; after = after; looks = looks; frees = h }, refl)
 
--- the same of some desk
+-- what became of the code, whatever desk it began at
 from_some : {N : Type 0} (places serial : ℕ) (before : DeskSeen) (r : Option (Reclaimed N)) → IfSome r (IsReclaimedFrom before places serial) → IfSome r (IsReclaimed places serial)
 from_some places serial before None h = tt
 from_some places serial before (Some said) h = h.0
