@@ -258,21 +258,23 @@ static bool is_told(struct drive *it, int64_t name) {
     }
 }
 
-/* Tells each live name: 0, or why not. Names rise by one, so behind one that was told the next is tried: to ask which lives goes through all. */
+/* Tells each live name: 0, or why not. Names rise by one, so behind two neighbours the next is tried: to ask which lives goes through all. */
 static int64_t tell_all(struct drive *it) {
     unsigned came = atomic_load(&all.came);
-    int64_t name = 0;
-    for (it->told = 0;;) {
-        SP_WAIT(name, sp_live_after(it->coordinator, (uint64_t)name));
-        if (name <= 0) break;
-        for (;; name++, it->told++) {
-            /* Before it can come, which it does by what the call then stores. */
-            atomic_store_explicit(&all.wanted, came + (unsigned)it->told + 1, memory_order_relaxed);
-            if (!is_told(it, name)) break;
-        }
+    int64_t name = 0, next = 0;
+    bool is_row = false;
+    for (it->told = 0;; name = next) {
+        next = name + 1;
+        if (!is_row) SP_WAIT(next, sp_live_after(it->coordinator, (uint64_t)name));
+        if (next <= 0) break;
+        /* Before it can come, which it does by what the call then stores. */
+        atomic_store_explicit(&all.wanted, came + (unsigned)it->told + 1, memory_order_relaxed);
+        bool told = is_told(it, next);
+        it->told += told;
+        is_row = told && name && next == name + 1;
     }
     if (!it->told) it->told = ALL;
-    return name;
+    return next;
 }
 
 /* Serves for a held thread what it owes, and lets it go: 0, or why not. */
