@@ -57,6 +57,7 @@ impl DenseIndex {
         requires serial { (cell : _) → slice_get self.old slot ≡ Some cell → cell.serial ≡ serial }
         requires low { pos 0 ≤ℤ (pos (count_at self.old slot serial) +ℤ by) }
         requires high { (pos (count_at self.old slot serial) +ℤ by) ≤ℤ pos 16384 }
+
         ensures here { pos (count_at self.new slot serial)
             ≡ pos (count_at self.old slot serial) +ℤ by }
         ensures others { self.new

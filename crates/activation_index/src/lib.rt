@@ -77,6 +77,7 @@ impl Index {
         requires high { (pos (count_in self.old.entries serial) +ℤ by) ≤ℤ pos 16384 }
         requires room { IsRisingFrom 0 self.old.entries → count_in self.old.entries serial ≡ 0
             → by ≢ pos 0 → length self.old.entries < self.old.slots }
+
         ensures slots { self.new.slots ≡ self.old.slots }
         ensures here { pos (count_in self.new.entries serial)
             ≡ pos (count_in self.old.entries serial) +ℤ by }

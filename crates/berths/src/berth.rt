@@ -76,6 +76,7 @@ fn come_out<N: Name, J: Errand>(
     given: BodyReceipt<N>,
 ) -> Result<(CameOut<N, J>, Waiters<N>), BodyReceipt<N>>
     requires { room.old.place ≡ place }
+
     ensures given { IfOk result (λ r. r.0.outing.given ≡ given) }
     ensures out { IfOk result (λ r. ComesOut J.number J.whom J.asks given.body.name place r.0) }
     ensures waiters { IfOk result (λ r. r.1.place ≡ place) }

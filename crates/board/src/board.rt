@@ -58,6 +58,7 @@ impl Board {
     ) -> Result<(Board, Keeper, Vec<ThreadSeat>), AllocError>
         requires places { (0 < places) × (places ≤ 64) }
         requires slots { slots ≤ 1024 }
+
         ensures board { IfOk result (λ t. (t.0.slots ≡ slots) × (t.0.places ≡ places)) }
         ensures keeper { IfOk result (λ t. t.1 ≡ first_keeper t.0) }
         ensures seats { IfOk result (λ t. length t.2.items ≡ places) }

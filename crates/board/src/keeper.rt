@@ -110,6 +110,7 @@ impl Keeper {
         requires vacant { (slot_of self.old.seen code.slot).state ≡ Vacant }
         requires later { (slot_of self.old.seen code.slot).serial < code.serial }
         requires small { code.serial < 2 ^ 40 }
+
         ensures board { self.new.board ≡ self.old.board }
         ensures step { self.new.seen ≡ entry_stored self.old.seen code (in_use code) }
         ensures made { KeeperSteps self.old.board self.old.seen self.new.seen }
@@ -130,6 +131,7 @@ impl Keeper {
         requires vacant { (slot_of self.old.seen code.slot).state ≡ Vacant }
         requires later { (slot_of self.old.seen code.slot).serial < code.serial }
         requires small { code.serial < 2 ^ 40 }
+
         ensures board { self.new.board ≡ self.old.board }
         ensures step { self.new.seen ≡ entry_stored self.old.seen code (in_use code) }
         ensures made { KeeperSteps self.old.board self.old.seen self.new.seen }
@@ -147,6 +149,7 @@ impl Keeper {
         requires slot { code.slot < self.old.board.slots }
         requires code { IsIn self.old.seen code InUse }
         requires small { code.serial < 2 ^ 40 }
+
         ensures board { self.new.board ≡ self.old.board }
         ensures step { self.new.seen
             ≡ entry_stored self.old.seen code (not_entrant code self.old.seen.moment) }
@@ -166,6 +169,7 @@ impl Keeper {
         requires board { self.old.board ≡ board.now }
         requires slot { code.slot < self.old.board.slots }
         requires code { IsIn self.old.seen code InUse }
+
         ensures board { self.new.board ≡ self.old.board }
         ensures step { self.new.seen
             ≡ entry_stored self.old.seen code (not_entrant code self.old.seen.moment) }
@@ -187,6 +191,7 @@ impl Keeper {
         requires vacant { (slot_of self.old.seen code.slot).state ≡ Vacant }
         requires later { (slot_of self.old.seen code.slot).serial < code.serial }
         requires small { code.serial < 2 ^ 40 }
+
         ensures board { self.new.board ≡ self.old.board }
         ensures step { self.new.seen ≡ replaced self.old.seen old code }
         ensures made { KeeperSteps self.old.board self.old.seen (left_by self.old.seen old)
@@ -201,6 +206,7 @@ impl Keeper {
         requires about { A.asked ≡ asked_of self.old.board }
         requires board { self.old.board ≡ board.now }
         requires room { self.old.seen.moment + 1 < 2 ^ 40 }
+
         ensures board { self.new.board ≡ self.old.board }
         ensures step { self.new.seen ≡ went_round self.old.seen self.old.seen.moment }
         ensures made { KeeperSteps self.old.board self.old.seen self.new.seen }
@@ -232,6 +238,7 @@ impl Keeper {
     /// Begins the next moment: one fetch-add. `Spent`, without a step, where the last moment was reached.
     pub fn round(&mut self, board: &Board) -> Result<(), Spent>
         requires board { self.old.board ≡ board.now }
+
         ensures board { self.new.board ≡ self.old.board }
         ensures ok { OnOk result ((self.new.seen ≡ went_round self.old.seen self.old.seen.moment)
             × KeeperSteps self.old.board self.old.seen self.new.seen) }
@@ -253,6 +260,7 @@ impl Keeper {
         requires board { self.old.board ≡ board.now }
         requires slot { (code.slot < self.old.board.slots) × (place < self.old.board.places) }
         requires code { IsIn self.old.seen code NotEntrant }
+
         ensures board { self.new.board ≡ self.old.board }
         ensures step { (found : ℕ) × (self.new.seen ≡ looked_at self.old.seen code place found)
             × (result ≡ is_past (slot_of self.old.seen code.slot).left found) }
@@ -273,6 +281,7 @@ impl Keeper {
         requires board { self.old.board ≡ board.now }
         requires slot { (code.slot < self.old.board.slots) × (place < self.old.board.places) }
         requires code { IsIn self.old.seen code NotEntrant }
+
         ensures board { self.new.board ≡ self.old.board }
         ensures step { (found : ℕ) × (self.new.seen ≡ looked_at self.old.seen code place found)
             × (result ≡ is_past (slot_of self.old.seen code.slot).left found) }
@@ -309,6 +318,7 @@ impl Keeper {
         requires slot { code.slot < self.old.board.slots }
         requires code { IsIn self.old.seen code NotEntrant }
         requires looked { (p : ℕ) → p < self.old.board.places → IsLooked self.old.seen code p }
+
         ensures board { self.new.board ≡ self.old.board }
         ensures step { self.new.seen ≡ weighed self.old.seen code result }
         ensures made { KeeperSteps self.old.board self.old.seen self.new.seen }
@@ -326,6 +336,7 @@ impl Keeper {
         requires board { self.old.board ≡ board.now }
         requires slot { code.slot < self.old.board.slots }
         requires code { IsIn self.old.seen code NotEntrant }
+
         ensures board { self.new.board ≡ self.old.board }
         ensures step { IsWeighed self.old.board.places code self.old.seen self.new.seen result }
         ensures made { WeighSteps self.old.board self.old.seen self.new.seen result }
@@ -351,6 +362,7 @@ impl Keeper {
         requires code { IsIn self.old.seen code NotEntrant }
         requires small { code.serial < 2 ^ 40 }
         requires clear { (slot_of self.old.seen code.slot).clear ≡ true }
+
         ensures board { self.new.board ≡ self.old.board }
         ensures step { self.new.seen
             ≡ entry_stored self.old.seen code (in_state (slot_of self.old.seen code.slot) Zombie) }
@@ -370,6 +382,7 @@ impl Keeper {
         requires slot { code.slot < self.old.board.slots }
         requires code { IsIn self.old.seen code NotEntrant }
         requires clear { (slot_of self.old.seen code.slot).clear ≡ true }
+
         ensures board { self.new.board ≡ self.old.board }
         ensures step { self.new.seen
             ≡ entry_stored self.old.seen code (in_state (slot_of self.old.seen code.slot) Zombie) }
@@ -388,6 +401,7 @@ impl Keeper {
         requires slot { code.slot < self.old.board.slots }
         requires code { IsIn self.old.seen code Zombie }
         requires small { code.serial < 2 ^ 40 }
+
         ensures board { self.new.board ≡ self.old.board }
         ensures step { self.new.seen
             ≡ entry_stored self.old.seen code (in_state (slot_of self.old.seen code.slot) Vacant) }
@@ -406,6 +420,7 @@ impl Keeper {
         requires board { self.old.board ≡ board.now }
         requires slot { code.slot < self.old.board.slots }
         requires code { IsIn self.old.seen code Zombie }
+
         ensures board { self.new.board ≡ self.old.board }
         ensures step { self.new.seen
             ≡ entry_stored self.old.seen code (in_state (slot_of self.old.seen code.slot) Vacant) }

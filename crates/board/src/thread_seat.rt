@@ -99,6 +99,7 @@ impl ThreadSeat {
         requires board { self.old.board ≡ board.now }
         requires slot { code.slot < self.old.board.slots }
         requires published { self.old.seen.stored ≢ 0 }
+
         ensures board { self.new.board ≡ self.old.board }
         ensures step { self.new.seen ≡ entered self.old.seen code result }
         ensures made { ThreadSteps self.old.board self.old.seen self.new.seen }
@@ -122,6 +123,7 @@ impl ThreadSeat {
         requires board { self.old.board ≡ board.now }
         requires slot { code.slot < self.old.board.slots }
         requires published { self.old.seen.stored ≢ 0 }
+
         ensures board { self.new.board ≡ self.old.board }
         ensures step { (found : ℕ) × (self.new.seen ≡ entered self.old.seen code found)
             × (result ≡ (found == pack code.serial InUse))
@@ -138,6 +140,7 @@ impl ThreadSeat {
     fn load_moment<A: About>(&mut self, board: &Board)
         requires about { A.asked ≡ asked_of self.old.board }
         requires board { self.old.board ≡ board.now }
+
         ensures board { self.new.board ≡ self.old.board }
         ensures step { self.new.seen ≡ moment_read self.old.seen self.new.seen.moment }
         ensures made { ThreadSteps self.old.board self.old.seen self.new.seen }
@@ -151,6 +154,7 @@ impl ThreadSeat {
     #[inline(always)]
     pub fn read_moment(&mut self, board: &Board)
         requires board { self.old.board ≡ board.now }
+
         ensures board { self.new.board ≡ self.old.board }
         ensures step { self.new.seen ≡ moment_read self.old.seen self.new.seen.moment }
         ensures made { ThreadSteps self.old.board self.old.seen self.new.seen }
@@ -165,6 +169,7 @@ impl ThreadSeat {
         requires about { A.asked ≡ asked_of self.old.board }
         requires board { self.old.board ≡ board.now }
         requires begun { self.old.seen.moment ≢ 0 }
+
         ensures board { self.new.board ≡ self.old.board }
         ensures step { self.new.seen ≡ stored_as self.old.seen self.old.seen.moment }
         ensures made { ThreadSteps self.old.board self.old.seen self.new.seen }
@@ -184,6 +189,7 @@ impl ThreadSeat {
     pub fn end_publication(&mut self, board: &Board)
         requires board { self.old.board ≡ board.now }
         requires begun { self.old.seen.moment ≢ 0 }
+
         ensures board { self.new.board ≡ self.old.board }
         ensures step { self.new.seen ≡ stored_as self.old.seen self.old.seen.moment }
         ensures made { ThreadSteps self.old.board self.old.seen self.new.seen }
@@ -196,6 +202,7 @@ impl ThreadSeat {
         requires about { A.asked ≡ asked_of self.old.board }
         requires board { self.old.board ≡ board.now }
         requires uncounted { (c : Code) → how_often self.old.seen.counted c ≡ 0 }
+
         ensures board { self.new.board ≡ self.old.board }
         ensures step { self.new.seen ≡ stored_as self.old.seen 0 }
         ensures made { ThreadSteps self.old.board self.old.seen self.new.seen }
@@ -213,6 +220,7 @@ impl ThreadSeat {
     pub fn vacate(&mut self, board: &Board)
         requires board { self.old.board ≡ board.now }
         requires uncounted { (c : Code) → how_often self.old.seen.counted c ≡ 0 }
+
         ensures board { self.new.board ≡ self.old.board }
         ensures step { self.new.seen ≡ stored_as self.old.seen 0 }
         ensures made { ThreadSteps self.old.board self.old.seen self.new.seen }
@@ -229,6 +237,7 @@ impl ThreadSeat {
         requires some { 0 < by }
         requires fresh { has_code self.old.seen.fresh code ≡ true }
         requires few { how_often self.old.seen.counted code + by ≤ 256 }
+
         ensures board { self.new.board ≡ self.old.board }
         ensures step { self.new.seen ≡ counted_up self.old.seen code by result }
         ensures made { ThreadSteps self.old.board self.old.seen self.new.seen }
@@ -246,6 +255,7 @@ impl ThreadSeat {
         requires board { self.old.board ≡ board.now }
         requires slot { code.slot < self.old.board.slots }
         requires counted { (0 < by) × (by ≤ how_often self.old.seen.counted code) }
+
         ensures board { self.new.board ≡ self.old.board }
         ensures step { self.new.seen ≡ counted_down self.old.seen code by result }
         ensures made { ThreadSteps self.old.board self.old.seen self.new.seen }
@@ -269,6 +279,7 @@ impl ThreadSeat {
         requires fresh { pos 0 <ℤ by → has_code self.old.seen.fresh code ≡ true }
         requires few { (pos (how_often self.old.seen.counted code) +ℤ by) ≤ℤ pos 256 }
         requires counted { pos 0 ≤ℤ (pos (how_often self.old.seen.counted code) +ℤ by) }
+
         ensures board { self.new.board ≡ self.old.board }
         ensures step { (found : ℕ) × (self.new.seen ≡ count_changed self.old.seen code by found) }
         ensures made { ThreadSteps self.old.board self.old.seen self.new.seen }

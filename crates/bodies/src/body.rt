@@ -166,6 +166,7 @@ fn count_changes(image: &mut Image, seat: &mut ThreadSeat, board: &Board)
     requires fit { IsFit seat.old.board.slots image.old seat.old.seen }
     requires publishing { image.old.publishing ≡ true }
     requires begun { seat.old.seen.moment ≢ 0 }
+
     ensures board { seat.new.board ≡ seat.old.board }
     ensures fit { IsFit seat.old.board.slots image.new seat.new.seen }
     ensures made { (made : List (ChangeOf × ℕ))
@@ -308,6 +309,7 @@ impl<N: Name> Body<N> {
         requires depth { length self.old.image.frames < 256 }
         requires published { self.old.seat.stored ≢ 0 }
         requires slot { IfSome hint (λ c. c.slot < N.board.slots) }
+
         ensures step { IsCalled self.old self.new method hint result }
         ensures others { (self.new.name ≡ self.old.name) × (self.new.poller ≡ self.old.poller) }
     {

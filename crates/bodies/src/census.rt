@@ -15,6 +15,7 @@ fn count_frames(index: &mut Index, frames: &[Frame])
     requires rising { IsRisingFrom 0 index.old.entries }
     requires room { length index.old.entries + length frames.now ≤ index.old.slots }
     requires high { (serial : ℕ) → count_in index.old.entries serial + length frames.now ≤ 16384 }
+
     ensures slots { index.new.slots ≡ index.old.slots }
     ensures rising { IsRisingFrom 0 index.new.entries }
     ensures taken { length index.new.entries ≤ length index.old.entries + length frames.now }
@@ -34,6 +35,7 @@ fn count_frame(index: &mut Index, frame: Frame)
     requires rising { IsRisingFrom 0 index.old.entries }
     requires room { length index.old.entries + 1 ≤ index.old.slots }
     requires high { (serial : ℕ) → count_in index.old.entries serial + 1 ≤ 16384 }
+
     ensures slots { index.new.slots ≡ index.old.slots }
     ensures rising { IsRisingFrom 0 index.new.entries }
     ensures taken { length index.new.entries ≤ length index.old.entries + 1 }

@@ -21,6 +21,7 @@ pub fn check_script<R: Source, W: Sink>(
     requires source { R.failures source.old ≡ 0 }
     requires unread { R.reads source.old ≡ 0 }
     requires sink { W.failures sink.old ≡ 0 }
+
     ensures told { IfSome (R.left source.old)
         (λ text. Told text result (W.got sink.old) (W.got sink.new)) }
     ensures read { ReadAndTold result (R.left source.old) (R.left source.new) (W.got sink.old)

@@ -89,6 +89,7 @@ fn run_sized<N: Name + Send, J: Errand + Send, R: Threads + Wait + Sync, G: Gate
     requires sizes { HasSize threads (length code.now) parts }
     requires jobs { length jobs.items ≡ length code.now }
     requires each { All (λ js. AreForEach J.whom J.asks threads js.items) jobs.items }
+
     ensures text { IfOk result (λ text. IsText code.now threads (string_bytes text)) }
     ensures refused { IfErr result IsNotRun }
 {

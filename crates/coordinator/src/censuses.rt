@@ -32,6 +32,7 @@ impl<'a, N: Name, J: Errand> Coordinator<'a, N, J> {
         ensures held { IfOk result (λ r. AreEach (IsOperated r.0) self.old.held self.new.held) }
         ensures others { OnOk result ((self.new.armer ≡ self.old.armer)
             × (self.new.operated ≡ true)) }
+
         ensures refused { IfErr result (λ e. (s : DeskState) × census_refused s self.old.held e
             × (self.new ≡ self.old)) }
     {
@@ -52,6 +53,7 @@ impl<'a, N: Name, J: Errand> Coordinator<'a, N, J> {
         ensures published { OnOk result (AreEach IsPublished self.old.held self.new.held) }
         ensures others { (self.new.armer ≡ self.old.armer)
             × (self.new.operated ≡ self.old.operated) }
+
         ensures refused { IfErr result (λ e. (s : DeskState) × census_refused s self.old.held e
             × (self.new.held ≡ self.old.held)) }
     {

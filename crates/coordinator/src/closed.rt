@@ -119,6 +119,7 @@ impl<N: Name> Closed<N> {
     pub fn census(self, counted: Counted<N>) -> (Driven, Worked<N>)
         requires oldest { WasOldest kind.Census self.number self.shown }
         requires numbered { IfSome counted.operated (λ o. o.0 ≡ self.number) }
+
         ensures number { number_of result.0 ≡ self.number }
         ensures worked { IsWorked result.0 result.1.closing }
         ensures listed { (old : Holding) → IsCounted old counted → IsListed old result.0 result.1 }

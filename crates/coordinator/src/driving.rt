@@ -55,6 +55,7 @@ impl<'a, N: Name, J: Errand> Coordinator<'a, N, J> {
         ensures worked { IfOk result (λ r. IsWorked r.0 r.1.closing) }
         ensures listed { IfOk result (λ r. IsListed self.old r.0 r.1) }
         ensures free { OnOk result ((self.new.held ≡ []) × (self.new.operated ≡ false)) }
+
         ensures refused { IfErr result (drive_refused self.old self.new) }
         ensures arms { ArmsOn self.old.armer self.new.armer }
     {

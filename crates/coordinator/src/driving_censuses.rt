@@ -56,6 +56,7 @@ impl<'a, N: Name, J: Errand> Coordinator<'a, N, J> {
         ensures worked { IfOk result (λ r. IsWorked r.0 r.1.closing) }
         ensures listed { IfOk result (λ r. IsListed self.old r.0 r.1) }
         ensures free { OnOk result ((self.new.held ≡ []) × (self.new.operated ≡ false)) }
+
         ensures refused { IfErr result (λ e. e ≡ DriveFault.NoMemory) }
         ensures lacks { OnErr result ((s : DeskState) × LacksList s self.new.held) }
         ensures holds { OnErr result (HoldsOn self.old self.new) }
@@ -78,6 +79,7 @@ impl<'a, N: Name, J: Errand> Coordinator<'a, N, J> {
         number: Option<u64>,
     ) -> Closed<N>
         requires free { self.old.held ≡ [] }
+
         ensures closed { result.shown.stands.entry ≡ Entry.Close result.number }
         ensures oldest { WasOldest kind.Census result.number result.shown }
         ensures numbered { IfSome number (λ n. result.number ≡ n) }
@@ -95,6 +97,7 @@ impl<'a, N: Name, J: Errand> Coordinator<'a, N, J> {
     // Closes the open census after a try that failed: other threads run before each further one.
     fn close_again<R: Wait>(&mut self, rt: &R, number: Option<u64>) -> Closed<N>
         requires free { self.old.held ≡ [] }
+
         ensures closed { result.shown.stands.entry ≡ Entry.Close result.number }
         ensures oldest { WasOldest kind.Census result.number result.shown }
         ensures numbered { IfSome number (λ n. result.number ≡ n) }

@@ -188,6 +188,7 @@ fn list_each<N: Name, J: Errand>(
     list: &mut Vec<Untold<J>>,
 ) -> bool
     requires places { places ≡ length armer.now.seen.armed }
+
     ensures items { map (λ u. u.what) list.new.items
         ≡ map (λ u. u.what) list.old.items ++ take (vec_capacity list.old - vec_len list.old)
         (tellings (at desk.old) kind armer.now.seen due.now) }
@@ -225,6 +226,7 @@ fn list_untold<N: Name, J: Errand>(
     list: &mut Vec<Untold<J>>,
 ) -> bool
     requires places { places ≡ length armer.now.seen.armed }
+
     ensures due { due.new.items ≡ take (vec_capacity due.old) (due_in (at desk.old)) }
     ensures list { map (λ u. u.what) list.new.items ≡ take (vec_capacity list.old)
         (tellings (at desk.old) (kind_told (at desk.old)) armer.now.seen due.new.items) }

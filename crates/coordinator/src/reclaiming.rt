@@ -82,6 +82,7 @@ impl<'a, N: Name, J: Errand> Coordinator<'a, N, J> {
             × (self.new.operated ≡ false)) }
         ensures alone { OnOk result (length jobs.items ≡ 0 → self.new ≡ self.old) }
         ensures arms { ArmsOn self.old.armer self.new.armer }
+
         ensures refused { IfErr result (λ e. not_reclaimed J.whom J.asks serial jobs.items e.fault
             × (self.new ≡ self.old)) }
         ensures handed_back { IfErr result (λ e. e.jobs ≡ jobs) }

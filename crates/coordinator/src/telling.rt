@@ -199,6 +199,7 @@ impl<'a, N: Name, J: Errand> Coordinator<'a, N, J> {
     ) -> Option<BerthReceipt<N>>
         requires place { target.place < length self.old.armer.armed }
         requires later { slice_index self.old.armer.armed target.place < number }
+
         ensures armed { OnSome result
             (self.new.armer ≡ armed_with self.old.armer target.place number) }
         ensures receipt { IfSome result (λ r.

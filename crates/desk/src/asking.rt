@@ -76,6 +76,7 @@ impl<N: Name, J: Errand> Desk<N, J> {
         ensures accepted { OnOk result
             (MayAsk (at self.old) request (jobs_fit J.whom J.asks request jobs.items)
             self.old.book) }
+
         ensures err { IfErr result (λ e.
             (self.new ≡ self.old)
             × ask_refused (at self.old) request (jobs_fit J.whom J.asks request jobs.items)

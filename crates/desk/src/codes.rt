@@ -77,6 +77,7 @@ fn store_new(keeper: &mut Keeper, board: &Board, installed: Installed)
     requires vacant { (slot_of keeper.old.seen installed.code.slot).state ≡ Vacant }
     requires later { (slot_of keeper.old.seen installed.code.slot).serial < installed.code.serial }
     requires small { installed.code.serial < 2 ^ 40 }
+
     ensures board { keeper.new.board ≡ keeper.old.board }
     ensures entry { keeper.new.seen ≡ stored installed.replaced keeper.old.seen installed.code }
 {
@@ -137,6 +138,7 @@ impl<N: Name> Codes<N> {
     /// from now on, in the table and in its entry, which is stored first.
     pub fn install(&mut self, board: &Board, method: u64) -> Result<Installed, InstallFault>
         requires board { board.now ≡ N.board }
+
         ensures sound { OnOk result (IsTable self.old.table) }
         ensures slot { IfOk result (λ r.
             free_slot self.old.table.codes self.old.table.slots ≡ Some r.code.slot) }
@@ -152,6 +154,7 @@ impl<N: Name> Codes<N> {
         ensures entry { IfOk result (λ r.
             self.new.keeper ≡ stored r.replaced self.old.keeper r.code) }
         ensures accepted { OnOk result (install_fault self.old.table method ≡ None) }
+
         ensures refused { IfErr result (λ fault.
             install_fault self.old.table method ≡ reason fault) }
         ensures unchanged { OnErr result (self.new ≡ self.old) }
@@ -165,6 +168,7 @@ impl<N: Name> Codes<N> {
     /// The code is not entrant from now on, in the table and in its entry.
     pub fn invalidate(&mut self, board: &Board, serial: u64) -> Result<CodeId, InvalidateFault>
         requires board { board.now ≡ N.board }
+
         ensures sound { OnOk result (IsTable self.old.table) }
         ensures code { IfOk result (λ id.
             (code : CodeOf) × IsCodeOf self.old serial code × (id ≡ id_of code)) }
@@ -176,6 +180,7 @@ impl<N: Name> Codes<N> {
             ≡ entry_stored self.old.keeper id (not_entrant id self.old.keeper.moment)) }
         ensures accepted { OnOk result
             (invalidate_fault (unfreed self.old.table.codes serial) ≡ None) }
+
         ensures refused { IfErr result (λ fault.
             invalidate_fault (unfreed self.old.table.codes serial) ≡ Some fault) }
         ensures unchanged { OnErr result (self.new ≡ self.old) }
@@ -209,6 +214,7 @@ impl<N: Name> Codes<N> {
     pub fn look(&mut self, board: &Board, serial: u64, place: usize) -> Result<bool, RetireFault>
         requires board { board.now ≡ N.board }
         requires place { place < N.board.places }
+
         ensures step { IfOk result (λ past.
             (code : CodeOf)
             × IsCodeOf self.old serial code
@@ -235,6 +241,7 @@ impl<N: Name> Codes<N> {
     ) -> Result<(), RetireFault>
         requires board { board.now ≡ N.board }
         requires places { places ≤ N.board.places }
+
         ensures looks { OnOk result
             ((code : CodeOf)
             × IsCodeOf self.old serial code
@@ -253,6 +260,7 @@ impl<N: Name> Codes<N> {
     /// Weighs the code. Where no activation stands it is a zombie afterwards, in the table and in its entry.
     pub fn weigh(&mut self, board: &Board, serial: u64) -> Result<Weighed, RetireFault>
         requires board { board.now ≡ N.board }
+
         ensures sound { OnOk result (IsTable self.old.table) }
         ensures step { IfOk result (λ said.
             (code : CodeOf)
@@ -276,6 +284,7 @@ impl<N: Name> Codes<N> {
     /// The slot of a zombie is free, in the table and in its entry.
     pub fn free(&mut self, board: &Board, serial: u64) -> Result<CodeId, FreeFault>
         requires board { board.now ≡ N.board }
+
         ensures sound { OnOk result (IsTable self.old.table) }
         ensures code { IfOk result (λ id.
             (code : CodeOf) × IsCodeOf self.old serial code × (id ≡ id_of code)) }
@@ -286,6 +295,7 @@ impl<N: Name> Codes<N> {
             self.new.keeper ≡ entry_stored self.old.keeper id
             (in_state (slot_of self.old.keeper id.slot) Vacant)) }
         ensures accepted { OnOk result (free_fault (unfreed self.old.table.codes serial) ≡ None) }
+
         ensures refused { IfErr result (λ fault.
             free_fault (unfreed self.old.table.codes serial) ≡ Some fault) }
         ensures unchanged { OnErr result (self.new ≡ self.old) }

@@ -80,11 +80,13 @@ impl<N: Name, J: Errand> Desk<N, J> {
         requires keeper { keeper ≡ first_keeper board.now }
         requires table { (table.codes ≡ []) × (table.slots ≡ N.board.slots) }
         requires places { places ≡ N.board.places }
+
         ensures book { IfOk result (λ d. (d.book.history ≡ []) × (d.book.reserved ≡ 0)) }
         ensures gone { IfOk result (λ d. (d.book.gone.entries ≡ 0) × (d.book.gone.operations ≡ 0)) }
         ensures sizes { IfOk result (λ d. (d.slots ≡ table.slots) × (d.methods ≡ table.methods)) }
         ensures keeper { IfOk result (λ d. d.keeper ≡ keeper.seen) }
         ensures jobs { IfOk result (λ d. d.jobs ≡ []) }
+
         ensures handed_back { IfErr result (λ k. k ≡ keeper) }
     {
         let Ok(opened) = Vec::with_capacity(alloc, OPEN) else {

@@ -21,6 +21,7 @@ impl<N: Name, J: Errand> Desk<N, J> {
             (J.whom j ≡ name) × (J.number j ≡ number) × (0 < number)) }
         ensures open { OnSome result (is_open number (at self.old).opened ≡ true) }
         ensures there { OnSome result (has_job number name self.old.jobs ≡ true) }
+
         ensures none { IfNone result (has_job number name self.old.jobs ≡ false) }
         ensures left { self.new.jobs ≡ job_taken number name self.old.jobs }
         ensures same { (self.new.book ≡ self.old.book)
@@ -42,6 +43,7 @@ impl<N: Name, J: Errand> Desk<N, J> {
         requires name { body.now.name ≡ done.target }
         requires settled { IsSettled body.now.image }
         requires reply { done.reply ≡ reply done.ask body.now.image.frames }
+
         ensures ok { IfOk result (λ r.
             Enters self.old self.new (Entry.Finish done.op done.target done.reply) r.stands) }
         ensures seen { IfOk result (λ r. (r.body ≡ body.now) × (r.ask ≡ done.ask)) }
@@ -50,6 +52,7 @@ impl<N: Name, J: Errand> Desk<N, J> {
             ((self.new.book.reserved + 1 ≡ self.old.book.reserved)
             × (self.new.keeper ≡ self.old.keeper)) }
         ensures jobs { self.new.jobs ≡ self.old.jobs }
+
         ensures err { IfErr result (λ d.
             (d ≡ done)
             × ((lawful (at self.old) (Entry.Finish done.op done.target done.reply) ≡ false)

@@ -27,6 +27,7 @@ impl<N: Name, J: Errand> Desk<N, J> {
         method: u64,
     ) -> Result<(Installed, Receipt<N>), CodeFault>
         requires board { board.now ≡ N.board }
+
         ensures ok { IfOk result (λ r.
             EntersInstall self.old self.new r.0.replaced r.0.code method r.1) }
         ensures replaced { IfOk result (λ r.
@@ -38,6 +39,7 @@ impl<N: Name, J: Errand> Desk<N, J> {
             self.new.book.reserved + kept_before r.0.replaced ≡ self.old.book.reserved + 3) }
         ensures jobs { self.new.jobs ≡ self.old.jobs }
         ensures accepted { OnOk result (MayInstall (at self.old) method self.old.book) }
+
         ensures err { IfErr result (λ e.
             (self.new ≡ self.old) × install_refused (at self.old) method self.old.book e) }
     {
@@ -61,6 +63,7 @@ impl<N: Name, J: Errand> Desk<N, J> {
     /// Enters that a code isn't entrant, which is stored.
     pub fn invalidate(&mut self, board: &Board, serial: u64) -> Result<Receipt<N>, InvalidateFault>
         requires board { board.now ≡ N.board }
+
         ensures ok { IfOk result (λ r. Enters self.old self.new (Entry.Invalidate serial) r) }
         ensures stored { OnOk result
             ((code : CodeOf)
@@ -80,6 +83,7 @@ impl<N: Name, J: Errand> Desk<N, J> {
     /// Enters that the slot of a zombie is free, which is stored.
     pub fn free(&mut self, board: &Board, serial: u64) -> Result<Receipt<N>, FreeFault>
         requires board { board.now ≡ N.board }
+
         ensures ok { IfOk result (λ r. Enters self.old self.new (Entry.Free serial) r) }
         ensures stored { OnOk result
             ((code : CodeOf)

@@ -547,6 +547,7 @@ pub fn fit_their_request<J: Errand>(jobs: &[J]) -> bool
 #[inline(always)]
 pub fn job_of<J: Errand>(opened: &mut Vec<Opened<J>>, place: usize, name: u64) -> Option<J>
     requires { place < length opened.old.items }
+
     ensures job { IfSome result (λ j.
         (J.whom j ≡ name)
         × ((o : OpenedOf J)

@@ -147,6 +147,7 @@ fn length_of<N: Name>(past: &Past, entries: &Vec<Kept>) -> Length<N>
 fn append<N: Name>(past: &Past, entries: &mut Vec<Kept>, entry: Entry) -> Receipt<N>
     requires room { vec_len entries.old < vec_capacity entries.old }
     requires no_request { is_ask entry ≡ false }
+
     ensures history { (rs : List RequestOf)
         → asks entries.old.items ≡ length rs
         → unfolded entries.new.items rs ≡ unfolded entries.old.items rs ++ entry ∷ [] }
@@ -193,6 +194,7 @@ fn append_ask<N: Name>(
     requires spare { 0 < asked.old.spare }
     requires noted { noted.count ≤ length asked.old.noted }
     requires whole { asks entries.old.items ≡ length asked.old.list }
+
     ensures history { unfolded entries.new.items asked.new.list
         ≡ unfolded entries.old.items asked.old.list ++ Entry.Ask number
         (request_of noted asked.old.noted) ∷ [] }
@@ -317,6 +319,7 @@ impl<N: Name> Log<N> {
     #[inline(always)]
     pub fn keep_request(&mut self, request: &Request) -> Result<Noted, RoomFault>
         requires steps { steps_of request.now ≤ 64 }
+
         ensures noted { IfOk result (λ noted. (request_of noted self.new.noted ≡ request.now)
             × (noted.count ≡ length (targets_of request.now))
             × (noted.count ≤ length self.new.noted)) }
@@ -329,6 +332,7 @@ impl<N: Name> Log<N> {
         ensures same { (self.new.book.history ≡ self.old.book.history)
             × (self.new.book.gone ≡ self.old.book.gone)
             × (self.new.lists ≡ self.old.lists) }
+
         ensures err { IfErr result (λ e. (self.new.book ≡ self.old.book)
             × room_fault (has_room (entries_kept self.old.book) self.old.book.reserved
             (3 + steps_of request.now)) e) }
@@ -350,6 +354,7 @@ impl<N: Name> Log<N> {
         requires reserved { 0 < self.old.book.reserved }
         requires no_request { is_ask entry ≡ false }
         requires no_reply { (n : ℕ) → reply_in n entry ≡ None }
+
         ensures gone { self.new.book.gone ≡ self.old.book.gone }
         ensures history { self.new.book.history ≡ self.old.book.history ++ entry ∷ [] }
         ensures reserved { self.new.book.reserved + 1 ≡ self.old.book.reserved }
@@ -363,6 +368,7 @@ impl<N: Name> Log<N> {
     /// Enters an install: where it replaced a code, that this one isn't entrant, and then the Install, of which the receipt is.
     pub fn enter_install(&mut self, installed: Installed, method: u64) -> Receipt<N>
         requires reserved { 1 < self.old.book.reserved }
+
         ensures gone { self.new.book.gone ≡ self.old.book.gone }
         ensures history { self.new.book.history
             ≡ self.old.book.history ++ install_entries installed.replaced installed.code method }
@@ -387,6 +393,7 @@ impl<N: Name> Log<N> {
         requires places { noted.count ≤ self.old.places }
         requires noted { noted.count ≤ length self.old.noted }
         requires seen { seen.value ≡ Entry.Ask number (request_of noted self.old.noted) }
+
         ensures gone { self.new.book.gone ≡ self.old.book.gone }
         ensures history { self.new.book.history ≡ self.old.book.history ++ seen.value ∷ [] }
         ensures reserved { self.new.book.reserved + 1 ≡ self.old.book.reserved }
@@ -410,6 +417,7 @@ impl<N: Name> Log<N> {
     pub fn enter_finish(&mut self, op: u64, name: u64, reply: u64) -> Receipt<N>
         requires reserved { 0 < self.old.book.reserved }
         requires room { 0 < (of_number (op - self.old.book.gone.operations) self.old.lists).room }
+
         ensures gone { self.new.book.gone ≡ self.old.book.gone }
         ensures history { self.new.book.history
             ≡ self.old.book.history ++ Entry.Finish op name reply ∷ [] }

@@ -81,6 +81,7 @@ impl<N: Name, J: Errand> Desk<N, J> {
         ensures keeper { OnOk result (self.new.keeper ≡ self.old.keeper) }
         ensures handed_back { IfOk result (λ r. map J.whom r.1.items ≡ left_of r.0 self.old.jobs) }
         ensures jobs { IfOk result (λ r. self.new.jobs ≡ jobs_closed r.0 self.old.jobs) }
+
         ensures err { IfErr result (λ e.
             (self.new ≡ self.old) × close_refused (at self.old) number held.now e) }
     {

@@ -58,6 +58,7 @@ impl<N: Name, J: Errand> Desk<N, J> {
     ) -> Result<(u64, Operating<N>), OperateFault>
         requires settled { AreSettled bodies.now }
         requires counted { IsCensus bodies.now list.now.items }
+
         ensures ok { IfOk result (λ r. Enters self.old self.new (Entry.Operate r.0) r.1.stands) }
         ensures seen { IfOk result (λ r. r.1.list ≡ list.now.items) }
         ensures accepted { OnOk result (MayOperate (at self.old) bodies.now) }
@@ -66,6 +67,7 @@ impl<N: Name, J: Errand> Desk<N, J> {
             ((self.new.book.reserved + 1 ≡ self.old.book.reserved)
             × (self.new.keeper ≡ self.old.keeper)) }
         ensures jobs { self.new.jobs ≡ self.old.jobs }
+
         ensures err { IfErr result (λ e.
             (self.new ≡ self.old) × operate_refused (at self.old) bodies.now e) }
     {

@@ -32,6 +32,7 @@ impl<N: Name, J: Errand> Desk<N, J> {
         jobs: Vec<J>,
     ) -> Result<Option<(u64, Receipt<N>)>, NotReclaimed<J>>
         requires board { board.now ≡ N.board }
+
         ensures asked { IfOk result (λ r.
             IfSome r (λ a.
             IfSome request (λ asked. Enters self.old self.new (Entry.Ask a.0 asked) a.1))) }
@@ -55,6 +56,7 @@ impl<N: Name, J: Errand> Desk<N, J> {
         ensures round { OnOk result
             (self.new.keeper ≡ went_round self.old.keeper self.old.keeper.moment) }
         ensures jobs { self.new.jobs ≡ self.old.jobs }
+
         ensures err { IfErr result (λ e.
             (self.new ≡ self.old)
             × reclaim_refused (at self.old) serial request
@@ -102,6 +104,7 @@ impl<N: Name, J: Errand> Desk<N, J> {
     /// Begins the next moment.
     pub fn round(&mut self, board: &Board) -> Result<(), Spent>
         requires board { board.now ≡ N.board }
+
         ensures ok { OnOk result
             (self.new.keeper ≡ went_round self.old.keeper self.old.keeper.moment) }
         ensures accepted { OnOk result (nat_le (2 ^ 40) (self.old.keeper.moment + 1) ≡ false) }
@@ -119,6 +122,7 @@ impl<N: Name, J: Errand> Desk<N, J> {
     pub fn look(&mut self, board: &Board, serial: u64, place: usize) -> Result<bool, RetireFault>
         requires board { board.now ≡ N.board }
         requires place { place < N.board.places }
+
         ensures step { IfOk result (λ past.
             (code : CodeOf)
             × (unfreed (at self.old).table.codes serial ≡ Some code)
@@ -166,6 +170,7 @@ impl<N: Name, J: Errand> Desk<N, J> {
         serial: u64,
     ) -> Result<(Weighed, Weighing<N>, Option<Receipt<N>>), RetireFault>
         requires board { board.now ≡ N.board }
+
         ensures weighing { IfOk result (λ r.
             r.1 ≡ record { serial = serial; said = r.0; length = length self.old.book.history }) }
         ensures retired { IfOk result (λ r.
@@ -186,6 +191,7 @@ impl<N: Name, J: Errand> Desk<N, J> {
         ensures jobs { self.new.jobs ≡ self.old.jobs }
         ensures accepted { OnOk result
             (retire_fault (unfreed (at self.old).table.codes serial) ≡ None) }
+
         ensures err { IfErr result (λ e.
             (self.new ≡ self.old)
             × (retire_fault (unfreed (at self.old).table.codes serial) ≡ Some e)) }

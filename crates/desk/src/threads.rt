@@ -31,6 +31,7 @@ impl<N: Name, J: Errand> Desk<N, J> {
             (self.new.book.reserved ≡ self.old.book.reserved + 1)
             × (self.new.keeper ≡ self.old.keeper)) }
         ensures jobs { self.new.jobs ≡ self.old.jobs }
+
         ensures err { IfErr result (λ e.
             (self.new ≡ self.old) × start_refused (at self.old) N.board.places self.old.book e) }
     {

@@ -200,6 +200,7 @@ impl Image {
             → option_map (λ change. change.code) result ≡ next_code self.old }
         ensures fresh { IfSome result (λ change. is_among change.code self.old.changed ≡ false) }
         ensures counts { IfSome result (λ change. Counts self.old self.new change) }
+
         ensures none { IfNone result (self.new ≡ self.old) }
         ensures next { self.old.publishing ≡ true
             → IsNext self.old (option_map (λ change. change.code) result) }
@@ -226,6 +227,7 @@ impl Image {
         ensures counted { OnOk result (IsCounted self.old) }
         ensures closed { OnOk result (self.new.changed ≡ []) }
         ensures accepted { OnOk result (end_fault self.old ≡ None) }
+
         ensures refused { IfErr result (λ fault. end_fault self.old ≡ Some fault) }
         ensures unchanged { OnErr result (self.new ≡ self.old) }
     {
@@ -250,6 +252,7 @@ impl Image {
     #[inline(always)]
     pub fn settle_only(&mut self) -> Option<Change>
         requires closed { self.old.publishing ≡ false }
+
         ensures frames { self.new.frames ≡ self.old.frames }
         ensures settled { IfSome result (λ change. IsSettled self.new) }
         ensures closed { IfSome result (λ change. self.new.changed ≡ []) }
@@ -260,6 +263,7 @@ impl Image {
         ensures others { IfSome result (λ change. (code : CodeId)
             → same_code code change.code ≡ false
             → act code self.old.frames ≡ times code self.old.counted) }
+
         ensures none { IfNone result (self.new ≡ self.old) }
     {
         self.nets.take_only()

@@ -79,6 +79,7 @@ impl Nets {
         requires some { is_zero by ≡ false }
         requires within { IsWithin (net_in self.old.entries code +ℤ by) 256 }
         requires room { length (add self.old.entries code by) ≤ 512 }
+
         ensures { self.new ≡ record { entries = add self.old.entries code by; flushed = false } }
     {
         let place = cell_of(code);
@@ -276,6 +277,7 @@ fn put(nets: &mut Vec<Change>, net: Change)
     requires fits { length nets.old.items ≤ 1024 }
     requires once { AreOnce nets.old.items }
     requires few { length (settled nets.old.items) ≤ 512 }
+
     ensures put { IsPut net nets.old.items nets.new.items }
     ensures capacity { vec_capacity nets.new ≡ vec_capacity nets.old }
 {
@@ -296,6 +298,7 @@ fn touch(touched: &mut Vec<u16>, cells: &[Change], place: usize) -> bool
     requires long { length cells.now ≡ 1024 }
     requires touched { AreTouched cells.now touched.old.items }
     requires room { 1024 ≤ vec_capacity touched.old }
+
     ensures touched { AreTouched cells.now touched.new.items }
     ensures is { result ≡ true → is_in place touched.new.items ≡ true }
     ensures taken { length touched.old.items < 1024 → result ≡ true }
@@ -337,6 +340,7 @@ fn note(
         (record { slot = slot; serial = serial }) +ℤ by) 256 }
     requires room { length (add (settled (cells.old.items ++ list.old.items))
         (record { slot = slot; serial = serial }) by) ≤ 512 }
+
     ensures kept { AreKept cells.new.items touched.new.items (vec_capacity touched.new)
         list.new.items (vec_capacity list.new) false }
     ensures moved { settled (cells.new.items ++ list.new.items)
@@ -375,6 +379,7 @@ fn note_listed(
         (record { slot = slot; serial = serial }) +ℤ by) 256 }
     requires room { length (add (settled (cells.old.items ++ list.old.items))
         (record { slot = slot; serial = serial }) by) ≤ 512 }
+
     ensures kept { AreKept cells.new.items touched.new.items (vec_capacity touched.new)
         list.new.items (vec_capacity list.new) false }
     ensures moved { settled (cells.new.items ++ list.new.items)
@@ -402,6 +407,7 @@ fn empty(cells: &mut Vec<Change>, list: &mut Vec<Change>, place: usize)
     requires cells { AreCells cells.old.items list.old.items }
     requires place { place < 1024 }
     requires room { length list.old.items < vec_capacity list.old }
+
     ensures cells { AreCells cells.new.items list.new.items }
     ensures totals { (code : CodeId)
         → total (cells.new.items ++ list.new.items) code
@@ -424,6 +430,7 @@ fn drain(cells: &mut Vec<Change>, touched: &[u16], list: &mut Vec<Change>)
     requires touched { AreTouched cells.old.items touched.now }
     requires fits { length list.old.items ≤ 1024 }
     requires room { 2048 ≤ vec_capacity list.old }
+
     ensures cells { AreCells cells.new.items list.new.items }
     ensures totals { (code : CodeId)
         → total (cells.new.items ++ list.new.items) code

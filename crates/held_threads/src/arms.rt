@@ -46,6 +46,7 @@ impl Arms {
         requires small { number < 2 ^ 40 }
         requires told { (told.now ≡ acted place told.now.name (BerthAct.Told number))
             ⊎ (told.now ≡ acted place told.now.name (BerthAct.Marked number)) }
+
         ensures armed { self.new.seen ≡ armed_with self.old.seen place number }
         ensures row { self.new.table ≡ self.old.table }
     {

@@ -236,6 +236,7 @@ impl<N: Name> Held<N> {
     ) -> Result<BodyReceipt<N>, BerthReceipt<N>>
         requires place { place < N.board.places }
         requires apart { is_held place self.old ≡ false }
+
         ensures held { IfOk result (λ r. Went place name BodyAct.Held r
             × (self.new ≡ self.old ++ r.body ∷ [])) }
         ensures left { IfErr result (λ r. (r ≡ acted place name BerthAct.Absent)
@@ -380,6 +381,7 @@ impl<N: Name> Held<N> {
         requires index { index < length self.old }
         requires board { board.now ≡ N.board }
         requires row { row.now ≡ N.poll_row }
+
         ensures ran { IfOk result
             (λ r. Runs J.number J.whom J.asks J.may_answer r.0 r.1.ask r.1.body
             room.old room.new) }

@@ -25,12 +25,14 @@ pub fn operate_over<N: Name, J: Errand>(
     alloc: Global,
 ) -> Result<(u64, Vec<(u64, u32)>, Operating<N>), OperateFault>
     requires board { board.now ≡ N.board }
+
     ensures entered { IfOk result (λ r. Enters desk.old desk.new (Entry.Operate r.0) r.2.stands) }
     ensures shown { IfOk result (λ r. r.2.list ≡ r.1.items) }
     ensures may { OnOk result (MayOperate (at desk.old) bodies.old) }
     ensures all { OnOk result (are_all (at desk.old).live bodies.new ≡ true) }
     ensures published { OnOk result (AreEach IsPublished bodies.old bodies.new) }
     ensures counted { IfOk result (λ r. IsCensus bodies.new r.1.items) }
+
     ensures refused { IfErr result (λ e. (desk.new ≡ desk.old) × (bodies.new ≡ bodies.old)
         × census_refused (at desk.old) bodies.old e) }
 {

@@ -74,11 +74,13 @@ pub fn serve_lent<N: Name, J: Errand>(
 ) -> Result<(u64, Finished<N>), Unserved>
     requires board { board.now ≡ N.board }
     requires row { row.now ≡ N.poll_row }
+
     ensures ran { IfOk result (λ r. Runs J.number J.whom J.asks J.may_answer r.0 r.1.ask r.1.body
         room.old room.new) }
     ensures answered { IfOk result (λ r. IsAnswered r.0 body.old r.1 body.new) }
     ensures entered { IfOk result (λ r. Enters desk.old desk.new
         (Entry.Finish r.0 body.old.name (reply r.1.ask body.old.image.frames)) r.1.stands) }
+
     ensures left { IfErr result (λ e. IsLeftUnserved J.number J.whom J.asks J.may_answer body.old
         room.old e body.new room.new) }
     ensures refused { OnErr result (desk.new ≡ desk.old) }

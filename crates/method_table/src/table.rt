@@ -212,6 +212,7 @@ impl MethodTable {
         ensures accepted { OnOk result (install_fault self.old method ≡ None) }
         ensures refused { IfErr result (λ fault. install_fault self.old method ≡ reason fault) }
         ensures sound { IsTable self.new }
+
         ensures unchanged { OnErr result (self.new ≡ self.old) }
     {
         let slot = match self.slot_for(method) {

@@ -124,6 +124,7 @@ impl LineModel {
         ensures taken { OnOk result (self.new ≡ taken self.old) }
         ensures room { IfOk result (λ n. n ≤ length answer.new) }
         ensures behind { IfOk result (λ n. drop n answer.new ≡ drop n answer.old) }
+
         ensures why { IfErr result (λ fault. WhyWaits fault self.old.waits (length answer.old)) }
         ensures kept { OnErr result (self.new ≡ self.old) }
         ensures unwritten { OnErr result (answer.new ≡ answer.old) }

@@ -10,6 +10,7 @@ use replay::print::put_reply;
 /// Makes the line of text for a reply, and says how long it is without its newline.
 pub(crate) fn write_text(text: &mut Vec<u8>, said: &Reply) -> Result<usize, AnswerFault>
     requires room { 128 ≤ vec_capacity text.old }
+
     ensures text { OnOk result (text.new.items ≡ reply_text said.now ++ (10 ∷ [])) }
     ensures length { IfOk result (λ n. n ≡ length (reply_text said.now)) }
     ensures small { IfOk result (λ n. n < 2 ^ 63) }
@@ -30,9 +31,11 @@ pub(crate) fn write_into(
     answer: &mut [u8],
 ) -> Result<usize, AnswerFault>
     requires room { 128 ≤ vec_capacity text.old }
+
     ensures given { IfOk result (λ n. take n answer.new ≡ reply_text said.now) }
     ensures room { IfOk result (λ n. n ≤ length answer.new) }
     ensures behind { IfOk result (λ n. drop n answer.new ≡ drop n answer.old) }
+
     ensures why { IfErr result (λ fault. WhyWaits fault (Some said.now) (length answer.old)) }
     ensures unwritten { OnErr result (answer.new ≡ answer.old) }
     ensures kept { vec_capacity text.old ≤ vec_capacity text.new }

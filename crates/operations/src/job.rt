@@ -34,6 +34,7 @@ impl Job {
         requires callable { (i : _) → IsSettled i.now → Call.pre call i }
         requires answers { (i : _) (r : _) → IsSettled i.now → Call.post call i r
             → r ≡ reply ask i.now.frames }
+
         ensures number { ⟦<Job as Errand>⟧.number result ≡ 0 }
         ensures whom { ⟦<Job as Errand>⟧.whom result ≡ target }
         ensures asks { ⟦<Job as Errand>⟧.asks result ≡ ask }

@@ -128,6 +128,7 @@ impl Poller {
     #[inline(always)]
     pub fn poll(&mut self, row: &PollRow) -> u64
         requires row { self.old.table ≡ row.now }
+
         ensures row { self.new.table ≡ self.old.table }
         ensures step { self.new.seen ≡ polled self.old.seen result }
         ensures made { PollerSteps self.old.seen self.new.seen }
@@ -143,6 +144,7 @@ impl Poller {
     pub fn clear(&mut self, row: &PollRow, n: u64) -> bool
         requires row { self.old.table ≡ row.now }
         requires number { n ≢ 0 }
+
         ensures row { self.new.table ≡ self.old.table }
         ensures step { (found : ℕ) × IsMet self.old.seen.cleared found
             × (self.new.seen ≡ exchanged self.old.seen n found) × (result ≡ (found == n)) }
@@ -165,6 +167,7 @@ impl Armer {
         requires place { place < length self.old.seen.armed }
         requires later { slice_index self.old.seen.armed place < n }
         requires small { n < 2 ^ 40 }
+
         ensures row { self.new.table ≡ self.old.table }
         ensures step { self.new.seen ≡ armed_with self.old.seen place n }
         ensures made { ArmerSteps self.old.seen self.new.seen }

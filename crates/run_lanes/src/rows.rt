@@ -166,6 +166,7 @@ impl Rows {
         ensures group { self.new.group ≡ self.old.group }
         ensures lives { painted.new.lives.items ≡ painted.old.lives.items }
         ensures first { painted.new.first ≡ painted.old.first }
+
         ensures same { OnOk result ((kept : RowOf)
             → slice_get (wide row self.old.rows.items) row ≡ Some kept → kept.paint ≡ paint
             → (self.new.rows.items ≡ wide row self.old.rows.items)

@@ -97,6 +97,7 @@ fn read_methods(values: &Vec<Value>, walk: &mut Walk) -> Result<Script, ScriptFa
 
 fn read_method(number: usize, value: &Value, walk: &mut Walk) -> Result<Method, ScriptFault>
     requires { walk.old.place ≡ [] }
+
     ensures ok { IfOk result
         (λ m. option_map outline (as_array (view value.now))
         ≡ some_sound (body_view m.items.items)) }

@@ -34,6 +34,7 @@ impl Core {
         requires world { OfWorld self.old }
         requires few { length self.old.places.items ≤ 64 }
         requires recorded { length self.old.records.items ≡ self.old.table.slots }
+
         ensures does { IfOk result
             (λ answer. Does (events.Install method) self.old answer self.new) }
         ensures refused { OnErr result (self.new ≡ self.old) }

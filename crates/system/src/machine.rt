@@ -124,6 +124,7 @@ impl System {
             IfErr result (λ stop. ((stop.at ≡ 0) × (self.new ≡ self.old))
             ⊎ StopsAt (world_by self.old before) events.now stop.at) }
         ensures sizes { SameSizes self.old self.new }
+
         ensures once { (all : List TheEvent) → StandsFor self.new all
             → RunAtMostOnce (places_of self.new) (slots_of self.new) (methods_of self.new) all }
         ensures handshakes { (all : List TheEvent) → StandsFor self.new all
@@ -212,6 +213,7 @@ fn refusal_before_copy(core: &Core, event: &Event) -> Option<Refusal>
 fn apply_to(core: &mut Core, alloc: Global, event: Event) -> Result<Answer, AllocError>
     requires world { OfWorld core.old }
     requires sized { IsSized core.old }
+
     ensures does { IfOk result (λ answer. Does event core.old answer core.new) }
     ensures refused { OnErr result (core.new ≡ core.old) }
     ensures no_memory { OnErr result (Accepts core.old event) }

@@ -79,6 +79,7 @@ impl<'a, N: Name, J: Errand> Mutator<'a, N, J> {
     #[inline(always)]
     pub fn call(&mut self, method: u32, hint: Option<CodeId>) -> Result<Called, CallFault>
         requires slot { IfSome hint (λ c. c.slot < N.board.slots) }
+
         ensures accepted { OnOk result (call_accepted self.old method) }
         ensures step { IfOk result (λ said. (old : BodyView) × (new : BodyView)
             × (self.old.body ≡ Some old) × (self.new.body ≡ Some new)

@@ -86,6 +86,7 @@ impl<N: Name> OwnPart<N> {
     ) -> Result<Called, CallFault>
         requires board { board.now ≡ N.board }
         requires slot { IfSome hint (λ c. c.slot < N.board.slots) }
+
         ensures accepted { OnOk result (call_accepted self.old method) }
         ensures step { IfOk result (λ said. (old : BodyView) × (new : BodyView)
             × (self.old.body ≡ Some old) × (self.new.body ≡ Some new)
@@ -158,6 +159,7 @@ impl<N: Name> OwnPart<N> {
     #[inline(always)]
     pub fn publish(&mut self, board: &Board) -> Result<(), State>
         requires board { board.now ≡ N.board }
+
         ensures published { OnOk result ((old : BodyView) × (new : BodyView)
             × (self.old.body ≡ Some old) × (self.new.body ≡ Some new) × IsPublished old new) }
         ensures lawful { OnOk result (is_running self.old.state ≡ true) }

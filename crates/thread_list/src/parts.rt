@@ -159,6 +159,7 @@ fn rooms_of<N: Name, J: Errand>(
     requires count { length seats.items ≡ vec_len lists }
     requires lists { All IsRoom lists.items }
     requires room { (vec_len room ≡ 0) × (length seats.items ≤ vec_capacity room) }
+
     ensures count { length result.items ≡ length seats.items }
     ensures order { AreInOrder (places_in result.items) }
 {
@@ -207,6 +208,7 @@ impl Parts {
     /// What threads share, over these parts. Where memory is refused the parts come back.
     pub fn into_pieces<N: Name, J: Errand>(self, alloc: Global) -> Result<Pieces<N, J>, Parts>
         requires tables { (self.board ≡ N.board) × (self.row ≡ N.poll_row) }
+
         ensures words { IfOk result (λ p. (p.board ≡ N.board) × (p.row ≡ N.poll_row)) }
         ensures rooms { IfOk result (λ p. length p.rooms.items ≡ N.board.places) }
         ensures order { IfOk result (λ p. AreInOrder (places_in p.rooms.items)) }
@@ -214,6 +216,7 @@ impl Parts {
         ensures slots { IfOk result (λ p. p.hints.slots ≡ N.board.slots) }
         ensures methods { IfOk result (λ p. p.hints.methods ≡ self.methods) }
         ensures armer { IfOk result (λ p. p.armer ≡ full_armer N.poll_row N.board.places) }
+
         ensures handed_back { IfErr result (λ p. p ≡ self) }
     {
         let places = self.seats.len();

@@ -54,6 +54,7 @@ pub fn serve<N: Name, J: Errand, R: Wait>(
 ) -> (Finished<N>, bool)
     requires job { (J.whom job ≡ body.old.name) × (0 < J.number job) }
     requires settled { IsSettled body.old.image }
+
     ensures entry { result.0.stands.entry
         ≡ Entry.Finish (J.number job) (J.whom job) (reply (J.asks job) body.old.image.frames) }
     ensures before_the_clear { result.0.body ≡ body.old }

@@ -259,6 +259,7 @@ impl<N: Name, J: Errand> Shared<N, J> {
         requires name { body.now.name ≡ done.target }
         requires settled { IsSettled body.now.image }
         requires reply { done.reply ≡ reply done.ask body.now.image.frames }
+
         ensures ok { IfOk result (λ r. r.stands.entry
             ≡ Entry.Finish done.op done.target done.reply) }
         ensures seen { IfOk result (λ r. (r.body ≡ body.now) × (r.ask ≡ done.ask)) }

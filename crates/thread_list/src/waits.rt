@@ -149,6 +149,7 @@ impl<'a, N: Name, J: Errand> Mutator<'a, N, J> {
         requires running { is_running self.old.state ≡ true }
         requires safe { table.is_safe (state_in to) ≡ true }
         requires away { body_in to ≡ None }
+
         ensures state { self.new.state ≡ state_in to }
         ensures given { Gives self.old self.new }
         ensures same { SameThread self.old self.new }
@@ -192,6 +193,7 @@ impl<'a, N: Name, J: Errand> Mutator<'a, N, J> {
             HasStopped self.entry.body (first_of turn.first turn.last))) }
         ensures after { IfOk result (λ r. IfSome r.served (λ turn.
             IsGivenUpAfter self.entry.place self.entry.name turn.last turn.finish r.vacated)) }
+
         ensures refused { IfErr result (λ e. ((e.1 ≡ self.entry) × exit_refused self.entry e.0)
             ⊎ ((is_running self.entry.state ≡ true) × HasNoFrame self.entry.body
             × (e.0 ≡ ExitFault.StackNotEmpty) × (e.1.state ≡ IsInJava) × SameThread self.entry e.1
@@ -257,12 +259,14 @@ fn vacate<N: Name, J: Errand, R: Wait>(
 ) -> Result<(BodyReceipt<N>, Option<Turn<N>>), (Body<N>, BodyReceipt<N>)>
     requires body { (body.seat.stored ≢ 0) × (0 < body.name) }
     requires empty { body.image.frames ≡ [] }
+
     ensures vacated { IfOk result (λ r. IsVacated body.seat.place body.name r.0) }
     ensures at_once { IfOk result (λ r. IfNone r.1 (IsPublished body r.0.body)) }
     ensures first { IfOk result (λ r. IfSome r.1 (λ turn.
         HasStopped (Some body) (first_of turn.first turn.last))) }
     ensures after { IfOk result (λ r. IfSome r.1 (λ turn.
         IsGivenUpAfter body.seat.place body.name turn.last turn.finish r.0)) }
+
     ensures same { IfErr result (λ b. SameBody body b.0) }
     ensures kept { IfErr result (λ b. IsKept body.seat.place body.name b.1 (Some b.0)) }
     ensures frames { IfErr result (λ b. 0 < length b.0.image.frames) }

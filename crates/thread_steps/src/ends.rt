@@ -90,11 +90,13 @@ impl<N: Name> Entered<N> {
     ) -> Result<Stepper<N>, Entered<N>>
         requires board { board.now ≡ N.board }
         requires row { row.now ≡ N.poll_row }
+
         ensures started { IfOk result
             (λ r. (r.name ≡ self.name) × (r.place ≡ self.place) × (r.methods ≡ self.methods)) }
         ensures resumed { IfOk result (λ r. IsResumed r) }
         ensures polled { IfOk result (λ r. PollsIn r.crossed.body r OfJava) }
         ensures room { IfOk result (λ r. MovesIn self.name r.crossed room.old room.new) }
+
         ensures handed_back { IfErr result (λ e. (e ≡ self) × (room.new ≡ room.old)) }
         ensures taken { OnErr result (HasNoSeat room.old self.place) }
     {
@@ -165,10 +167,12 @@ impl<N: Name> Stepper<N> {
     ) -> Result<BodyReceipt<N>, (ExitFault, Stepper<N>)>
         requires board { board.now ≡ N.board }
         requires row { row.now ≡ N.poll_row }
+
         ensures accepted { OnOk result ((is_running self.state ≡ true) × HasNoFrame self.body) }
         ensures vacated { IfOk result (λ r. IsVacated self.place self.name r) }
         ensures given_up { IfOk result (λ r. IsGivenUp self.body r) }
         ensures vacant { IfOk result (λ r. IsVacant r room.old room.new) }
+
         ensures same { IfErr result (λ e. SameThread self e.1) }
         ensures refused { IfErr result (λ e. exit_refused room.old self e.1 e.0) }
         ensures kept { OnErr result (room.new ≡ room.old) }

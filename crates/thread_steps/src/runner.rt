@@ -95,6 +95,7 @@ impl<N: Name> Stepper<N> {
     ) -> Result<Called, CallFault>
         requires board { board.now ≡ N.board }
         requires slot { IfSome hint (λ c. c.slot < N.board.slots) }
+
         ensures accepted { OnOk result (call_accepted self.old method) }
         ensures step { IfOk result
             (λ said. (old : BodyView) × (new : BodyView) × (self.old.body ≡ Some old)
@@ -169,6 +170,7 @@ impl<N: Name> Stepper<N> {
     #[inline(always)]
     pub fn publish(&mut self, board: &Board) -> Result<(), State>
         requires board { board.now ≡ N.board }
+
         ensures published { OnOk result ((old : BodyView) × (new : BodyView)
             × (self.old.body ≡ Some old) × (self.new.body ≡ Some new) × IsPublished old new) }
         ensures lawful { OnOk result (is_running self.old.state ≡ true) }
@@ -254,6 +256,7 @@ impl<N: Name> Stepper<N> {
         ensures declined { IfOk result
             (λ done. done ≡ false → Declines room.old self.old.name self.old.place) }
         ensures same { SameThread self.old self.new }
+
         ensures err { IfErr result
             (λ s. (s ≡ self.old.state) × (table.step s movement.ToNative ≡ None)
             × (self.new ≡ self.old) × (room.new ≡ room.old)) }
@@ -281,6 +284,7 @@ impl<N: Name> Stepper<N> {
         row: &PollRow,
     ) -> Result<Option<Poll>, State>
         requires row { row.now ≡ N.poll_row }
+
         ensures ok { IfOk result
             (λ done. IfSome done
             (λ said. (back : WayBack) × (self.old.state ≡ IsInNative back)
@@ -293,6 +297,7 @@ impl<N: Name> Stepper<N> {
         ensures absent { IfOk result
             (λ done. IfNone done (IsAbsent room.old self.old.name self.old.place)) }
         ensures same { SameThread self.old self.new }
+
         ensures err { IfErr result
             (λ s. (s ≡ self.old.state) × ((back : WayBack) → s ≢ IsInNative back)
             × (self.new ≡ self.old) × (room.new ≡ room.old)) }
@@ -316,6 +321,7 @@ impl<N: Name> Stepper<N> {
         ensures declined { IfOk result
             (λ done. done ≡ false → Declines room.old self.old.name self.old.place) }
         ensures same { SameThread self.old self.new }
+
         ensures err { IfErr result
             (λ s. (s ≡ self.old.state) × (s ≢ IsInVm) × (self.new ≡ self.old)
             × (room.new ≡ room.old)) }
@@ -334,6 +340,7 @@ impl<N: Name> Stepper<N> {
         row: &PollRow,
     ) -> Result<Option<Poll>, State>
         requires row { row.now ≡ N.poll_row }
+
         ensures ok { IfOk result
             (λ done. IfSome done
             (λ said. (self.old.state ≡ IsBlocked)
@@ -346,6 +353,7 @@ impl<N: Name> Stepper<N> {
         ensures absent { IfOk result
             (λ done. IfNone done (IsAbsent room.old self.old.name self.old.place)) }
         ensures same { SameThread self.old self.new }
+
         ensures err { IfErr result
             (λ s. (s ≡ self.old.state) × (s ≢ IsBlocked) × (self.new ≡ self.old)
             × (room.new ≡ room.old)) }
@@ -362,6 +370,7 @@ impl<N: Name> Stepper<N> {
         requires running { self.old.state ≡ table.state_of back }
         requires safe { (is_running (state_in to) ≡ false) × (serves (state_in to) ≡ false) }
         requires away { (body_in to ≡ None) × (answer_in to ≡ None) × (given_in to ≡ None) }
+
         ensures state { result ≡ true → self.new.state ≡ state_in to }
         ensures given { result ≡ true → Gives self.old self.new }
         ensures room { result ≡ true → GoesIn self.old room.old room.new }
@@ -392,9 +401,11 @@ impl<N: Name> Stepper<N> {
         back: Back,
     ) -> Option<Poll>
         requires row { row.now ≡ N.poll_row }
+
         ensures polled { IfSome result (λ said. GoesBack self.new.crossed.body self.new back said) }
         ensures resumed { IfSome result (λ said. IsResumed self.new) }
         ensures room { IfSome result (λ said. ComesOut self.new room.old room.new) }
+
         ensures again { IfNone result ((self.new ≡ self.old) × (room.new ≡ room.old)) }
         ensures absent { IfNone result (IsAbsent room.old self.old.name self.old.place) }
         ensures same { SameThread self.old self.new }

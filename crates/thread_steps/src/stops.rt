@@ -32,6 +32,7 @@ impl<N: Name> Stepper<N> {
     ) -> Result<Option<u64>, State>
         requires board { board.now ≡ N.board }
         requires row { row.now ≡ N.poll_row }
+
         ensures next { IfOk result (λ o. IfSome o (StopsNext self.old self.new)) }
         ensures room { IfOk result (λ o. IfSome o (HandsOut self.old.name room.old room.new)) }
         ensures again { IfOk result
@@ -89,6 +90,7 @@ impl<N: Name> Stepper<N> {
         requires row { row.now ≡ N.poll_row }
         requires stopped { self.old.state ≡ IsAtPoll back }
         requires place { room.old.place ≡ self.old.place }
+
         ensures next { IfSome result (StopsNext self.old self.new) }
         ensures room { IfSome result (HandsOut self.old.name room.old room.new) }
         ensures state { IfNone result (self.new.state ≡ self.old.state) }
@@ -132,6 +134,7 @@ impl<N: Name> Stepper<N> {
         row: &PollRow,
     ) -> Result<Option<(Poll, Finished<N>)>, State>
         requires row { row.now ≡ N.poll_row }
+
         ensures ends { IfOk result (λ o. IfSome o (λ r. EndsServing self.old self.new r.0 r.1)) }
         ensures entered { IfOk result
             (λ o. IfSome o (λ r. (e : EntryOf) × Enters desk.old desk.new e r.1.stands)) }
@@ -142,6 +145,7 @@ impl<N: Name> Stepper<N> {
             (λ o. IfNone o ((self.new ≡ self.old) × (desk.new ≡ desk.old))) }
         ensures not_entered { IfOk result (λ o. IfNone o (IsNotEntered (at desk.old) self.old)) }
         ensures same { SameThread self.old self.new }
+
         ensures err { IfErr result
             (λ s. (s ≡ self.old.state) × ((back : WayBack) → s ≢ IsServing back)
             × (self.new ≡ self.old) × (desk.new ≡ desk.old)) }

@@ -53,6 +53,7 @@ fn enters(seat: &mut ThreadSeat, board: &Board, code: CodeId, turns: u64) -> u64
     requires slot { code.slot < board.now.slots }
     requires published { seat.old.seen.stored ≢ 0 }
     requires uncounted { how_often seat.old.seen.counted code ≡ 0 }
+
     ensures board { seat.new.board ≡ seat.old.board }
     ensures published { seat.new.seen.stored ≢ 0 }
     ensures uncounted { how_often seat.new.seen.counted code ≡ 0 }
@@ -71,6 +72,7 @@ fn publishes(seat: &mut ThreadSeat, board: &Board, code: CodeId, turns: u64)
     requires board { seat.old.board ≡ board.now }
     requires published { seat.old.seen.stored ≢ 0 }
     requires uncounted { how_often seat.old.seen.counted code ≡ 0 }
+
     ensures board { seat.new.board ≡ seat.old.board }
     ensures published { seat.new.seen.stored ≢ 0 }
     ensures uncounted { how_often seat.new.seen.counted code ≡ 0 }

@@ -133,6 +133,7 @@ fn wrong_on<N: Name>(
         × (run.slot < run.slots) × (run.places ≤ 64) }
     requires keeper { keeper ≡ first_keeper board }
     requires armer { armer.table ≡ row }
+
     requires seats { length seats.items ≡ run.places }
     requires each_seat { (k : ℕ) → k < run.places
         → slice_get seats.items k ≡ Some (first_seat board k) }

@@ -133,6 +133,7 @@ fn meet<R: Threads + Sync>(
     requires fresh { (has_code seat.seen.fresh (code 0 1) ≡ true)
         × (has_code seat.seen.fresh (code 1 2) ≡ true) }
     requires uncounted { seat.seen.counted ≡ [] }
+
     ensures keeper { (result.0.board ≡ board.now) × IsIn result.0.seen (code 0 1) NotEntrant }
     ensures seat { result.1.board ≡ board.now }
 {
