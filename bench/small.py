@@ -11,8 +11,8 @@ WIDE = 800
 LEAST = 11.2
 COLUMNS = 6
 ROW = 20
-# How far the text of the last line leans to the right.
-LEANS = 55
+# How far the text of a line leans to the right, of a letter and at its end, for letters of height 1.
+LEANS, ENDS = 0.31, 0.9
 # How wide a letter of a name is, for one of height 1.
 WIDTH = 0.52
 
@@ -20,7 +20,8 @@ LEGEND = re.compile(r"<symbol id='legend'.*?</symbol>\n", re.DOTALL)
 ITEM = re.compile(r"<(rect class|use href)='#?(\w+)'[^>]*/><text [^>]*>([^<]*)</text>")
 NAMES = re.compile(r"(<text class='label' x=')([\d.]+)(' y='([\d.]+)'>([^<]*)<)")
 TIES = re.compile(r"<path class='tie' d='M([\d.]+) ([\d.]+)V([\d.]+)'/>")
-LINES = re.compile(r"<text class='line [^>]*translate\(([\d.]+) ([\d.]+)\)")
+LINES = re.compile(r"<text class='line [^>]*translate\(([\d.]+) ([\d.]+)\)[^>]*>(.*?)</text>")
+TAGS = re.compile(r"<[^>]*>")
 
 
 def legend(svg, width):
@@ -53,9 +54,9 @@ def beside_ties(svg, size):
 
 def small(svg):
     high = int(re.search(r"viewBox='0 0 \d+ (\d+)'", svg)[1])
-    texts = [(float(x), float(y)) for x, y in LINES.findall(svg)]
-    width, top = max(x for x, _ in texts) + LEANS, min(y for _, y in texts)
-    size = LEAST * width / WIDE
+    texts = [(float(x), float(y), len(TAGS.sub("", text))) for x, y, text in LINES.findall(svg)]
+    width = max(x / (1 - (LEANS * letters + ENDS) * LEAST / WIDE) for x, _, letters in texts)
+    top, size = min(y for _, y, _ in texts), LEAST * width / WIDE
     high = top + (high - top) * size / 11
     svg = re.sub(r"(font(?:-size)?: )([\d.]+)px", lambda it: f"{it[1]}{max(float(it[2]), size):.1f}px", beside_ties(legend(svg, width), size))
     shape = f"width='{WIDE}' height='{high * WIDE / width:.0f}' viewBox='0 0 {width:.0f} {high:.0f}'"
