@@ -1,7 +1,7 @@
 // Words and numbers of a line.
-ghost use Rattle.std.specs.Prelude.{◌≡◌, ◌≤◌, ◌<◌, ◌==◌, not, ℕ, length, take, ◌∷◌, List, option_map, Some, None, IfSome};
+ghost use Rattle.std.specs.Prelude.{◌≡◌, ◌≤◌, ◌<◌, ◌==◌, not, ℕ, length, take, drop, ◌∷◌, List, option_map, Some, None, IfSome};
 ghost use Rattle.std.specs.List.{prefix_len};
-ghost use Rattle.replay.specs.Words.{words, words_after, is_nil};
+ghost use Rattle.replay.specs.Words.{words, words_after, is_nil, number};
 ghost use Rattle.replay.specs.Scanned.{first_at, digits_from, begins_well};
 ghost use Rattle.replay.specs.Grammar.{took, last_number};
 
@@ -117,6 +117,26 @@ fn begins_well(bytes: &[u8]) -> bool
     }
 }
 
+/// The number of the three bytes behind the first, where they spell one.
+#[inline(always)]
+fn three_digits(tail: &[u8]) -> Option<u64>
+    requires { 3 < length tail.now }
+    ensures { result ≡ number (take 3 (drop 1 tail.now)) }
+{
+    if b'1' <= tail[1]
+        && tail[1] <= b'9'
+        && b'0' <= tail[2]
+        && tail[2] <= b'9'
+        && b'0' <= tail[3]
+        && tail[3] <= b'9'
+    {
+        let n = (tail[1] as u64 - b'0' as u64) * 10 + (tail[2] as u64 - b'0' as u64);
+        Some(n * 10 + (tail[3] as u64 - b'0' as u64))
+    } else {
+        None
+    }
+}
+
 /// The number that is the next word, and what stands after it. One of at most three digits with more words behind it is read at once.
 #[inline(always)]
 pub(crate) fn next(tail: &[u8]) -> Option<(u64, &[u8])>
@@ -137,17 +157,10 @@ pub(crate) fn next(tail: &[u8]) -> Option<(u64, &[u8])>
         let n = (tail[1] as u64 - b'0' as u64) * 10 + (tail[2] as u64 - b'0' as u64);
         return Some((n, &tail[3..]));
     }
-    if tail.len() > 4
-        && tail[4] == b' '
-        && b'1' <= tail[1]
-        && tail[1] <= b'9'
-        && b'0' <= tail[2]
-        && tail[2] <= b'9'
-        && b'0' <= tail[3]
-        && tail[3] <= b'9'
-    {
-        let n = (tail[1] as u64 - b'0' as u64) * 10 + (tail[2] as u64 - b'0' as u64);
-        return Some((n * 10 + (tail[3] as u64 - b'0' as u64), &tail[4..]));
+    if tail.len() > 4 && tail[4] == b' ' {
+        if let Some(n) = three_digits(tail) {
+            return Some((n, &tail[4..]));
+        }
     }
     next_number(tail)
 }
@@ -189,16 +202,10 @@ pub(crate) fn short_last(tail: &[u8]) -> Option<u64>
     if tail.len() == 3 && b'1' <= tail[1] && tail[1] <= b'9' && b'0' <= tail[2] && tail[2] <= b'9' {
         return Some((tail[1] as u64 - b'0' as u64) * 10 + (tail[2] as u64 - b'0' as u64));
     }
-    if tail.len() == 4
-        && b'1' <= tail[1]
-        && tail[1] <= b'9'
-        && b'0' <= tail[2]
-        && tail[2] <= b'9'
-        && b'0' <= tail[3]
-        && tail[3] <= b'9'
-    {
-        let n = (tail[1] as u64 - b'0' as u64) * 10 + (tail[2] as u64 - b'0' as u64);
-        return Some(n * 10 + (tail[3] as u64 - b'0' as u64));
+    if tail.len() == 4 {
+        if let Some(n) = three_digits(tail) {
+            return Some(n);
+        }
     }
     last(tail)
 }
