@@ -105,6 +105,7 @@ fn look(tail: &[u8]) -> Option<Command>
     Some(Command::Do(Event::Look(serial, short_last(tail)? as usize)))
 }
 
+#[inline(never)]
 fn size(tail: &[u8]) -> Option<Command>
     ensures { result ≡ size_of (words_after tail.now) }
 {

@@ -97,14 +97,40 @@ fn put_three_digits(text: &mut Vec<u8>, n: u64)
     )
 }
 
-/// Puts a number of any length.
-#[inline(never)]
-fn put_digits(text: &mut Vec<u8>, n: u64)
+#[inline(always)]
+#[tactic(auto, using(crate::proofs::Decimals::four_digits))]
+fn put_four_digits(text: &mut Vec<u8>, n: u64)
+    requires few { (1000 ≤ n) × (n < 10000) }
     requires room { vec_len text.old + 40 ≤ vec_capacity text.old }
     ensures text { text.new.items ≡ text.old.items ++ decimal n }
     ensures grows { vec_len text.new ≤ vec_len text.old + 40 }
     ensures kept { vec_capacity text.old ≤ vec_capacity text.new }
 {
+    let tens = n / 10;
+    let hundreds = tens / 10;
+    put_text(
+        text,
+        &[
+            b'0' + (hundreds / 10) as u8,
+            b'0' + (hundreds % 10) as u8,
+            b'0' + (tens % 10) as u8,
+            b'0' + (n % 10) as u8,
+        ],
+    )
+}
+
+/// Puts a number of at least four digits.
+#[inline(never)]
+fn put_digits(text: &mut Vec<u8>, n: u64)
+    requires many { 1000 ≤ n }
+    requires room { vec_len text.old + 40 ≤ vec_capacity text.old }
+    ensures text { text.new.items ≡ text.old.items ++ decimal n }
+    ensures grows { vec_len text.new ≤ vec_len text.old + 40 }
+    ensures kept { vec_capacity text.old ≤ vec_capacity text.new }
+{
+    if n < 10_000 {
+        return put_four_digits(text, n);
+    }
     let mut buffer = Buffer::new();
     put_text(text, buffer.format(n).as_bytes());
 }
