@@ -199,9 +199,9 @@ pub(crate) fn next(tail: &[u8]) -> Option<(u64, &[u8])>
     next_number(tail)
 }
 
-/// The number of any length that is the next word, and what stands after it. It stands apart, so that what `next` inlines stays small.
-#[inline(never)]
-fn next_number(tail: &[u8]) -> Option<(u64, &[u8])>
+/// The number of any length that is the next word, and what stands after it.
+#[inline(always)]
+pub(crate) fn next_number(tail: &[u8]) -> Option<(u64, &[u8])>
     ensures taken { option_map (λ taken. (taken.0, words_after taken.1.now)) result
         ≡ took (words_after tail.now) }
     ensures shorter { IfSome result (λ taken. length taken.1.now < length tail.now) }
