@@ -1,4 +1,4 @@
--- Numbers of one to three digits.
+-- Numbers of one to four digits.
 use Rattle.std.proofs.Common.{◌≡◌, ℕ, ◌+◌, ◌/◌, ◌%◌, ◌<◌, ◌≤◌, ◌++◌, ◌∙◌, [], ◌∷◌, ap, arith}
 use Rattle.std.specs.Prelude.{decimal}
 use Rattle.std.proofs.lemmas.Fmt.{decimal_digit, decimal_step}
@@ -13,3 +13,8 @@ pub three_digits : (n : ℕ) → 100 ≤ n → n < 1000 → decimal n ≡ (48 + 
 three_digits n many few =
     decimal_step n (omega (arith, many)) (omega (arith, few))
     ∙ ap (λ ds. ds ++ ((48 + n % 10) ∷ [])) (two_digits (n / 10) (omega (arith, many)) (omega (arith, few)))
+
+pub four_digits : (n : ℕ) → 1000 ≤ n → n < 10000 → decimal n ≡ (48 + n / 10 / 10 / 10) ∷ (48 + (n / 10 / 10) % 10) ∷ (48 + (n / 10) % 10) ∷ (48 + n % 10) ∷ []
+four_digits n many few =
+    decimal_step n (omega (arith, many)) (omega (arith, few))
+    ∙ ap (λ ds. ds ++ ((48 + n % 10) ∷ [])) (three_digits (n / 10) (omega (arith, many)) (omega (arith, few)))

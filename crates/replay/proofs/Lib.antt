@@ -15,3 +15,4 @@ pub mod Spellings
 pub mod Keys
 pub mod Reading
 pub mod Decimals
+pub mod Digits

@@ -99,7 +99,7 @@ spaced_words (b ∷ bytes) = by_space (b == 32) refl (spaced_words bytes)
     by_space true e h = let is : 32 ≡ b = grind (arith, e) in spaced_cut (words bytes) (some_words bytes) ∙ ap (λ z. 32 ∷ z) h ∙ ap (λ z. z ∷ bytes) is
     by_space false e h = spaced_onto b (words bytes) ∙ ap (λ z. b ∷ z) h
 
-words_word : (word : List ℕ) → IsWord word → words word ≡ word ∷ []
+pub words_word : (word : List ℕ) → IsWord word → words word ≡ word ∷ []
 words_word [] h = refl
 words_word (b ∷ word) h = by_space (b == 32) refl h (words_word word)
   where

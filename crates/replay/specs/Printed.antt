@@ -1,5 +1,5 @@
 -- The text of an answer.
-use Rattle.std.specs.Prelude.{ℕ, ℤ, pos, negsuc, suc, codes, decimal, List, ◌++◌, Option, Some, None}
+use Rattle.std.specs.Prelude.{ℕ, ℤ, pos, negsuc, suc, codes, decimal, List, [], ◌∷◌, ◌++◌, Option, Some, None, Bool, true, false}
 use Rattle.std.specs.List.{flat_map}
 use Rattle.frames.specs.declared.CodeId.{CodeId}
 use Rattle.frames.specs.declared.Frame.{Frame}
@@ -15,6 +15,8 @@ use Rattle.system.specs.declared.answers.Answer.{Answer}
 use Rattle.system.specs.declared.answers.Answer.TheVariants as answer
 use Rattle.replay.specs.declared.engine.Reply.{Reply}
 use Rattle.replay.specs.declared.engine.Reply.TheVariants as reply
+use Rattle.replay.specs.declared.print.Ending.{Ending}
+use Rattle.replay.specs.declared.print.Ending.TheVariants as ending
 
 -- A refusal by its name; Illegal also names the state.
 abbrev pub refusal_text : Refusal → List ℕ
@@ -113,3 +115,13 @@ abbrev pub reply_text : Reply → List ℕ
 reply_text reply.BadLine = codes "bad line"
 reply_text reply.BadSize = codes "refused BadSize"
 reply_text (reply.Answered said) = answer_text said
+
+-- What is missing of a line, behind the words that were put.
+abbrev pub ending_text : Ending → List ℕ
+ending_text ending.Whole = []
+ending_text (ending.Number n) = decimal n ++ 10 ∷ []
+ending_text ending.List = []
+
+abbrev pub is_list : Ending → Bool
+is_list ending.List = true
+is_list other = false

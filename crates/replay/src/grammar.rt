@@ -5,7 +5,7 @@ ghost use Rattle.replay.specs.Words.{words_after};
 ghost use Rattle.replay.specs.Grammar.{command_of, of_word, size_of, enter_of, close_of, asking, handshake, alone, of_one, of_two, numbers};
 
 use crate::keywords::{AskWord, Word, ask_of, first_word};
-use crate::words::{cut, is_end, last, next, short_last};
+use crate::words::{cut, is_end, last, next, next_number, short_last};
 use operations::{Ask, Request, Targets};
 use std::alloc::{AllocError, Global};
 use system::events::{Act, Event};
@@ -108,8 +108,8 @@ fn look(tail: &[u8]) -> Option<Command>
 fn size(tail: &[u8]) -> Option<Command>
     ensures { result ≡ size_of (words_after tail.now) }
 {
-    let (x, tail) = next(tail)?;
-    let (y, tail) = next(tail)?;
+    let (x, tail) = next_number(tail)?;
+    let (y, tail) = next_number(tail)?;
     Some(Command::Size(x, y, last(tail)?))
 }
 

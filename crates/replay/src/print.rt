@@ -1,9 +1,10 @@
 // The text of replies.
-ghost use Rattle.std.specs.Prelude.{◌≡◌, ◌++◌, ◌∷◌, ◌+◌, ◌<◌, ◌≤◌, [], ℕ, ℤ, List, true, OnOk, OnErr, codes, decimal, length, vec_len, vec_capacity};
+ghost use Rattle.std.specs.Prelude.{◌≡◌, ◌++◌, ◌∷◌, ◌+◌, ◌<◌, ◌≤◌, not, [], ℕ, ℤ, List, true, false, OnOk, OnErr, codes, decimal, length, unsigned_abs, vec_len, vec_capacity};
 ghost use Rattle.std.specs.List.{flat_map};
 ghost use Rattle.thread_state.specs.StateText.{back_text, with_back, state_text};
+ghost use Rattle.system.specs.declared.answers.Answer.TheVariants as answers;
 ghost use Rattle.replay.specs.Room.{is_short, is_short_reply};
-ghost use Rattle.replay.specs.Printed.{refusal_text, signed_text, frame_text, counted_text, kind_text, code_state_text, answer_text, reply_text};
+ghost use Rattle.replay.specs.Printed.{refusal_text, signed_text, frame_text, counted_text, kind_text, code_state_text, answer_text, reply_text, ending_text, is_list};
 
 use crate::engine::Reply;
 use frames::Frame;
@@ -14,27 +15,31 @@ use std::alloc::AllocError;
 use system::answers::{Answer, CodeCount, Refusal};
 use thread_state::{Back, State};
 
-/// A text of a few bytes. Where it is known, as mostly here, its bytes are put one by one, without a call.
+/// Bytes that a line of an answer that is no list takes at most.
+const MOST: usize = 97;
+
+/// Bytes that a frame takes at most, and a code with its count.
+const FRAME: usize = 82;
+
+/// A text of a few bytes, for which there is room. Where it is known, as mostly here, its bytes are put one by one, without a call.
 #[inline(always)]
-fn put_text(text: &mut Vec<u8>, word: &[u8]) -> Result<(), AllocError>
-    ensures text { OnOk result (text.new.items ≡ text.old.items ++ word.now) }
-    ensures grows { OnOk result (vec_len text.new ≤ vec_len text.old + length word.now) }
-    ensures room { OnErr result (vec_capacity text.old < vec_len text.old + length word.now) }
+fn put_text(text: &mut Vec<u8>, word: &[u8])
+    requires room { vec_len text.old + length word.now ≤ vec_capacity text.old }
+    ensures text { text.new.items ≡ text.old.items ++ word.now }
+    ensures grows { vec_len text.new ≤ vec_len text.old + length word.now }
     ensures kept { vec_capacity text.old ≤ vec_capacity text.new }
 {
-    text.reserve(word.len())?;
     for b in word {
         text.push_reserved(*b);
     }
-    Ok(())
 }
 
 /// A number. Most have few digits, and those go without a buffer between.
 #[inline(always)]
-fn put_number(text: &mut Vec<u8>, n: u64) -> Result<(), AllocError>
-    ensures text { OnOk result (text.new.items ≡ text.old.items ++ decimal n) }
-    ensures grows { OnOk result (vec_len text.new ≤ vec_len text.old + 40) }
-    ensures room { OnErr result (vec_capacity text.old < vec_len text.old + 40) }
+fn put_number(text: &mut Vec<u8>, n: u64)
+    requires room { vec_len text.old + 40 ≤ vec_capacity text.old }
+    ensures text { text.new.items ≡ text.old.items ++ decimal n }
+    ensures grows { vec_len text.new ≤ vec_len text.old + 40 }
     ensures kept { vec_capacity text.old ≤ vec_capacity text.new }
 {
     if n < 10 {
@@ -50,11 +55,11 @@ fn put_number(text: &mut Vec<u8>, n: u64) -> Result<(), AllocError>
 
 #[inline(always)]
 #[tactic(auto, using(crate::proofs::Decimals::one_digit))]
-fn put_one_digit(text: &mut Vec<u8>, n: u64) -> Result<(), AllocError>
-    requires { n < 10 }
-    ensures text { OnOk result (text.new.items ≡ text.old.items ++ decimal n) }
-    ensures grows { OnOk result (vec_len text.new ≤ vec_len text.old + 40) }
-    ensures room { OnErr result (vec_capacity text.old < vec_len text.old + 40) }
+fn put_one_digit(text: &mut Vec<u8>, n: u64)
+    requires few { n < 10 }
+    requires room { vec_len text.old + 40 ≤ vec_capacity text.old }
+    ensures text { text.new.items ≡ text.old.items ++ decimal n }
+    ensures grows { vec_len text.new ≤ vec_len text.old + 40 }
     ensures kept { vec_capacity text.old ≤ vec_capacity text.new }
 {
     put_text(text, &[b'0' + n as u8])
@@ -62,11 +67,11 @@ fn put_one_digit(text: &mut Vec<u8>, n: u64) -> Result<(), AllocError>
 
 #[inline(always)]
 #[tactic(auto, using(crate::proofs::Decimals::two_digits))]
-fn put_two_digits(text: &mut Vec<u8>, n: u64) -> Result<(), AllocError>
-    requires { (10 ≤ n) × (n < 100) }
-    ensures text { OnOk result (text.new.items ≡ text.old.items ++ decimal n) }
-    ensures grows { OnOk result (vec_len text.new ≤ vec_len text.old + 40) }
-    ensures room { OnErr result (vec_capacity text.old < vec_len text.old + 40) }
+fn put_two_digits(text: &mut Vec<u8>, n: u64)
+    requires few { (10 ≤ n) × (n < 100) }
+    requires room { vec_len text.old + 40 ≤ vec_capacity text.old }
+    ensures text { text.new.items ≡ text.old.items ++ decimal n }
+    ensures grows { vec_len text.new ≤ vec_len text.old + 40 }
     ensures kept { vec_capacity text.old ≤ vec_capacity text.new }
 {
     put_text(text, &[b'0' + (n / 10) as u8, b'0' + (n % 10) as u8])
@@ -74,11 +79,11 @@ fn put_two_digits(text: &mut Vec<u8>, n: u64) -> Result<(), AllocError>
 
 #[inline(always)]
 #[tactic(auto, using(crate::proofs::Decimals::three_digits))]
-fn put_three_digits(text: &mut Vec<u8>, n: u64) -> Result<(), AllocError>
-    requires { (100 ≤ n) × (n < 1000) }
-    ensures text { OnOk result (text.new.items ≡ text.old.items ++ decimal n) }
-    ensures grows { OnOk result (vec_len text.new ≤ vec_len text.old + 40) }
-    ensures room { OnErr result (vec_capacity text.old < vec_len text.old + 40) }
+fn put_three_digits(text: &mut Vec<u8>, n: u64)
+    requires few { (100 ≤ n) × (n < 1000) }
+    requires room { vec_len text.old + 40 ≤ vec_capacity text.old }
+    ensures text { text.new.items ≡ text.old.items ++ decimal n }
+    ensures grows { vec_len text.new ≤ vec_len text.old + 40 }
     ensures kept { vec_capacity text.old ≤ vec_capacity text.new }
 {
     let tens = n / 10;
@@ -92,40 +97,66 @@ fn put_three_digits(text: &mut Vec<u8>, n: u64) -> Result<(), AllocError>
     )
 }
 
-/// Puts a number of any length.
-#[inline(never)]
-fn put_digits(text: &mut Vec<u8>, n: u64) -> Result<(), AllocError>
-    ensures text { OnOk result (text.new.items ≡ text.old.items ++ decimal n) }
-    ensures grows { OnOk result (vec_len text.new ≤ vec_len text.old + 40) }
-    ensures room { OnErr result (vec_capacity text.old < vec_len text.old + 40) }
+#[inline(always)]
+#[tactic(auto, using(crate::proofs::Decimals::four_digits))]
+fn put_four_digits(text: &mut Vec<u8>, n: u64)
+    requires few { (1000 ≤ n) × (n < 10000) }
+    requires room { vec_len text.old + 40 ≤ vec_capacity text.old }
+    ensures text { text.new.items ≡ text.old.items ++ decimal n }
+    ensures grows { vec_len text.new ≤ vec_len text.old + 40 }
     ensures kept { vec_capacity text.old ≤ vec_capacity text.new }
 {
+    let tens = n / 10;
+    let hundreds = tens / 10;
+    put_text(
+        text,
+        &[
+            b'0' + (hundreds / 10) as u8,
+            b'0' + (hundreds % 10) as u8,
+            b'0' + (tens % 10) as u8,
+            b'0' + (n % 10) as u8,
+        ],
+    )
+}
+
+/// Puts a number of at least four digits.
+#[inline(never)]
+fn put_digits(text: &mut Vec<u8>, n: u64)
+    requires many { 1000 ≤ n }
+    requires room { vec_len text.old + 40 ≤ vec_capacity text.old }
+    ensures text { text.new.items ≡ text.old.items ++ decimal n }
+    ensures grows { vec_len text.new ≤ vec_len text.old + 40 }
+    ensures kept { vec_capacity text.old ≤ vec_capacity text.new }
+{
+    if n < 10_000 {
+        return put_four_digits(text, n);
+    }
     let mut buffer = Buffer::new();
-    text.extend_from_slice(buffer.format(n).as_bytes())
+    put_text(text, buffer.format(n).as_bytes());
 }
 
 /// A number that ends a line.
 #[inline(always)]
-fn put_last_number(text: &mut Vec<u8>, n: u64) -> Result<(), AllocError>
-    ensures text { OnOk result (text.new.items ≡ text.old.items ++ (decimal n ++ 10 ∷ [])) }
-    ensures grows { OnOk result (vec_len text.new ≤ vec_len text.old + 41) }
-    ensures room { OnErr result (vec_capacity text.old < vec_len text.old + 41) }
+fn put_last_number(text: &mut Vec<u8>, n: u64)
+    requires room { vec_len text.old + 41 ≤ vec_capacity text.old }
+    ensures text { text.new.items ≡ text.old.items ++ (decimal n ++ 10 ∷ []) }
+    ensures grows { vec_len text.new ≤ vec_len text.old + 41 }
     ensures kept { vec_capacity text.old ≤ vec_capacity text.new }
 {
     if n < 10 {
         return put_last_digit(text, n);
     }
-    put_number(text, n)?;
-    Ok(text.push(b'\n')?)
+    put_number(text, n);
+    put_text(text, b"\n");
 }
 
 #[inline(always)]
 #[tactic(auto, using(crate::proofs::Decimals::one_digit))]
-fn put_last_digit(text: &mut Vec<u8>, n: u64) -> Result<(), AllocError>
-    requires { n < 10 }
-    ensures text { OnOk result (text.new.items ≡ text.old.items ++ (decimal n ++ 10 ∷ [])) }
-    ensures grows { OnOk result (vec_len text.new ≤ vec_len text.old + 41) }
-    ensures room { OnErr result (vec_capacity text.old < vec_len text.old + 41) }
+fn put_last_digit(text: &mut Vec<u8>, n: u64)
+    requires few { n < 10 }
+    requires room { vec_len text.old + 41 ≤ vec_capacity text.old }
+    ensures text { text.new.items ≡ text.old.items ++ (decimal n ++ 10 ∷ []) }
+    ensures grows { vec_len text.new ≤ vec_len text.old + 41 }
     ensures kept { vec_capacity text.old ≤ vec_capacity text.new }
 {
     put_text(text, &[b'0' + n as u8, b'\n'])
@@ -133,28 +164,26 @@ fn put_last_digit(text: &mut Vec<u8>, n: u64) -> Result<(), AllocError>
 
 /// A word, and a number behind it.
 #[inline(always)]
-fn put_counted(text: &mut Vec<u8>, word: &[u8], n: u64) -> Result<(), AllocError>
-    ensures text { OnOk result (text.new.items ≡ text.old.items ++ (word.now ++ decimal n)) }
-    ensures grows { OnOk result (vec_len text.new ≤ vec_len text.old + (length word.now + 40)) }
-    ensures room { OnErr result
-        (vec_capacity text.old < vec_len text.old + (length word.now + 40)) }
+fn put_counted(text: &mut Vec<u8>, word: &[u8], n: u64)
+    requires room { vec_len text.old + (length word.now + 40) ≤ vec_capacity text.old }
+    ensures text { text.new.items ≡ text.old.items ++ (word.now ++ decimal n) }
+    ensures grows { vec_len text.new ≤ vec_len text.old + (length word.now + 40) }
     ensures kept { vec_capacity text.old ≤ vec_capacity text.new }
 {
-    put_text(text, word)?;
+    put_text(text, word);
     put_number(text, n)
 }
 
 /// A line of a word and a number.
 #[inline(always)]
-fn put_counted_line(text: &mut Vec<u8>, word: &[u8], n: u64) -> Result<(), AllocError>
-    ensures text { OnOk result (text.new.items ≡ text.old.items
-        ++ ((word.now ++ decimal n) ++ 10 ∷ [])) }
-    ensures grows { OnOk result (vec_len text.new ≤ vec_len text.old + (length word.now + 41)) }
-    ensures room { OnErr result
-        (vec_capacity text.old < vec_len text.old + (length word.now + 41)) }
+fn put_counted_line(text: &mut Vec<u8>, word: &[u8], n: u64)
+    requires room { vec_len text.old + (length word.now + 41) ≤ vec_capacity text.old }
+    ensures text { text.new.items ≡ text.old.items
+        ++ ((word.now ++ decimal n) ++ 10 ∷ []) }
+    ensures grows { vec_len text.new ≤ vec_len text.old + (length word.now + 41) }
     ensures kept { vec_capacity text.old ≤ vec_capacity text.new }
 {
-    put_text(text, word)?;
+    put_text(text, word);
     put_last_number(text, n)
 }
 
@@ -168,100 +197,85 @@ fn back_name(back: Back) -> &'static [u8]
     }
 }
 
-fn put_state(text: &mut Vec<u8>, state: State) -> Result<(), AllocError>
-    ensures text { OnOk result (text.new.items ≡ text.old.items ++ state_text state) }
-    ensures grows { OnOk result (vec_len text.new ≤ vec_len text.old + 24) }
-    ensures room { OnErr result (vec_capacity text.old < vec_len text.old + 24) }
+fn put_state(text: &mut Vec<u8>, state: State)
+    requires room { vec_len text.old + 24 ≤ vec_capacity text.old }
+    ensures text { text.new.items ≡ text.old.items ++ state_text state }
+    ensures grows { vec_len text.new ≤ vec_len text.old + 24 }
     ensures kept { vec_capacity text.old ≤ vec_capacity text.new }
 {
     match state {
-        State::Vacant => text.extend_from_slice(b"Vacant"),
-        State::New => text.extend_from_slice(b"New"),
-        State::InJava => text.extend_from_slice(b"InJava"),
-        State::InVm => text.extend_from_slice(b"InVm"),
+        State::Vacant => put_text(text, b"Vacant"),
+        State::New => put_text(text, b"New"),
+        State::InJava => put_text(text, b"InJava"),
+        State::InVm => put_text(text, b"InVm"),
         State::InNative(back) => put_with_back(text, b"InNative", back),
-        State::Blocked => text.extend_from_slice(b"Blocked"),
-        State::NewTrans => text.extend_from_slice(b"NewTrans"),
+        State::Blocked => put_text(text, b"Blocked"),
+        State::NewTrans => put_text(text, b"NewTrans"),
         State::NativeTrans(back) => put_with_back(text, b"NativeTrans", back),
-        State::BlockedTrans => text.extend_from_slice(b"BlockedTrans"),
+        State::BlockedTrans => put_text(text, b"BlockedTrans"),
         State::AtPoll(back) => put_with_back(text, b"AtPoll", back),
         State::Serving(back) => put_with_back(text, b"Serving", back),
     }
 }
 
 /// A name, and the way back in round brackets.
-fn put_with_back(text: &mut Vec<u8>, name: &[u8], back: Back) -> Result<(), AllocError>
-    ensures text { OnOk result (text.new.items ≡ text.old.items ++ with_back name.now back) }
-    ensures grows { OnOk result (vec_len text.new ≤ vec_len text.old + (length name.now + 6)) }
-    ensures room { OnErr result (vec_capacity text.old < vec_len text.old + (length name.now + 6)) }
+fn put_with_back(text: &mut Vec<u8>, name: &[u8], back: Back)
+    requires room { vec_len text.old + (length name.now + 6) ≤ vec_capacity text.old }
+    ensures text { text.new.items ≡ text.old.items ++ with_back name.now back }
+    ensures grows { vec_len text.new ≤ vec_len text.old + (length name.now + 6) }
     ensures kept { vec_capacity text.old ≤ vec_capacity text.new }
 {
-    text.extend_from_slice(name)?;
-    text.push(b'(')?;
-    text.extend_from_slice(back_name(back))?;
-    Ok(text.push(b')')?)
+    put_text(text, name);
+    put_text(text, b"(");
+    put_text(text, back_name(back));
+    put_text(text, b")");
 }
 
-fn put_refusal(text: &mut Vec<u8>, refusal: Refusal) -> Result<(), AllocError>
-    ensures text { OnOk result (text.new.items ≡ text.old.items ++ refusal_text refusal) }
-    ensures grows { OnOk result (vec_len text.new ≤ vec_len text.old + 32) }
-    ensures room { OnErr result (vec_capacity text.old < vec_len text.old + 32) }
+fn put_refusal(text: &mut Vec<u8>, refusal: Refusal)
+    requires room { vec_len text.old + 32 ≤ vec_capacity text.old }
+    ensures text { text.new.items ≡ text.old.items ++ refusal_text refusal }
+    ensures grows { vec_len text.new ≤ vec_len text.old + 32 }
     ensures kept { vec_capacity text.old ≤ vec_capacity text.new }
 {
     match refusal {
         Refusal::Illegal(state) => {
-            text.extend_from_slice(b"Illegal ")?;
+            put_text(text, b"Illegal ");
             put_state(text, state)
         }
-        Refusal::NoSuchPlace => text.extend_from_slice(b"NoSuchPlace"),
-        Refusal::Publishing => text.extend_from_slice(b"Publishing"),
-        Refusal::NotBegun => text.extend_from_slice(b"NotBegun"),
-        Refusal::ChangesLeft => text.extend_from_slice(b"ChangesLeft"),
-        Refusal::Held => text.extend_from_slice(b"Held"),
-        Refusal::NoSuchMethod => text.extend_from_slice(b"NoSuchMethod"),
-        Refusal::Unknown => text.extend_from_slice(b"Unknown"),
-        Refusal::Unpublished => text.extend_from_slice(b"Unpublished"),
-        Refusal::DepthFull => text.extend_from_slice(b"DepthFull"),
-        Refusal::NotOf => text.extend_from_slice(b"NotOf"),
-        Refusal::EmptyStack => text.extend_from_slice(b"EmptyStack"),
-        Refusal::StackNotEmpty => text.extend_from_slice(b"StackNotEmpty"),
-        Refusal::OperationPending => text.extend_from_slice(b"OperationPending"),
-        Refusal::NotDone => text.extend_from_slice(b"NotDone"),
-        Refusal::NothingOpen => text.extend_from_slice(b"NothingOpen"),
-        Refusal::NotTold => text.extend_from_slice(b"NotTold"),
-        Refusal::AlreadyDone => text.extend_from_slice(b"AlreadyDone"),
-        Refusal::NotSafe => text.extend_from_slice(b"NotSafe"),
-        Refusal::NotHeld => text.extend_from_slice(b"NotHeld"),
-        Refusal::SafepointOpen => text.extend_from_slice(b"SafepointOpen"),
-        Refusal::PlacesFull => text.extend_from_slice(b"PlacesFull"),
-        Refusal::Spent => text.extend_from_slice(b"Spent"),
-        Refusal::TableFull => text.extend_from_slice(b"TableFull"),
-        Refusal::SerialsSpent => text.extend_from_slice(b"SerialsSpent"),
-        Refusal::NotInUse => text.extend_from_slice(b"NotInUse"),
-        Refusal::NotNotEntrant => text.extend_from_slice(b"NotNotEntrant"),
-        Refusal::NotZombie => text.extend_from_slice(b"NotZombie"),
-        Refusal::QueueFull => text.extend_from_slice(b"QueueFull"),
-        Refusal::NoTargets => text.extend_from_slice(b"NoTargets"),
-        Refusal::BadTargets => text.extend_from_slice(b"BadTargets"),
-        Refusal::AlreadyOpen => text.extend_from_slice(b"AlreadyOpen"),
-        Refusal::QueueEmpty => text.extend_from_slice(b"QueueEmpty"),
-        Refusal::AlreadyTold => text.extend_from_slice(b"AlreadyTold"),
-        Refusal::NotAllHeld => text.extend_from_slice(b"NotAllHeld"),
-    }
-}
-
-/// A space and a number with its sign, which end a line.
-fn put_signed(text: &mut Vec<u8>, by: i32) -> Result<(), AllocError>
-    ensures text { OnOk result (text.new.items ≡ text.old.items
-        ++ ((codes " " ++ signed_text by) ++ 10 ∷ [])) }
-    ensures grows { OnOk result (vec_len text.new ≤ vec_len text.old + 43) }
-    ensures room { OnErr result (vec_capacity text.old < vec_len text.old + 43) }
-    ensures kept { vec_capacity text.old ≤ vec_capacity text.new }
-{
-    if by < 0 {
-        put_counted_line(text, b" -", by.unsigned_abs() as u64)
-    } else {
-        put_counted_line(text, b" +", by.unsigned_abs() as u64)
+        Refusal::NoSuchPlace => put_text(text, b"NoSuchPlace"),
+        Refusal::Publishing => put_text(text, b"Publishing"),
+        Refusal::NotBegun => put_text(text, b"NotBegun"),
+        Refusal::ChangesLeft => put_text(text, b"ChangesLeft"),
+        Refusal::Held => put_text(text, b"Held"),
+        Refusal::NoSuchMethod => put_text(text, b"NoSuchMethod"),
+        Refusal::Unknown => put_text(text, b"Unknown"),
+        Refusal::Unpublished => put_text(text, b"Unpublished"),
+        Refusal::DepthFull => put_text(text, b"DepthFull"),
+        Refusal::NotOf => put_text(text, b"NotOf"),
+        Refusal::EmptyStack => put_text(text, b"EmptyStack"),
+        Refusal::StackNotEmpty => put_text(text, b"StackNotEmpty"),
+        Refusal::OperationPending => put_text(text, b"OperationPending"),
+        Refusal::NotDone => put_text(text, b"NotDone"),
+        Refusal::NothingOpen => put_text(text, b"NothingOpen"),
+        Refusal::NotTold => put_text(text, b"NotTold"),
+        Refusal::AlreadyDone => put_text(text, b"AlreadyDone"),
+        Refusal::NotSafe => put_text(text, b"NotSafe"),
+        Refusal::NotHeld => put_text(text, b"NotHeld"),
+        Refusal::SafepointOpen => put_text(text, b"SafepointOpen"),
+        Refusal::PlacesFull => put_text(text, b"PlacesFull"),
+        Refusal::Spent => put_text(text, b"Spent"),
+        Refusal::TableFull => put_text(text, b"TableFull"),
+        Refusal::SerialsSpent => put_text(text, b"SerialsSpent"),
+        Refusal::NotInUse => put_text(text, b"NotInUse"),
+        Refusal::NotNotEntrant => put_text(text, b"NotNotEntrant"),
+        Refusal::NotZombie => put_text(text, b"NotZombie"),
+        Refusal::QueueFull => put_text(text, b"QueueFull"),
+        Refusal::NoTargets => put_text(text, b"NoTargets"),
+        Refusal::BadTargets => put_text(text, b"BadTargets"),
+        Refusal::AlreadyOpen => put_text(text, b"AlreadyOpen"),
+        Refusal::QueueEmpty => put_text(text, b"QueueEmpty"),
+        Refusal::AlreadyTold => put_text(text, b"AlreadyTold"),
+        Refusal::NotAllHeld => put_text(text, b"NotAllHeld"),
     }
 }
 
@@ -269,13 +283,14 @@ fn put_frame(text: &mut Vec<u8>, frame: Frame) -> Result<(), AllocError>
     ensures text { OnOk result (text.new.items ≡ text.old.items ++ frame_text frame) }
     ensures kept { vec_capacity text.old ≤ vec_capacity text.new }
 {
-    text.push(b' ')?;
-    put_number(text, frame.method as u64)?;
-    text.push(b':')?;
+    text.reserve(FRAME)?;
+    put_counted(text, b" ", frame.method as u64);
+    put_text(text, b":");
     match frame.code {
-        None => Ok(text.push(b'i')?),
+        None => put_text(text, b"i"),
         Some(code) => put_number(text, code.serial),
     }
+    Ok(())
 }
 
 fn put_frames(text: &mut Vec<u8>, frames: &[Frame]) -> Result<(), AllocError>
@@ -294,10 +309,10 @@ fn put_code_count(text: &mut Vec<u8>, counted: CodeCount) -> Result<(), AllocErr
     ensures text { OnOk result (text.new.items ≡ text.old.items ++ counted_text counted) }
     ensures kept { vec_capacity text.old ≤ vec_capacity text.new }
 {
-    text.push(b' ')?;
-    put_number(text, counted.serial)?;
-    text.push(b':')?;
-    put_number(text, counted.count as u64)
+    text.reserve(FRAME)?;
+    put_counted(text, b" ", counted.serial);
+    put_counted(text, b":", counted.count as u64);
+    Ok(())
 }
 
 fn put_census(text: &mut Vec<u8>, counts: &[CodeCount]) -> Result<(), AllocError>
@@ -312,39 +327,45 @@ fn put_census(text: &mut Vec<u8>, counts: &[CodeCount]) -> Result<(), AllocError
     Ok(())
 }
 
+/// The words of a line of a thread, up to its place.
 #[inline(always)]
-fn put_thread(text: &mut Vec<u8>, name: u64, place: usize) -> Result<(), AllocError>
-    ensures text { OnOk result (text.new.items ≡ text.old.items
-        ++ ((codes "thread " ++ decimal name ++ codes " place " ++ decimal place) ++ 10 ∷ [])) }
-    ensures grows { OnOk result (vec_len text.new ≤ vec_len text.old + 95) }
-    ensures room { OnErr result (vec_capacity text.old < vec_len text.old + 95) }
+fn put_thread(text: &mut Vec<u8>, name: u64)
+    requires room { vec_len text.old + 54 ≤ vec_capacity text.old }
+    ensures text { text.new.items ≡ text.old.items
+        ++ (codes "thread " ++ decimal name ++ codes " place ") }
+    ensures grows { vec_len text.new ≤ vec_len text.old + 54 }
     ensures kept { vec_capacity text.old ≤ vec_capacity text.new }
 {
-    put_counted(text, b"thread ", name)?;
-    put_counted_line(text, b" place ", place as u64)
+    put_counted(text, b"thread ", name);
+    put_text(text, b" place ")
+}
+
+/// The words of a line of a change, up to the number behind its sign.
+#[inline(always)]
+fn put_change(text: &mut Vec<u8>, serial: u64, by: i32)
+    requires room { vec_len text.old + 49 ≤ vec_capacity text.old }
+    ensures text { text.new.items ++ decimal (unsigned_abs by) ≡ text.old.items
+        ++ (codes "change " ++ decimal serial ++ codes " " ++ signed_text by) }
+    ensures grows { vec_len text.new ≤ vec_len text.old + 49 }
+    ensures kept { vec_capacity text.old ≤ vec_capacity text.new }
+{
+    put_counted(text, b"change ", serial);
+    if by < 0 {
+        put_text(text, b" -")
+    } else {
+        put_text(text, b" +")
+    }
 }
 
 #[inline(always)]
-fn put_change(text: &mut Vec<u8>, serial: u64, by: i32) -> Result<(), AllocError>
-    ensures text { OnOk result (text.new.items ≡ text.old.items
-        ++ ((codes "change " ++ decimal serial ++ codes " " ++ signed_text by) ++ 10 ∷ [])) }
-    ensures grows { OnOk result (vec_len text.new ≤ vec_len text.old + 90) }
-    ensures room { OnErr result (vec_capacity text.old < vec_len text.old + 90) }
+fn put_opened(text: &mut Vec<u8>, operation: u64, kind: Kind)
+    requires room { vec_len text.old + 56 ≤ vec_capacity text.old }
+    ensures text { text.new.items ≡ text.old.items
+        ++ ((codes "open " ++ decimal operation ++ kind_text kind) ++ 10 ∷ []) }
+    ensures grows { vec_len text.new ≤ vec_len text.old + 56 }
     ensures kept { vec_capacity text.old ≤ vec_capacity text.new }
 {
-    put_counted(text, b"change ", serial)?;
-    put_signed(text, by)
-}
-
-#[inline(always)]
-fn put_opened(text: &mut Vec<u8>, operation: u64, kind: Kind) -> Result<(), AllocError>
-    ensures text { OnOk result (text.new.items ≡ text.old.items
-        ++ ((codes "open " ++ decimal operation ++ kind_text kind) ++ 10 ∷ [])) }
-    ensures grows { OnOk result (vec_len text.new ≤ vec_len text.old + 56) }
-    ensures room { OnErr result (vec_capacity text.old < vec_len text.old + 56) }
-    ensures kept { vec_capacity text.old ≤ vec_capacity text.new }
-{
-    put_counted(text, b"open ", operation)?;
+    put_counted(text, b"open ", operation);
     match kind {
         Kind::Handshake => put_text(text, b" handshake\n"),
         Kind::Census => put_text(text, b" census\n"),
@@ -352,11 +373,11 @@ fn put_opened(text: &mut Vec<u8>, operation: u64, kind: Kind) -> Result<(), Allo
 }
 
 #[inline(always)]
-fn put_code_state(text: &mut Vec<u8>, state: CodeState) -> Result<(), AllocError>
-    ensures text { OnOk result (text.new.items ≡ text.old.items
-        ++ (code_state_text state ++ 10 ∷ [])) }
-    ensures grows { OnOk result (vec_len text.new ≤ vec_len text.old + 12) }
-    ensures room { OnErr result (vec_capacity text.old < vec_len text.old + 12) }
+fn put_code_state(text: &mut Vec<u8>, state: CodeState)
+    requires room { vec_len text.old + 12 ≤ vec_capacity text.old }
+    ensures text { text.new.items ≡ text.old.items
+        ++ (code_state_text state ++ 10 ∷ []) }
+    ensures grows { vec_len text.new ≤ vec_len text.old + 12 }
     ensures kept { vec_capacity text.old ≤ vec_capacity text.new }
 {
     match state {
@@ -367,81 +388,177 @@ fn put_code_state(text: &mut Vec<u8>, state: CodeState) -> Result<(), AllocError
     }
 }
 
-#[inline(always)]
-fn put_refused(text: &mut Vec<u8>, why: Refusal) -> Result<(), AllocError>
-    ensures text { OnOk result (text.new.items ≡ text.old.items
-        ++ ((codes "refused " ++ refusal_text why) ++ 10 ∷ [])) }
-    ensures grows { OnOk result (vec_len text.new ≤ vec_len text.old + 41) }
-    ensures room { OnErr result (vec_capacity text.old < vec_len text.old + 41) }
+/// A line of a refusal. It stands apart, so that the lines that come often stay in one function.
+#[inline(never)]
+fn put_refused(text: &mut Vec<u8>, why: Refusal)
+    requires room { vec_len text.old + 41 ≤ vec_capacity text.old }
+    ensures text { text.new.items ≡ text.old.items
+        ++ ((codes "refused " ++ refusal_text why) ++ 10 ∷ []) }
+    ensures grows { vec_len text.new ≤ vec_len text.old + 41 }
     ensures kept { vec_capacity text.old ≤ vec_capacity text.new }
 {
-    text.extend_from_slice(b"refused ")?;
-    put_refusal(text, why)?;
-    Ok(text.push(b'\n')?)
+    put_text(text, b"refused ");
+    put_refusal(text, why);
+    put_text(text, b"\n");
 }
 
-/// The line of an answer.
+/// What is missing of a line behind the words that were put.
+#[derive(Clone, Copy, Debug, PartialEq, Eq, Drop)]
+pub(crate) enum Ending {
+    /// Nothing: the words were the line.
+    Whole,
+    /// A number.
+    Number(u64),
+    /// All: it is a list, and nothing was put.
+    List,
+}
+
+/// Puts the words of an answer up to its last number, which all lines of one number put at one place.
 #[inline(always)]
-fn put_answer(text: &mut Vec<u8>, answer: &Answer) -> Result<(), AllocError>
-    ensures text { OnOk result (text.new.items ≡ text.old.items
-        ++ (answer_text answer.now ++ 10 ∷ [])) }
-    ensures grows { is_short answer.now ≡ true
-        → OnOk result (vec_len text.new ≤ vec_len text.old + 97) }
-    ensures room { is_short answer.now ≡ true
-        → OnErr result (vec_capacity text.old < vec_len text.old + 97) }
+fn put_words(text: &mut Vec<u8>, answer: &Answer) -> Ending
+    requires room { vec_len text.old + 56 ≤ vec_capacity text.old }
+    ensures list { is_list result ≡ not (is_short answer.now) }
+    ensures text { is_short answer.now ≡ true → text.new.items ++ ending_text result
+        ≡ text.old.items ++ (answer_text answer.now ++ 10 ∷ []) }
+    ensures none { is_short answer.now ≡ false → text.new.items ≡ text.old.items }
+    ensures grows { vec_len text.new ≤ vec_len text.old + 56 }
     ensures kept { vec_capacity text.old ≤ vec_capacity text.new }
 {
     match answer {
         Answer::Done => put_text(text, b"ok\n"),
-        Answer::Thread(name, place) => put_thread(text, *name, *place),
-        Answer::Exited(name) => put_counted_line(text, b"exited ", *name),
-        Answer::Changed(serial, by) => put_change(text, *serial, *by),
+        Answer::Thread(name, place) => {
+            put_thread(text, *name);
+            return Ending::Number(*place as u64);
+        }
+        Answer::Exited(name) => {
+            put_text(text, b"exited ");
+            return Ending::Number(*name);
+        }
+        Answer::Changed(serial, by) => {
+            put_change(text, *serial, *by);
+            return Ending::Number(by.unsigned_abs() as u64);
+        }
         Answer::NoChange => put_text(text, b"change none\n"),
         Answer::Go => put_text(text, b"go\n"),
-        Answer::Stop(operation) => put_counted_line(text, b"stop ", *operation),
+        Answer::Stop(operation) => {
+            put_text(text, b"stop ");
+            return Ending::Number(*operation);
+        }
         Answer::Entered => put_text(text, b"entered\n"),
         Answer::WrongMethod => put_text(text, b"wrong method\n"),
-        Answer::Reply(n) => put_counted_line(text, b"reply ", *n),
-        Answer::Frames(frames) => {
-            put_frames(text, frames.as_slice())?;
-            Ok(text.push(b'\n')?)
+        Answer::Reply(n) => {
+            put_text(text, b"reply ");
+            return Ending::Number(*n);
         }
-        Answer::Code(serial) => put_counted_line(text, b"code ", *serial),
+        Answer::Frames(_) | Answer::Census(_) => return Ending::List,
+        Answer::Code(serial) => {
+            put_text(text, b"code ");
+            return Ending::Number(*serial);
+        }
         Answer::NoCode => put_text(text, b"none\n"),
         Answer::Clear => put_text(text, b"clear\n"),
         Answer::Late => put_text(text, b"late\n"),
-        Answer::NotLooked(place) => put_counted_line(text, b"not looked ", *place as u64),
-        Answer::Used(n) => put_counted_line(text, b"used ", *n as u64),
+        Answer::NotLooked(place) => {
+            put_text(text, b"not looked ");
+            return Ending::Number(*place as u64);
+        }
+        Answer::Used(n) => {
+            put_text(text, b"used ");
+            return Ending::Number(*n as u64);
+        }
         Answer::Retired => put_text(text, b"retired\n"),
-        Answer::Asked(operation) => put_counted_line(text, b"asked ", *operation),
+        Answer::Asked(operation) => {
+            put_text(text, b"asked ");
+            return Ending::Number(*operation);
+        }
         Answer::Opened(operation, kind) => put_opened(text, *operation, *kind),
-        Answer::Closed(operation) => put_counted_line(text, b"closed ", *operation),
+        Answer::Closed(operation) => {
+            put_text(text, b"closed ");
+            return Ending::Number(*operation);
+        }
         Answer::Told => put_text(text, b"told\n"),
         Answer::Gone => put_text(text, b"gone\n"),
-        Answer::Census(counts) => {
-            put_census(text, counts.as_slice())?;
-            Ok(text.push(b'\n')?)
+        Answer::Count(n) => {
+            put_text(text, b"count ");
+            return Ending::Number(*n as u64);
         }
-        Answer::Count(n) => put_counted_line(text, b"count ", *n as u64),
         Answer::State(state) => put_code_state(text, *state),
         Answer::Refused(why) => put_refused(text, *why),
     }
+    Ending::Whole
 }
 
-/// Whether an answer is no list.
-fn is_short(answer: &Answer) -> bool
-    ensures { result ≡ is_short answer.now }
+/// Puts the line of an answer that is no list, for which there is room. Of a list nothing is put, and the result is `false`.
+#[inline(always)]
+fn put_answer(text: &mut Vec<u8>, answer: &Answer) -> bool
+    requires room { vec_len text.old + 97 ≤ vec_capacity text.old }
+    ensures short { result ≡ is_short answer.now }
+    ensures text { result ≡ true
+        → text.new.items ≡ text.old.items ++ (answer_text answer.now ++ 10 ∷ []) }
+    ensures list { result ≡ false → text.new.items ≡ text.old.items }
+    ensures grows { vec_len text.new ≤ vec_len text.old + 97 }
+    ensures kept { vec_capacity text.old ≤ vec_capacity text.new }
 {
-    !matches!(answer, Answer::Frames(_) | Answer::Census(_))
+    match put_words(text, answer) {
+        Ending::Whole => true,
+        Ending::Number(n) => {
+            put_last_number(text, n);
+            true
+        }
+        Ending::List => false,
+    }
 }
 
-/// Whether a reply is no list.
-pub(crate) fn is_short_reply(reply: &Reply) -> bool
-    ensures { result ≡ is_short_reply reply.now }
+/// Puts the line of a reply that is no list, for which there is room. Of a list nothing is put, and the result is `false`.
+#[inline(always)]
+pub(crate) fn put_short(text: &mut Vec<u8>, reply: &Reply) -> bool
+    requires room { vec_len text.old + 97 ≤ vec_capacity text.old }
+    ensures short { result ≡ is_short_reply reply.now }
+    ensures text { result ≡ true
+        → text.new.items ≡ text.old.items ++ (reply_text reply.now ++ 10 ∷ []) }
+    ensures list { result ≡ false → text.new.items ≡ text.old.items }
+    ensures grows { vec_len text.new ≤ vec_len text.old + 97 }
+    ensures kept { vec_capacity text.old ≤ vec_capacity text.new }
 {
     match reply {
-        Reply::BadLine | Reply::BadSize => true,
-        Reply::Answered(answer) => is_short(answer),
+        Reply::BadLine => put_text(text, b"bad line\n"),
+        Reply::BadSize => put_text(text, b"refused BadSize\n"),
+        Reply::Answered(answer) => return put_answer(text, answer),
+    }
+    true
+}
+
+/// Puts the line of a stack.
+pub(crate) fn put_stack_line(text: &mut Vec<u8>, frames: &[Frame]) -> Result<(), AllocError>
+    ensures text { OnOk result (text.new.items ≡ text.old.items
+        ++ (answer_text (answers.Frames frames.now) ++ 10 ∷ [])) }
+    ensures kept { vec_capacity text.old ≤ vec_capacity text.new }
+{
+    put_frames(text, frames)?;
+    Ok(text.push(b'\n')?)
+}
+
+/// Puts the line of a census.
+pub(crate) fn put_census_line(text: &mut Vec<u8>, counts: &[CodeCount]) -> Result<(), AllocError>
+    ensures text { OnOk result (text.new.items ≡ text.old.items
+        ++ (answer_text (answers.Census counts.now) ++ 10 ∷ [])) }
+    ensures kept { vec_capacity text.old ≤ vec_capacity text.new }
+{
+    put_census(text, counts)?;
+    Ok(text.push(b'\n')?)
+}
+
+/// Puts the line of a reply that is a list.
+fn put_list(text: &mut Vec<u8>, reply: &Reply) -> Result<(), AllocError>
+    requires { is_short_reply reply.now ≡ false }
+    ensures text { OnOk result (text.new.items ≡ text.old.items
+        ++ (reply_text reply.now ++ 10 ∷ [])) }
+    ensures kept { vec_capacity text.old ≤ vec_capacity text.new }
+{
+    match reply {
+        Reply::Answered(Answer::Frames(frames)) => put_stack_line(text, frames.as_slice()),
+        Reply::Answered(Answer::Census(counts)) => put_census_line(text, counts.as_slice()),
+        _ => unreachable!(),
     }
 }
 
@@ -456,9 +573,10 @@ pub fn put_reply(text: &mut Vec<u8>, reply: &Reply) -> Result<(), AllocError>
         → OnErr result (vec_capacity text.old < vec_len text.old + 97) }
     ensures kept { vec_capacity text.old ≤ vec_capacity text.new }
 {
-    match reply {
-        Reply::BadLine => put_text(text, b"bad line\n"),
-        Reply::BadSize => put_text(text, b"refused BadSize\n"),
-        Reply::Answered(answer) => put_answer(text, answer),
+    text.reserve(MOST)?;
+    if put_short(text, reply) {
+        Ok(())
+    } else {
+        put_list(text, reply)
     }
 }

@@ -1,10 +1,11 @@
 // Bytes in, text out.
-ghost use Rattle.std.specs.Prelude.{◌≡◌, ◌++◌, ◌∷◌, true, ◌^◌, ◌<◌, ◌≤◌, [], ℕ, List, Option, None, OnOk, OnErr, IfOk, IfSome, MatchResult, length, take, vec_len, vec_capacity};
+ghost use Rattle.std.specs.Prelude.{◌≡◌, ◌++◌, ◌∷◌, ◌^◌, ◌<◌, ◌≤◌, [], ℕ, List, Option, None, OnOk, OnErr, IfOk, IfSome, MatchResult, length, take, vec_len, vec_capacity};
 ghost use Rattle.std.specs.Io.KnownBytes.{Appends};
 ghost use Rattle.system.specs.World.{World};
 ghost use Rattle.replay.specs.Known.{AppendsPart, Grows};
-ghost use Rattle.replay.specs.Printed.{reply_text};
-ghost use Rattle.replay.specs.Room.{LineTakes, is_short_reply};
+ghost use Rattle.system.specs.declared.answers.Answer.TheVariants as answers;
+ghost use Rattle.replay.specs.Printed.{answer_text};
+ghost use Rattle.replay.specs.Room.{LineTakes};
 ghost use Rattle.replay.specs.Streams.{IsPiece, Turned, FedBy, SinkKept, Finished, GaveUp, failed_writes};
 ghost use Rattle.replay.specs.Outcome.{Wrote, FailedCalls};
 ghost use Rattle.replay.specs.Text.{IsAt, text};
@@ -13,13 +14,14 @@ use crate::device::{Failed, Sink, Source};
 use crate::engine::{Reply, obey};
 use crate::grammar::parse;
 use crate::held::Held;
-use crate::print::{is_short_reply, put_reply};
+use crate::print::{put_census_line, put_short, put_stack_line};
 use crate::words::find_end;
 use std::alloc::{AllocError, Global};
 use std::error::Error;
 use std::fmt;
 use std::mem::forget;
 use system::System;
+use system::answers::{Answer, CountList, FrameList};
 
 /// Bytes that are read at a time, and that wait at most, but for one answer, before they are written.
 const BLOCK: usize = 65_536;
@@ -94,30 +96,31 @@ fn relieve<W: Sink>(waits: &mut Vec<u8>, sink: &mut W) -> Result<(), Failed>
     }
 }
 
-/// Puts a reply that is no list behind what waits, for which there is room.
-fn put_short(waits: &mut Vec<u8>, said: &Reply)
-    requires short { is_short_reply said.now ≡ true }
-    requires waits_room { 2 ^ 17 ≤ vec_capacity waits.old }
-    requires few_wait { vec_len waits.old < 2 ^ 16 }
-    ensures text { waits.new.items ≡ waits.old.items ++ (reply_text said.now ++ 10 ∷ []) }
-    ensures kept { vec_capacity waits.old ≤ vec_capacity waits.new }
-{
-    match put_reply(waits, said) {
-        Ok(()) => {}
-        Err(_) => unreachable!(),
-    }
-}
-
-/// Puts a reply that is a list behind what waits, once its text is whole.
+/// Puts the frames of a stack behind what waits, once their text is whole.
 #[cold]
-fn put_long(text: &mut Vec<u8>, waits: &mut Vec<u8>, said: Reply) -> Result<(), AllocError>
-    ensures text { OnOk result (waits.new.items ≡ waits.old.items ++ (reply_text said ++ 10 ∷ [])) }
+fn put_stack(text: &mut Vec<u8>, waits: &mut Vec<u8>, frames: FrameList) -> Result<(), AllocError>
+    ensures text { OnOk result (waits.new.items
+        ≡ waits.old.items ++ (answer_text (answers.Frames frames) ++ 10 ∷ [])) }
     ensures none { OnErr result (waits.new.items ≡ waits.old.items) }
     ensures text_kept { vec_capacity text.old ≤ vec_capacity text.new }
     ensures waits_kept { vec_capacity waits.old ≤ vec_capacity waits.new }
 {
     text.clear();
-    put_reply(text, &said)?;
+    put_stack_line(text, frames.as_slice())?;
+    waits.extend_from_slice(text)
+}
+
+/// Puts the counts of a census behind what waits, once their text is whole.
+#[cold]
+fn put_counts(text: &mut Vec<u8>, waits: &mut Vec<u8>, counts: CountList) -> Result<(), AllocError>
+    ensures text { OnOk result (waits.new.items
+        ≡ waits.old.items ++ (answer_text (answers.Census counts) ++ 10 ∷ [])) }
+    ensures none { OnErr result (waits.new.items ≡ waits.old.items) }
+    ensures text_kept { vec_capacity text.old ≤ vec_capacity text.new }
+    ensures waits_kept { vec_capacity waits.old ≤ vec_capacity waits.new }
+{
+    text.clear();
+    put_census_line(text, counts.as_slice())?;
     waits.extend_from_slice(text)
 }
 
@@ -143,13 +146,15 @@ fn turn(
 {
     let command = parse(alloc, line)?;
     let said = obey(system, alloc, command)?;
-    if is_short_reply(&said) {
-        put_short(waits, &said);
+    if put_short(waits, &said) {
         // It owns nothing, which its drop would look for again.
         forget(said);
-        Ok(())
-    } else {
-        put_long(text, waits, said)
+        return Ok(());
+    }
+    match said {
+        Reply::Answered(Answer::Frames(frames)) => put_stack(text, waits, frames),
+        Reply::Answered(Answer::Census(counts)) => put_counts(text, waits, counts),
+        _ => unreachable!(),
     }
 }
 

@@ -1,7 +1,7 @@
 // Words and numbers of a line.
-ghost use Rattle.std.specs.Prelude.{◌≡◌, ◌≤◌, ◌<◌, ◌==◌, not, ℕ, length, take, ◌∷◌, List, option_map, Some, None, IfSome};
+ghost use Rattle.std.specs.Prelude.{◌≡◌, ◌≤◌, ◌<◌, ◌==◌, not, ℕ, length, take, drop, ◌∷◌, List, option_map, Some, None, IfSome};
 ghost use Rattle.std.specs.List.{prefix_len};
-ghost use Rattle.replay.specs.Words.{words, words_after, is_nil};
+ghost use Rattle.replay.specs.Words.{words, words_after, is_nil, is_digit, number};
 ghost use Rattle.replay.specs.Scanned.{first_at, digits_from, begins_well};
 ghost use Rattle.replay.specs.Grammar.{took, last_number};
 
@@ -117,44 +117,91 @@ fn begins_well(bytes: &[u8]) -> bool
     }
 }
 
-/// The number that is the next word, and what stands after it. One of at most three digits with more words behind it is read at once.
+#[inline(always)]
+fn is_digit(b: u8) -> bool
+    ensures { result ≡ is_digit b }
+{
+    b'0' <= b && b <= b'9'
+}
+
+/// The number of the two bytes behind the first, where they spell one.
+#[inline(always)]
+fn two_digits(tail: &[u8]) -> Option<u64>
+    requires { 2 < length tail.now }
+    ensures { result ≡ number (take 2 (drop 1 tail.now)) }
+{
+    if is_digit(tail[1]) && tail[1] != b'0' && is_digit(tail[2]) {
+        Some((tail[1] as u64 - b'0' as u64) * 10 + (tail[2] as u64 - b'0' as u64))
+    } else {
+        None
+    }
+}
+
+/// The number of the three bytes behind the first, where they spell one.
+#[inline(always)]
+fn three_digits(tail: &[u8]) -> Option<u64>
+    requires { 3 < length tail.now }
+    ensures { result ≡ number (take 3 (drop 1 tail.now)) }
+{
+    if is_digit(tail[1]) && tail[1] != b'0' && is_digit(tail[2]) && is_digit(tail[3]) {
+        let n = (tail[1] as u64 - b'0' as u64) * 10 + (tail[2] as u64 - b'0' as u64);
+        Some(n * 10 + (tail[3] as u64 - b'0' as u64))
+    } else {
+        None
+    }
+}
+
+/// The number of the four bytes behind the first, where they spell one.
+#[inline(always)]
+fn four_digits(tail: &[u8]) -> Option<u64>
+    requires { 4 < length tail.now }
+    ensures { result ≡ number (take 4 (drop 1 tail.now)) }
+{
+    if is_digit(tail[1])
+        && tail[1] != b'0'
+        && is_digit(tail[2])
+        && is_digit(tail[3])
+        && is_digit(tail[4])
+    {
+        let n = (tail[1] as u64 - b'0' as u64) * 10 + (tail[2] as u64 - b'0' as u64);
+        let n = n * 10 + (tail[3] as u64 - b'0' as u64);
+        Some(n * 10 + (tail[4] as u64 - b'0' as u64))
+    } else {
+        None
+    }
+}
+
+/// The number that is the next word, and what stands after it. One of at most four digits with more words behind it is read at once.
 #[inline(always)]
 pub(crate) fn next(tail: &[u8]) -> Option<(u64, &[u8])>
     ensures taken { option_map (λ taken. (taken.0, words_after taken.1.now)) result
         ≡ took (words_after tail.now) }
     ensures shorter { IfSome result (λ taken. length taken.1.now < length tail.now) }
 {
-    if tail.len() > 2 && tail[2] == b' ' && b'0' <= tail[1] && tail[1] <= b'9' {
+    if tail.len() > 2 && tail[2] == b' ' && is_digit(tail[1]) {
         return Some((tail[1] as u64 - b'0' as u64, &tail[2..]));
     }
-    if tail.len() > 3
-        && tail[3] == b' '
-        && b'1' <= tail[1]
-        && tail[1] <= b'9'
-        && b'0' <= tail[2]
-        && tail[2] <= b'9'
-    {
-        let n = (tail[1] as u64 - b'0' as u64) * 10 + (tail[2] as u64 - b'0' as u64);
-        return Some((n, &tail[3..]));
+    if tail.len() > 3 && tail[3] == b' ' {
+        if let Some(n) = two_digits(tail) {
+            return Some((n, &tail[3..]));
+        }
     }
-    if tail.len() > 4
-        && tail[4] == b' '
-        && b'1' <= tail[1]
-        && tail[1] <= b'9'
-        && b'0' <= tail[2]
-        && tail[2] <= b'9'
-        && b'0' <= tail[3]
-        && tail[3] <= b'9'
-    {
-        let n = (tail[1] as u64 - b'0' as u64) * 10 + (tail[2] as u64 - b'0' as u64);
-        return Some((n * 10 + (tail[3] as u64 - b'0' as u64), &tail[4..]));
+    if tail.len() > 4 && tail[4] == b' ' {
+        if let Some(n) = three_digits(tail) {
+            return Some((n, &tail[4..]));
+        }
+    }
+    if tail.len() > 5 && tail[5] == b' ' {
+        if let Some(n) = four_digits(tail) {
+            return Some((n, &tail[5..]));
+        }
     }
     next_number(tail)
 }
 
 /// The number of any length that is the next word, and what stands after it.
 #[inline(always)]
-fn next_number(tail: &[u8]) -> Option<(u64, &[u8])>
+pub(crate) fn next_number(tail: &[u8]) -> Option<(u64, &[u8])>
     ensures taken { option_map (λ taken. (taken.0, words_after taken.1.now)) result
         ≡ took (words_after tail.now) }
     ensures shorter { IfSome result (λ taken. length taken.1.now < length tail.now) }
@@ -170,35 +217,44 @@ fn next_number(tail: &[u8]) -> Option<(u64, &[u8])>
 }
 
 /// The number that is the next and last word.
-#[inline(always)]
+#[inline(never)]
 pub(crate) fn last(tail: &[u8]) -> Option<u64>
+    ensures { result ≡ last_number (words_after tail.now) }
+{
+    short_last(tail)
+}
+
+/// What `last` answers, for a number of any length.
+#[inline(never)]
+fn long_last(tail: &[u8]) -> Option<u64>
     ensures { result ≡ last_number (words_after tail.now) }
 {
     let (n, rest) = next_number(tail)?;
     if is_end(rest) { Some(n) } else { None }
 }
 
-/// What `last` answers. Most numbers have at most three digits, and those are read at once.
+/// What `last` answers, without a call where the number has at most four digits, as most have.
 #[inline(always)]
 pub(crate) fn short_last(tail: &[u8]) -> Option<u64>
     ensures { result ≡ last_number (words_after tail.now) }
 {
-    if tail.len() == 2 && b'0' <= tail[1] && tail[1] <= b'9' {
+    if tail.len() == 2 && is_digit(tail[1]) {
         return Some(tail[1] as u64 - b'0' as u64);
     }
-    if tail.len() == 3 && b'1' <= tail[1] && tail[1] <= b'9' && b'0' <= tail[2] && tail[2] <= b'9' {
-        return Some((tail[1] as u64 - b'0' as u64) * 10 + (tail[2] as u64 - b'0' as u64));
+    if tail.len() == 3 {
+        if let Some(n) = two_digits(tail) {
+            return Some(n);
+        }
     }
-    if tail.len() == 4
-        && b'1' <= tail[1]
-        && tail[1] <= b'9'
-        && b'0' <= tail[2]
-        && tail[2] <= b'9'
-        && b'0' <= tail[3]
-        && tail[3] <= b'9'
-    {
-        let n = (tail[1] as u64 - b'0' as u64) * 10 + (tail[2] as u64 - b'0' as u64);
-        return Some(n * 10 + (tail[3] as u64 - b'0' as u64));
+    if tail.len() == 4 {
+        if let Some(n) = three_digits(tail) {
+            return Some(n);
+        }
     }
-    last(tail)
+    if tail.len() == 5 {
+        if let Some(n) = four_digits(tail) {
+            return Some(n);
+        }
+    }
+    long_last(tail)
 }
