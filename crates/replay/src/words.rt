@@ -216,7 +216,7 @@ pub(crate) fn next_number(tail: &[u8]) -> Option<(u64, &[u8])>
     }
 }
 
-/// The number that is the next and last word.
+/// The number that is the next and last word. It is a call, since what reads a line must stay small to be inlined into the loop over lines.
 #[inline(never)]
 pub(crate) fn last(tail: &[u8]) -> Option<u64>
     ensures { result ≡ last_number (words_after tail.now) }
