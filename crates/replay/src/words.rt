@@ -216,7 +216,7 @@ pub(crate) fn next_number(tail: &[u8]) -> Option<(u64, &[u8])>
     }
 }
 
-/// The number that is the next and last word.
+/// The number that is the next and last word. It is a call, since what reads a line must stay small to be inlined into the loop over lines.
 #[inline(never)]
 pub(crate) fn last(tail: &[u8]) -> Option<u64>
     ensures { result ≡ last_number (words_after tail.now) }
@@ -224,16 +224,21 @@ pub(crate) fn last(tail: &[u8]) -> Option<u64>
     short_last(tail)
 }
 
-/// What `last` answers, for a number of any length.
+/// What `last` answers, for a number of any length. One of four digits is read at once.
 #[inline(never)]
 fn long_last(tail: &[u8]) -> Option<u64>
     ensures { result ≡ last_number (words_after tail.now) }
 {
+    if tail.len() == 5 {
+        if let Some(n) = four_digits(tail) {
+            return Some(n);
+        }
+    }
     let (n, rest) = next_number(tail)?;
     if is_end(rest) { Some(n) } else { None }
 }
 
-/// What `last` answers, without a call where the number has at most four digits, as most have.
+/// What `last` answers, without a call where the number has at most three digits, as most have.
 #[inline(always)]
 pub(crate) fn short_last(tail: &[u8]) -> Option<u64>
     ensures { result ≡ last_number (words_after tail.now) }
@@ -248,11 +253,6 @@ pub(crate) fn short_last(tail: &[u8]) -> Option<u64>
     }
     if tail.len() == 4 {
         if let Some(n) = three_digits(tail) {
-            return Some(n);
-        }
-    }
-    if tail.len() == 5 {
-        if let Some(n) = four_digits(tail) {
             return Some(n);
         }
     }

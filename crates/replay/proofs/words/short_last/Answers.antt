@@ -7,6 +7,3 @@ returns-in-Some c = number_last 2 c.in-Some.n c.args.tail.now (omega arith) (sym
 
 pub returns-in-Some-three_digits : goal.returns-in-Some-three_digits
 returns-in-Some-three_digits c = number_last 3 c.in-Some-three_digits.n c.args.tail.now (omega arith) (sym c.three_digits.ensures ∙ c.in-Some-three_digits.is)
-
-pub returns-in-Some-four_digits : goal.returns-in-Some-four_digits
-returns-in-Some-four_digits c = number_last 4 c.in-Some-four_digits.n c.args.tail.now (omega arith) (sym c.four_digits.ensures ∙ c.in-Some-four_digits.is)
