@@ -23,6 +23,7 @@ pub trait Source {
     fn read(&mut self, buf: &mut [u8]) -> Result<usize, Failed>
         requires fresh { failures self.old ≡ 0 }
         requires few { reads self.old < 2 ^ 40 - 1 }
+
         ensures bound { IfOk result (λ n. n ≤ length buf.new) }
         ensures bytes { ReadConsumes (left self.old) (left self.new) result buf.new }
         ensures reads { IfOk result

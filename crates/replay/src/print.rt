@@ -417,6 +417,7 @@ pub(crate) enum Ending {
 #[inline(always)]
 fn put_words(text: &mut Vec<u8>, answer: &Answer) -> Ending
     requires room { vec_len text.old + 56 ≤ vec_capacity text.old }
+
     ensures list { is_list result ≡ not (is_short answer.now) }
     ensures text { is_short answer.now ≡ true → text.new.items ++ ending_text result
         ≡ text.old.items ++ (answer_text answer.now ++ 10 ∷ []) }
@@ -492,6 +493,7 @@ fn put_words(text: &mut Vec<u8>, answer: &Answer) -> Ending
 #[inline(always)]
 fn put_answer(text: &mut Vec<u8>, answer: &Answer) -> bool
     requires room { vec_len text.old + 97 ≤ vec_capacity text.old }
+
     ensures short { result ≡ is_short answer.now }
     ensures text { result ≡ true
         → text.new.items ≡ text.old.items ++ (answer_text answer.now ++ 10 ∷ []) }
@@ -513,6 +515,7 @@ fn put_answer(text: &mut Vec<u8>, answer: &Answer) -> bool
 #[inline(always)]
 pub(crate) fn put_short(text: &mut Vec<u8>, reply: &Reply) -> bool
     requires room { vec_len text.old + 97 ≤ vec_capacity text.old }
+
     ensures short { result ≡ is_short_reply reply.now }
     ensures text { result ≡ true
         → text.new.items ≡ text.old.items ++ (reply_text reply.now ++ 10 ∷ []) }

@@ -80,6 +80,7 @@ pub fn flush<W: Sink>(waits: &mut Vec<u8>, sink: &mut W) -> Result<(), Failed>
 /// Writes all that waits, if that is much.
 fn relieve<W: Sink>(waits: &mut Vec<u8>, sink: &mut W) -> Result<(), Failed>
     requires { W.failures sink.old ≡ 0 }
+
     ensures done { OnOk result
         (Grows (W.got sink.old) waits.old.items (W.got sink.new) waits.new.items []
         × (W.failures sink.new ≡ 0)) }
@@ -136,6 +137,7 @@ fn turn(
     requires text_room { 2 ^ 16 ≤ vec_capacity text.old }
     requires waits_room { 2 ^ 17 ≤ vec_capacity waits.old }
     requires few_wait { vec_len waits.old < 2 ^ 16 }
+
     ensures done { OnOk result
         (Turned system.old line.now waits.old.items waits.new.items system.new) }
     ensures none { OnErr result (waits.new.items ≡ waits.old.items) }
@@ -171,10 +173,12 @@ fn end_line(
     requires text_room { 2 ^ 16 ≤ vec_capacity text.old }
     requires waits_room { 2 ^ 17 ≤ vec_capacity waits.old }
     requires few_wait { vec_len waits.old < 2 ^ 16 }
+
     ensures done { OnOk result (Turned system.old (held.old
         ++ piece.now) waits.old.items waits.new.items system.new) }
     ensures held { OnOk result (held.new ≡ []) }
     ensures none { OnErr result (waits.new.items ≡ waits.old.items) }
+
     ensures no_memory { (world : Option World) → IsAt system.old world
         → OnErr result (LineTakes world (held.old ++ piece.now)) }
     ensures text_room { 2 ^ 16 ≤ vec_capacity text.new }
@@ -200,6 +204,7 @@ fn feed<W: Sink>(
     requires text_room { 2 ^ 16 ≤ vec_capacity text.old }
     requires waits_room { 2 ^ 17 ≤ vec_capacity waits.old }
     requires few_wait { vec_len waits.old < 2 ^ 16 }
+
     ensures failures { MatchResult result (λ _. W.failures sink.new ≡ 0)
         (λ halt. W.failures sink.new ≡ failed_writes halt) }
     ensures fed { FedBy result
@@ -243,6 +248,7 @@ pub fn replay<R: Source, W: Sink>(
     requires source { R.failures source.old ≡ 0 }
     requires unread { R.reads source.old ≡ 0 }
     requires sink { W.failures sink.old ≡ 0 }
+
     ensures text { OnOk result (IfSome (R.left source.old)
         (λ input. Appends (W.got sink.old) (W.got sink.new) (text input))) }
     ensures wrote { Wrote result (R.left source.old) (R.left source.new) (W.got sink.old)
@@ -285,6 +291,7 @@ fn answer_all<R: Source, W: Sink>(
     requires waits_room { 2 ^ 17 ≤ vec_capacity waits }
     requires none_wait { vec_len waits ≡ 0 }
     requires none { waits.items ≡ [] }
+
     ensures wrote { Wrote result (R.left source.old) (R.left source.new) (W.got sink.old)
         (W.got sink.new) }
     ensures failed { FailedCalls result (R.reads source.new) (R.failures source.new)
@@ -350,6 +357,7 @@ fn finish<W: Sink>(
     requires none { waits.old.items ≡ [] }
     requires piece { IsPiece held.old }
     requires fits { held.old ≡ take 1025 held.old }
+
     ensures failed { FailedCalls result 0 0 (W.failures sink.new) }
     ensures finished { Finished result system.old held.old (W.got sink.old) (W.got sink.new) }
 {
