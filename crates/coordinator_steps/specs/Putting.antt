@@ -1,5 +1,5 @@
 -- Why what a thread is to be told isn't put into a room, and where its job is then.
-use Rattle.std.specs.Prelude.{◌≡◌, ◌≢◌, ◌⊎◌, ◌<◌, ◌≤◌, ◌^◌, ℕ, false, Option, Some, None, length}
+use Rattle.std.specs.Prelude.{◌≡◌, ◌≢◌, ◌⊎◌, ◌<◌, ◌≤◌, ◌^◌, ◌++◌, ◌∷◌, [], ℕ, false, Option, Some, None, length}
 use Rattle.operations.specs.declared.Kind.{Kind}
 use Rattle.operations.specs.declared.Kind.TheVariants as kind
 use Rattle.desk.specs.Fields.{DeskSeen}
@@ -52,3 +52,8 @@ abbrev pub IsPut : {J : Type 0} → (J → ℕ) → (J → ℕ) → Kind → ℕ
 IsPut number whom k n name old new
     = (k ≡ kind.Census → IsSame old new)
     × (k ≡ kind.Handshake → (new.job ≡ None) × ((job : _) × IsJobOf number whom n name job × CameFrom n name old new.desk job))
+
+-- The job, or the mark of the census, is in the room behind what was there, and nothing else of that changed.
+abbrev pub PutsIn : {N : Type 0} → Kind → ℕ → ℕ → Berthing N → Berthing N → Type 0
+PutsIn kind.Census n name old new = (name_of old.holder ≡ name) × (new ≡ record old { mark = n })
+PutsIn kind.Handshake n name old new = (name_of old.holder ≡ name) × (new ≡ record old { jobs = old.jobs ++ record { number = n; whom = name } ∷ [] })

@@ -2,7 +2,8 @@
 ghost use Rattle.std.specs.Prelude.{◌≡◌, ◌≢◌, ◌<◌, ◌++◌, ◌∷◌, [], false, None, Some, length, slice_index, IfSome, IfNone, IfOk, IfErr, ℕ};
 ghost use Rattle.bodies.specs.Bodies.{BodyView};
 ghost use Rattle.berths.specs.declared.room.Holder.TheVariants.{Out as IsOut};
-ghost use Rattle.desk.specs.Fields.{at};
+ghost use Rattle.desk.specs.declared.entries.Entry.{Entry as EntryOf};
+ghost use Rattle.desk.specs.Fields.{at, Enters};
 ghost use Rattle.desk.specs.Targets.{progress};
 ghost use Rattle.desk.specs.declared.entries.Progress.TheVariants.{Undone as IsUndone};
 ghost use Rattle.held_threads.specs.Held.{is_held, StandsAt};
@@ -165,6 +166,8 @@ impl<N: Name> Steps<N> {
         requires row { row.now ≡ N.poll_row }
         ensures served { IfOk result
             (λ r. IfOk r (λ f. ServesBy (In (at desk.old)) self.old self.new place f.0 f.1)) }
+        ensures entered { IfOk result
+            (λ r. IfOk r (λ f. (e : EntryOf) × Enters desk.old desk.new e f.1.stands)) }
         ensures ran { IfOk result
             (λ r. IfOk r
             (λ f. Runs J.number J.whom J.asks J.may_answer f.0 f.1.ask f.1.body room.old
@@ -178,7 +181,7 @@ impl<N: Name> Steps<N> {
             (λ e. IsUnserved (at desk.old) self.old place room.old e × (desk.new ≡ desk.old))) }
         ensures refused { IfErr result
             (λ e. serve_refused_by (In (at desk.old)) self.old N.board.places place e
-            × (self.new ≡ self.old) × (desk.new ≡ desk.old)) }
+            × (self.new ≡ self.old) × (desk.new ≡ desk.old) × (room.new ≡ room.old)) }
         ensures others { (self.new.armer ≡ self.old.armer)
             × (self.new.operated ≡ self.old.operated) }
     {

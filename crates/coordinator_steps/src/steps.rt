@@ -3,6 +3,7 @@ ghost use Rattle.std.specs.Prelude.{◌≡◌, false, IfOk, IfErr, OnOk};
 ghost use Rattle.poll.specs.Rows.{full_armer};
 ghost use Rattle.desk.specs.declared.entries.Entry.{Entry};
 ghost use Rattle.desk.specs.Fields.{Enters, at};
+ghost use Rattle.desk.specs.JobsFit.{jobs_closed};
 ghost use Rattle.desk.specs.Refusals.{close_refused};
 ghost use Rattle.held_threads.specs.Holding.{held_nothing};
 ghost use Rattle.held_threads.specs.Refused.{MayCloseIn};
@@ -74,6 +75,9 @@ impl<N: Name> Steps<N> {
             (λ r. Enters desk.old desk.new (Entry.Close r.0) r.1.stands
             × MayCloseIn (at desk.old) self.old number r.0) }
         ensures same { OnOk result (self.new ≡ record self.old { operated = false }) }
+        ensures jobs { IfOk result
+            (λ r. (desk.new.jobs ≡ jobs_closed r.0 desk.old.jobs)
+            × (desk.new.keeper ≡ desk.old.keeper)) }
         ensures refused { IfErr result
             (λ e. close_refused (at desk.old) number self.old.held e × (desk.new ≡ desk.old)
             × (self.new ≡ self.old)) }

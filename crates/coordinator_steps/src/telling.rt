@@ -5,7 +5,7 @@ ghost use Rattle.berths.specs.Berths.{acted};
 ghost use Rattle.desk.specs.declared.entries.Target.{Target as TargetOf};
 ghost use Rattle.desk.specs.Fields.{at};
 ghost use Rattle.held_threads.specs.Refused.{IsAsked, IsUntold, tell_stays, told_act};
-ghost use Rattle.coordinator_steps.specs.Putting.{at_hand, CameFrom, HasNoJob, IsPut, IsNotPut};
+ghost use Rattle.coordinator_steps.specs.Putting.{at_hand, CameFrom, HasNoJob, IsPut, IsNotPut, PutsIn};
 
 use crate::steps::Steps;
 use berths::{BerthReceipt, Room};
@@ -104,6 +104,8 @@ impl<N: Name> Steps<N> {
             (λ r. r
             ≡ acted untold.now.target.place untold.now.name
             (told_act untold.now.target.kind untold.now.number)) }
+        ensures there { OnSome result
+            (PutsIn untold.now.target.kind untold.now.number untold.now.name room.old room.new) }
         ensures refused { IfNone result ((self.new ≡ self.old) × (room.new ≡ room.old)) }
         ensures why { IfNone result
             (IsNotPut J.number J.whom untold.now.target.kind untold.now.number untold.now.name

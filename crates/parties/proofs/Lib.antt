@@ -1,1 +1,4 @@
+pub mod Fits
+pub mod Hands
+pub mod Roles
 pub mod Sends

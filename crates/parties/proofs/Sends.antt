@@ -33,6 +33,7 @@ use Rattle.thread_steps.specs.contracts.runner.Stepper as Stepper
 use Rattle.thread_steps.specs.contracts.ends.Entered as Entered
 use Rattle.held_threads.specs.contracts.held.Held as Held
 use Rattle.coordinator_steps.specs.contracts.steps.Steps as Steps
+use Rattle.parties.specs.contracts.system.LockedRoom as LockedRoom
 use Rattle.parties.specs.contracts.system.SharedSystem as SharedSystem
 use Rattle.parties.specs.contracts.party.Role as Role
 use Rattle.parties.specs.contracts.party.Party as Party
@@ -69,11 +70,17 @@ module _ (N J : RattleType) (n : name.Ghosts N.Denot) (j : errand.Ghosts J.Denot
   desk_send = search (sendable, crosses, codes_send, log_send, queue.the_send, carried.the_field_send, opened.the_field_send) depth 40
 
 module _ (N : RattleType) (n : name.Ghosts N.Denot) (sn : IsSend N) where
+  locked_sync : IsSync (LockedRoom.the_row N n)
+  locked_sync = search (sendable, crosses, lock.the_sync, room_send) depth 40
+
+  locked_send : IsSend (LockedRoom.the_row N n)
+  locked_send = search (sendable, crosses, lock.the_send, room_send) depth 40
+
   system_sync : IsSync (SharedSystem.the_row N n)
-  system_sync = search (sendable, crosses, board.the_sync, row.the_sync, hints_sync, lock.the_sync, room_send, desk_send) depth 40
+  system_sync = search (sendable, crosses, board.the_sync, row.the_sync, hints_sync, lock.the_sync, locked_sync, desk_send) depth 40
 
   system_send : IsSend (SharedSystem.the_row N n)
-  system_send = search (sendable, crosses, board.the_send, row.the_send, hints_send, lock.the_send, room_send, desk_send) depth 40
+  system_send = search (sendable, crosses, board.the_send, row.the_send, hints_send, lock.the_send, locked_send, desk_send) depth 40
 
   receipt_send : IsSend (BodyReceipt.the_row N n)
   receipt_send = search (sendable, crosses) depth 20

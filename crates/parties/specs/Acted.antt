@@ -1,30 +1,34 @@
 -- What an act of a party comes to.
-use Rattle.std.specs.Prelude.{◌≡◌, ◌≢◌, ◌<◌, ◌==◌, ℕ, List, true, false, Ok, Err, Option, Some, None}
+use Rattle.std.specs.Prelude.{◌≡◌, ◌≢◌, ◌⊎◌, ◌++◌, ◌∷◌, [], ℕ, List, true, false, Ok, Err, Option, Some, None}
 use Rattle.thread_state.specs.declared.State.{State}
 use Rattle.thread_state.specs.declared.State.TheVariants.{InJava, InVm, AtPoll, InNative, Blocked, NativeTrans, BlockedTrans, Serving}
 use Rattle.thread_state.specs.declared.Back.{Back}
+use Rattle.thread_state.specs.declared.Back.TheVariants.{Java}
 use Rattle.thread_state.specs.declared.Move.TheVariants as movement
 use Rattle.thread_state.specs.States as table
 use Rattle.frames.specs.declared.CodeId.{CodeId}
-use Rattle.operations.specs.declared.Ask.{Ask}
-use Rattle.bodies.specs.Bodies.{BodyView, IsCalled, IsPublished}
+use Rattle.operations.specs.declared.job.queries.Query.{Query}
+use Rattle.bodies.specs.Bodies.{BodyView, SpareView, IsCalled, IsPublished}
 use Rattle.bodies.specs.declared.body.Called.{Called}
 use Rattle.bodies.specs.declared.body.Called.TheVariants.{Compiled, Interpreted}
-use Rattle.berths.specs.Berths.{Moved}
+use Rattle.berths.specs.Berths.{Moved, Berthing}
 use Rattle.berths.specs.declared.room.BodyAct.TheVariants as moved
 use Rattle.thread_list.specs.declared.polls.Poll.{Poll}
 use Rattle.thread_list.specs.declared.polls.Poll.TheVariants.{Go, Stop}
 use Rattle.thread_list.specs.declared.mutator.CallFault.TheVariants as call
 use Rattle.thread_list.specs.declared.mutator.ReturnFault.TheVariants as returns
-use Rattle.thread_list.specs.Moves.{Running, SameThread, Polls, Leaves, Gives, ComesBack, IsResumed, is_running}
-use Rattle.thread_steps.specs.Moves.{Starting, StopsNext, EndsServing}
+use Rattle.thread_list.specs.Moves.{Running, SameThread, Polls, Leaves, Gives, ComesBack, IsFirst, IsResumed, IsVacated, IsGivenUp, is_running}
+use Rattle.thread_steps.specs.Moves.{Starting, StopsNext, EndsServing, PollsIn}
+use Rattle.thread_steps.specs.Rooms.{StaysStopped}
+use Rattle.thread_steps.specs.Refused.{HasFrames, PollsOn}
 use Rattle.thread_list.specs.Refused.{call_accepted, call_refused, return_refused}
 use Rattle.desk.specs.Finishing.{FinishSeen}
 use Rattle.held_threads.specs.Holding.{Holding}
 use Rattle.desk.specs.declared.entries.Entry.{Entry}
-use Rattle.desk.specs.Machine.{State as Desk, Book}
+use Rattle.desk.specs.Fields.{DeskSeen, at}
 use Rattle.desk.specs.Refusals.{start_refused}
-use Rattle.parties.specs.Asked.{Told, WasEntered, Submits, Installs, Invalidates, Begins, FindsReply, FindsNext, Forgets, Notes}
+use Rattle.parties.specs.Asked.{Told, IsLegal, WasEntered, WasStarted, Submits, Installs, Invalidates, Begins, FindsReply, FindsNext, Forgets, names_behind}
+use Rattle.parties.specs.Pairs.{first_of, or_zero}
 use Rattle.parties.specs.Coordinated as coordinated
 use Rattle.parties.specs.declared.acts.Act.{Act}
 use Rattle.parties.specs.declared.acts.Act.TheVariants as act
@@ -46,6 +50,17 @@ IsRole (role.Runs r) = Unit {0}
 IsRole (role.Leaves m) = m.act ≡ moved.Vacated
 IsRole role.Gone = Unit {0}
 IsRole (role.Coordinates c) = Unit {0}
+
+-- What contracts see of a party: what it is, the names of the targets of its next request, what the census that it operated last counted, which
+-- is serials, each with its frames, and a job that came out of the desk and found no room.
+pub record PartySeen (N : Type 0) : Type 0 where
+  pub role : Role N
+  pub names : List ℕ
+  pub counts : List (ℕ × ℕ)
+  pub hand : Option Query
+
+abbrev pub party_as : {N : Type 0} → Role N → PartySeen N
+party_as role = record { role = role; names = []; counts = []; hand = None }
 
 -- How a call ran, as a number: the serial of its code, or 0.
 abbrev pub serial_of : Called → ℕ
@@ -110,23 +125,39 @@ Unblocks old (Err fault.Illegal) new = (old.state ≢ Blocked) × (new ≡ old)
 Unblocks old (Err fault.Again) new = new ≡ old
 Unblocks old (Err e) new = ⊥
 
--- The next operation to be served, or the thread goes on.
-abbrev pub Next : Running → Told → Running → Type 0
-Next old (Ok n) new = StopsNext old new n
-Next old (Err fault.Illegal) new = new ≡ old
-Next old (Err fault.Again) new = new.state ≡ old.state
-Next old (Err e) new = ⊥
+-- The next operation to be served, or the thread goes on; or it stays stopped, at a room of a berth.
+abbrev pub Next : (N : Type 0) → Running → Told → Running → Type 0
+Next N old (Ok n) new = StopsNext old new n
+Next N old (Err fault.Illegal) new = ((back : Back) → old.state ≢ AtPoll back) × (new ≡ old)
+Next N old (Err fault.Again) new = (new ≡ old) ⊎ ((before : Berthing N) × (after : Berthing N) × StaysStopped old new before after)
+Next N old (Err e) new = ⊥
+
+-- By the receipt what its job answered was entered, and the thread polled, which is told by the number.
+abbrev pub IsEnded : Running → ℕ → FinishSeen → Running → Type 0
+IsEnded old n finish new = (said : Poll) × EndsServing old new said finish × (n ≡ number_of said)
 
 abbrev pub Serves : Running → Told → Running → Type 0
-Serves old (Ok n) new = (said : Poll) × (finish : FinishSeen) × EndsServing old new said finish × (n ≡ number_of said)
-Serves old (Err fault.Illegal) new = new ≡ old
+Serves old (Ok n) new = (finish : FinishSeen) × IsEnded old n finish new
+Serves old (Err fault.Illegal) new = ((back : Back) → old.state ≢ Serving back) × (new ≡ old)
 Serves old (Err fault.Again) new = new ≡ old
 Serves old (Err e) new = ⊥
 
+-- A thread that was told something where it exits publishes and polls.
+abbrev pub PollsAtExit : Running → Running → ℕ → Type 0
+PollsAtExit old new n
+    = (is_running old.state ≡ true) × ((said : Poll) × PollsOn old new said × (n ≡ number_of said))
+
 -- A thread whose exit is refused, or that was told something and polled.
 abbrev pub StaysOn : Running → Told → Running → Type 0
-StaysOn old (Ok n) new = SameThread old new × (n ≢ 0)
-StaysOn old (Err e) new = SameThread old new
+StaysOn old (Ok n) new = SameThread old new × (n ≢ 0) × PollsAtExit old new n
+StaysOn old (Err fault.Illegal) new = (is_running old.state ≡ false) × (new ≡ old)
+StaysOn old (Err fault.StackNotEmpty) new = (is_running old.state ≡ true) × HasFrames old.body × (new ≡ old)
+StaysOn old (Err fault.Again) new = (new ≡ old) ⊎ (SameThread old new × PollsAtExit old new 0)
+StaysOn old (Err e) new = ⊥
+
+-- The place of a thread was given up with a publication of its stack, which is empty.
+abbrev pub GivesUp : Running → Moved → Type 0
+GivesUp old m = IsVacated old.place old.name m × IsGivenUp old.body m
 
 -- By what it is, when it is a thread.
 abbrev pub OfThread : {N : Type 0} → (Running → Told → Running → Type 0) → Role N → Told → Role N → Type 0
@@ -136,19 +167,24 @@ OfThread does old said new = (said ≡ Err fault.NotThis) × (new ≡ old)
 
 -- Where a Start isn't entered, and why.
 abbrev pub StartFails : ℕ → Fault → Type 0
-StartFails places (fault.Start f) = (s : Desk) × (book : Book) × start_refused s places book f
+StartFails places (fault.Start f) = (d : DeskSeen) × IsLegal d × start_refused (at d) places d.book f
 StartFails places fault.Again = Unit {0}
 StartFails places e = ⊥
 
+-- A thread that starts: its first body, with an empty stack and published once, came back out of its berth, and it polled on its way into
+-- Java.
+abbrev pub Arrives : ℕ → Running → Type 0
+Arrives name r = IsResumed r × PollsIn r.crossed.body r Java × ((seat : SpareView) × IsFirst name seat r.crossed.body)
+
 -- What starts is a thread of the name and place that were entered.
 abbrev pub Started : Starting → Told → Running → Type 0
-Started e (Ok n) r = (r.name ≡ e.name) × (r.place ≡ e.place) × (n ≡ e.name) × IsResumed r
+Started e (Ok n) r = (r.name ≡ e.name) × (r.place ≡ e.place) × (r.methods ≡ e.methods) × (n ≡ e.name) × Arrives e.name r
 Started e (Err f) r = ⊥
 
 abbrev pub Starts : {N : Type 0} → ℕ → Role N → Told → Role N → Type 0
-Starts places role.Shares (Ok n) (role.Runs r) = (r.name ≡ n) × IsResumed r × WasEntered (Entry.Start n r.place)
+Starts places role.Shares (Ok n) (role.Runs r) = (e : Starting) × WasStarted e.name e.place × Started e (Ok n) r
 Starts places role.Shares (Err e) role.Shares = StartFails places e
-Starts places role.Shares (Err fault.Again) (role.Starts e) = WasEntered (Entry.Start e.name e.place)
+Starts places role.Shares (Err fault.Again) (role.Starts e) = WasStarted e.name e.place
 Starts places role.Shares said new = ⊥
 Starts places (role.Starts e) said (role.Runs r) = Started e said r
 Starts places (role.Starts e) said (role.Starts e') = (said ≡ Err fault.Again) × (e' ≡ e)
@@ -157,9 +193,9 @@ Starts places old said new = (said ≡ Err fault.NotThis) × (new ≡ old)
 
 -- An exit of a thread: it is gone, or its place is given up and its Exit waits, or it goes on.
 abbrev pub Exits : {N : Type 0} → Role N → Told → Role N → Type 0
-Exits (role.Runs old) (Ok n) role.Gone = (n ≡ 0) × WasEntered (Entry.Exit old.name)
+Exits (role.Runs old) (Ok n) role.Gone = (n ≡ 0) × ((m : Moved) × GivesUp old m × WasEntered (Entry.Exit m.body.name))
 Exits (role.Runs old) (Ok n) (role.Runs new) = StaysOn old (Ok n) new
-Exits (role.Runs old) (Err e) (role.Leaves m) = (e ≡ fault.Again) × (m.body.name ≡ old.name)
+Exits (role.Runs old) (Err e) (role.Leaves m) = (e ≡ fault.Again) × GivesUp old m
 Exits (role.Runs old) (Err e) (role.Runs new) = StaysOn old (Err e) new
 Exits (role.Runs old) said new = ⊥
 Exits (role.Leaves m) (Ok n) role.Gone = (n ≡ 0) × WasEntered (Entry.Exit m.body.name)
@@ -189,51 +225,78 @@ OfCoordinator does old said new = (said ≡ Err fault.NotThis) × (new ≡ old)
 abbrev pub Opens : Holding → Told → Holding → Type 0
 Opens old said new = coordinated.Opens said × (new ≡ old)
 
-abbrev pub Operates : Holding → Told → Holding → Type 0
-Operates old said new = (counts : List (ℕ × ℕ)) × coordinated.Operates old said counts new
-
 abbrev pub Weighs : (N : Type 0) → ℕ → ℕ → Holding → Told → Holding → Type 0
 Weighs N places serial old said new = coordinated.Weighs N places serial said × (new ≡ old)
 
--- What a party asks of the desk leaves the party what it is.
-abbrev pub AsksOf : {N : Type 0} → (Told → Type 0) → Role N → Told → Role N → Type 0
+-- What the party notes stays.
+abbrev pub SameNotes : {N : Type 0} → PartySeen N → PartySeen N → Type 0
+SameNotes old new = (new.names ≡ old.names) × (new.counts ≡ old.counts) × (new.hand ≡ old.hand)
+
+-- An act by what the party is.
+abbrev pub ActsAs : {N : Type 0} → (Role N → Told → Role N → Type 0) → PartySeen N → Told → PartySeen N → Type 0
+ActsAs does old said new = does old.role said new.role × SameNotes old new
+
+-- What a party asks of the desk leaves the party as it is.
+abbrev pub AsksOf : {N : Type 0} → (Told → Type 0) → PartySeen N → Told → PartySeen N → Type 0
 AsksOf does old said new = does said × (new ≡ old)
 
-abbrev pub Asks : Option Ask → Told → Type 0
-Asks ask said = (names : List ℕ) × Submits ask names said
+-- What it asks of the desk with the names that it noted.
+abbrev pub AsksWith : {N : Type 0} → (List ℕ → Told → Type 0) → PartySeen N → Told → PartySeen N → Type 0
+AsksWith does old said new = does old.names said × (new ≡ record old { names = names_behind said old.names })
 
-abbrev pub Acts : {N : Type 0} → ℕ → Role N → Act → Told → Role N → Type 0
-Acts places old act.Start said new = Starts places old said new
-Acts places old (act.Call method) said new = OfThread (CallsIn method) old said new
-Acts places old act.Ret said new = OfThread Returns old said new
-Acts places old act.BackEdge said new = OfThread Edge old said new
-Acts places old act.Publish said new = OfThread Publishes old said new
-Acts places old act.ToVm said new = OfThread IntoVm old said new
-Acts places old act.FromVm said new = OfThread OutOfVm old said new
-Acts places old act.ToNative said new = OfThread IntoNative old said new
-Acts places old act.FromNative said new = OfThread OutOfNative old said new
-Acts places old act.Block said new = OfThread Blocks old said new
-Acts places old act.Unblock said new = OfThread Unblocks old said new
-Acts places old act.StopNext said new = OfThread Next old said new
-Acts places old act.StopServe said new = OfThread Serves old said new
-Acts places old act.Exit said new = Exits old said new
-Acts places old act.Name said new = OfThread (Tells (λ r. r.name)) old said new
-Acts places old act.Place said new = OfThread (Tells (λ r. r.place)) old said new
-Acts places old act.State said new = OfThread (Tells (λ r. code_of r.state)) old said new
-Acts places old (act.Target name) said new = AsksOf Notes old said new
-Acts places old (act.Submit ask) said new = AsksOf (Asks ask) old said new
+-- The name is noted behind the others, where there is memory for it.
+abbrev pub Notes : {N : Type 0} → ℕ → PartySeen N → Told → PartySeen N → Type 0
+Notes name old (Ok n) new = (n ≡ 0) × (new ≡ record old { names = old.names ++ name ∷ [] })
+Notes name old (Err fault.NoMemory) new = new ≡ old
+Notes name old (Err e) new = ⊥
+
+abbrev pub Operates : {N : Type 0} → PartySeen N → Told → PartySeen N → Type 0
+Operates old said new
+    = OfCoordinator (λ before told after. coordinated.Operates before told new.counts after) old.role said new.role
+    × (new.names ≡ old.names) × (new.hand ≡ old.hand) × coordinated.SameCounts said old.counts new.counts
+
+-- Telling a name may put the job in hand into its berth.
+abbrev pub TellsName : {N : Type 0} → ℕ → PartySeen N → Told → PartySeen N → Type 0
+TellsName name old said new
+    = OfCoordinator (coordinated.Tells name) old.role said new.role × (new.names ≡ old.names) × (new.counts ≡ old.counts)
+    × coordinated.KeepsHand (λ j. j.op) (λ j. j.target) name said old.hand new.hand
+
+-- How many frames the code had in the census that was operated last.
+abbrev pub Counts : {N : Type 0} → ℕ → PartySeen N → Told → PartySeen N → Type 0
+Counts serial old said new = (said ≡ Ok (or_zero (first_of serial old.counts))) × (new ≡ old)
+
+abbrev pub Acts : {N : Type 0} → ℕ → PartySeen N → Act → Told → PartySeen N → Type 0
+Acts places old act.Start said new = ActsAs (Starts places) old said new
+Acts places old (act.Call method) said new = ActsAs (OfThread (CallsIn method)) old said new
+Acts places old act.Ret said new = ActsAs (OfThread Returns) old said new
+Acts places old act.BackEdge said new = ActsAs (OfThread Edge) old said new
+Acts places old act.Publish said new = ActsAs (OfThread Publishes) old said new
+Acts places old act.ToVm said new = ActsAs (OfThread IntoVm) old said new
+Acts places old act.FromVm said new = ActsAs (OfThread OutOfVm) old said new
+Acts places old act.ToNative said new = ActsAs (OfThread IntoNative) old said new
+Acts places old act.FromNative said new = ActsAs (OfThread OutOfNative) old said new
+Acts places old act.Block said new = ActsAs (OfThread Blocks) old said new
+Acts places old act.Unblock said new = ActsAs (OfThread Unblocks) old said new
+Acts {N} places old act.StopNext said new = ActsAs (OfThread (Next N)) old said new
+Acts places old act.StopServe said new = ActsAs (OfThread Serves) old said new
+Acts places old act.Exit said new = ActsAs Exits old said new
+Acts places old act.Name said new = ActsAs (OfThread (Tells (λ r. r.name))) old said new
+Acts places old act.Place said new = ActsAs (OfThread (Tells (λ r. r.place))) old said new
+Acts places old act.State said new = ActsAs (OfThread (Tells (λ r. code_of r.state))) old said new
+Acts places old (act.Target name) said new = Notes name old said new
+Acts places old (act.Submit ask) said new = AsksWith (Submits ask) old said new
 Acts places old (act.Install method) said new = AsksOf (Installs method) old said new
 Acts places old (act.Invalidate serial) said new = AsksOf (Invalidates serial) old said new
 Acts places old (act.Reply op name) said new = AsksOf (FindsReply op name) old said new
 Acts places old (act.LiveAfter name) said new = AsksOf (FindsNext name) old said new
 Acts places old act.Forget said new = AsksOf Forgets old said new
-Acts places old act.Open said new = OfCoordinator Opens old said new
-Acts places old (act.Tell name) said new = OfCoordinator (coordinated.Tells name) old said new
-Acts places old (act.Hold place) said new = OfCoordinator (coordinated.Holds places place) old said new
-Acts places old (act.Serve place) said new = OfCoordinator (coordinated.Serves places place) old said new
-Acts places old (act.Release place) said new = OfCoordinator (coordinated.Releases places place) old said new
-Acts places old act.Operate said new = OfCoordinator Operates old said new
-Acts places old (act.Counted serial) said new = new ≡ old
-Acts places old (act.Close number) said new = OfCoordinator (coordinated.Closes number) old said new
-Acts places old (act.Reclaim serial) said new = AsksOf (Begins serial) old said new
-Acts {N} places old (act.Weigh serial) said new = OfCoordinator (Weighs N places serial) old said new
+Acts places old act.Open said new = ActsAs (OfCoordinator Opens) old said new
+Acts places old (act.Tell name) said new = TellsName name old said new
+Acts places old (act.Hold place) said new = ActsAs (OfCoordinator (coordinated.Holds places place)) old said new
+Acts places old (act.Serve place) said new = ActsAs (OfCoordinator (coordinated.Serves places place)) old said new
+Acts places old (act.Release place) said new = ActsAs (OfCoordinator (coordinated.Releases places place)) old said new
+Acts places old act.Operate said new = Operates old said new
+Acts places old (act.Counted serial) said new = Counts serial old said new
+Acts places old (act.Close number) said new = ActsAs (OfCoordinator (coordinated.Closes number)) old said new
+Acts places old (act.Reclaim serial) said new = AsksWith (Begins serial) old said new
+Acts {N} places old (act.Weigh serial) said new = ActsAs (OfCoordinator (Weighs N places serial)) old said new

@@ -1,18 +1,23 @@
 -- What comes of what a party asks of the desk.
-use Rattle.std.specs.Prelude.{◌≡◌, ◌==◌, ℕ, Bool, List, [], ◌∷◌, length, Result, Ok, Err, Option, Some, None, if◌then◌else◌}
+use Rattle.std.specs.Prelude.{◌≡◌, ◌⊎◌, ◌<◌, ◌+◌, ℕ, true, List, [], ◌∷◌, length, Result, Ok, Err, Option, Some, None, option_map}
 use Rattle.frames.specs.declared.CodeId.{CodeId}
 use Rattle.frames.specs.BoardViews.{went_round}
-use Rattle.method_table.specs.Codes.{unfreed}
-use Rattle.method_table.specs.TableView.{invalidate_fault}
+use Rattle.method_table.specs.Codes.{unfreed, id_of, in_use_for}
+use Rattle.method_table.specs.TableView.{invalidate_fault, retire_fault}
 use Rattle.operations.specs.declared.Ask.{Ask}
+use Rattle.operations.specs.declared.Ask.TheVariants.{CountOf}
 use Rattle.operations.specs.declared.Request.{Request}
 use Rattle.operations.specs.declared.Request.TheVariants.{Handshake, Census}
 use Rattle.desk.specs.declared.entries.Entry.{Entry}
-use Rattle.desk.specs.Fields.{DeskSeen, Enters, EntersInstall}
-use Rattle.desk.specs.Machine.{State, Book, Stands}
+use Rattle.desk.specs.declared.faults.AskFault.TheVariants as ask_fault
+use Rattle.desk.specs.declared.faults.ReclaimFault.TheVariants as reclaim_fault
+use Rattle.desk.specs.Fields.{DeskSeen, Enters, EntersInstall, at}
+use Rattle.desk.specs.Machine.{Stands, is_legal, is_taken}
 use Rattle.desk.specs.Replies.{replies_kept}
 use Rattle.desk.specs.Targets.{live_after}
-use Rattle.desk.specs.Refusals.{ask_refused, install_refused, reclaim_refused}
+use Rattle.desk.specs.Pending.{least_pending}
+use Rattle.desk.specs.Refusals.{ask_refused, install_refused, reclaim_refused, is_idle}
+use Rattle.parties.specs.Pairs.{first_of, or_zero}
 use Rattle.parties.specs.declared.acts.Fault.{Fault}
 use Rattle.parties.specs.declared.acts.Fault.TheVariants as fault
 
@@ -20,9 +25,30 @@ use Rattle.parties.specs.declared.acts.Fault.TheVariants as fault
 abbrev pub Told : Type 0
 Told = Result ℕ Fault
 
--- The entry was entered at a desk, lawfully.
+-- A desk as it can be: each entry of its history was lawful where it was entered.
+abbrev pub IsLegal : DeskSeen → Type 0
+IsLegal d = is_legal d.slots d.methods d.book.history ≡ true
+
+-- By the receipt the entry was entered at such a desk, lawfully.
+abbrev pub IsEntry : Entry → Stands → Type 0
+IsEntry entry receipt = (old : DeskSeen) × (new : DeskSeen) × IsLegal old × Enters old new entry receipt
+
 abbrev pub WasEntered : Entry → Type 0
-WasEntered entry = (old : DeskSeen) × (new : DeskSeen) × (receipt : Stands) × Enters old new entry receipt
+WasEntered entry = (receipt : Stands) × IsEntry entry receipt
+
+-- By the receipt the name was started at the place, which was the least vacant one.
+abbrev pub IsStart : (name place : ℕ) → Stands → Type 0
+IsStart name place receipt
+    = (old : DeskSeen) × (new : DeskSeen) × IsLegal old × Enters old new (Entry.Start name place) receipt
+    × ((k : ℕ) → k < place → is_taken k (at old).live ≡ true)
+
+abbrev pub WasStarted : (name place : ℕ) → Type 0
+WasStarted name place = (receipt : Stands) × IsStart name place receipt
+
+-- The number of an answer that has a receipt beside it.
+abbrev pub number_in : {A : Type 0} → Result (ℕ × A) Fault → Told
+number_in (Ok r) = Ok r.0
+number_in (Err e) = Err e
 
 abbrev pub request_for : Option Ask → List ℕ → Request
 request_for (Some ask) names = Handshake names ask
@@ -31,65 +57,84 @@ request_for None names = Census
 -- A request of the names waits, by its number.
 abbrev pub Submits : Option Ask → List ℕ → Told → Type 0
 Submits ask names (Ok n) = WasEntered (Entry.Ask n (request_for ask names))
-Submits ask names (Err (fault.Ask f)) = (s : State) × (fits : Bool) × (book : Book) × ask_refused s (request_for ask names) fits book f
+Submits ask names (Err (fault.Ask f)) = (d : DeskSeen) × IsLegal d × ask_refused (at d) (request_for ask names) true d.book f
 Submits ask names (Err fault.Again) = Unit {0}
 Submits ask names (Err fault.NoMemory) = Unit {0}
 Submits ask names (Err e) = ⊥
 
--- The code of the serial is installed for the method.
+-- The names of the next request behind an answer: as they were where the same request is to be made again or there was no memory, else none.
+abbrev pub names_behind : Told → List ℕ → List ℕ
+names_behind (Ok n) names = []
+names_behind (Err fault.Again) names = names
+names_behind (Err fault.NoMemory) names = names
+names_behind (Err (fault.Ask ask_fault.NoMemory)) names = names
+names_behind (Err (fault.Reclaim (reclaim_fault.Ask ask_fault.NoMemory))) names = names
+names_behind (Err e) names = []
+
+-- By the receipt the code of the serial was installed for the method, in place of the one in use.
+abbrev pub IsInstall : ℕ → ℕ → Stands → Type 0
+IsInstall method serial receipt
+    = (old : DeskSeen) × (new : DeskSeen) × (replaced : Option CodeId) × (code : CodeId) × IsLegal old × (serial ≡ code.serial)
+    × EntersInstall old new replaced code method receipt × (replaced ≡ option_map id_of (in_use_for (at old).table.codes method))
+
 abbrev pub Installs : ℕ → Told → Type 0
-Installs method (Ok serial)
-    = (old : DeskSeen) × (new : DeskSeen) × (replaced : Option CodeId) × (code : CodeId) × (receipt : Stands) × (serial ≡ code.serial) × EntersInstall old new replaced code method receipt
-Installs method (Err (fault.Code f)) = (s : State) × (book : Book) × install_refused s method book f
+Installs method (Ok serial) = (receipt : Stands) × IsInstall method serial receipt
+Installs method (Err (fault.Code f)) = (d : DeskSeen) × IsLegal d × install_refused (at d) method d.book f
 Installs method (Err fault.Again) = Unit {0}
 Installs method (Err e) = ⊥
 
 abbrev pub Invalidates : ℕ → Told → Type 0
 Invalidates serial (Ok n) = (n ≡ 0) × WasEntered (Entry.Invalidate serial)
-Invalidates serial (Err (fault.Invalidate f)) = (s : State) × (invalidate_fault (unfreed s.table.codes serial) ≡ Some f)
+Invalidates serial (Err (fault.Invalidate f)) = (d : DeskSeen) × IsLegal d × (invalidate_fault (unfreed (at d).table.codes serial) ≡ Some f)
 Invalidates serial (Err fault.Again) = Unit {0}
 Invalidates serial (Err e) = ⊥
 
--- The round of a reclaiming was made, and a handshake waits, by its number, or 0 without one.
-abbrev pub Begins : ℕ → Told → Type 0
-Begins serial (Ok n) = (old : DeskSeen) × (new : DeskSeen) × (new.keeper ≡ went_round old.keeper old.keeper.moment)
-Begins serial (Err (fault.Reclaim f)) = (s : State) × (r : Option Request) × (fits : Request → Bool) × (book : Book) × (moment : ℕ) × reclaim_refused s serial r fits book moment f
-Begins serial (Err fault.Again) = Unit {0}
-Begins serial (Err fault.NoMemory) = Unit {0}
-Begins serial (Err e) = ⊥
+-- The handshake of a reclaiming: it asks the names for the frames of the code, where there are any.
+abbrev pub reclaiming_for : (serial : ℕ) → List ℕ → Option Request
+reclaiming_for serial [] = None
+reclaiming_for serial (name ∷ rest) = Some (Handshake (name ∷ rest) (CountOf serial))
 
--- The reply of the name in a list of names with their replies: its first.
-abbrev pub reply_of : (name : ℕ) → List (ℕ × ℕ) → Option ℕ
-reply_of name [] = None
-reply_of name ((who, reply) ∷ rest) = if who == name then Some reply else reply_of name rest
+-- Where there is a request it waits, by its number and the receipt. Without one the number is 0.
+abbrev pub Waits : Option Request → ℕ → Option Stands → DeskSeen → DeskSeen → Type 0
+Waits None n receipt old new = (n ≡ 0) × (receipt ≡ None) × (new.book ≡ old.book)
+Waits (Some request) n None old new = ⊥
+Waits (Some request) n (Some receipt) old new = Enters old new (Entry.Ask n request) receipt
 
--- The name's reply in the operation, of those that a desk keeps.
+-- The round of a reclaiming was made, of a code that may be reclaimed, and its handshake waits.
+abbrev pub IsBegun : (serial : ℕ) → List ℕ → ℕ → Option Stands → Type 0
+IsBegun serial names n receipt
+    = (old : DeskSeen) × (new : DeskSeen) × IsLegal old × (retire_fault (unfreed (at old).table.codes serial) ≡ None) × (is_idle (at old) ≡ true)
+    × (new.keeper ≡ went_round old.keeper old.keeper.moment) × Waits (reclaiming_for serial names) n receipt old new
+
+abbrev pub Begins : (serial : ℕ) → List ℕ → Told → Type 0
+Begins serial names (Ok n) = (receipt : Option Stands) × IsBegun serial names n receipt
+Begins serial names (Err (fault.Reclaim f))
+    = (d : DeskSeen) × IsLegal d × reclaim_refused (at d) serial (reclaiming_for serial names) (λ _. true) d.book d.keeper.moment f
+Begins serial names (Err fault.Again) = Unit {0}
+Begins serial names (Err fault.NoMemory) = Unit {0}
+Begins serial names (Err e) = ⊥
+
+-- The name's reply in the operation, of those that this desk keeps.
+abbrev pub ReplyAt : DeskSeen → (op name : ℕ) → Told → Type 0
+ReplyAt d op name (Ok n) = first_of name (replies_kept op d.book) ≡ Some n
+ReplyAt d op name (Err fault.NotAnswered) = first_of name (replies_kept op d.book) ≡ None
+ReplyAt d op name (Err fault.NoMemory) = Unit {0}
+ReplyAt d op name (Err e) = ⊥
+
 abbrev pub FindsReply : (op name : ℕ) → Told → Type 0
-FindsReply op name (Ok n) = (book : Book) × (reply_of name (replies_kept op book) ≡ Some n)
-FindsReply op name (Err fault.NotAnswered) = (book : Book) × (reply_of name (replies_kept op book) ≡ None)
-FindsReply op name (Err fault.Again) = Unit {0}
-FindsReply op name (Err fault.NoMemory) = Unit {0}
-FindsReply op name (Err e) = ⊥
-
-abbrev pub or_zero : Option ℕ → ℕ
-or_zero None = 0
-or_zero (Some n) = n
+FindsReply op name said = (said ≡ Err fault.Again) ⊎ ((d : DeskSeen) × IsLegal d × ReplyAt d op name said)
 
 -- The least name above this one that is live at a desk, 0 for none.
 abbrev pub FindsNext : (name : ℕ) → Told → Type 0
-FindsNext name (Ok n) = (s : State) × (n ≡ or_zero (live_after name s.live))
+FindsNext name (Ok n) = (d : DeskSeen) × IsLegal d × (n ≡ or_zero (live_after name (at d).live))
 FindsNext name (Err fault.Again) = Unit {0}
 FindsNext name (Err e) = ⊥
 
 -- A desk has forgotten all entries that it had.
 abbrev pub Forgets : Told → Type 0
 Forgets (Ok n)
-    = (n ≡ 0) × ((old : DeskSeen) × (new : DeskSeen) × (new.book.history ≡ old.book.history) × (new.book.gone.entries ≡ length old.book.history))
+    = (n ≡ 0)
+    × ((old : DeskSeen) × (new : DeskSeen) × IsLegal old × (new.book.history ≡ old.book.history) × (new.book.gone.entries ≡ length old.book.history)
+    × (new.book.gone.operations + 1 ≡ least_pending (at old)))
 Forgets (Err fault.Again) = Unit {0}
 Forgets (Err e) = ⊥
-
--- The name is noted, where there is memory for it.
-abbrev pub Notes : Told → Type 0
-Notes (Ok n) = n ≡ 0
-Notes (Err fault.NoMemory) = Unit {0}
-Notes (Err e) = ⊥

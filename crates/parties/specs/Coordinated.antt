@@ -1,91 +1,142 @@
 -- What comes of an act of the coordinator.
-use Rattle.std.specs.Prelude.{◌≡◌, ◌≢◌, ◌≤◌, ◌⊎◌, ℕ, List, true, false, Ok, Err, Option}
+use Rattle.std.specs.Prelude.{◌≡◌, ◌≢◌, ◌<◌, ◌≤◌, ◌⊎◌, ℕ, List, true, false, Ok, Err, Option, Some, None, Result, slice_index}
 use Rattle.thread_state.specs.PollRule.{armed_with}
+use Rattle.bodies.specs.Bodies.{IsPublished}
 use Rattle.bodies.specs.Census.{IsCensus}
-use Rattle.berths.specs.Berths.{Moved}
+use Rattle.berths.specs.Berths.{Moved, Acted, acted}
+use Rattle.method_table.specs.Codes.{unfreed}
+use Rattle.method_table.specs.TableView.{retire_fault}
+use Rattle.method_table.specs.declared.table.RetireFault.{RetireFault}
 use Rattle.desk.specs.declared.entries.Entry.{Entry}
+use Rattle.desk.specs.declared.entries.Progress.TheVariants.{Undone}
 use Rattle.desk.specs.declared.entries.Target.{Target}
 use Rattle.desk.specs.declared.entries.Standing.TheVariants as stand
 use Rattle.desk.specs.Finishing.{FinishSeen}
-use Rattle.desk.specs.Machine.{State, Stands}
-use Rattle.desk.specs.Refusals.{open_refused}
-use Rattle.desk.specs.Targets.{standing}
+use Rattle.desk.specs.Fields.{DeskSeen, Enters, at}
+use Rattle.desk.specs.Machine.{Stands}
+use Rattle.desk.specs.Refusals.{MayOperate, close_refused, open_refused}
+use Rattle.desk.specs.Targets.{progress, standing}
 use Rattle.desk.specs.Weighings.{WeighingSeen}
 use Rattle.thread_list.specs.Moves.{IsOperated}
+use Rattle.held_threads.specs.declared.faults.Reclaimed.{Reclaimed}
 use Rattle.held_threads.specs.declared.faults.Reclaimed.TheVariants as became
-use Rattle.held_threads.specs.declared.faults.ServeFault.{ServeFault}
+use Rattle.held_threads.specs.declared.faults.HoldFault.TheVariants as hold
+use Rattle.held_threads.specs.declared.faults.ReleaseFault.TheVariants as release
 use Rattle.held_threads.specs.declared.faults.ServeFault.TheVariants as serve
-use Rattle.held_threads.specs.Held.{AreEach}
+use Rattle.held_threads.specs.Held.{AreEach, is_held}
 use Rattle.held_threads.specs.Holding.{Holding}
-use Rattle.held_threads.specs.Reclaiming.{IsReclaimed}
+use Rattle.held_threads.specs.Reclaiming.{IsReclaimedFrom}
 use Rattle.coordinator_steps.specs.Done as done
 use Rattle.held_threads.specs.Refused as steps
 use Rattle.parties.specs.declared.acts.Fault.TheVariants as fault
-use Rattle.parties.specs.Asked.{Told, WasEntered}
+use Rattle.parties.specs.Asked.{Told, IsLegal, WasEntered}
 
 abbrev pub Opens : Told → Type 0
 Opens (Ok n) = WasEntered (Entry.Open n)
-Opens (Err (fault.Open f)) = (s : State) × open_refused s f
+Opens (Err (fault.Open f)) = (d : DeskSeen) × IsLegal d × open_refused (at d) f
 Opens (Err fault.Again) = Unit {0}
 Opens (Err e) = ⊥
 
--- The oldest request that wasn't told to the thread of the name is, and its place armed with that number.
-abbrev pub Arms : ℕ → Holding → ℕ → Holding → Type 0
-Arms name old n new
-    = (s : State) × (t : Target) × steps.IsUntold s name old.armer t n × (new.armer ≡ armed_with old.armer t.place n)
+-- The oldest request that wasn't told to the thread of the name is: by the receipt its berth has the job or the mark, and its place is armed
+-- with that number. Nothing else changes.
+abbrev pub Arms : ℕ → Holding → ℕ → Acted → Holding → Type 0
+Arms name old n receipt new
+    = (d : DeskSeen) × (t : Target) × IsLegal d × steps.IsUntold (at d) name old.armer t n × (0 < n)
+    × (receipt ≡ acted t.place name (steps.told_act t.kind n)) × (new ≡ record old { armer = armed_with old.armer t.place n })
 
 -- Nothing is armed, since the name is gone.
 abbrev pub IsGone : ℕ → Holding → Holding → Type 0
-IsGone name old new = (new ≡ old) × ((s : State) × (standing s name ≡ stand.Gone))
+IsGone name old new = (new ≡ old) × ((d : DeskSeen) × IsLegal d × (standing (at d) name ≡ stand.Gone))
 
 abbrev pub Tells : ℕ → Holding → Told → Holding → Type 0
-Tells name old (Ok n) new = (new.held ≡ old.held) × (new.operated ≡ old.operated) × (n ≢ 0 → Arms name old n new) × (n ≡ 0 → IsGone name old new)
-Tells name old (Err (fault.Tell f)) new = (new ≡ old) × ((s : State) × steps.tell_refused s name old.armer f)
+Tells name old (Ok n) new = (n ≢ 0 → (receipt : Acted) × Arms name old n receipt new) × (n ≡ 0 → IsGone name old new)
+Tells name old (Err (fault.Tell f)) new = (new ≡ old) × ((d : DeskSeen) × IsLegal d × steps.tell_refused (at d) name old.armer f)
 Tells name old (Err fault.Again) new = new ≡ old
 Tells name old (Err e) new = ⊥
 
+-- A job in hand stays there; one of the name goes into its berth where that is told.
+abbrev pub KeepsHand : {J : Type 0} → (J → ℕ) → (J → ℕ) → ℕ → Told → Option J → Option J → Type 0
+KeepsHand number whom name (Ok n) old new = (job : _) → old ≡ Some job → (new ≡ Some job) ⊎ ((whom job ≡ name) × (number job ≡ n))
+KeepsHand number whom name (Err e) old new = (job : _) → old ≡ Some job → new ≡ Some job
+
+-- There is no such place; or the desk, as it can be, says why.
+abbrev pub ByDesk : {F : Type 0} → ℕ → ℕ → F → F → (DeskSeen → Type 0) → Type 0
+ByDesk places place none f says = ((places ≤ place) × (f ≡ none)) ⊎ ((d : DeskSeen) × IsLegal d × says d)
+
+-- By the receipt the body of the place came out of its berth, and the number is the oldest that its thread owes.
+abbrev pub IsHold : ℕ → Holding → ℕ → Moved → Holding → Type 0
+IsHold place old n receipt new
+    = (d : DeskSeen) × IsLegal d × steps.HoldsBy (steps.In (at d)) old new place receipt
+    × (progress (at d) receipt.body.name (slice_index old.armer.armed place) ≡ Undone n)
+
 abbrev pub Holds : ℕ → ℕ → Holding → Told → Holding → Type 0
-Holds places place old (Ok n) new = (receipt : Moved) × steps.Holds old new place receipt
-Holds places place old (Err (fault.Hold f)) new = steps.hold_refused old places place f × (new ≡ old)
+Holds places place old (Ok n) new = (receipt : Moved) × IsHold place old n receipt new
+Holds places place old (Err (fault.Hold f)) new
+    = ByDesk places place hold.NoSuchPlace f (λ d. steps.hold_refused_by (steps.In (at d)) old places place f) × (new ≡ old)
 Holds places place old (Err fault.Again) new = new ≡ old
 Holds places place old (Err e) new = ⊥
 
--- There is no such place, or the coordinator doesn't serve the thread of it.
-abbrev pub Unserved : ℕ → ℕ → Holding → ServeFault → Type 0
-Unserved places place old f = ((places ≤ place) × (f ≡ serve.NoSuchPlace)) ⊎ steps.serve_refused old places place f
+-- The held body of the place is answered for.
+abbrev pub IsServed : ℕ → Holding → ℕ → FinishSeen → Holding → Type 0
+IsServed place old n finish new = (d : DeskSeen) × IsLegal d × done.ServesBy (steps.In (at d)) old new place n finish
+
+-- All stays, or the held body of the place is published.
+abbrev pub IsLeft : ℕ → Holding → Holding → Type 0
+IsLeft place old new = (new ≡ old) ⊎ done.Becomes (λ body after. (after ≡ body) ⊎ IsPublished body after) old new place
 
 abbrev pub Serves : ℕ → ℕ → Holding → Told → Holding → Type 0
-Serves places place old (Ok n) new = (finish : FinishSeen) × done.Serves old new place n finish
-Serves places place old (Err (fault.Serve f)) new = Unserved places place old f × (new ≡ old)
-Serves places place old (Err fault.Again) new = (new.armer ≡ old.armer) × (new.operated ≡ old.operated)
+Serves places place old (Ok n) new = (finish : FinishSeen) × IsServed place old n finish new
+Serves places place old (Err (fault.Serve f)) new
+    = ByDesk places place serve.NoSuchPlace f (λ d. steps.serve_refused_by (steps.In (at d)) old places place f) × (new ≡ old)
+Serves places place old (Err fault.Again) new = IsLeft place old new
 Serves places place old (Err e) new = ⊥
 
 abbrev pub Releases : ℕ → ℕ → Holding → Told → Holding → Type 0
 Releases places place old (Ok n) new = (n ≡ 0) × ((receipt : Moved) × done.Releases old new place receipt)
-Releases places place old (Err (fault.Release f)) new = steps.HasNoHeld places place f × (new ≡ old)
+Releases places place old (Err (fault.Release f)) new
+    = ByDesk places place release.NoSuchPlace f (λ d. (is_held place old.held ≡ false) × steps.HasNoHeldBy (steps.In (at d)) places place f) × (new ≡ old)
 Releases places place old (Err fault.Again) new = new ≡ old
 Releases places place old (Err e) new = ⊥
 
--- The census is operated over the held bodies, and these are its counts.
+-- By the receipt the census is operated over the held bodies, which are all that live, and these are its counts.
+abbrev pub IsOperate : Holding → ℕ → Stands → List (ℕ × ℕ) → Holding → Type 0
+IsOperate old n receipt counts new
+    = ((before : DeskSeen) × (after : DeskSeen) × IsLegal before × Enters before after (Entry.Operate n) receipt × MayOperate (at before) old.held)
+    × AreEach (IsOperated n) old.held new.held × IsCensus new.held counts × (new.armer ≡ old.armer) × (new.operated ≡ true)
+
 abbrev pub Operates : Holding → Told → List (ℕ × ℕ) → Holding → Type 0
-Operates old (Ok n) counts new
-    = WasEntered (Entry.Operate n) × AreEach (IsOperated n) old.held new.held × IsCensus new.held counts × (new.armer ≡ old.armer) × (new.operated ≡ true)
-Operates old (Err (fault.Operate f)) counts new = (new ≡ old) × ((s : State) × steps.census_refused s old.held f)
+Operates old (Ok n) counts new = (receipt : Stands) × IsOperate old n receipt counts new
+Operates old (Err (fault.Operate f)) counts new = (new ≡ old) × ((d : DeskSeen) × IsLegal d × steps.census_refused (at d) old.held f)
 Operates old (Err fault.Again) counts new = new ≡ old
 Operates old (Err e) counts new = ⊥
 
+-- What a census counted takes the place of what one before it did.
+abbrev pub SameCounts : {A F : Type 0} → Result A F → List (ℕ × ℕ) → List (ℕ × ℕ) → Type 0
+SameCounts (Ok n) old new = Unit {0}
+SameCounts (Err e) old new = new ≡ old
+
+-- By the receipt the request of the number is closed, which was the one asked for, and of which no held thread is a target.
+abbrev pub IsClose : Option ℕ → Holding → ℕ → Stands → Holding → Type 0
+IsClose number old n receipt new
+    = ((before : DeskSeen) × (after : DeskSeen) × IsLegal before × Enters before after (Entry.Close n) receipt × steps.MayCloseIn (at before) old number n)
+    × (new ≡ record old { operated = false })
+
 abbrev pub Closes : Option ℕ → Holding → Told → Holding → Type 0
-Closes number old (Ok n) new = WasEntered (Entry.Close n) × steps.MayClose old number n × (new ≡ record old { operated = false })
-Closes number old (Err (fault.Close f)) new = steps.not_closed old number f × (new ≡ old)
+Closes number old (Ok n) new = (receipt : Stands) × IsClose number old n receipt new
+Closes number old (Err (fault.Close f)) new = ((d : DeskSeen) × IsLegal d × close_refused (at d) number old.held f) × (new ≡ old)
 Closes number old (Err fault.Again) new = new ≡ old
 Closes number old (Err e) new = ⊥
 
--- What became of the code where all places had just been looked at: it was freed, or so many activations stand.
+-- What became of the code at a desk as it can be, where all places had just been looked at.
+abbrev pub IsWeighed : {N : Type 0} → ℕ → ℕ → Reclaimed N → Type 0
+IsWeighed places serial said = (d : DeskSeen) × IsLegal d × IsReclaimedFrom d places serial said
+
+-- It was freed, or so many activations stand.
 abbrev pub Weighs : (N : Type 0) → ℕ → ℕ → Told → Type 0
 Weighs N places serial (Ok n)
-    = ((receipt : Stands) × (n ≡ 0) × IsReclaimed {N = N} places serial (became.Freed receipt))
-    ⊎ ((weighing : WeighingSeen) × IsReclaimed {N = N} places serial (became.Used n weighing))
-Weighs N places serial (Err (fault.Late place)) = (weighing : WeighingSeen) × IsReclaimed {N = N} places serial (became.Late place weighing)
-Weighs N places serial (Err fault.NotWeighed) = Unit {0}
+    = ((receipt : Stands) × (n ≡ 0) × IsWeighed {N = N} places serial (became.Freed receipt))
+    ⊎ ((weighing : WeighingSeen) × IsWeighed {N = N} places serial (became.Used n weighing))
+Weighs N places serial (Err (fault.Late place)) = (weighing : WeighingSeen) × IsWeighed {N = N} places serial (became.Late place weighing)
+Weighs N places serial (Err fault.NotWeighed) = (d : DeskSeen) × IsLegal d × ((why : RetireFault) × (retire_fault (unfreed (at d).table.codes serial) ≡ Some why))
 Weighs N places serial (Err fault.Again) = Unit {0}
 Weighs N places serial (Err e) = ⊥

@@ -1,4 +1,6 @@
 pub mod Systems
 pub mod Asked
 pub mod Coordinated
+pub mod Pairs
 pub mod Acted
+pub mod Weighed

@@ -1,20 +1,33 @@
 //! What any party asks of the desk, under its lock.
-ghost use Rattle.std.specs.Prelude.{◌≡◌, ◌≢◌, ◌<◌, Some, None, Err, IfOk, IfErr};
-ghost use Rattle.parties.specs.Asked.{request_for, Submits, Installs, Invalidates, Begins, FindsReply, FindsNext, Forgets, reply_of};
+ghost use Rattle.std.specs.Prelude.{◌≡◌, true, Err, IfOk, IfErr, IfSome};
+ghost use Rattle.desk.specs.declared.entries.Entry.{Entry};
+ghost use Rattle.desk.specs.Fields.{at};
+ghost use Rattle.desk.specs.JobsFit.{are_for, jobs_fit};
+ghost use Rattle.desk.specs.Targets.{live_after};
+ghost use Rattle.operations.specs.declared.Request.{Request as RequestOf};
+ghost use Rattle.parties.specs.Asked.{request_for, reclaiming_for, names_behind, number_in, IsEntry, IsInstall, IsBegun, Submits, Installs, Invalidates, Begins, ReplyAt, FindsReply, FindsNext, Forgets};
+ghost use Rattle.parties.specs.Pairs.{or_zero};
 
 use crate::acts::Fault;
+use crate::pairs::first_of;
 use crate::system::SharedSystem;
 use bodies::Name;
-use desk::{AskFault, NotReclaimed, ReclaimFault, Refused};
-use operations::job::Query;
+use desk::{AskFault, Desk, NotReclaimed, Receipt, ReclaimFault, Refused};
+use operations::job::{Errand, Query};
 use operations::{Ask, Request, Targets};
 use std::alloc::{AllocError, Global};
 
 // A job for each name.
-fn queries(alloc: Global, names: &[u64], ask: Ask) -> Result<Vec<Query>, AllocError> {
+fn queries(alloc: Global, names: &[u64], ask: Ask) -> Result<Vec<Query>, AllocError>
+    ensures { IfOk result
+        (λ v. are_for ⟦<Query as Errand>⟧.whom ⟦<Query as Errand>⟧.asks names.now ask v.items
+        ≡ true) }
+{
     let mut jobs = Vec::with_capacity(alloc, names.len())?;
-    for name in names {
+    let mut rest = names;
+    while let [name, others @ ..] = rest {
         jobs.push(Query::new(*name, ask)).map_err(|_| AllocError)?;
+        rest = others;
     }
     Ok(jobs)
 }
@@ -33,7 +46,10 @@ fn request_for(
     names: &[u64],
     ask: Option<Ask>,
 ) -> Result<(Request, Vec<Query>), AllocError>
-    ensures { IfOk result (λ r. r.0 ≡ request_for ask names.now) }
+    ensures request { IfOk result (λ r. r.0 ≡ request_for ask names.now) }
+    ensures jobs { IfOk result
+        (λ r. jobs_fit ⟦<Query as Errand>⟧.whom ⟦<Query as Errand>⟧.asks
+        (request_for ask names.now) r.1.items ≡ true) }
 {
     let Some(ask) = ask else {
         return Ok((Request::Census, Vec::new(alloc)));
@@ -48,17 +64,22 @@ fn reclaiming_for(
     alloc: Global,
     names: &[u64],
     serial: u64,
-) -> Result<(Option<Request>, Vec<Query>), AllocError> {
-    if names.is_empty() {
+) -> Result<(Option<Request>, Vec<Query>), AllocError>
+    ensures request { IfOk result (λ r. r.0 ≡ reclaiming_for serial names.now) }
+    ensures jobs { IfOk result
+        (λ r. (asked : RequestOf) → r.0 ≡ Some asked
+        → jobs_fit ⟦<Query as Errand>⟧.whom ⟦<Query as Errand>⟧.asks asked r.1.items ≡ true) }
+{
+    let [_, ..] = names else {
         return Ok((None, Vec::new(alloc)));
-    }
+    };
     let (request, jobs) = request_for(alloc, names, Some(Ask::CountOf(serial)))?;
     Ok((Some(request), jobs))
 }
 
 // The names of a request that was refused go, but where there was no memory.
 fn forget_names(names: &mut Vec<u64>, fault: AskFault)
-    ensures { fault ≡ AskFault.NoMemory → names.new.items ≡ names.old.items }
+    ensures { names.new.items ≡ names_behind (Err (Fault.Ask fault)) names.old.items }
 {
     match fault {
         AskFault::NoMemory => {}
@@ -70,7 +91,9 @@ fn forget_names(names: &mut Vec<u64>, fault: AskFault)
     }
 }
 
-fn forget_names_of(names: &mut Vec<u64>, fault: ReclaimFault) {
+fn forget_names_of(names: &mut Vec<u64>, fault: ReclaimFault)
+    ensures { names.new.items ≡ names_behind (Err (Fault.Reclaim fault)) names.old.items }
+{
     match fault {
         ReclaimFault::Ask(fault) => forget_names(names, fault),
         ReclaimFault::Code(_) | ReclaimFault::AlreadyOpen | ReclaimFault::Spent => names.clear(),
@@ -84,22 +107,23 @@ pub(crate) fn submit<'s, 'n, N: Name>(
     alloc: Global,
     names: &'n mut Vec<u64>,
     ask: Option<Ask>,
-) -> Result<u64, Fault>
-    ensures said { Submits ask names.old.items result }
-    ensures again { result ≡ Err Fault.Again → names.new.items ≡ names.old.items }
-    ensures no_memory { result ≡ Err (Fault.Ask AskFault.NoMemory)
-        → names.new.items ≡ names.old.items }
+) -> Result<(u64, Receipt<N>), Fault>
+    ensures entered { IfOk result
+        (λ r. IsEntry (Entry.Ask r.0 (request_for ask names.old.items)) r.1) }
+    ensures refused { IfErr result (λ e. Submits ask names.old.items (Err e)) }
+    ensures names { names.new.items ≡ names_behind (number_in result) names.old.items }
 {
     let Some(mut desk) = system.try_desk() else {
         return Err(Fault::Again);
     };
+    desk.value.history_is_legal();
     let Ok((request, jobs)) = request_for(alloc, names.as_slice(), ask) else {
         return Err(Fault::NoMemory);
     };
     match desk.value.submit(request, jobs) {
-        Ok((number, _receipt)) => {
+        Ok((number, receipt)) => {
             names.clear();
-            Ok(number)
+            Ok((number, receipt))
         }
         Err(refused) => {
             let Refused { fault, jobs: _ } = refused;
@@ -116,13 +140,15 @@ pub(crate) fn reclaim<'s, 'n, N: Name>(
     alloc: Global,
     names: &'n mut Vec<u64>,
     serial: u64,
-) -> Result<u64, Fault>
-    ensures said { Begins serial result }
-    ensures again { result ≡ Err Fault.Again → names.new.items ≡ names.old.items }
+) -> Result<(u64, Option<Receipt<N>>), Fault>
+    ensures begun { IfOk result (λ r. IsBegun serial names.old.items r.0 r.1) }
+    ensures refused { IfErr result (λ e. Begins serial names.old.items (Err e)) }
+    ensures names { names.new.items ≡ names_behind (number_in result) names.old.items }
 {
     let Some(mut desk) = system.try_desk() else {
         return Err(Fault::Again);
     };
+    desk.value.history_is_legal();
     let Ok((request, jobs)) = reclaiming_for(alloc, names.as_slice(), serial) else {
         return Err(Fault::NoMemory);
     };
@@ -133,8 +159,8 @@ pub(crate) fn reclaim<'s, 'n, N: Name>(
         Ok(asked) => {
             names.clear();
             match asked {
-                Some((number, _receipt)) => Ok(number),
-                None => Ok(0),
+                Some((number, receipt)) => Ok((number, Some(receipt))),
+                None => Ok((0, None)),
             }
         }
         Err(refused) => {
@@ -145,45 +171,56 @@ pub(crate) fn reclaim<'s, 'n, N: Name>(
     }
 }
 
-pub(crate) fn install<N: Name>(system: &SharedSystem<N>, method: u32) -> Result<u64, Fault>
-    ensures { Installs method result }
+/// Installs a code for the method: its serial.
+pub(crate) fn install<N: Name>(
+    system: &SharedSystem<N>,
+    method: u32,
+) -> Result<(u64, Receipt<N>), Fault>
+    ensures installed { IfOk result (λ r. IsInstall method r.0 r.1) }
+    ensures refused { IfErr result (λ e. Installs method (Err e)) }
 {
     let Some(mut desk) = system.try_desk() else {
         return Err(Fault::Again);
     };
+    desk.value.history_is_legal();
     match desk.value.install(system.board(), method as u64) {
-        Ok((installed, _receipt)) => {
+        Ok((installed, receipt)) => {
             system.set_hint(method, installed.code);
-            Ok(installed.code.serial)
+            Ok((installed.code.serial, receipt))
         }
         Err(fault) => Err(Fault::Code(fault)),
     }
 }
 
-pub(crate) fn invalidate<N: Name>(system: &SharedSystem<N>, serial: u64) -> Result<u64, Fault>
-    ensures { Invalidates serial result }
+/// No thread enters the code of the serial any more.
+pub(crate) fn invalidate<N: Name>(
+    system: &SharedSystem<N>,
+    serial: u64,
+) -> Result<Receipt<N>, Fault>
+    ensures entered { IfOk result (λ r. IsEntry (Entry.Invalidate serial) r) }
+    ensures refused { IfErr result (λ e. Invalidates serial (Err e)) }
 {
     let Some(mut desk) = system.try_desk() else {
         return Err(Fault::Again);
     };
+    desk.value.history_is_legal();
     match desk.value.invalidate(system.board(), serial) {
-        Ok(_receipt) => Ok(0),
+        Ok(receipt) => Ok(receipt),
         Err(fault) => Err(Fault::Invalidate(fault)),
     }
 }
 
-// The reply of the name in the list.
-fn found_in(list: &[(u64, u64)], name: u64) -> Option<u64>
-    ensures { result ≡ reply_of name list.now }
+// The reply of the name in the operation, of those that the desk keeps.
+fn reply_at<N: Name>(desk: &Desk<N, Query>, op: u64, name: u64) -> Result<u64, Fault>
+    ensures { ReplyAt desk.now op name result }
 {
-    let mut rest = list;
-    while let [(who, reply), others @ ..] = rest {
-        if *who == name {
-            return Some(*reply);
-        }
-        rest = others;
+    let Ok(list) = desk.replies(op) else {
+        return Err(Fault::NoMemory);
+    };
+    match first_of(list.as_slice(), name) {
+        Some(reply) => Ok(reply),
+        None => Err(Fault::NotAnswered),
     }
-    None
 }
 
 pub(crate) fn reply<N: Name>(system: &SharedSystem<N>, op: u64, name: u64) -> Result<u64, Fault>
@@ -192,12 +229,17 @@ pub(crate) fn reply<N: Name>(system: &SharedSystem<N>, op: u64, name: u64) -> Re
     let Some(desk) = system.try_desk() else {
         return Err(Fault::Again);
     };
-    let Ok(list) = desk.value.replies(op) else {
-        return Err(Fault::NoMemory);
-    };
-    match found_in(list.as_slice(), name) {
-        Some(reply) => Ok(reply),
-        None => Err(Fault::NotAnswered),
+    desk.value.history_is_legal();
+    reply_at(&*desk.value, op, name)
+}
+
+// The least name above this one that is live at the desk, 0 for none.
+fn next_at<N: Name>(desk: &Desk<N, Query>, name: u64) -> u64
+    ensures { result ≡ or_zero (live_after name (at desk.now).live) }
+{
+    match desk.live_after(name) {
+        Some(next) => next,
+        None => 0,
     }
 }
 
@@ -207,10 +249,8 @@ pub(crate) fn live_after<N: Name>(system: &SharedSystem<N>, name: u64) -> Result
     let Some(desk) = system.try_desk() else {
         return Err(Fault::Again);
     };
-    match desk.value.live_after(name) {
-        Some(next) => Ok(next),
-        None => Ok(0),
-    }
+    desk.value.history_is_legal();
+    Ok(next_at(&*desk.value, name))
 }
 
 pub(crate) fn forget<N: Name>(system: &SharedSystem<N>) -> Result<u64, Fault>
@@ -219,6 +259,7 @@ pub(crate) fn forget<N: Name>(system: &SharedSystem<N>) -> Result<u64, Fault>
     let Some(mut desk) = system.try_desk() else {
         return Err(Fault::Again);
     };
+    desk.value.history_is_legal();
     desk.value.forget();
     Ok(0)
 }

@@ -1,45 +1,64 @@
-//! The steps of the coordinator: each tries the desk's lock, and behind it that of one room where it needs it. A release tries its
-//! room's, and the desk's only where none is held.
-ghost use Rattle.std.specs.Prelude.{◌≡◌, IfOk, IfErr};
-ghost use Rattle.parties.specs.Coordinated.{Opens, Tells, Holds, Serves, Releases, Operates, Closes, Weighs};
+//! The steps of the coordinator: each tries the desk's lock, and behind it that of one room where it needs it. What is done is answered with
+//! its receipt.
+ghost use Rattle.std.specs.Prelude.{◌≡◌, Ok, Err, IfOk, IfErr, IfSome, IfNone};
+ghost use Rattle.desk.specs.declared.entries.Entry.{Entry};
+ghost use Rattle.coordinator_steps.specs.Done as done;
+ghost use Rattle.parties.specs.Asked.{IsEntry};
+ghost use Rattle.parties.specs.Coordinated.{Opens, Tells, Arms, IsGone, KeepsHand, Holds, IsHold, Serves, IsServed, Releases, Operates, IsOperate, SameCounts, Closes, IsClose, Weighs, IsWeighed};
 
 use crate::acts::Fault;
 use crate::system::SharedSystem;
+use berths::{BerthReceipt, BodyReceipt};
 use bodies::Name;
 use coordinator_steps::{
     HoldFault, Reclaimed, ReleaseFault, ServeFault, Steps, weigh as weigh_code,
 };
-use operations::job::Query;
+use desk::{Closing, Finished, Operating, Receipt};
+use operations::job::{Errand, Query};
 use std::alloc::Global;
 
-pub(crate) fn open<N: Name>(system: &SharedSystem<N>) -> Result<u64, Fault>
-    ensures { Opens result }
+/// Opens the oldest request that waits: its number.
+pub(crate) fn open<N: Name>(system: &SharedSystem<N>) -> Result<(u64, Receipt<N>), Fault>
+    ensures entered { IfOk result (λ r. IsEntry (Entry.Open r.0) r.1) }
+    ensures refused { IfErr result (λ e. Opens (Err e)) }
 {
     let Some(mut desk) = system.try_desk() else {
         return Err(Fault::Again);
     };
+    desk.value.history_is_legal();
     match desk.value.open() {
-        Ok((number, _receipt)) => Ok(number),
+        Ok((number, receipt)) => Ok((number, receipt)),
         Err(fault) => Err(Fault::Open(fault)),
     }
 }
 
-/// Tells a name: the number that its place is armed with, 0 where it is gone.
+/// Tells a name: the number that its place is armed with; None where the name is gone.
 pub(crate) fn tell<'s, 'c, 'h, N: Name>(
     system: &'s SharedSystem<N>,
     keeps: &'c mut Steps<N>,
     name: u64,
     hand: &'h mut Option<Query>,
-) -> Result<u64, Fault>
-    ensures { Tells name keeps.old result keeps.new }
+) -> Result<Option<(u64, BerthReceipt<N>)>, Fault>
+    ensures told { IfOk result (λ o. IfSome o (λ r. Arms name keeps.old r.0 r.1 keeps.new)) }
+    ensures gone { IfOk result (λ o. IfNone o (IsGone name keeps.old keeps.new)) }
+    ensures refused { IfErr result (λ e. Tells name keeps.old (Err e) keeps.new) }
+    ensures hand { IfOk result
+        (λ o. IfSome o
+        (λ r. KeepsHand ⟦<Query as Errand>⟧.number ⟦<Query as Errand>⟧.whom name (Ok r.0) hand.old
+        hand.new)) }
+    ensures hand_stays { IfOk result (λ o. IfNone o (hand.new ≡ hand.old)) }
+    ensures hand_kept { IfErr result
+        (λ e. KeepsHand ⟦<Query as Errand>⟧.number ⟦<Query as Errand>⟧.whom name (Err e) hand.old
+        hand.new) }
 {
     let Some(mut desk) = system.try_desk() else {
         return Err(Fault::Again);
     };
+    desk.value.history_is_legal();
     let untold = match keeps.look_up(&*desk.value, name) {
         Ok(Some(untold)) => untold,
         Ok(None) => return Err(Fault::Again),
-        Err(Ok(_gone)) => return Ok(0),
+        Err(Ok(_gone)) => return Ok(None),
         Err(Err(fault)) => return Err(Fault::Tell(fault)),
     };
     let Some(mut room) = system.try_room(untold.target.place) else {
@@ -52,7 +71,7 @@ pub(crate) fn tell<'s, 'c, 'h, N: Name>(
         &untold,
         hand,
     ) {
-        Some(_receipt) => Ok(untold.number),
+        Some(receipt) => Ok(Some((untold.number, receipt))),
         None => Err(Fault::Again),
     }
 }
@@ -62,8 +81,9 @@ pub(crate) fn hold<'s, 'c, N: Name>(
     system: &'s SharedSystem<N>,
     keeps: &'c mut Steps<N>,
     place: usize,
-) -> Result<u64, Fault>
-    ensures { Holds N.board.places place keeps.old result keeps.new }
+) -> Result<(u64, BodyReceipt<N>), Fault>
+    ensures held { IfOk result (λ r. IsHold place keeps.old r.0 r.1 keeps.new) }
+    ensures refused { IfErr result (λ e. Holds N.board.places place keeps.old (Err e) keeps.new) }
 {
     if place >= system.places() {
         return Err(Fault::Hold(HoldFault::NoSuchPlace));
@@ -71,11 +91,12 @@ pub(crate) fn hold<'s, 'c, N: Name>(
     let Some(desk) = system.try_desk() else {
         return Err(Fault::Again);
     };
+    desk.value.history_is_legal();
     let Some(mut room) = system.try_room(place) else {
         return Err(Fault::Again);
     };
     match keeps.hold(&*desk.value, &mut *room.value, place) {
-        Ok((number, _receipt)) => Ok(number),
+        Ok((number, receipt)) => Ok((number, receipt)),
         Err(fault) => Err(Fault::Hold(fault)),
     }
 }
@@ -85,8 +106,9 @@ pub(crate) fn serve<'s, 'c, N: Name>(
     system: &'s SharedSystem<N>,
     keeps: &'c mut Steps<N>,
     place: usize,
-) -> Result<u64, Fault>
-    ensures { Serves N.board.places place keeps.old result keeps.new }
+) -> Result<(u64, Finished<N>), Fault>
+    ensures served { IfOk result (λ r. IsServed place keeps.old r.0 r.1 keeps.new) }
+    ensures refused { IfErr result (λ e. Serves N.board.places place keeps.old (Err e) keeps.new) }
 {
     if place >= system.places() {
         return Err(Fault::Serve(ServeFault::NoSuchPlace));
@@ -94,6 +116,7 @@ pub(crate) fn serve<'s, 'c, N: Name>(
     let Some(mut desk) = system.try_desk() else {
         return Err(Fault::Again);
     };
+    desk.value.history_is_legal();
     let Some(mut room) = system.try_room(place) else {
         return Err(Fault::Again);
     };
@@ -104,7 +127,7 @@ pub(crate) fn serve<'s, 'c, N: Name>(
         system.row(),
         place,
     ) {
-        Ok(Ok((number, _finished))) => Ok(number),
+        Ok(Ok((number, finished))) => Ok((number, finished)),
         Ok(Err(_)) => Err(Fault::Again),
         Err(fault) => Err(Fault::Serve(fault)),
     }
@@ -115,8 +138,10 @@ pub(crate) fn release<'s, 'c, N: Name>(
     system: &'s SharedSystem<N>,
     keeps: &'c mut Steps<N>,
     place: usize,
-) -> Result<u64, Fault>
-    ensures { Releases N.board.places place keeps.old result keeps.new }
+) -> Result<BodyReceipt<N>, Fault>
+    ensures released { IfOk result (λ r. done.Releases keeps.old keeps.new place r) }
+    ensures refused { IfErr result
+        (λ e. Releases N.board.places place keeps.old (Err e) keeps.new) }
 {
     if place >= system.places() {
         return Err(Fault::Release(ReleaseFault::NoSuchPlace));
@@ -125,12 +150,13 @@ pub(crate) fn release<'s, 'c, N: Name>(
         return Err(Fault::Again);
     };
     match keeps.release_held(&mut *room.value, place) {
-        Some(Some(_receipt)) => Ok(0),
+        Some(Some(receipt)) => Ok(receipt),
         Some(None) => Err(Fault::Again),
         None => {
             let Some(desk) = system.try_desk() else {
                 return Err(Fault::Again);
             };
+            desk.value.history_is_legal();
             Err(Fault::Release(keeps.unheld(&*desk.value, place)))
         }
     }
@@ -142,16 +168,21 @@ pub(crate) fn operate<'s, 'c, 'l, N: Name>(
     keeps: &'c mut Steps<N>,
     alloc: Global,
     counts: &'l mut Vec<(u64, u32)>,
-) -> Result<u64, Fault>
-    ensures { Operates keeps.old result counts.new.items keeps.new }
+) -> Result<(u64, Operating<N>), Fault>
+    ensures operated { IfOk result
+        (λ r. IsOperate keeps.old r.0 r.1.stands counts.new.items keeps.new) }
+    ensures shown { IfOk result (λ r. r.1.list ≡ counts.new.items) }
+    ensures refused { IfErr result (λ e. Operates keeps.old (Err e) counts.new.items keeps.new) }
+    ensures counts { SameCounts result counts.old.items counts.new.items }
 {
     let Some(mut desk) = system.try_desk() else {
         return Err(Fault::Again);
     };
+    desk.value.history_is_legal();
     match keeps.operate(&mut *desk.value, system.board(), system.row(), alloc) {
-        Ok((number, list, _receipt)) => {
+        Ok((number, list, receipt)) => {
             *counts = list;
-            Ok(number)
+            Ok((number, receipt))
         }
         Err(fault) => Err(Fault::Operate(fault)),
     }
@@ -162,29 +193,34 @@ pub(crate) fn close<'s, 'c, N: Name>(
     system: &'s SharedSystem<N>,
     keeps: &'c mut Steps<N>,
     number: Option<u64>,
-) -> Result<u64, Fault>
-    ensures { Closes number keeps.old result keeps.new }
+) -> Result<(u64, Closing<N>), Fault>
+    ensures closed { IfOk result (λ r. IsClose number keeps.old r.0 r.1.stands keeps.new) }
+    ensures refused { IfErr result (λ e. Closes number keeps.old (Err e) keeps.new) }
 {
     let Some(mut desk) = system.try_desk() else {
         return Err(Fault::Again);
     };
+    desk.value.history_is_legal();
     match keeps.close(&mut *desk.value, number) {
-        Ok((number, _receipt)) => Ok(number),
+        Ok((number, receipt)) => Ok((number, receipt)),
         Err(fault) => Err(Fault::Close(fault)),
     }
 }
 
-/// Weighs a code, and frees it where no activation stands: 0 then, or how many stand.
-pub(crate) fn weigh<N: Name>(system: &SharedSystem<N>, serial: u64) -> Result<u64, Fault>
-    ensures { Weighs N N.board.places serial result }
+/// Weighs a code, and frees it where no activation stands.
+pub(crate) fn weigh<N: Name>(system: &SharedSystem<N>, serial: u64) -> Result<Reclaimed<N>, Fault>
+    ensures weighed { IfOk result (IsWeighed N.board.places serial) }
+    ensures refused { IfErr result (λ e. Weighs N N.board.places serial (Err e)) }
 {
     let Some(mut desk) = system.try_desk() else {
         return Err(Fault::Again);
     };
+    desk.value.history_is_legal();
+    if let Some(_why) = desk.value.weigh_fault(serial) {
+        return Err(Fault::NotWeighed);
+    }
     match weigh_code(&mut *desk.value, system.board(), serial, system.places()) {
-        Some(Reclaimed::Freed(_receipt)) => Ok(0),
-        Some(Reclaimed::Used(count, _weighing)) => Ok(count),
-        Some(Reclaimed::Late(place, _weighing)) => Err(Fault::Late(place)),
-        None => Err(Fault::NotWeighed),
+        Some(reclaimed) => Ok(reclaimed),
+        None => Err(Fault::Again),
     }
 }

@@ -1,14 +1,15 @@
 //! The steps of a thread that take a lock: each tries one, that of its room or the desk's.
-ghost use Rattle.std.specs.Prelude.{◌≡◌, ◌≢◌, ◌<◌, true, IfOk, IfErr};
+ghost use Rattle.std.specs.Prelude.{◌≡◌, ◌≢◌, ◌<◌, true, Ok, Err, IfOk, IfErr, IfSome};
 ghost use Rattle.desk.specs.declared.entries.Entry.{Entry};
-ghost use Rattle.thread_list.specs.Moves.{SameThread, IsResumed};
-ghost use Rattle.parties.specs.Asked.{WasEntered};
-ghost use Rattle.parties.specs.Acted.{number_of, StartFails, IntoNative, OutOfNative, Blocks, Unblocks, Next, Serves, StaysOn};
+ghost use Rattle.thread_list.specs.Moves.{SameThread};
+ghost use Rattle.parties.specs.Asked.{IsEntry, IsStart};
+ghost use Rattle.parties.specs.Acted.{number_of, StartFails, IntoNative, OutOfNative, Blocks, Unblocks, Next, Serves, IsEnded, Started, GivesUp, StaysOn};
 
 use crate::acts::Fault;
 use crate::system::SharedSystem;
-use berths::{BodyAct, BodyReceipt};
+use berths::BodyReceipt;
 use bodies::Name;
+use desk::{Finished, Receipt};
 use thread_list::Poll;
 use thread_steps::{Entered, ExitFault, Stepper};
 
@@ -98,7 +99,7 @@ pub(crate) fn stop_next<'s, 'r, N: Name>(
     system: &'s SharedSystem<N>,
     runner: &'r mut Stepper<N>,
 ) -> Result<u64, Fault>
-    ensures said { Next runner.old result runner.new }
+    ensures said { Next N runner.old result runner.new }
     ensures same { SameThread runner.old runner.new }
 {
     let Some(mut room) = system.try_room(runner.place()) else {
@@ -114,15 +115,16 @@ pub(crate) fn stop_next<'s, 'r, N: Name>(
 pub(crate) fn stop_serve<'s, 'r, N: Name>(
     system: &'s SharedSystem<N>,
     runner: &'r mut Stepper<N>,
-) -> Result<u64, Fault>
-    ensures said { Serves runner.old result runner.new }
+) -> Result<(u64, Finished<N>), Fault>
+    ensures ended { IfOk result (λ r. IsEnded runner.old r.0 r.1 runner.new) }
+    ensures refused { IfErr result (λ e. Serves runner.old (Err e) runner.new) }
     ensures same { SameThread runner.old runner.new }
 {
     let Some(mut desk) = system.try_desk() else {
         return Err(Fault::Again);
     };
     match runner.stop_serve(&mut *desk.value, system.row()) {
-        Ok(Some((poll, _finished))) => Ok(number_of(poll)),
+        Ok(Some((poll, finished))) => Ok((number_of(poll), finished)),
         Ok(None) => Err(Fault::Again),
         Err(_state) => Err(Fault::Illegal),
     }
@@ -132,17 +134,17 @@ pub(crate) fn stop_serve<'s, 'r, N: Name>(
 pub(crate) fn enter_start<N: Name>(
     system: &SharedSystem<N>,
     has_image: bool,
-) -> Result<(u64, usize), Fault>
-    ensures entered { IfOk result
-        (λ r. (0 < r.0) × (r.1 < N.board.places) × (has_image ≡ true)
-        × WasEntered (Entry.Start r.0 r.1)) }
+) -> Result<(u64, usize, Receipt<N>), Fault>
+    ensures named { IfOk result (λ r. (0 < r.0) × (r.1 < N.board.places) × (has_image ≡ true)) }
+    ensures entered { IfOk result (λ r. IsStart r.0 r.1 r.2) }
     ensures refused { IfErr result (StartFails N.board.places) }
 {
     let Some(mut desk) = system.try_desk() else {
         return Err(Fault::Again);
     };
+    desk.value.history_is_legal();
     match desk.value.start(has_image) {
-        Ok((name, place, _receipt)) => Ok((name, place)),
+        Ok((name, place, receipt)) => Ok((name, place, receipt)),
         Err(fault) => Err(Fault::Start(fault)),
     }
 }
@@ -151,8 +153,7 @@ pub(crate) fn move_in<N: Name>(
     system: &SharedSystem<N>,
     entered: Entered<N>,
 ) -> Result<Stepper<N>, Entered<N>>
-    ensures started { IfOk result
-        (λ r. (r.name ≡ entered.name) × (r.place ≡ entered.place) × IsResumed r) }
+    ensures started { IfOk result (Started entered (Ok entered.name)) }
     ensures handed_back { IfErr result (λ e. e ≡ entered) }
 {
     let Some(mut room) = system.try_room(entered.place()) else {
@@ -166,7 +167,7 @@ pub(crate) fn vacate<N: Name>(
     system: &SharedSystem<N>,
     runner: Stepper<N>,
 ) -> Result<BodyReceipt<N>, (Result<u64, Fault>, Stepper<N>)>
-    ensures vacated { IfOk result (λ r. (r.act ≡ BodyAct.Vacated) × (r.body.name ≡ runner.name)) }
+    ensures vacated { IfOk result (GivesUp runner) }
     ensures refused { IfErr result (λ e. StaysOn runner e.0 e.1) }
 {
     let Some(mut room) = system.try_room(runner.place()) else {
@@ -186,12 +187,14 @@ pub(crate) fn vacate<N: Name>(
     }
 }
 
-/// Whether the Exit of the name was entered.
-pub(crate) fn enter_exit<N: Name>(system: &SharedSystem<N>, name: u64) -> bool
-    ensures { result ≡ true → WasEntered (Entry.Exit name) }
+/// Enters the Exit of the name. None where that isn't entered.
+pub(crate) fn enter_exit<N: Name>(system: &SharedSystem<N>, name: u64) -> Option<Receipt<N>>
+    ensures { IfSome result (IsEntry (Entry.Exit name)) }
 {
-    let Some(mut desk) = system.try_desk() else {
-        return false;
-    };
-    desk.value.exit(name).is_ok()
+    let mut desk = system.try_desk()?;
+    desk.value.history_is_legal();
+    match desk.value.exit(name) {
+        Ok(receipt) => Some(receipt),
+        Err(_) => None,
+    }
 }

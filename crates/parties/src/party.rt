@@ -1,6 +1,6 @@
 //! A party to a running system: one that only shares it, a thread, or the coordinator.
 ghost use Rattle.std.specs.Prelude.{◌≡◌, IfOk};
-ghost use Rattle.parties.specs.Acted.{Acts};
+ghost use Rattle.parties.specs.Acted.{Acts, party_as};
 
 use crate::acts::{Act, Fault};
 use crate::system::SharedSystem;
@@ -30,7 +30,7 @@ pub enum Role<N: Name> {
     Coordinates(Steps<N>),
 }
 
-/// A party, with what it shares. Contracts see what it is.
+/// A party, with what it shares. Contracts see what it is, the names of its next request, what its last census counted, and the job in hand.
 #[derive(Drop)]
 pub struct Party<N: Name> {
     pub(crate) system: Arc<SharedSystem<N>>,
@@ -46,12 +46,16 @@ pub struct Party<N: Name> {
 
 impl<N: Name> Model for Party<N> {
     ghost use Rattle.std.specs.Prelude.{◌≡◌};
-    ghost use Rattle.parties.specs.declared.party.Role.{Role};
-    ghost use Rattle.parties.specs.Acted.{IsRole};
+    ghost use Rattle.parties.specs.Acted.{PartySeen, IsRole};
 
-    ghost Value = { Role N };
+    ghost Value = { PartySeen N };
 
-    ghost view = { λ p. p.role };
+    ghost view = { λ p. record {
+      role = p.role;
+      names = p.names.items;
+      counts = p.counts.items;
+      hand = p.hand;
+    } };
 
     ghost invariant = { λ p. IsRole p.role };
 }
@@ -59,7 +63,7 @@ impl<N: Name> Model for Party<N> {
 impl<N: Name> Party<N> {
     /// A party that only shares the system.
     pub fn new(alloc: Global, system: Arc<SharedSystem<N>>) -> Party<N>
-        ensures { result ≡ Role.Shares }
+        ensures { result ≡ party_as Role.Shares }
     {
         Party {
             system,
@@ -73,7 +77,7 @@ impl<N: Name> Party<N> {
 
     /// The coordinator.
     pub fn coordinator(alloc: Global, system: Arc<SharedSystem<N>>, steps: Steps<N>) -> Party<N>
-        ensures { result ≡ Role.Coordinates steps }
+        ensures { result ≡ party_as (Role.Coordinates steps) }
     {
         Party {
             system,
@@ -92,7 +96,7 @@ impl<N: Name> Party<N> {
 
     /// Another one, of the same system.
     pub fn fork(&self) -> Result<Party<N>, AllocError>
-        ensures { IfOk result (λ p. p ≡ Role.Shares) }
+        ensures { IfOk result (λ p. p ≡ party_as Role.Shares) }
     {
         let _ = &self.role;
         let system = Arc::try_clone(&self.system)?;

@@ -24,7 +24,8 @@ impl<N: Name> Party<N> {
         ensures { Acts N.board.places self.old (Act.Submit ask) result self.new }
     {
         let _ = &self.role;
-        asking::submit(&self.system, self.alloc, &mut self.names, ask)
+        let (number, _receipt) = asking::submit(&self.system, self.alloc, &mut self.names, ask)?;
+        Ok(number)
     }
 
     /// The first step of reclaiming a code: a round, and a handshake of the targets that were named waits, where there are any: its number.
@@ -32,7 +33,13 @@ impl<N: Name> Party<N> {
         ensures { Acts N.board.places self.old (Act.Reclaim serial) result self.new }
     {
         let _ = &self.role;
-        asking::reclaim(&self.system, self.alloc, &mut self.names, serial)
+        let (number, _receipt) = asking::reclaim(
+            &self.system,
+            self.alloc,
+            &mut self.names,
+            serial,
+        )?;
+        Ok(number)
     }
 
     /// Installs a code for the method: its serial.
@@ -40,7 +47,8 @@ impl<N: Name> Party<N> {
         ensures { Acts N.board.places self.old (Act.Install method) result self.new }
     {
         let _ = &self.role;
-        asking::install(&self.system, method)
+        let (serial, _receipt) = asking::install(&self.system, method)?;
+        Ok(serial)
     }
 
     /// No thread enters the code of the serial any more.
@@ -48,7 +56,8 @@ impl<N: Name> Party<N> {
         ensures { Acts N.board.places self.old (Act.Invalidate serial) result self.new }
     {
         let _ = &self.role;
-        asking::invalidate(&self.system, serial)
+        let _receipt = asking::invalidate(&self.system, serial)?;
+        Ok(0)
     }
 
     /// The reply of a name in an operation.

@@ -4,7 +4,9 @@ ghost use Rattle.parties.specs.Acted.{Acts};
 
 use crate::acts::{Act, Fault};
 use crate::coordinating;
+use crate::pairs::first_of;
 use crate::party::{Party, Role};
+use crate::weighed::told_of;
 use bodies::Name;
 
 impl<N: Name> Party<N> {
@@ -15,7 +17,8 @@ impl<N: Name> Party<N> {
         let Role::Coordinates(_) = &self.role else {
             return Err(Fault::NotThis);
         };
-        coordinating::open(&self.system)
+        let (number, _receipt) = coordinating::open(&self.system)?;
+        Ok(number)
     }
 
     /// Tells a name: the number that its place is armed with, 0 where the name is gone.
@@ -25,7 +28,10 @@ impl<N: Name> Party<N> {
         let Role::Coordinates(keeps) = &mut self.role else {
             return Err(Fault::NotThis);
         };
-        coordinating::tell(&self.system, keeps, name, &mut self.hand)
+        match coordinating::tell(&self.system, keeps, name, &mut self.hand)? {
+            Some((number, _receipt)) => Ok(number),
+            None => Ok(0),
+        }
     }
 
     /// Holds the thread of a place: the number of the oldest operation that it owes.
@@ -35,7 +41,8 @@ impl<N: Name> Party<N> {
         let Role::Coordinates(keeps) = &mut self.role else {
             return Err(Fault::NotThis);
         };
-        coordinating::hold(&self.system, keeps, place)
+        let (number, _receipt) = coordinating::hold(&self.system, keeps, place)?;
+        Ok(number)
     }
 
     /// Serves the held thread of a place: the number of the operation.
@@ -45,7 +52,8 @@ impl<N: Name> Party<N> {
         let Role::Coordinates(keeps) = &mut self.role else {
             return Err(Fault::NotThis);
         };
-        coordinating::serve(&self.system, keeps, place)
+        let (number, _finished) = coordinating::serve(&self.system, keeps, place)?;
+        Ok(number)
     }
 
     /// Lets the held thread of a place go.
@@ -55,7 +63,8 @@ impl<N: Name> Party<N> {
         let Role::Coordinates(keeps) = &mut self.role else {
             return Err(Fault::NotThis);
         };
-        coordinating::release(&self.system, keeps, place)
+        let _receipt = coordinating::release(&self.system, keeps, place)?;
+        Ok(0)
     }
 
     /// Operates the open census over the held threads: its number.
@@ -65,7 +74,13 @@ impl<N: Name> Party<N> {
         let Role::Coordinates(keeps) = &mut self.role else {
             return Err(Fault::NotThis);
         };
-        coordinating::operate(&self.system, keeps, self.alloc, &mut self.counts)
+        let (number, _receipt) = coordinating::operate(
+            &self.system,
+            keeps,
+            self.alloc,
+            &mut self.counts,
+        )?;
+        Ok(number)
     }
 
     /// Closes the open request of the number, or without one the oldest: its number.
@@ -75,7 +90,8 @@ impl<N: Name> Party<N> {
         let Role::Coordinates(keeps) = &mut self.role else {
             return Err(Fault::NotThis);
         };
-        coordinating::close(&self.system, keeps, number)
+        let (number, _receipt) = coordinating::close(&self.system, keeps, number)?;
+        Ok(number)
     }
 
     /// Weighs a code, and frees it where no activation stands: 0 then, or how many stand.
@@ -85,7 +101,8 @@ impl<N: Name> Party<N> {
         let Role::Coordinates(_) = &self.role else {
             return Err(Fault::NotThis);
         };
-        coordinating::weigh(&self.system, serial)
+        let reclaimed = coordinating::weigh(&self.system, serial)?;
+        told_of(reclaimed)
     }
 
     /// How many frames the code of the serial had in the census that was operated last.
@@ -93,11 +110,9 @@ impl<N: Name> Party<N> {
         ensures { Acts N.board.places self.old (Act.Counted serial) result self.new }
     {
         let _ = &self.role;
-        for count in self.counts.as_slice() {
-            if count.0 == serial {
-                return Ok(count.1 as u64);
-            }
+        match first_of(self.counts.as_slice(), serial) {
+            Some(count) => Ok(count as u64),
+            None => Ok(0),
         }
-        Ok(0)
     }
 }

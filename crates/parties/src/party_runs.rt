@@ -1,8 +1,7 @@
 //! What a thread does.
 ghost use Rattle.std.specs.Prelude.{◌≡◌, ◌≢◌, Ok, Err, IfOk, IfErr};
-ghost use Rattle.desk.specs.declared.entries.Entry.{Entry};
-ghost use Rattle.parties.specs.Asked.{WasEntered};
-ghost use Rattle.parties.specs.Acted.{Acts, StartFails, code_of};
+ghost use Rattle.parties.specs.Asked.{WasStarted};
+ghost use Rattle.parties.specs.Acted.{Acts, GivesUp, StartFails, code_of};
 
 use crate::acts::{Act, Fault};
 use crate::crossing::{self, number_of};
@@ -209,7 +208,8 @@ impl<N: Name> Party<N> {
         let Role::Runs(runner) = &mut self.role else {
             return Err(Fault::NotThis);
         };
-        crossing::stop_serve(&self.system, runner)
+        let (number, _finished) = crossing::stop_serve(&self.system, runner)?;
+        Ok(number)
     }
 
     /// The party becomes a thread in the least vacant place: its name.
@@ -229,20 +229,21 @@ impl<N: Name> Party<N> {
     }
 
     fn enter_start(&mut self) -> Result<(), Fault>
-        requires { self.old ≡ Role.Shares }
+        requires { self.old.role ≡ Role.Shares }
         ensures ok { IfOk result
-            (λ _. (e : _) × (self.new ≡ Role.Starts e) × WasEntered (Entry.Start e.name e.place)) }
+            (λ _. (e : _) × (self.new ≡ record self.old { role = Role.Starts e })
+            × WasStarted e.name e.place) }
         ensures err { IfErr result (λ e. (self.new ≡ self.old) × StartFails N.board.places e) }
     {
         let image = Image::new(self.alloc);
-        let (name, place) = crossing::enter_start(&self.system, image.is_ok())?;
+        let (name, place, _receipt) = crossing::enter_start(&self.system, image.is_ok())?;
         let Ok(image) = image else { unreachable!() };
         self.role = Role::Starts(Entered::new(name, place, self.system.methods(), image));
         Ok(())
     }
 
     fn move_in(&mut self) -> Result<u64, Fault>
-        requires { (e : _) × (self.old ≡ Role.Starts e) }
+        requires { (e : _) × (self.old.role ≡ Role.Starts e) }
         ensures { Acts N.board.places self.old Act.Start result self.new }
     {
         let Role::Starts(entered) = mem::replace(&mut self.role, Role::Gone) else {
@@ -265,20 +266,23 @@ impl<N: Name> Party<N> {
     pub fn exit(&mut self) -> Result<u64, Fault>
         ensures { Acts N.board.places self.old Act.Exit result self.new }
     {
-        if let Role::Runs(_) = &self.role {
-            let said = self.vacate()?;
-            if said != 0 {
-                return Ok(said);
+        match &self.role {
+            Role::Runs(_) => match self.vacate()? {
+                0 => self.enter_exit(),
+                told => Ok(told),
+            },
+            Role::Leaves(_) => self.enter_exit(),
+            Role::Shares | Role::Starts(_) | Role::Gone | Role::Coordinates(_) => {
+                Err(Fault::NotThis)
             }
         }
-        self.enter_exit()
     }
 
     fn vacate(&mut self) -> Result<u64, Fault>
-        requires { (r : _) × (self.old ≡ Role.Runs r) }
+        requires { (r : _) × (self.old.role ≡ Role.Runs r) }
         ensures ok { IfOk result
-            (λ n. n ≡ 0 → (m : _) × (r : _) × (self.old ≡ Role.Runs r) × (self.new ≡ Role.Leaves m)
-            × (m.body.name ≡ r.name)) }
+            (λ n. n ≡ 0 → (m : _) × (r : _) × (self.old.role ≡ Role.Runs r)
+            × (self.new ≡ record self.old { role = Role.Leaves m }) × GivesUp r m) }
         ensures told { IfOk result
             (λ n. n ≢ 0 → Acts N.board.places self.old Act.Exit (Ok n) self.new) }
         ensures err { IfErr result (λ e. Acts N.board.places self.old Act.Exit (Err e) self.new) }
@@ -299,17 +303,16 @@ impl<N: Name> Party<N> {
     }
 
     fn enter_exit(&mut self) -> Result<u64, Fault>
+        requires { (m : _) × (self.old.role ≡ Role.Leaves m) }
         ensures { Acts N.board.places self.old Act.Exit result self.new }
     {
-        let name = match &self.role {
-            Role::Leaves(vacated) => vacated.name(),
-            Role::Shares | Role::Starts(_) | Role::Runs(_) | Role::Gone | Role::Coordinates(_) => {
-                return Err(Fault::NotThis);
-            }
+        let Role::Leaves(vacated) = &self.role else {
+            unreachable!()
         };
-        if !crossing::enter_exit(&self.system, name) {
+        let name = vacated.name();
+        let Some(_receipt) = crossing::enter_exit(&self.system, name) else {
             return Err(Fault::Again);
-        }
+        };
         self.role = Role::Gone;
         Ok(0)
     }

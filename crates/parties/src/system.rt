@@ -1,6 +1,7 @@
 //! What the parties share.
 ghost use Rattle.std.specs.Prelude.{◌≡◌, ◌<◌, IfOk, IfSome, length};
 ghost use Rattle.poll.specs.Rows.{full_armer};
+ghost use Rattle.thread_list.specs.Sharing.{places_in};
 
 use berths::Room;
 use board::Board;
@@ -10,23 +11,54 @@ use frames::CodeId;
 use operations::job::Query;
 use poll::{Armer, PollRow};
 use std::alloc::{AllocError, Global};
+use std::collections::VecDeque;
 use std::marker::Model;
+use std::snapshot::Snapshot;
 use thread_list::{Hints, Parts, Pieces};
 use tried_lock::{Guard, TriedLock};
 
-/// The words, the desk under a lock, and a room for each place, each under a lock of its own. Contracts see how many methods there
+/// A room under a lock of its own. Contracts see of which place it is.
+#[derive(Drop)]
+struct LockedRoom<N: Name> {
+    place: Snapshot<usize>,
+    lock: TriedLock<Box<Room<N, Query>>>,
+}
+
+impl<N: Name> Model for LockedRoom<N> {
+    ghost use Rattle.std.specs.Prelude.{ℕ};
+
+    ghost Value = { ℕ };
+
+    ghost view = { λ r. r.place.value };
+}
+
+impl<N: Name> LockedRoom<N> {
+    fn of(alloc: Global, room: Room<N, Query>) -> Result<LockedRoom<N>, AllocError>
+        ensures { IfOk result (λ r. r ≡ room.place) }
+    {
+        let place = room.place();
+        let boxed = Box::new(alloc, room)?;
+        Ok(LockedRoom {
+            place: Snapshot::of(&place),
+            lock: TriedLock::new(alloc, boxed)?,
+        })
+    }
+}
+
+/// The words, the desk under a lock, and a room for each place in order, each under a lock of its own. Contracts see how many methods there
 /// are.
 #[derive(Drop)]
 pub struct SharedSystem<N: Name> {
     board: Board,
     row: PollRow,
-    rooms: Vec<TriedLock<Box<Room<N, Query>>>>,
+    rooms: Vec<LockedRoom<N>>,
     desk: TriedLock<Box<Desk<N, Query>>>,
     hints: Hints,
 }
 
 impl<N: Name> Model for SharedSystem<N> {
     ghost use Rattle.std.specs.Prelude.{◌≡◌, length};
+    ghost use Rattle.thread_list.specs.Sharing.{AreInOrder};
     ghost use Rattle.parties.specs.Systems.{SystemSeen};
 
     ghost Value = { SystemSeen };
@@ -34,24 +66,24 @@ impl<N: Name> Model for SharedSystem<N> {
     ghost view = { λ s. record { methods = s.hints.methods } };
 
     ghost invariant = { λ s. (s.board ≡ N.board) × (s.row ≡ N.poll_row)
-        × (length s.rooms.items ≡ N.board.places) × (s.hints.slots ≡ N.board.slots) };
+        × (length s.rooms.items ≡ N.board.places) × AreInOrder s.rooms.items
+        × (s.hints.slots ≡ N.board.slots) };
 }
 
-// A lock round each room.
+// A lock round each room, in order.
 fn locked_rooms<N: Name>(
     alloc: Global,
     rooms: Vec<Room<N, Query>>,
-) -> Result<Vec<TriedLock<Box<Room<N, Query>>>>, AllocError>
-    ensures { IfOk result (λ locks. length locks.items ≡ length rooms.items) }
+) -> Result<Vec<LockedRoom<N>>, AllocError>
+    ensures count { IfOk result (λ locks. length locks.items ≡ length rooms.items) }
+    ensures order { IfOk result (λ locks. locks.items ≡ places_in rooms.items) }
 {
     let mut locks = Vec::with_capacity(alloc, rooms.len())?;
-    let mut rooms = rooms;
-    while let Some(room) = rooms.pop() {
-        let boxed = Box::new(alloc, room)?;
-        let lock = TriedLock::new(alloc, boxed)?;
-        locks.push(lock).map_err(|_| AllocError)?;
+    let mut rooms = VecDeque::from_vec(rooms);
+    while let Some(room) = rooms.pop_front() {
+        let locked = LockedRoom::of(alloc, room)?;
+        locks.push(locked).map_err(|_| AllocError)?;
     }
-    locks.reverse();
     Ok(locks)
 }
 
@@ -141,6 +173,6 @@ impl<N: Name> SharedSystem<N> {
     pub fn try_room(&self, place: usize) -> Option<Guard<'_, Box<Room<N, Query>>>>
         requires { place < N.board.places }
     {
-        self.rooms[place].try_lock()
+        self.rooms[place].lock.try_lock()
     }
 }

@@ -3,6 +3,7 @@ ghost use Rattle.std.specs.Prelude.{◌≡◌, ℕ, OnOk, OnErr, IfOk, Option, S
 ghost use Rattle.board.specs.Boards.{BoardId};
 ghost use Rattle.poll.specs.Rows.{RowId};
 ghost use Rattle.held_threads.specs.Holding.{held_nothing};
+ghost use Rattle.parties.specs.Acted.{party_as};
 ghost use Rattle.safepoint.specs.Held.{Seen, held_owns, board_coded, row_coded, held_coded};
 ghost use Rattle.safepoint.specs.Told.{Obeys, Answers, Forks, Arises, Begins, IsBegun, IsFresh};
 
@@ -57,7 +58,7 @@ fn fork_box<N: Name>(party: &Party<N>) -> (Loose<Party<N>, Global>, bool)
 }
 
 fn boxed<N: Name>(alloc: Global, party: Party<N>) -> (Loose<Party<N>, Global>, bool)
-    requires { party ≡ Role.Shares }
+    requires { party ≡ party_as Role.Shares }
     ensures { Arises result.0.value result.1 }
 {
     match Box::new(alloc, party) {

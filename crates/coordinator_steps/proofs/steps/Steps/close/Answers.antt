@@ -1,4 +1,4 @@
-use Rattle.std.proofs.Common.{◌≡◌, ◌∙◌, refl, ap, subst}
+use Rattle.std.proofs.Common.{◌∙◌, refl, ap, subst}
 use Rattle.desk.specs.Fields.{at}
 use Rattle.desk.specs.Refusals.{close_refused}
 use Rattle.held_threads.specs.Holding.{Holding}

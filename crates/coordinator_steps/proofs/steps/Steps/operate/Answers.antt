@@ -1,4 +1,4 @@
-use Rattle.std.proofs.Common.{◌≡◌, subst}
+use Rattle.std.proofs.Common.{subst}
 use Rattle.bodies.specs.Bodies.{IsPublished}
 use Rattle.thread_list.specs.Moves.{IsCleared}
 use Rattle.held_threads.specs.Held.{AreEach}

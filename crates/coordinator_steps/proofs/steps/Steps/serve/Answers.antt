@@ -34,3 +34,6 @@ returns-clause-left g c =
     (subst (λ bs. slice_get bs c.in-Some.index ≡ Some stands.0) held stands.1.0, stands.1.1)
     (subst (λ bs. slice_get bs c.in-Some.index ≡ Some did.0) held did.2)
     (search rules) did.4) c.serve_lent.result c.serve_lent.ensures.left
+
+pub returns-clause-entered : goal.returns-clause-entered
+returns-clause-entered g c = each_ok (λ r did. (_, did.5)) c.serve_lent.result c.serve_lent.ensures.served

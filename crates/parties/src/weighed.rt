@@ -1,0 +1,18 @@
+//! What a party is told of a code that was weighed.
+ghost use Rattle.std.specs.Prelude.{◌≡◌};
+ghost use Rattle.parties.specs.Weighed.{told_of};
+
+use crate::acts::Fault;
+use bodies::Name;
+use coordinator_steps::Reclaimed;
+
+/// 0 where the code was freed, or how many activations stand, or which place is late.
+pub(crate) fn told_of<N: Name>(reclaimed: Reclaimed<N>) -> Result<u64, Fault>
+    ensures { result ≡ told_of reclaimed }
+{
+    match reclaimed {
+        Reclaimed::Freed(_receipt) => Ok(0),
+        Reclaimed::Used(count, _weighing) => Ok(count),
+        Reclaimed::Late(place, _weighing) => Err(Fault::Late(place)),
+    }
+}
