@@ -30,6 +30,7 @@ impl<N: Name> Steps<N> {
     ) -> Result<(u64, Vec<(u64, u32)>, Operating<N>), OperateFault>
         requires board { board.now ≡ N.board }
         requires row { row.now ≡ N.poll_row }
+
         ensures operated { IfOk result
             (λ r. Enters desk.old desk.new (Entry.Operate r.0) r.2.stands) }
         ensures shown { IfOk result (λ r. r.2.list ≡ r.1.items) }
@@ -38,6 +39,7 @@ impl<N: Name> Steps<N> {
         ensures held { IfOk result (λ r. AreEach (IsOperated r.0) self.old.held self.new.held) }
         ensures others { OnOk result ((self.new.armer ≡ self.old.armer)
             × (self.new.operated ≡ true)) }
+
         ensures refused { IfErr result
             (λ e. census_refused (at desk.old) self.old.held e × (self.new ≡ self.old)
             × (desk.new ≡ desk.old)) }

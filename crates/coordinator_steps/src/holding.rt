@@ -164,6 +164,7 @@ impl<N: Name> Steps<N> {
     ) -> Result<Result<(u64, Finished<N>), Unserved>, ServeFault>
         requires board { board.now ≡ N.board }
         requires row { row.now ≡ N.poll_row }
+
         ensures served { IfOk result
             (λ r. IfOk r (λ f. ServesBy (In (at desk.old)) self.old self.new place f.0 f.1)) }
         ensures entered { IfOk result
@@ -179,6 +180,7 @@ impl<N: Name> Steps<N> {
         ensures unserved { IfOk result
             (λ r. IfErr r
             (λ e. IsUnserved (at desk.old) self.old place room.old e × (desk.new ≡ desk.old))) }
+
         ensures refused { IfErr result
             (λ e. serve_refused_by (In (at desk.old)) self.old N.board.places place e
             × (self.new ≡ self.old) × (desk.new ≡ desk.old) × (room.new ≡ room.old)) }

@@ -98,6 +98,7 @@ impl<N: Name> Steps<N> {
         requires place { untold.now.target.place < N.board.places }
         requires later { slice_index self.old.armer.armed untold.now.target.place <
             untold.now.number }
+
         ensures armed { OnSome result (self.new.armer
             ≡ armed_with self.old.armer untold.now.target.place untold.now.number) }
         ensures receipt { IfSome result
@@ -106,6 +107,7 @@ impl<N: Name> Steps<N> {
             (told_act untold.now.target.kind untold.now.number)) }
         ensures there { OnSome result
             (PutsIn untold.now.target.kind untold.now.number untold.now.name room.old room.new) }
+
         ensures refused { IfNone result ((self.new ≡ self.old) × (room.new ≡ room.old)) }
         ensures why { IfNone result
             (IsNotPut J.number J.whom untold.now.target.kind untold.now.number untold.now.name

@@ -47,6 +47,7 @@ pub(crate) fn tell<'s, 'c, 'h, N: Name>(
         (λ r. KeepsHand ⟦<Query as Errand>⟧.number ⟦<Query as Errand>⟧.whom name (Ok r.0) hand.old
         hand.new)) }
     ensures hand_stays { IfOk result (λ o. IfNone o (hand.new ≡ hand.old)) }
+
     ensures hand_kept { IfErr result
         (λ e. KeepsHand ⟦<Query as Errand>⟧.number ⟦<Query as Errand>⟧.whom name (Err e) hand.old
         hand.new) }

@@ -242,6 +242,7 @@ impl Place {
     /// Puts another party to the same system into the other place.
     pub(crate) fn fork(&mut self, alloc: Global, other: &mut Place) -> Result<u64, Fault>
         requires { is_some other.old.handle.value ≡ false }
+
         ensures kept { self.new.handle.value ≡ self.old.handle.value }
         ensures zero { IfOk result (λ n. n ≡ 0) }
         ensures fresh { OnOk result (IsFresh other.new.handle.value) }
