@@ -1,0 +1,177 @@
+//! Runs threads at random beside a coordinator, and prints what each called as a log for `witness`: `recorded THREADS ROUNDS SEED`.
+//! Without these words it makes a short run and prints `ok`. `tests/witness.py` runs it.
+//! Read `run` first, then `player.rt` (a thread) and `driver.rt` (the coordinator).
+#![tactic(auto)]
+
+ghost use Rattle.std.specs.Prelude.{◌≡◌};
+ghost use Rattle.poll.specs.Rows.{full_armer};
+
+mod driver;
+mod player;
+
+use bodies::Name;
+use coordinator::Coordinator;
+use driver::Driver;
+use operations::job::{Errand, Query};
+use player::{Choices, play};
+use poll::Armer;
+use recorder::{RecordedJob, Recorder, Stream, write};
+use std::alloc::Global;
+use std::env;
+use std::marker::Brand;
+use std::process::ExitCode;
+use std::sync::Wait;
+use std::sync::atomic::AtomicU64;
+use std::thread::{self, JoinHandle, Scope, Threads};
+use thread_list::{Parts, Shared};
+
+// Few slots, so that they are used again.
+const SLOTS: usize = 7;
+
+const METHODS: usize = 4;
+
+#[derive(Clone, Copy, Drop)]
+struct Plan {
+    threads: u64,
+    rounds: u64,
+    seed: u64,
+}
+
+/// The status is 1 where there is no log.
+fn main(rt: HostRuntime) -> ExitCode {
+    let words = read_words(&rt, rt.alloc());
+    let plan = words.unwrap_or(Plan {
+        threads: 3,
+        rounds: 6,
+        seed: 1,
+    });
+    let recorder = Recorder::new(rt.alloc());
+    let Ok(parts) = Parts::new(rt.alloc(), plan.threads as usize, SLOTS, METHODS) else {
+        return ExitCode::FAILURE;
+    };
+    let Some(log) = run::<Brand, HostRuntime>(&rt, rt.alloc(), plan, parts, &recorder) else {
+        return ExitCode::FAILURE;
+    };
+    let _ = match std::str::from_utf8(log.as_slice()) {
+        Ok(text) if words.is_some() => print!(rt; "{text}"),
+        _ => println!(rt; "ok"),
+    };
+    ExitCode::SUCCESS
+}
+
+fn read_words(rt: &HostRuntime, alloc: Global) -> Option<Plan> {
+    let words: Vec<String> = env::args(rt).ok()?.collect(alloc).ok()?;
+    let [_, threads, rounds, seed] = words.as_slice() else {
+        return None;
+    };
+    Some(Plan {
+        threads: threads.as_str().parse().ok()?,
+        rounds: rounds.as_str().parse().ok()?,
+        seed: seed.as_str().parse().ok()?,
+    })
+}
+
+// Runs a thread for each place of a system that is made of the parts, and the coordinator beside them. Answers the log.
+fn run<N: Name + Send, R: Threads + Wait + Sync>(
+    rt: &R,
+    alloc: Global,
+    plan: Plan,
+    parts: Parts,
+    recorder: &Recorder,
+) -> Option<Vec<u8>>
+    requires tables { (parts.board ≡ N.board) × (parts.row ≡ N.poll_row) }
+{
+    let Ok((shared, armer)) = Shared::<N, RecordedJob<'_, Query, R>>::new(alloc, parts) else {
+        return None;
+    };
+    let allowed = AtomicU64::new(0);
+    let streams = run_over(rt, alloc, plan, &shared, &allowed, recorder, armer)?;
+    let sizes = (plan.threads, SLOTS as u64, METHODS as u64);
+    write(alloc, sizes, streams.as_slice()).ok()
+}
+
+fn run_over<'a, 'j: 'a, N: Name + Send, R: Threads + Wait + Sync>(
+    rt: &'j R,
+    alloc: Global,
+    plan: Plan,
+    shared: &'a Shared<N, RecordedJob<'j, Query, R>>,
+    allowed: &'a AtomicU64,
+    recorder: &'j Recorder,
+    armer: Armer,
+) -> Option<Vec<Stream<'a>>>
+    requires armer { armer ≡ full_armer N.poll_row N.board.places }
+{
+    let Ok(coordinator) = Coordinator::new(shared, armer, alloc) else {
+        return None;
+    };
+    let driver = Driver {
+        rt,
+        alloc,
+        shared,
+        recorder,
+        coordinator,
+        choices: Choices::new(plan.seed),
+        stream: recorder.stream(alloc),
+        last: 0,
+    };
+    thread::scope(
+        thread::scope_env(),
+        rt,
+        move |scope| run_in(scope, rt, plan, shared, allowed, recorder, driver),
+    )
+}
+
+// The run in a scope. Answers what all called.
+fn run_in<'s, 'a: 's, 'j: 'a, N: Name + Send, R: Threads + Wait + Sync, E>(
+    scope: &Scope<'s, E>,
+    rt: &'j R,
+    plan: Plan,
+    shared: &'a Shared<N, RecordedJob<'j, Query, R>>,
+    allowed: &'a AtomicU64,
+    recorder: &'j Recorder,
+    driver: Driver<'a, 'j, N, R>,
+) -> Option<Vec<Stream<'a>>> {
+    let mut driver = driver;
+    let alloc = driver.alloc;
+    let handles = start_all(scope, rt, alloc, plan, shared, allowed, recorder);
+    driver.work(plan.rounds, allowed);
+    let mut streams = join_all(rt, alloc, handles)?;
+    match streams.push(driver.stream) {
+        Ok(()) => Some(streams),
+        Err(_) => None,
+    }
+}
+
+fn start_all<'s, 'a: 's, N: Name + Send, J: Errand + Send, R: Threads + Wait + Sync, E>(
+    scope: &Scope<'s, E>,
+    rt: &'a R,
+    alloc: Global,
+    plan: Plan,
+    shared: &'a Shared<N, J>,
+    allowed: &'a AtomicU64,
+    recorder: &'a Recorder,
+) -> Vec<JoinHandle<Stream<'a>>> {
+    let mut handles = Vec::new(alloc);
+    for place in 0..plan.threads {
+        let seed = plan.seed.wrapping_mul(1009).wrapping_add(place);
+        if let Ok(handle) = scope.spawn(move || play(rt, alloc, shared, allowed, recorder, seed)) {
+            let _ = handles.push(handle);
+        }
+    }
+    handles
+}
+
+// What the threads called.
+fn join_all<'a, R: Threads>(
+    rt: &R,
+    alloc: Global,
+    handles: Vec<JoinHandle<Stream<'a>>>,
+) -> Option<Vec<Stream<'a>>> {
+    let mut streams = Vec::new(alloc);
+    let mut all = true;
+    for handle in handles {
+        let stream = handle.join(rt);
+        all = streams.push(stream).is_ok() && all;
+    }
+    if all { Some(streams) } else { None }
+}

@@ -1,0 +1,2 @@
+mod Rise
+pub mod Crosses
