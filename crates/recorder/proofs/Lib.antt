@@ -1,2 +1,3 @@
 mod Rise
+mod Owned
 pub mod Crosses

@@ -28,20 +28,9 @@ use Rattle.held_threads.specs.declared.faults.ReleaseFault.{ReleaseFault}
 use Rattle.held_threads.specs.declared.faults.ServeFault.{ServeFault}
 use Rattle.held_threads.specs.declared.faults.Reclaimed.{Reclaimed}
 use Rattle.held_threads.specs.declared.faults.Reclaimed.TheVariants as is_reclaimed
-use Rattle.recorder.specs.declared.answers.Short.{Short}
+use Rattle.recorder.specs.declared.short.Short.{Short}
+use Rattle.recorder.specs.Short.{only, with_number, refused}
 use Rattle.recorder.specs.Faults as faults
-
--- A word alone.
-abbrev pub only : Word → Short
-only w = record { word = w; value = None }
-
--- A word with a number.
-abbrev pub with_number : Word → ℕ → Short
-with_number w n = record { word = w; value = Some n }
-
-abbrev pub refused : Option Word → Option Short
-refused None = None
-refused (Some w) = Some (only w)
 
 abbrev pub polled : Poll → Short
 polled poll.Go = only word.Go

@@ -1,5 +1,5 @@
 -- The jobs that ran in calls that haven't returned.
-use Rattle.std.specs.Prelude.{◌≡◌, ℕ, Bool, true, false, not, ◌&&◌, ◌==◌, List, [], ◌∷◌, if◌then◌else◌}
+use Rattle.std.specs.Prelude.{ℕ, Bool, not, ◌&&◌, ◌==◌, List, [], ◌∷◌, if◌then◌else◌}
 use Rattle.call_log.specs.declared.lists.Job.{Job}
 use Rattle.recorder.specs.declared.ran.RanJob.{RanJob}
 use Rattle.recorder.specs.declared.ran.Runner.{Runner}
@@ -22,7 +22,3 @@ taken runner (ran ∷ jobs) = if is_of runner ran then ran.job ∷ taken runner 
 abbrev pub left : Runner → List RanJob → List RanJob
 left runner [] = []
 left runner (ran ∷ jobs) = if is_of runner ran then left runner jobs else ran ∷ left runner jobs
-
--- The jobs that the runner ran of some that ran.
-abbrev pub Takes : Runner → List Job → Type 0
-Takes runner jobs = (all : List RanJob) × (jobs ≡ taken runner all)

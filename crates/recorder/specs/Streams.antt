@@ -1,15 +1,13 @@
 -- The calls of one thread of the machine.
-use Rattle.std.specs.Prelude.{◌≡◌, ◌⊎◌, ◌<◌, ℕ, Bool, true, false, not, ◌&&◌, nat_lt, nat_le, List, [], ◌∷◌, ◌++◌, Option, Some, None}
+use Rattle.std.specs.Prelude.{◌≡◌, ◌⊎◌, ◌<◌, ℕ, Bool, true, false, not, ◌&&◌, ◌==◌, nat_lt, nat_le, List, [], ◌∷◌, ◌++◌, Option, Some, None}
+use Rattle.std.specs.List.{flat_map}
 use Rattle.call_log.specs.declared.word.Word.{Word}
 use Rattle.call_log.specs.declared.word.Word.TheVariants as word
 use Rattle.call_log.specs.declared.lists.Job.{Job}
 use Rattle.call_log.specs.declared.entry.Entry.{Entry}
-use Rattle.recorder.specs.declared.answers.Short.{Short}
-use Rattle.recorder.specs.declared.ran.Runner.{Runner}
-use Rattle.recorder.specs.declared.ran.Runner.TheVariants.{Thread}
-use Rattle.recorder.specs.Ran.{Takes}
-use Rattle.std.specs.List.{flat_map}
 use Rattle.call_log.specs.Spelled.{calls_text}
+use Rattle.recorder.specs.declared.short.Short.{Short}
+use Rattle.recorder.specs.Short.{values}
 
 -- What contracts see of a stream: its number, the ticket after its last call, whether a call couldn't be noted, and the calls.
 pub record Streaming : Type 0 where
@@ -22,53 +20,65 @@ abbrev pub after_of : Option ℕ → ℕ
 after_of None = 0
 after_of (Some after) = after
 
--- Each call has returned, its tickets rise, and are greater than those before it; the first is greater than `from`, and none than `last`.
+-- The tickets of the jobs rise from above the one on, and are less than the other, which is greater than the one.
+abbrev pub jobs_rise : ℕ → List Job → ℕ → Bool
+jobs_rise above [] end = nat_lt above end
+jobs_rise above (job ∷ jobs) end = nat_lt above job.ticket && jobs_rise job.ticket jobs end
+
+-- Each call has returned, and its tickets rise, with those of its jobs between them; the first is greater than `from`, and none than `last`.
 abbrev pub rise : ℕ → List Entry → ℕ → Bool
 rise from [] last = nat_le from last
-rise from (e ∷ es) last = nat_lt from e.before && (nat_lt e.before (after_of e.after) && rise (after_of e.after) es last)
+rise from (e ∷ es) last = nat_lt from e.before && (jobs_rise e.before e.jobs (after_of e.after) && rise (after_of e.after) es last)
 
 abbrev pub logged : ℕ → ℕ → ℕ → Word → List ℕ → Word → List ℕ → List Job → Entry
-logged stream before after call args answer values jobs = record {
+logged stream before after called args answer values jobs = record {
   stream = stream;
   before = before;
   after = Some after;
-  call = call;
+  call = called;
   args = args;
   answer = Some answer;
   values = values;
   jobs = jobs;
 }
 
--- One entry more, with two new tickets.
+-- One entry more, with two new tickets, between which those of its jobs rise.
 abbrev pub IsAdded : Streaming → Streaming → Word → List ℕ → Word → List ℕ → List Job → Type 0
-IsAdded old new call args answer values jobs =
-    (before : ℕ) × (after : ℕ) × (old.last < before) × (before < after)
-    × (new ≡ record old { last = after; calls = old.calls ++ logged old.number before after call args answer values jobs ∷ [] })
+IsAdded old new called args answer values jobs =
+    (before : ℕ) × (after : ℕ) × (old.last < before) × (jobs_rise before jobs after ≡ true)
+    × (new ≡ record old { last = after; calls = old.calls ++ logged old.number before after called args answer values jobs ∷ [] })
+
+-- The stream is as it was, but it says that a call couldn't be noted.
+abbrev pub IsLost : Streaming → Streaming → Type 0
+IsLost old new = new ≡ record old { lost = true }
 
 -- The entry is added, or the stream is lost.
 abbrev pub Adds : Streaming → Streaming → Word → List ℕ → Word → List ℕ → List Job → Type 0
-Adds old new call args answer values jobs =
-    (new ≡ record old { lost = true }) ⊎ IsAdded old new call args answer values jobs
-
-abbrev pub numbers_of : Option ℕ → List ℕ
-numbers_of None = []
-numbers_of (Some n) = n ∷ []
+Adds old new called args answer values jobs = IsLost old new ⊎ IsAdded old new called args answer values jobs
 
 -- A call without an answer of the core isn't noted.
-abbrev pub Notes : Streaming → Streaming → Word → List ℕ → Option Short → List Job → Type 0
-Notes old new called args None jobs = (new ≡ old) ⊎ (new ≡ record old { lost = true })
-Notes old new called args (Some said) jobs = Adds old new called args said.word (numbers_of said.value) jobs
+abbrev pub Notes : Streaming → Streaming → Word → List ℕ → Option Short → Type 0
+Notes old new called args None = (new ≡ old) ⊎ IsLost old new
+Notes old new called args (Some said) = Adds old new called args said.word (values said) []
 
--- A call in which the runner ran some jobs is noted with them, or the stream is lost.
-abbrev pub NotesServed : Streaming → Streaming → Word → List ℕ → Short → Runner → Type 0
-NotesServed old new call args said runner =
-    (new ≡ record old { lost = true }) ⊎ ((jobs : List Job) × Takes runner jobs × Notes old new call args (Some said) jobs)
+-- All are jobs of the thread of the name.
+abbrev pub are_of : ℕ → List Job → Bool
+are_of name [] = true
+are_of name (job ∷ jobs) = (job.name == name) && are_of name jobs
 
--- A start that answered this name and place, in which the thread ran some jobs on itself.
-abbrev pub NotesStart : Streaming → Streaming → ℕ → ℕ → Type 0
-NotesStart old new name place =
-    (new ≡ record old { lost = true })
-    ⊎ ((jobs : List Job) × Takes (Thread name) jobs × Adds old new word.Start [] word.Thread (name ∷ place ∷ []) jobs)
+-- The entry is added with some jobs of the thread of the name, or the stream is lost.
+abbrev pub AddsOwn : Streaming → Streaming → Word → List ℕ → Word → List ℕ → ℕ → Type 0
+AddsOwn old new called args answer values name =
+    IsLost old new ⊎ ((jobs : List Job) × (are_of name jobs ≡ true) × IsAdded old new called args answer values jobs)
+
+-- The entry is added with some jobs, or the stream is lost.
+abbrev pub AddsRun : Streaming → Streaming → Word → List ℕ → Word → List ℕ → Type 0
+AddsRun old new called args answer values = IsLost old new ⊎ ((jobs : List Job) × IsAdded old new called args answer values jobs)
+
+-- The same of an answer with one number at most; a call without an answer of the core isn't noted.
+abbrev pub NotesRun : Streaming → Streaming → Word → List ℕ → Option Short → Type 0
+NotesRun old new called args None = (new ≡ old) ⊎ IsLost old new
+NotesRun old new called args (Some said) = AddsRun old new called args said.word (values said)
 
 -- No stream is lost.
 abbrev pub are_whole : List Streaming → Bool

@@ -1,12 +1,14 @@
 //! Answers as words of a log. Where a call has no answer that the core gives, there is none: the history is full, or memory was refused.
 ghost use Rattle.std.specs.Prelude.{◌≡◌};
 ghost use Rattle.recorder.specs.Answers as answers;
+ghost use Rattle.recorder.specs.Short as short;
 
 use crate::faults::{
     ask_fault, call_fault, close_fault, exit_fault, hold_fault, install_fault, invalidate_fault,
     open_fault, operate_fault, reclaim_fault, release_fault, return_fault, serve_fault,
     start_fault, tell_fault,
 };
+use crate::short::{Short, only, with};
 use bodies::{Called, Name};
 use call_log::word::Word;
 use desk::{CloseFault, Closing, CodeFault, NotReclaimed, OpenFault, Receipt, Refused, StartFault};
@@ -15,30 +17,6 @@ use method_table::table::InvalidateFault;
 use operations::job::Errand;
 use thread_list::{CallFault, ExitFault, Exited, Mutator, Poll, ReturnFault, Turn};
 use thread_state::State;
-
-/// An answer with one number at most.
-#[derive(Clone, Copy, Debug, PartialEq, Eq, Drop)]
-pub struct Short {
-    pub word: Word,
-    pub value: Option<u64>,
-}
-
-/// The word alone.
-pub fn only(word: Word) -> Short
-    ensures { result ≡ answers.only word }
-{
-    Short { word, value: None }
-}
-
-/// The word with a number.
-pub fn with(word: Word, value: u64) -> Short
-    ensures { result ≡ answers.with_number word value }
-{
-    Short {
-        word,
-        value: Some(value),
-    }
-}
 
 pub fn polled(poll: Poll) -> Short
     ensures { result ≡ answers.polled poll }
@@ -51,7 +29,7 @@ pub fn polled(poll: Poll) -> Short
 
 /// A word for a refusal, where there is one.
 fn refused(word: Option<Word>) -> Option<Short>
-    ensures { result ≡ answers.refused word }
+    ensures { result ≡ short.refused word }
 {
     match word {
         None => None,

@@ -1,5 +1,5 @@
 //! What any thread asks of what all share, noted in its stream.
-ghost use Rattle.std.specs.Prelude.{◌≡◌, ◌∷◌, [], ℕ, Some, IfOk, IfErr};
+ghost use Rattle.std.specs.Prelude.{◌≡◌, ◌∷◌, [], ℕ, Some, IfOk, IfErr, OnErr};
 ghost use Rattle.desk.specs.declared.entries.Entry.{Entry};
 ghost use Rattle.desk.specs.Machine.{State as DeskState, Book};
 ghost use Rattle.desk.specs.JobsFit.{jobs_fit};
@@ -35,7 +35,7 @@ impl<'a> Stream<'a> {
         jobs: Vec<J>,
     ) -> Result<(u64, Receipt<N>), Refused<J>>
         ensures noted { Notes self.old self.new (calls.submit_word request)
-            (calls.request_numbers request) (answers.asks result) [] }
+            (calls.request_numbers request) (answers.asks result) }
         ensures asked { IfOk result (λ r. r.1.entry ≡ Entry.Ask r.0 request) }
         ensures refused { IfErr result (λ e. (s : DeskState) × (book : Book)
             × ask_refused s request (jobs_fit J.whom J.asks request jobs.items) book e.fault) }
@@ -60,7 +60,7 @@ impl<'a> Stream<'a> {
         method: u32,
     ) -> Result<(u64, Receipt<N>), CodeFault>
         ensures noted { Notes self.old self.new Word.Install (method ∷ [])
-            (answers.installs result) [] }
+            (answers.installs result) }
         ensures installed { IfOk result (λ r. (slot : ℕ)
             × (r.1.entry ≡ Entry.Install (record { slot = slot; serial = r.0 }) method)) }
         ensures refused { IfErr result (λ e. (s : DeskState) × (book : Book)
@@ -80,7 +80,7 @@ impl<'a> Stream<'a> {
         serial: u64,
     ) -> Result<Receipt<N>, InvalidateFault>
         ensures noted { Notes self.old self.new Word.Invalidate (serial ∷ [])
-            (Some (answers.invalidates result)) [] }
+            (Some (answers.invalidates result)) }
         ensures invalidated { IfOk result (λ r. r.entry ≡ Entry.Invalidate serial) }
         ensures refused { IfErr result (λ e. (s : DeskState)
             × (invalidate_fault (unfreed s.table.codes serial) ≡ Some e)) }
@@ -103,6 +103,7 @@ impl<'a> Stream<'a> {
     ) -> Result<Vec<u64>, AllocError>
         ensures noted { IfOk result (λ names.
             Adds self.old self.new Word.Live [] Word.Names names.items []) }
+        ensures unnoted { OnErr result (self.new ≡ self.old) }
         ensures live { IfOk result (λ names. AreLive names.items) }
         ensures rising { IfOk result (λ names. AreRising 0 names.items) }
     {
@@ -127,6 +128,7 @@ impl<'a> Stream<'a> {
     ) -> Result<Vec<(u64, u64)>, AllocError>
         ensures noted { IfOk result (λ list. Adds self.old self.new Word.Replies (op ∷ [])
             Word.Replies (calls.pairs list.items) []) }
+        ensures unnoted { OnErr result (self.new ≡ self.old) }
         ensures replies { IfOk result (λ list. AreRepliesOf op list.items) }
     {
         let begun = self.begin();

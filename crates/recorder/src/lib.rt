@@ -11,6 +11,7 @@ mod faults;
 mod jobs;
 mod ran;
 mod recorder;
+mod short;
 mod starts;
 mod steps;
 mod stream;

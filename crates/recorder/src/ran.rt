@@ -1,6 +1,8 @@
 //! The jobs that ran in calls that haven't returned.
 ghost use Rattle.std.specs.Prelude.{◌≡◌, ◌⊎◌, ◌++◌, ◌∷◌, [], true, false, IfOk, IfSome, IfNone};
 ghost use Rattle.recorder.specs.Ran.{is_of, taken, left};
+ghost use Rattle.recorder.specs.Streams.{are_of};
+ghost use Rattle.recorder.specs.declared.ran.Runner.TheVariants.{Thread as IsThread};
 
 use call_log::lists::Job;
 use std::alloc::{AllocError, Global};
@@ -110,6 +112,17 @@ impl Ran {
                 None
             }
         }
+    }
+
+    /// Those that the thread of the name ran on itself.
+    #[tactic(auto, using(crate::proofs::Owned::taken_are_of))]
+    pub fn take_own(&mut self, name: u64) -> Option<Vec<Job>>
+        ensures taken { IfSome result (λ jobs. (jobs.items ≡ taken (IsThread name) self.old.jobs)
+            × (self.new ≡ record self.old { jobs = left (IsThread name) self.old.jobs })) }
+        ensures own { IfSome result (λ jobs. are_of name jobs.items ≡ true) }
+        ensures none { IfNone result (self.new ≡ record self.old { lost = true }) }
+    {
+        self.take(Runner::Thread(name))
     }
 
     fn parts(&self, runner: Runner) -> Result<(Vec<Job>, Vec<RanJob>), AllocError>

@@ -1,6 +1,6 @@
 //! What all streams of a run share.
-ghost use Rattle.std.specs.Prelude.{◌≡◌, [], false, IfSome};
-ghost use Rattle.recorder.specs.Ran.{taken, Takes};
+ghost use Rattle.std.specs.Prelude.{◌≡◌, [], true, false, IfSome};
+ghost use Rattle.recorder.specs.Streams.{are_of};
 
 use crate::ran::{Ran, RanJob, Runner};
 use crate::stream::Stream;
@@ -34,23 +34,25 @@ impl Recorder {
         Stream::new(self, number, alloc)
     }
 
-    /// The next ticket.
-    pub fn draw(&self) -> u64 {
-        let _ = &self.ran;
+    // The next ticket.
+    pub(crate) fn draw(&self) -> u64 {
         self.next.fetch_add(1, Ordering::SeqCst)
     }
 
-    /// A job ran.
-    pub fn note_job<R: Wait>(&self, rt: &R, ran: RanJob) {
-        let _ = &self.next;
+    // A job ran.
+    pub(crate) fn note_job<R: Wait>(&self, rt: &R, ran: RanJob) {
         self.ran.lock(rt).note(ran);
     }
 
-    /// The jobs that the runner ran and that are part of no entry yet, in their order. None where one was lost for want of memory.
-    pub fn take_jobs<R: Wait>(&self, rt: &R, runner: Runner) -> Option<Vec<Job>>
-        ensures { IfSome result (λ jobs. Takes runner jobs.items) }
-    {
-        let _ = &self.next;
+    // The jobs that the runner ran and that are part of no entry yet, in their order. None where one was lost for want of memory.
+    pub(crate) fn take_jobs<R: Wait>(&self, rt: &R, runner: Runner) -> Option<Vec<Job>> {
         self.ran.lock(rt).take(runner)
+    }
+
+    // Those that the thread of the name ran on itself.
+    pub(crate) fn take_own<R: Wait>(&self, rt: &R, name: u64) -> Option<Vec<Job>>
+        ensures { IfSome result (λ jobs. are_of name jobs.items ≡ true) }
+    {
+        self.ran.lock(rt).take_own(name)
     }
 }

@@ -4,18 +4,19 @@ ghost use Rattle.bodies.specs.Bodies.{BodyView};
 ghost use Rattle.bodies.specs.Census.{IsCensus};
 ghost use Rattle.desk.specs.declared.entries.Entry.{Entry};
 ghost use Rattle.desk.specs.Machine.{State as DeskState};
-ghost use Rattle.desk.specs.Refusals.{open_refused};
-ghost use Rattle.held_threads.specs.Held.{StandsAt, is_held};
+ghost use Rattle.desk.specs.Refusals.{open_refused, MayOperate};
+ghost use Rattle.held_threads.specs.Held.{StandsAt, AreEach, is_held};
+ghost use Rattle.held_threads.specs.Holding.{ArmsOn};
+ghost use Rattle.thread_list.specs.Moves.{IsOperated};
 ghost use Rattle.coordinator.specs.Receipts.{Releases};
 ghost use Rattle.coordinator.specs.Refused.{Serves};
 ghost use Rattle.held_threads.specs.Refused.{Holds, HasNoHeld, IsServeFault, MayClose, census_refused, hold_refused, not_closed, serve_refused, tell_said};
 ghost use Rattle.recorder.specs.Answers as answers;
 ghost use Rattle.recorder.specs.Calls.{pairs};
-ghost use Rattle.recorder.specs.Streams.{Adds, Notes, NotesServed};
+ghost use Rattle.recorder.specs.Streams.{Adds, Notes, NotesRun};
 
 use crate::answers::{closes, closes_of, holds, opens, operate_refusal, releases, serves, tells};
 use crate::calls::census_numbers;
-use crate::ran::Runner;
 use crate::stream::Stream;
 use berths::BodyReceipt;
 use bodies::Name;
@@ -33,7 +34,7 @@ impl<'a> Stream<'a> {
         by: &mut Coordinator<'_, N, J>,
         rt: &R,
     ) -> Result<(u64, Receipt<N>), OpenFault>
-        ensures noted { Notes self.old self.new Word.Open [] (Some (answers.opens result)) [] }
+        ensures noted { Notes self.old self.new Word.Open [] (Some (answers.opens result)) }
         ensures opened { IfOk result (λ r. r.1.entry ≡ Entry.Open r.0) }
         ensures refused { IfErr result (λ e. (s : DeskState) × open_refused s e) }
         ensures same { by.new ≡ by.old }
@@ -50,7 +51,7 @@ impl<'a> Stream<'a> {
         by: &mut Coordinator<'_, N, J>,
         rt: &R,
     ) -> Result<(u64, Closing<N>), CloseFault>
-        ensures noted { Notes self.old self.new Word.Close [] (Some (answers.closes result)) [] }
+        ensures noted { Notes self.old self.new Word.Close [] (Some (answers.closes result)) }
         ensures closed { IfOk result (λ r. (r.1.stands.entry ≡ Entry.Close r.0)
             × MayClose by.old None r.0) }
         ensures oldest { IfOk result (λ r. r.1.oldest ≡ r.0) }
@@ -71,7 +72,7 @@ impl<'a> Stream<'a> {
         number: u64,
     ) -> Result<Closing<N>, CloseFault>
         ensures noted { Notes self.old self.new Word.Close (number ∷ [])
-            (Some (answers.closes_of number result)) [] }
+            (Some (answers.closes_of number result)) }
         ensures closed { IfOk result (λ r. (r.stands.entry ≡ Entry.Close number)
             × MayClose by.old (Some number) number) }
         ensures same { OnOk result (by.new ≡ record by.old { operated = false }) }
@@ -96,9 +97,10 @@ impl<'a> Stream<'a> {
         name: u64,
     ) -> Result<Told<N>, TellFault>
         ensures noted { Notes self.old self.new Word.Tell (name ∷ [])
-            (Some (answers.tells result)) [] }
+            (Some (answers.tells result)) }
         ensures said { tell_said name by.old.armer by.new.armer result }
         ensures held { (by.new.held ≡ by.old.held) × (by.new.operated ≡ by.old.operated) }
+        ensures arms { ArmsOn by.old.armer by.new.armer }
     {
         let begun = self.begin();
         let said = by.tell(rt, name);
@@ -114,7 +116,7 @@ impl<'a> Stream<'a> {
         place: usize,
     ) -> Result<BodyReceipt<N>, HoldFault>
         ensures noted { Notes self.old self.new Word.Hold (place ∷ [])
-            (Some (answers.holds result)) [] }
+            (Some (answers.holds result)) }
         ensures held { IfOk result (Holds by.old by.new place) }
         ensures refused { IfErr result (λ e. hold_refused by.old N.board.places place e
             × (by.new ≡ by.old)) }
@@ -133,7 +135,7 @@ impl<'a> Stream<'a> {
         place: usize,
     ) -> Result<BodyReceipt<N>, ReleaseFault>
         ensures noted { Notes self.old self.new Word.Release (place ∷ [])
-            (Some (answers.releases result)) [] }
+            (Some (answers.releases result)) }
         ensures released { IfOk result (Releases by.old by.new place) }
         ensures refused { IfErr result (λ e. (is_held place by.old.held ≡ false)
             × HasNoHeld N.board.places place e × (by.new ≡ by.old)) }
@@ -155,8 +157,8 @@ impl<'a> Stream<'a> {
         rt: &R,
         place: usize,
     ) -> Result<Receipt<N>, ServeFault>
-        ensures noted { NotesServed self.old self.new Word.Serve (place ∷ [])
-            (answers.serves result) Runner.Coordinator }
+        ensures noted { NotesRun self.old self.new Word.Serve (place ∷ [])
+            (Some (answers.serves result)) }
         ensures served { IfOk result (λ r. (index : ℕ) × (body : BodyView)
             × StandsAt by.old.held index place body × IsServeFault by.old index place None
             × Serves J.number J.whom J.asks J.may_answer by.old by.new index r) }
@@ -165,13 +167,8 @@ impl<'a> Stream<'a> {
     {
         let begun = self.begin();
         let said = by.serve(rt, place);
-        match self.recorder.take_jobs(rt, Runner::Coordinator) {
-            Some(jobs) => {
-                let called = (Word::Serve, &[place as u64][..]);
-                self.note_served(begun, called, Some(serves(&said)), jobs)
-            }
-            None => self.lose(),
-        }
+        let called = (Word::Serve, &[place as u64][..]);
+        self.note_run_short(rt, begun, called, Some(serves(&said)));
         said
     }
 
@@ -184,12 +181,17 @@ impl<'a> Stream<'a> {
         ensures noted { IfOk result (λ r. Adds self.old self.new Word.Operate [] Word.Census
             (r.0 ∷ pairs r.1.items) []) }
         ensures refusal { IfErr result (λ e. Notes self.old self.new Word.Operate []
-            (answers.operate_refusal e) []) }
-        ensures operated { IfOk result (λ r. (r.2.stands.entry ≡ Entry.Operate r.0)
-            × (r.2.list ≡ r.1.items)) }
-        ensures counted { IfOk result (λ r. IsCensus by.old.held r.1.items) }
+            (answers.operate_refusal e)) }
+
+        ensures operated { IfOk result (λ r. r.2.stands.entry ≡ Entry.Operate r.0) }
+        ensures shown { IfOk result (λ r. r.2.list ≡ r.1.items) }
+        ensures all { OnOk result ((s : DeskState) × MayOperate s by.old.held) }
+        ensures counted { IfOk result (λ r. IsCensus by.new.held r.1.items) }
+        ensures before { IfOk result (λ r. IsCensus by.old.held r.1.items) }
+        ensures held { IfOk result (λ r. AreEach (IsOperated r.0) by.old.held by.new.held) }
         ensures others { OnOk result ((by.new.armer ≡ by.old.armer)
             × (by.new.operated ≡ true)) }
+
         ensures refused { IfErr result (λ e. (s : DeskState) × census_refused s by.old.held e
             × (by.new ≡ by.old)) }
     {

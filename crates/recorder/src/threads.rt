@@ -1,17 +1,18 @@
 //! What a thread calls while it runs, noted in its stream.
-ghost use Rattle.std.specs.Prelude.{◌≡◌, ◌≢◌, ◌<◌, ◌∷◌, [], true, Some, None, IfOk, OnOk, IfErr, IfSome};
+ghost use Rattle.std.specs.Prelude.{◌≡◌, ◌≢◌, ◌<◌, ◌∷◌, [], true, false, Some, None, IfOk, OnOk, IfErr, IfSome};
 ghost use Rattle.thread_state.specs.declared.Back.{Back as WayBack};
 ghost use Rattle.thread_state.specs.declared.State.TheVariants.{InJava as IsInJava, InVm as IsInVm, InNative as IsInNative, Blocked as IsBlocked, NativeTrans as IsNativeTrans, BlockedTrans as IsBlockedTrans};
 ghost use Rattle.thread_state.specs.declared.Move.TheVariants as movement;
 ghost use Rattle.thread_state.specs.States as table;
 ghost use Rattle.bodies.specs.Bodies.{BodyView, IsCalled, IsPublished};
-ghost use Rattle.thread_list.specs.Moves.{SameThread, Polls, Leaves, ComesBack, Gives, is_running};
+ghost use Rattle.thread_list.specs.Moves.{SameThread, Polls, Leaves, ComesBack, Gives, IsResumed, is_running};
 ghost use Rattle.thread_list.specs.Refused.{call_accepted, call_refused, return_refused};
 ghost use Rattle.recorder.specs.Answers as answers;
 ghost use Rattle.recorder.specs.Calls.{called_with};
 ghost use Rattle.recorder.specs.Streams.{Notes};
 
-use crate::answers::{Short, crosses, enters, leaves, moves};
+use crate::answers::{crosses, enters, leaves, moves};
+use crate::short::Short;
 use crate::stream::{Begun, Stream};
 use bodies::{Called, Name};
 use call_log::word::Word;
@@ -26,7 +27,7 @@ impl<'a> Stream<'a> {
     fn note_call(&mut self, begun: Begun, called: (u64, u32), hint: Option<CodeId>, said: Short)
         requires { IfSome begun.before (λ t. self.old.last < t) }
         ensures { Notes self.old self.new Word.Call (called_with called.0 called.1 hint)
-            (Some said) [] }
+            (Some said) }
     {
         let (place, method) = called;
         match hint {
@@ -47,7 +48,7 @@ impl<'a> Stream<'a> {
     ) -> Result<Called, CallFault>
         requires slot { IfSome hint (λ c. c.slot < N.board.slots) }
         ensures noted { Notes self.old self.new Word.Call
-            (called_with thread.old.place method hint) (Some (answers.enters result)) [] }
+            (called_with thread.old.place method hint) (Some (answers.enters result)) }
         ensures accepted { OnOk result (call_accepted thread.old method) }
         ensures step { IfOk result (λ said. (old : BodyView) × (new : BodyView)
             × (thread.old.body ≡ Some old) × (thread.new.body ≡ Some new)
@@ -71,7 +72,8 @@ impl<'a> Stream<'a> {
         thread: &mut Mutator<'_, N, J>,
     ) -> Result<Poll, ReturnFault>
         ensures noted { Notes self.old self.new Word.Ret (thread.old.place ∷ [])
-            (Some (answers.leaves result)) [] }
+            (Some (answers.leaves result)) }
+        ensures accepted { OnOk result (thread.old.state ≡ IsInJava) }
         ensures left { IfOk result (Leaves thread.old thread.new) }
         ensures same { SameThread thread.old thread.new }
         ensures err { IfErr result (λ e. (thread.new ≡ thread.old)
@@ -90,7 +92,7 @@ impl<'a> Stream<'a> {
         thread: &mut Mutator<'_, N, J>,
     ) -> Result<Poll, State>
         ensures noted { Notes self.old self.new Word.Edge (thread.old.place ∷ [])
-            (Some (answers.crosses result)) [] }
+            (Some (answers.crosses result)) }
         ensures ok { IfOk result (λ said. (thread.old.state ≡ IsInJava)
             × Polls thread.old thread.new IsInJava said) }
         ensures same { SameThread thread.old thread.new }
@@ -110,12 +112,13 @@ impl<'a> Stream<'a> {
         thread: &mut Mutator<'_, N, J>,
     ) -> Result<(), State>
         ensures noted { Notes self.old self.new Word.Publish (thread.old.place ∷ [])
-            (Some (answers.moves result)) [] }
+            (Some (answers.moves result)) }
         ensures published { OnOk result ((old : BodyView) × (new : BodyView)
             × (thread.old.body ≡ Some old) × (thread.new.body ≡ Some new) × IsPublished old new) }
+        ensures lawful { OnOk result (is_running thread.old.state ≡ true) }
         ensures state { thread.new.state ≡ thread.old.state }
         ensures same { SameThread thread.old thread.new }
-        ensures err { IfErr result (λ s. (s ≡ thread.old.state)
+        ensures err { IfErr result (λ s. (s ≡ thread.old.state) × (is_running s ≡ false)
             × (thread.new ≡ thread.old)) }
     {
         let place = thread.place() as u64;
@@ -128,7 +131,7 @@ impl<'a> Stream<'a> {
     /// From Java into the VM, as `Mutator::to_vm`.
     pub fn to_vm<N: Name, J: Errand>(&mut self, thread: &mut Mutator<'_, N, J>) -> Result<(), State>
         ensures noted { Notes self.old self.new Word.ToVm (thread.old.place ∷ [])
-            (Some (answers.moves result)) [] }
+            (Some (answers.moves result)) }
         ensures ok { OnOk result ((thread.old.state ≡ IsInJava)
             × (thread.new ≡ record thread.old { state = IsInVm })) }
         ensures err { IfErr result (λ s. (s ≡ thread.old.state) × (s ≢ IsInJava)
@@ -147,7 +150,7 @@ impl<'a> Stream<'a> {
         thread: &mut Mutator<'_, N, J>,
     ) -> Result<Poll, State>
         ensures noted { Notes self.old self.new Word.FromVm (thread.old.place ∷ [])
-            (Some (answers.crosses result)) [] }
+            (Some (answers.crosses result)) }
         ensures ok { IfOk result (λ said. (thread.old.state ≡ IsInVm)
             × Polls thread.old thread.new IsInVm said) }
         ensures same { SameThread thread.old thread.new }
@@ -168,7 +171,7 @@ impl<'a> Stream<'a> {
         rt: &R,
     ) -> Result<(), State>
         ensures noted { Notes self.old self.new Word.ToNative (thread.old.place ∷ [])
-            (Some (answers.moves result)) [] }
+            (Some (answers.moves result)) }
         ensures ok { OnOk result (table.step thread.old.state movement.ToNative
             ≡ Some thread.new.state) }
         ensures given { OnOk result (Gives thread.old thread.new) }
@@ -190,9 +193,10 @@ impl<'a> Stream<'a> {
         rt: &R,
     ) -> Result<Poll, State>
         ensures noted { Notes self.old self.new Word.FromNative (thread.old.place ∷ [])
-            (Some (answers.crosses result)) [] }
+            (Some (answers.crosses result)) }
         ensures ok { IfOk result (λ said. (back : WayBack) × (thread.old.state ≡ IsInNative back)
             × ComesBack thread.new.crossed.body thread.new (IsNativeTrans back) said) }
+        ensures resumed { OnOk result (IsResumed thread.new) }
         ensures same { SameThread thread.old thread.new }
         ensures err { IfErr result (λ s. (s ≡ thread.old.state) × ((back : WayBack)
             → s ≢ IsInNative back) × (thread.new ≡ thread.old)) }
@@ -211,7 +215,7 @@ impl<'a> Stream<'a> {
         rt: &R,
     ) -> Result<(), State>
         ensures noted { Notes self.old self.new Word.Block (thread.old.place ∷ [])
-            (Some (answers.moves result)) [] }
+            (Some (answers.moves result)) }
         ensures ok { OnOk result ((thread.old.state ≡ IsInVm) × (thread.new.state ≡ IsBlocked)) }
         ensures given { OnOk result (Gives thread.old thread.new) }
         ensures same { SameThread thread.old thread.new }
@@ -232,9 +236,10 @@ impl<'a> Stream<'a> {
         rt: &R,
     ) -> Result<Poll, State>
         ensures noted { Notes self.old self.new Word.Unblock (thread.old.place ∷ [])
-            (Some (answers.crosses result)) [] }
+            (Some (answers.crosses result)) }
         ensures ok { IfOk result (λ said. (thread.old.state ≡ IsBlocked)
             × ComesBack thread.new.crossed.body thread.new IsBlockedTrans said) }
+        ensures resumed { OnOk result (IsResumed thread.new) }
         ensures same { SameThread thread.old thread.new }
         ensures err { IfErr result (λ s. (s ≡ thread.old.state) × (s ≢ IsBlocked)
             × (thread.new ≡ thread.old)) }
