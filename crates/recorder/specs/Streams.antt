@@ -31,11 +31,11 @@ rise from [] last = nat_le from last
 rise from (e ∷ es) last = nat_lt from e.before && (jobs_rise e.before e.jobs (after_of e.after) && rise (after_of e.after) es last)
 
 abbrev pub logged : ℕ → ℕ → ℕ → Word → List ℕ → Word → List ℕ → List Job → Entry
-logged stream before after called args answer values jobs = record {
+logged stream before after what args answer values jobs = record {
   stream = stream;
   before = before;
   after = Some after;
-  call = called;
+  call = what;
   args = args;
   answer = Some answer;
   values = values;
@@ -44,9 +44,9 @@ logged stream before after called args answer values jobs = record {
 
 -- One entry more, with two new tickets, between which those of its jobs rise.
 abbrev pub IsAdded : Streaming → Streaming → Word → List ℕ → Word → List ℕ → List Job → Type 0
-IsAdded old new called args answer values jobs =
+IsAdded old new what args answer values jobs =
     (before : ℕ) × (after : ℕ) × (old.last < before) × (jobs_rise before jobs after ≡ true)
-    × (new ≡ record old { last = after; calls = old.calls ++ logged old.number before after called args answer values jobs ∷ [] })
+    × (new ≡ record old { last = after; calls = old.calls ++ logged old.number before after what args answer values jobs ∷ [] })
 
 -- The stream is as it was, but it says that a call couldn't be noted.
 abbrev pub IsLost : Streaming → Streaming → Type 0
@@ -54,12 +54,12 @@ IsLost old new = new ≡ record old { lost = true }
 
 -- The entry is added, or the stream is lost.
 abbrev pub Adds : Streaming → Streaming → Word → List ℕ → Word → List ℕ → List Job → Type 0
-Adds old new called args answer values jobs = IsLost old new ⊎ IsAdded old new called args answer values jobs
+Adds old new what args answer values jobs = IsLost old new ⊎ IsAdded old new what args answer values jobs
 
 -- A call without an answer of the core isn't noted.
 abbrev pub Notes : Streaming → Streaming → Word → List ℕ → Option Short → Type 0
-Notes old new called args None = (new ≡ old) ⊎ IsLost old new
-Notes old new called args (Some said) = Adds old new called args said.word (values said) []
+Notes old new what args None = (new ≡ old) ⊎ IsLost old new
+Notes old new what args (Some said) = Adds old new what args said.word (values said) []
 
 -- All are jobs of the thread of the name.
 abbrev pub are_of : ℕ → List Job → Bool
@@ -68,17 +68,17 @@ are_of name (job ∷ jobs) = (job.name == name) && are_of name jobs
 
 -- The entry is added with some jobs of the thread of the name, or the stream is lost.
 abbrev pub AddsOwn : Streaming → Streaming → Word → List ℕ → Word → List ℕ → ℕ → Type 0
-AddsOwn old new called args answer values name =
-    IsLost old new ⊎ ((jobs : List Job) × (are_of name jobs ≡ true) × IsAdded old new called args answer values jobs)
+AddsOwn old new what args answer values name =
+    IsLost old new ⊎ ((jobs : List Job) × (are_of name jobs ≡ true) × IsAdded old new what args answer values jobs)
 
 -- The entry is added with some jobs, or the stream is lost.
 abbrev pub AddsRun : Streaming → Streaming → Word → List ℕ → Word → List ℕ → Type 0
-AddsRun old new called args answer values = IsLost old new ⊎ ((jobs : List Job) × IsAdded old new called args answer values jobs)
+AddsRun old new what args answer values = IsLost old new ⊎ ((jobs : List Job) × IsAdded old new what args answer values jobs)
 
 -- The same of an answer with one number at most; a call without an answer of the core isn't noted.
 abbrev pub NotesRun : Streaming → Streaming → Word → List ℕ → Option Short → Type 0
-NotesRun old new called args None = (new ≡ old) ⊎ IsLost old new
-NotesRun old new called args (Some said) = AddsRun old new called args said.word (values said)
+NotesRun old new what args None = (new ≡ old) ⊎ IsLost old new
+NotesRun old new what args (Some said) = AddsRun old new what args said.word (values said)
 
 -- No stream is lost.
 abbrev pub are_whole : List Streaming → Bool
