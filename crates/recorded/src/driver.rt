@@ -58,9 +58,7 @@ impl<'a, 'j: 'a, N: Name, R: Wait> Driver<'a, 'j, N, R> {
         let _ = self.stream.reclaim(by, rt, serial, none);
         let _ = self.stream.invalidate(self.shared, rt, serial);
         if let Ok((jobs, _)) = self.some_jobs() {
-            let _ = self
-                .stream
-                .reclaim(&mut self.coordinator, rt, serial, jobs);
+            let _ = self.stream.reclaim(&mut self.coordinator, rt, serial, jobs);
         }
     }
 

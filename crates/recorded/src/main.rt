@@ -1,17 +1,19 @@
 //! Runs threads at random beside a coordinator, and prints what each called as a log for `witness`: `recorded THREADS ROUNDS SEED`.
-//! Without these words it makes a short run and prints `ok`. `tests/witness.py` runs it.
-//! Read `run` first, then `player.rt` (a thread) and `driver.rt` (the coordinator).
+//! Without these words it makes a short run, and then one by one thread of the machine, whose log it prints: `stdout` has it.
+//! `tests/witness.py` runs it with words. Read `run` first, then `player.rt` (a thread) and `driver.rt` (the coordinator).
 #![tactic(auto)]
 
 ghost use Rattle.std.specs.Prelude.{◌≡◌};
 ghost use Rattle.poll.specs.Rows.{full_armer};
 
 mod driver;
+mod fixed;
 mod player;
 
 use bodies::Name;
 use coordinator::Coordinator;
 use driver::Driver;
+use fixed::Sides;
 use operations::job::{Errand, Query};
 use player::{Choices, play};
 use poll::Armer;
@@ -37,26 +39,40 @@ struct Plan {
     seed: u64,
 }
 
+// Without words.
+const SHORT: Plan = Plan {
+    threads: 3,
+    rounds: 6,
+    seed: 1,
+};
+
 /// The status is 1 where there is no log.
 fn main(rt: HostRuntime) -> ExitCode {
-    let words = read_words(&rt, rt.alloc());
-    let plan = words.unwrap_or(Plan {
-        threads: 3,
-        rounds: 6,
-        seed: 1,
-    });
-    let recorder = Recorder::new(rt.alloc());
-    let Ok(parts) = Parts::new(rt.alloc(), plan.threads as usize, SLOTS, METHODS) else {
+    let log = match read_words(&rt, rt.alloc()) {
+        Some(plan) => random(&rt, rt.alloc(), plan),
+        None => random(&rt, rt.alloc(), SHORT).and_then(|_| by_one(&rt, rt.alloc())),
+    };
+    let Some(log) = log else {
         return ExitCode::FAILURE;
     };
-    let Some(log) = run::<Brand, HostRuntime>(&rt, rt.alloc(), plan, parts, &recorder) else {
-        return ExitCode::FAILURE;
-    };
-    let _ = match std::str::from_utf8(log.as_slice()) {
-        Ok(text) if words.is_some() => print!(rt; "{text}"),
-        _ => println!(rt; "ok"),
-    };
-    ExitCode::SUCCESS
+    match std::str::from_utf8(log.as_slice()) {
+        Ok(text) if print!(rt; "{text}").is_ok() => ExitCode::SUCCESS,
+        _ => ExitCode::FAILURE,
+    }
+}
+
+// The log of a run of threads at random.
+fn random<R: Threads + Wait + Sync>(rt: &R, alloc: Global, plan: Plan) -> Option<Vec<u8>> {
+    let recorder = Recorder::new(alloc);
+    let parts = Parts::new(alloc, plan.threads as usize, SLOTS, METHODS).ok()?;
+    run::<Brand, R>(rt, alloc, plan, parts, &recorder)
+}
+
+// The log of the run by one thread of the machine.
+fn by_one<R: Wait>(rt: &R, alloc: Global) -> Option<Vec<u8>> {
+    let recorder = Recorder::new(alloc);
+    let parts = Parts::new(alloc, 1, 2, 1).ok()?;
+    run_fixed::<Brand, R>(rt, alloc, parts, &recorder)
 }
 
 fn read_words(rt: &HostRuntime, alloc: Global) -> Option<Plan> {
@@ -69,6 +85,29 @@ fn read_words(rt: &HostRuntime, alloc: Global) -> Option<Plan> {
         rounds: rounds.as_str().parse().ok()?,
         seed: seed.as_str().parse().ok()?,
     })
+}
+
+// The run by one thread, of a system that is made of the parts.
+fn run_fixed<N: Name, R: Wait>(
+    rt: &R,
+    alloc: Global,
+    parts: Parts,
+    recorder: &Recorder,
+) -> Option<Vec<u8>>
+    requires tables { (parts.board ≡ N.board) × (parts.row ≡ N.poll_row) }
+{
+    let (shared, armer) = Shared::<N, RecordedJob<'_, Query, R>>::new(alloc, parts).ok()?;
+    let coordinator = Coordinator::new(&shared, armer, alloc).ok()?;
+    let sides = Sides {
+        rt,
+        alloc,
+        shared: &shared,
+        recorder,
+        coordinator,
+        thread: recorder.stream(alloc),
+        stream: recorder.stream(alloc),
+    };
+    sides.log()
 }
 
 // Runs a thread for each place of a system that is made of the parts, and the coordinator beside them. Answers the log.
