@@ -1,5 +1,5 @@
 -- The jobs that a thread ran on itself are its own.
-use Rattle.std.proofs.Common.{◌≡◌, ℕ, Bool, true, false, List, [], ◌∷◌, refl, arith}
+use Rattle.std.proofs.Common.{◌≡◌, ℕ, Bool, true, false, List, [], ◌∷◌, refl}
 use Rattle.std.specs.Prelude.{◌&&◌, ◌==◌, if◌then◌else◌}
 use Rattle.call_log.specs.declared.lists.Job.{Job}
 use Rattle.recorder.specs.declared.ran.RanJob.{RanJob}

@@ -1,6 +1,5 @@
 -- Answers as words of a log.
-use Rattle.std.specs.Prelude.{ℕ, is_some, Option, Some, None, Result, Ok, Err, if◌then◌else◌}
-use Rattle.call_log.specs.declared.word.Word.{Word}
+use Rattle.std.specs.Prelude.{ℕ, is_some, Option, Some, Result, Ok, Err, if◌then◌else◌}
 use Rattle.call_log.specs.declared.word.Word.TheVariants as word
 use Rattle.thread_state.specs.declared.State.{State}
 use Rattle.bodies.specs.declared.body.Called.{Called}

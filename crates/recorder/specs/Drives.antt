@@ -27,5 +27,5 @@ drive_refusal NoMemory = None
 
 -- A drive was refused: where memory was, a census may be open, of which no entry tells.
 abbrev pub NotesRefused : Streaming → Streaming → Word → DriveFault → Type 0
-NotesRefused old new called QueueEmpty = Notes old new called [] (drive_refusal QueueEmpty)
-NotesRefused old new called NoMemory = IsLost old new
+NotesRefused old new what QueueEmpty = Notes old new what [] (drive_refusal QueueEmpty)
+NotesRefused old new what NoMemory = IsLost old new

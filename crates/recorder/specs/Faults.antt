@@ -14,11 +14,9 @@ use Rattle.desk.specs.declared.faults.AskFault.{AskFault}
 use Rattle.desk.specs.declared.faults.AskFault.TheVariants as is_ask
 use Rattle.desk.specs.declared.faults.CodeFault.{CodeFault}
 use Rattle.desk.specs.declared.faults.CodeFault.TheVariants as is_code
-use Rattle.method_table.specs.declared.table.InstallFault.{InstallFault}
 use Rattle.method_table.specs.declared.table.InstallFault.TheVariants as is_install
 use Rattle.method_table.specs.declared.table.InvalidateFault.{InvalidateFault}
 use Rattle.method_table.specs.declared.table.InvalidateFault.TheVariants as is_invalidate
-use Rattle.method_table.specs.declared.table.RetireFault.{RetireFault}
 use Rattle.method_table.specs.declared.table.RetireFault.TheVariants as is_retire
 use Rattle.desk.specs.declared.faults.OpenFault.{OpenFault}
 use Rattle.desk.specs.declared.faults.OpenFault.TheVariants as is_open
@@ -34,7 +32,6 @@ use Rattle.held_threads.specs.declared.faults.ServeFault.{ServeFault}
 use Rattle.held_threads.specs.declared.faults.ServeFault.TheVariants as is_serve
 use Rattle.desk.specs.declared.faults.ReclaimFault.{ReclaimFault}
 use Rattle.desk.specs.declared.faults.ReclaimFault.TheVariants as is_reclaim
-use Rattle.desk.specs.declared.faults.OperateFault.{OperateFault}
 use Rattle.desk.specs.declared.faults.OperateFault.TheVariants as is_operate
 use Rattle.held_threads.specs.declared.faults.OperateFault.{OperateFault as CensusFault}
 use Rattle.held_threads.specs.declared.faults.OperateFault.TheVariants as is_census

@@ -1,5 +1,5 @@
 -- The jobs that ran in calls that haven't returned.
-use Rattle.std.specs.Prelude.{ℕ, Bool, not, ◌&&◌, ◌==◌, List, [], ◌∷◌, if◌then◌else◌}
+use Rattle.std.specs.Prelude.{Bool, not, ◌&&◌, ◌==◌, List, [], ◌∷◌, if◌then◌else◌}
 use Rattle.call_log.specs.declared.lists.Job.{Job}
 use Rattle.recorder.specs.declared.ran.RanJob.{RanJob}
 use Rattle.recorder.specs.declared.ran.Runner.{Runner}
