@@ -1,10 +1,11 @@
 //! The coordinator's part of a run: it asks the other threads at random, and replaces and reclaims codes.
+use crate::making::Makes;
 use crate::player::Choices;
 use bodies::Name;
 use coordinator::Coordinator;
-use operations::job::Query;
+use operations::job::{Errand, Query};
 use operations::{Ask, Request, Targets};
-use recorder::{RecordedJob, Recorder, Stream};
+use recorder::Stream;
 use std::alloc::{AllocError, Global};
 use std::sync::Wait;
 use std::sync::atomic::{AtomicU64, Ordering};
@@ -12,19 +13,19 @@ use thread_list::Shared;
 
 /// The coordinator, what it chose so far, and what it called.
 #[derive(Drop)]
-pub struct Driver<'a, 'j, N: Name, R: Wait> {
-    pub rt: &'j R,
+pub struct Driver<'c, 'x, 'a, N: Name, J: Errand, R: Wait, M: Makes<J>> {
+    pub rt: &'a R,
     pub alloc: Global,
-    pub shared: &'a Shared<N, RecordedJob<'j, Query, R>>,
-    pub recorder: &'j Recorder,
-    pub coordinator: Coordinator<'a, N, RecordedJob<'j, Query, R>>,
+    pub shared: &'a Shared<N, J>,
+    pub jobs: M,
+    pub coordinator: &'c mut Coordinator<'x, N, J>,
     pub choices: Choices,
     pub stream: Stream<'a>,
     /// The code that was installed last.
     pub last: u64,
 }
 
-impl<'a, 'j: 'a, N: Name, R: Wait> Driver<'a, 'j, N, R> {
+impl<'c, 'x, 'a, N: Name, J: Errand, R: Wait, M: Makes<J>> Driver<'c, 'x, 'a, N, J, R, M> {
     /// Makes so many rounds, in which each thread may make some acts; then the run is over.
     pub fn work(&mut self, rounds: u64, allowed: &AtomicU64) {
         for round in 0..rounds {
@@ -54,16 +55,18 @@ impl<'a, 'j: 'a, N: Name, R: Wait> Driver<'a, 'j, N, R> {
         }
         let serial = self.last.saturating_sub(self.choices.below(6));
         let none = Vec::new(self.alloc);
-        let by = &mut self.coordinator;
+        let by = &mut *self.coordinator;
         let _ = self.stream.reclaim(by, rt, serial, none);
         let _ = self.stream.invalidate(self.shared, rt, serial);
         if let Ok((jobs, _)) = self.some_jobs() {
-            let _ = self.stream.reclaim(&mut self.coordinator, rt, serial, jobs);
+            let _ = self
+                .stream
+                .reclaim(&mut *self.coordinator, rt, serial, jobs);
         }
     }
 
     // A job for each of most live threads, and a handshake of them.
-    fn some_jobs(&mut self) -> Result<(Vec<RecordedJob<'j, Query, R>>, Request), AllocError> {
+    fn some_jobs(&mut self) -> Result<(Vec<J>, Request), AllocError> {
         let names = self.stream.live(self.shared, self.rt)?;
         let ask = match self.choices.below(3) {
             0 => Ask::Depth,
@@ -74,7 +77,7 @@ impl<'a, 'j: 'a, N: Name, R: Wait> Driver<'a, 'j, N, R> {
         let mut targets = Vec::new(self.alloc);
         for name in &names {
             if self.choices.below(8) != 0 {
-                jobs.push(RecordedJob::new(self.recorder, self.rt, Query::new(*name, ask)))?;
+                jobs.push(self.jobs.job(Query::new(*name, ask)))?;
                 targets.push(*name)?;
             }
         }
@@ -100,14 +103,14 @@ impl<'a, 'j: 'a, N: Name, R: Wait> Driver<'a, 'j, N, R> {
     fn step_by_hand(&mut self) {
         let rt = self.rt;
         self.ask();
-        let _ = self.stream.open(&mut self.coordinator, rt);
-        let _ = self.stream.open(&mut self.coordinator, rt);
+        let _ = self.stream.open(&mut *self.coordinator, rt);
+        let _ = self.stream.open(&mut *self.coordinator, rt);
         let names = self.stream.live(self.shared, rt);
         for name in names.unwrap_or(Vec::new(self.alloc)) {
-            let _ = self.stream.tell(&mut self.coordinator, rt, name);
+            let _ = self.stream.tell(&mut *self.coordinator, rt, name);
         }
         self.choices.pause();
-        let by = &mut self.coordinator;
+        let by = &mut *self.coordinator;
         for place in 0..4 {
             if self.stream.hold(by, rt, place).is_ok() {
                 let _ = self.stream.serve(by, rt, place);
@@ -123,7 +126,7 @@ impl<'a, 'j: 'a, N: Name, R: Wait> Driver<'a, 'j, N, R> {
 
     // Works all that is open or waits to its Close: one alone, and then up to four at once.
     fn drive_all(&mut self) {
-        let (by, rt) = (&mut self.coordinator, self.rt);
+        let (by, rt) = (&mut *self.coordinator, self.rt);
         if let Ok((driven, _)) = self.stream.drive(by, rt) {
             let _ = self.stream.replies(self.shared, rt, driven.number());
         }

@@ -1,32 +1,33 @@
 //! A run by one thread of the machine, call by call: a thread of the system and a coordinator take turns, so its log is always the same.
+use crate::making::Makes;
 use bodies::Name;
 use coordinator::Coordinator;
-use operations::job::Query;
+use operations::job::{Errand, Query};
 use operations::{Ask, Request, Targets};
-use recorder::{RecordedJob, Recorder, Stream, write};
+use recorder::{Stream, write};
 use std::alloc::Global;
 use std::sync::Wait;
 use thread_list::{Mutator, Shared};
 
 /// Both sides of the run: what the thread called, and what the coordinator called.
 #[derive(Drop)]
-pub struct Sides<'a, 'j, N: Name, R: Wait> {
-    pub rt: &'j R,
+pub struct Sides<'a, N: Name, J: Errand, R: Wait, M: Makes<J>> {
+    pub rt: &'a R,
     pub alloc: Global,
-    pub shared: &'a Shared<N, RecordedJob<'j, Query, R>>,
-    pub recorder: &'j Recorder,
-    pub coordinator: Coordinator<'a, N, RecordedJob<'j, Query, R>>,
+    pub shared: &'a Shared<N, J>,
+    pub jobs: M,
+    pub coordinator: Coordinator<'a, N, J>,
     pub thread: Stream<'a>,
     pub stream: Stream<'a>,
 }
 
-impl<'a, 'j: 'a, N: Name, R: Wait> Sides<'a, 'j, N, R> {
+impl<'a, N: Name, J: Errand, R: Wait, M: Makes<J>> Sides<'a, N, J, R, M> {
     /// The whole run, of a system with one place, two slots and one method. Answers its log, None where memory was refused.
     pub fn log(self) -> Option<Vec<u8>> {
         let mut sides = self;
-        let (rt, alloc) = (sides.rt, sides.alloc);
-        sides.stream.install(sides.shared, rt, 0).ok()?;
-        let (mut thread, _) = sides.thread.start(sides.shared, rt, alloc).ok()?;
+        let (rt, alloc, shared) = (sides.rt, sides.alloc, sides.shared);
+        sides.stream.install(shared, rt, 0).ok()?;
+        let (mut thread, _) = sides.thread.start(shared, rt, alloc).ok()?;
         sides.enters(&mut thread);
         sides.is_away(&mut thread)?;
         sides.stops(&mut thread)?;
@@ -35,7 +36,7 @@ impl<'a, 'j: 'a, N: Name, R: Wait> Sides<'a, 'j, N, R> {
         sides.leaves(&mut thread);
         let _ = sides.thread.exit(thread, rt);
         sides.reclaims();
-        sides.stream.live(sides.shared, rt).ok()?;
+        sides.stream.live(shared, rt).ok()?;
 
         let mut streams = Vec::new(alloc);
         streams.push(sides.thread).ok()?;
@@ -44,7 +45,7 @@ impl<'a, 'j: 'a, N: Name, R: Wait> Sides<'a, 'j, N, R> {
     }
 
     // The thread enters the code, and a method that there isn't.
-    fn enters(&mut self, thread: &mut Mutator<'_, N, RecordedJob<'j, Query, R>>) {
+    fn enters(&mut self, thread: &mut Mutator<'_, N, J>) {
         let _ = self.thread.call(thread, 0, self.shared.hint(0));
         let _ = self.thread.call(thread, 0, None);
         let _ = self.thread.call(thread, 1, None);
@@ -54,7 +55,7 @@ impl<'a, 'j: 'a, N: Name, R: Wait> Sides<'a, 'j, N, R> {
 
     // A handshake of the thread waits from now on.
     fn ask(&mut self, ask: Ask) -> Option<()> {
-        let job = RecordedJob::new(self.recorder, self.rt, Query::new(1, ask));
+        let job = self.jobs.job(Query::new(1, ask));
         let mut jobs = Vec::new(self.alloc);
         jobs.push(job).ok()?;
         let targets = Targets::from_vec(Vec::from_slice(self.alloc, &[1]).ok()?);
@@ -64,7 +65,7 @@ impl<'a, 'j: 'a, N: Name, R: Wait> Sides<'a, 'j, N, R> {
     }
 
     // While the thread is in native code, the coordinator drives a handshake and a census, and works another handshake by hand.
-    fn is_away(&mut self, thread: &mut Mutator<'_, N, RecordedJob<'j, Query, R>>) -> Option<()> {
+    fn is_away(&mut self, thread: &mut Mutator<'_, N, J>) -> Option<()> {
         let rt = self.rt;
         let _ = self.thread.to_native(thread, rt);
         let none = Vec::new(self.alloc);
@@ -93,7 +94,7 @@ impl<'a, 'j: 'a, N: Name, R: Wait> Sides<'a, 'j, N, R> {
     }
 
     // The thread is told at its poll, and serves itself.
-    fn stops(&mut self, thread: &mut Mutator<'_, N, RecordedJob<'j, Query, R>>) -> Option<()> {
+    fn stops(&mut self, thread: &mut Mutator<'_, N, J>) -> Option<()> {
         self.ask(Ask::CountOf(1))?;
         let rt = self.rt;
         let _ = self.stream.open(&mut self.coordinator, rt);
@@ -108,7 +109,7 @@ impl<'a, 'j: 'a, N: Name, R: Wait> Sides<'a, 'j, N, R> {
     }
 
     // Into the VM and a wait, and back.
-    fn waits(&mut self, thread: &mut Mutator<'_, N, RecordedJob<'j, Query, R>>) {
+    fn waits(&mut self, thread: &mut Mutator<'_, N, J>) {
         let rt = self.rt;
         let _ = self.thread.to_vm(thread);
         let _ = self.thread.block(thread, rt);
@@ -118,7 +119,7 @@ impl<'a, 'j: 'a, N: Name, R: Wait> Sides<'a, 'j, N, R> {
     }
 
     // A code isn't reclaimed before the thread has published, and while it is used.
-    fn keeps(&mut self, thread: &mut Mutator<'_, N, RecordedJob<'j, Query, R>>) {
+    fn keeps(&mut self, thread: &mut Mutator<'_, N, J>) {
         let _ = self.stream.invalidate(self.shared, self.rt, 1);
         self.reclaims();
         let _ = self.thread.publish(thread);
@@ -132,7 +133,7 @@ impl<'a, 'j: 'a, N: Name, R: Wait> Sides<'a, 'j, N, R> {
     }
 
     // From all methods, and once more from an empty stack.
-    fn leaves(&mut self, thread: &mut Mutator<'_, N, RecordedJob<'j, Query, R>>) {
+    fn leaves(&mut self, thread: &mut Mutator<'_, N, J>) {
         for _ in 0..3 {
             let _ = self.thread.ret(thread);
         }

@@ -8,12 +8,14 @@ ghost use Rattle.poll.specs.Rows.{full_armer};
 
 mod driver;
 mod fixed;
+mod making;
 mod player;
 
 use bodies::Name;
 use coordinator::Coordinator;
 use driver::Driver;
 use fixed::Sides;
+use making::{Makes, Recording};
 use operations::job::{Errand, Query};
 use player::{Choices, play};
 use poll::Armer;
@@ -64,8 +66,9 @@ fn main(rt: HostRuntime) -> ExitCode {
 // The log of a run of threads at random.
 fn random<R: Threads + Wait + Sync>(rt: &R, alloc: Global, plan: Plan) -> Option<Vec<u8>> {
     let recorder = Recorder::new(alloc);
+    let allowed = AtomicU64::new(0);
     let parts = Parts::new(alloc, plan.threads as usize, SLOTS, METHODS).ok()?;
-    run::<Brand, R>(rt, alloc, plan, parts, &recorder)
+    run::<Brand, R>(rt, alloc, plan, parts, &allowed, &recorder)
 }
 
 // The log of the run by one thread of the machine.
@@ -96,13 +99,31 @@ fn run_fixed<N: Name, R: Wait>(
 ) -> Option<Vec<u8>>
     requires tables { (parts.board ≡ N.board) × (parts.row ≡ N.poll_row) }
 {
-    let (shared, armer) = Shared::<N, RecordedJob<'_, Query, R>>::new(alloc, parts).ok()?;
-    let coordinator = Coordinator::new(&shared, armer, alloc).ok()?;
+    let Ok((shared, armer)) = Shared::<N, RecordedJob<'_, Query, R>>::new(alloc, parts) else {
+        return None;
+    };
+    let jobs = Recording { rt, recorder };
+    run_sides(rt, alloc, &shared, armer, recorder, jobs)
+}
+
+fn run_sides<'a, N: Name, J: Errand, R: Wait, M: Makes<J>>(
+    rt: &'a R,
+    alloc: Global,
+    shared: &'a Shared<N, J>,
+    armer: Armer,
+    recorder: &'a Recorder,
+    jobs: M,
+) -> Option<Vec<u8>>
+    requires armer { armer ≡ full_armer N.poll_row N.board.places }
+{
+    let Ok(coordinator) = Coordinator::new(shared, armer, alloc) else {
+        return None;
+    };
     let sides = Sides {
         rt,
         alloc,
-        shared: &shared,
-        recorder,
+        shared,
+        jobs,
         coordinator,
         thread: recorder.stream(alloc),
         stream: recorder.stream(alloc),
@@ -116,6 +137,7 @@ fn run<N: Name + Send, R: Threads + Wait + Sync>(
     alloc: Global,
     plan: Plan,
     parts: Parts,
+    allowed: &AtomicU64,
     recorder: &Recorder,
 ) -> Option<Vec<u8>>
     requires tables { (parts.board ≡ N.board) × (parts.row ≡ N.poll_row) }
@@ -123,62 +145,94 @@ fn run<N: Name + Send, R: Threads + Wait + Sync>(
     let Ok((shared, armer)) = Shared::<N, RecordedJob<'_, Query, R>>::new(alloc, parts) else {
         return None;
     };
-    let allowed = AtomicU64::new(0);
-    let streams = run_over(rt, alloc, plan, &shared, &allowed, recorder, armer)?;
-    let sizes = (plan.threads, SLOTS as u64, METHODS as u64);
-    write(alloc, sizes, streams.as_slice()).ok()
+    let jobs = Recording { rt, recorder };
+    run_over(rt, alloc, plan, &shared, armer, allowed, recorder, jobs)
 }
 
-fn run_over<'a, 'j: 'a, N: Name + Send, R: Threads + Wait + Sync>(
-    rt: &'j R,
+fn run_over<'a, N: Name + Send, J: Errand + Send, R: Threads + Wait + Sync, M: Makes<J>>(
+    rt: &'a R,
     alloc: Global,
     plan: Plan,
-    shared: &'a Shared<N, RecordedJob<'j, Query, R>>,
-    allowed: &'a AtomicU64,
-    recorder: &'j Recorder,
+    shared: &'a Shared<N, J>,
     armer: Armer,
-) -> Option<Vec<Stream<'a>>>
+    allowed: &'a AtomicU64,
+    recorder: &'a Recorder,
+    jobs: M,
+) -> Option<Vec<u8>>
     requires armer { armer ≡ full_armer N.poll_row N.board.places }
 {
-    let Ok(coordinator) = Coordinator::new(shared, armer, alloc) else {
+    let Ok(mut coordinator) = Coordinator::new(shared, armer, alloc) else {
         return None;
     };
-    let driver = Driver {
+    run_threads(
+        rt,
+        alloc,
+        plan,
+        shared,
+        allowed,
+        recorder,
+        jobs,
+        &mut coordinator,
+    )
+}
+
+fn run_threads<'a, N: Name + Send, J: Errand + Send, R: Threads + Wait + Sync, M: Makes<J>>(
+    rt: &'a R,
+    alloc: Global,
+    plan: Plan,
+    shared: &'a Shared<N, J>,
+    allowed: &'a AtomicU64,
+    recorder: &'a Recorder,
+    jobs: M,
+    coordinator: &mut Coordinator<'_, N, J>,
+) -> Option<Vec<u8>> {
+    thread::scope(
+        thread::scope_env(),
+        rt,
+        move |scope| run_in(
+            scope,
+            rt,
+            alloc,
+            plan,
+            shared,
+            allowed,
+            recorder,
+            jobs,
+            coordinator,
+        ),
+    )
+}
+
+// The run in a scope. Answers the log of the threads' streams and the coordinator's.
+fn run_in<'s, 'a: 's, N: Name + Send, J: Errand + Send, R: Threads + Wait + Sync, M: Makes<J>, E>(
+    scope: &Scope<'s, E>,
+    rt: &'a R,
+    alloc: Global,
+    plan: Plan,
+    shared: &'a Shared<N, J>,
+    allowed: &'a AtomicU64,
+    recorder: &'a Recorder,
+    jobs: M,
+    coordinator: &mut Coordinator<'_, N, J>,
+) -> Option<Vec<u8>> {
+    let handles = start_all(scope, rt, alloc, plan, shared, allowed, recorder);
+    let mut driver = Driver {
         rt,
         alloc,
         shared,
-        recorder,
+        jobs,
         coordinator,
         choices: Choices::new(plan.seed),
         stream: recorder.stream(alloc),
         last: 0,
     };
-    thread::scope(
-        thread::scope_env(),
-        rt,
-        move |scope| run_in(scope, rt, plan, shared, allowed, recorder, driver),
-    )
-}
-
-// The run in a scope. Answers what all called.
-fn run_in<'s, 'a: 's, 'j: 'a, N: Name + Send, R: Threads + Wait + Sync, E>(
-    scope: &Scope<'s, E>,
-    rt: &'j R,
-    plan: Plan,
-    shared: &'a Shared<N, RecordedJob<'j, Query, R>>,
-    allowed: &'a AtomicU64,
-    recorder: &'j Recorder,
-    driver: Driver<'a, 'j, N, R>,
-) -> Option<Vec<Stream<'a>>> {
-    let mut driver = driver;
-    let alloc = driver.alloc;
-    let handles = start_all(scope, rt, alloc, plan, shared, allowed, recorder);
     driver.work(plan.rounds, allowed);
     let mut streams = join_all(rt, alloc, handles)?;
-    match streams.push(driver.stream) {
-        Ok(()) => Some(streams),
-        Err(_) => None,
+    if streams.push(driver.stream).is_err() {
+        return None;
     }
+    let sizes = (plan.threads, SLOTS as u64, METHODS as u64);
+    write(alloc, sizes, streams.as_slice()).ok()
 }
 
 fn start_all<'s, 'a: 's, N: Name + Send, J: Errand + Send, R: Threads + Wait + Sync, E>(

@@ -45,7 +45,7 @@ impl Choices {
 pub fn play<'a, N: Name, J: Errand, R: Wait>(
     rt: &R,
     alloc: Global,
-    shared: &'a Shared<N, J>,
+    shared: &Shared<N, J>,
     allowed: &AtomicU64,
     recorder: &'a Recorder,
     seed: u64,
@@ -74,14 +74,14 @@ pub fn play<'a, N: Name, J: Errand, R: Wait>(
 }
 
 #[derive(Drop)]
-struct Player<'p, 'a, N: Name, J: Errand, R> {
-    rt: &'p R,
-    shared: &'a Shared<N, J>,
+struct Player<'r, 's, 'a, N: Name, J: Errand, R> {
+    rt: &'r R,
+    shared: &'s Shared<N, J>,
     choices: Choices,
     stream: Stream<'a>,
 }
 
-impl<'p, 'a, N: Name, J: Errand, R: Wait> Player<'p, 'a, N, J, R> {
+impl<'r, 's, 'a, N: Name, J: Errand, R: Wait> Player<'r, 's, 'a, N, J, R> {
     // Makes so many acts, returns from all methods and exits.
     fn live(&mut self, thread: Mutator<'_, N, J>, acts: u64) {
         let rt = self.rt;

@@ -1,7 +1,7 @@
 use denote.Param.Send.{sendable}
 use Rattle.std.proofs.Crossing.{crosses}
 use Rattle.thread_list.proofs.Crosses.{shared_crosses}
-use Rattle.recorder.proofs.Crosses.{recorder_sync, stream_send}
+use Rattle.recorder.proofs.Crosses.{recorder_sync}
 use Rattle.recorded.proofs.start_all.Goals as goal
 
 pub spawn-requires-send-F : goal.spawn-requires-send-F
