@@ -1,26 +1,20 @@
 //! The coordinator's part of a run: it asks the other threads at random, and replaces and reclaims codes.
+use crate::hands::Hands;
 use crate::making::Makes;
 use crate::player::Choices;
 use bodies::Name;
-use coordinator::Coordinator;
 use operations::job::{Errand, Query};
 use operations::{Ask, Request, Targets};
-use recorder::Stream;
-use std::alloc::{AllocError, Global};
+use std::alloc::AllocError;
 use std::sync::Wait;
 use std::sync::atomic::{AtomicU64, Ordering};
-use thread_list::Shared;
 
-/// The coordinator, what it chose so far, and what it called.
+/// The coordinator with its stream, and what it chose so far.
 #[derive(Drop)]
 pub struct Driver<'c, 'x, 'a, N: Name, J: Errand, R: Wait, M: Makes<J>> {
-    pub rt: &'a R,
-    pub alloc: Global,
-    pub shared: &'a Shared<N, J>,
+    pub hands: Hands<'c, 'x, 'a, N, J, R>,
     pub jobs: M,
-    pub coordinator: &'c mut Coordinator<'x, N, J>,
     pub choices: Choices,
-    pub stream: Stream<'a>,
     /// The code that was installed last.
     pub last: u64,
 }
@@ -32,49 +26,53 @@ impl<'c, 'x, 'a, N: Name, J: Errand, R: Wait, M: Makes<J>> Driver<'c, 'x, 'a, N,
             let acts = (round / 8).saturating_add(1).saturating_mul(100);
             allowed.store(acts, Ordering::SeqCst);
             self.choices.pause();
-            match self.choices.below(8) {
-                0 | 1 | 2 => self.ask(),
-                3 | 4 => self.step_by_hand(),
-                5 | 6 => self.reclaim(),
-                _ => {
-                    self.ask();
-                    self.ask();
-                }
-            }
+            self.ask_or_step();
             self.drive_all();
         }
         allowed.store(u64::MAX, Ordering::SeqCst);
     }
 
+    fn ask_or_step(&mut self) {
+        match self.choices.below(8) {
+            0 | 1 | 2 => self.ask(),
+            3 | 4 => self.step_by_hand(),
+            5 | 6 => self.reclaim(),
+            _ => {
+                self.ask();
+                self.ask();
+            }
+        }
+    }
+
     // A code is installed, and an older one is reclaimed.
     fn reclaim(&mut self) {
-        let rt = self.rt;
         let method = self.choices.below(5) as u32;
-        if let Ok((serial, _)) = self.stream.install(self.shared, rt, method) {
+        if let Some(serial) = self.hands.install(method) {
             self.last = serial;
         }
         let serial = self.last.saturating_sub(self.choices.below(6));
-        let none = Vec::new(self.alloc);
-        let by = &mut *self.coordinator;
-        let _ = self.stream.reclaim(by, rt, serial, none);
-        let _ = self.stream.invalidate(self.shared, rt, serial);
+        self.hands.reclaim_alone(serial);
+        self.hands.invalidate(serial);
         if let Ok((jobs, _)) = self.some_jobs() {
-            let _ = self
-                .stream
-                .reclaim(&mut *self.coordinator, rt, serial, jobs);
+            self.hands.reclaim(serial, jobs);
+        }
+    }
+
+    fn any_ask(&mut self) -> Ask {
+        match self.choices.below(3) {
+            0 => Ask::Depth,
+            1 => Ask::Top,
+            _ => Ask::CountOf(self.last.saturating_sub(self.choices.below(6))),
         }
     }
 
     // A job for each of most live threads, and a handshake of them.
     fn some_jobs(&mut self) -> Result<(Vec<J>, Request), AllocError> {
-        let names = self.stream.live(self.shared, self.rt)?;
-        let ask = match self.choices.below(3) {
-            0 => Ask::Depth,
-            1 => Ask::Top,
-            _ => Ask::CountOf(self.last.saturating_sub(self.choices.below(6))),
-        };
-        let mut jobs = Vec::new(self.alloc);
-        let mut targets = Vec::new(self.alloc);
+        let alloc = self.hands.alloc;
+        let names = self.hands.live()?;
+        let ask = self.any_ask();
+        let mut jobs = Vec::new(alloc);
+        let mut targets = Vec::new(alloc);
         for name in &names {
             if self.choices.below(8) != 0 {
                 jobs.push(self.jobs.job(Query::new(*name, ask)))?;
@@ -88,50 +86,50 @@ impl<'c, 'x, 'a, N: Name, J: Errand, R: Wait, M: Makes<J>> Driver<'c, 'x, 'a, N,
     // Two requests wait: handshakes, and censuses at times.
     fn ask(&mut self) {
         for _ in 0..2 {
-            let none = Vec::new(self.alloc);
             if self.choices.below(4) == 0 {
-                let _ = self
-                    .stream
-                    .submit(self.shared, self.rt, Request::Census, none);
+                let none = Vec::new(self.hands.alloc);
+                self.hands.submit(Request::Census, none);
             } else if let Ok((jobs, request)) = self.some_jobs() {
-                let _ = self.stream.submit(self.shared, self.rt, request, jobs);
+                self.hands.submit(request, jobs);
             }
         }
     }
 
     // Steps of what is asked, some of which are refused. What is open then is for `drive`.
     fn step_by_hand(&mut self) {
-        let rt = self.rt;
         self.ask();
-        let _ = self.stream.open(&mut *self.coordinator, rt);
-        let _ = self.stream.open(&mut *self.coordinator, rt);
-        let names = self.stream.live(self.shared, rt);
-        for name in names.unwrap_or(Vec::new(self.alloc)) {
-            let _ = self.stream.tell(&mut *self.coordinator, rt, name);
-        }
+        self.hands.open();
+        self.hands.open();
+        self.tell_all();
         self.choices.pause();
-        let by = &mut *self.coordinator;
         for place in 0..4 {
-            if self.stream.hold(by, rt, place).is_ok() {
-                let _ = self.stream.serve(by, rt, place);
+            if self.hands.hold(place) {
+                self.hands.serve(place);
             }
         }
-        let _ = self.stream.operate(by, rt);
+        self.hands.operate();
         for place in 0..4 {
-            let _ = self.stream.release(by, rt, place);
+            self.hands.release(place);
         }
-        let _ = self.stream.close(by, rt);
-        let _ = self.stream.close_of(by, rt, self.choices.below(64));
+        self.hands.close();
+        self.hands.close_of(self.choices.below(64));
+    }
+
+    fn tell_all(&mut self) {
+        if let Ok(names) = self.hands.live() {
+            for name in &names {
+                self.hands.tell(*name);
+            }
+        }
     }
 
     // Works all that is open or waits to its Close: one alone, and then up to four at once.
     fn drive_all(&mut self) {
-        let (by, rt) = (&mut *self.coordinator, self.rt);
-        if let Ok((driven, _)) = self.stream.drive(by, rt) {
-            let _ = self.stream.replies(self.shared, rt, driven.number());
+        if let Some(number) = self.hands.drive() {
+            self.hands.replies(number);
         }
-        for _ in rt.forever() {
-            if self.stream.drive_four(by, rt).is_err() {
+        for _ in self.hands.rt.forever() {
+            if !self.hands.drive_four() {
                 return;
             }
         }

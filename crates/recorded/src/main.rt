@@ -8,6 +8,7 @@ ghost use Rattle.poll.specs.Rows.{full_armer};
 
 mod driver;
 mod fixed;
+mod hands;
 mod making;
 mod player;
 
@@ -15,6 +16,7 @@ use bodies::Name;
 use coordinator::Coordinator;
 use driver::Driver;
 use fixed::Sides;
+use hands::Hands;
 use making::{Makes, Recording};
 use operations::job::{Errand, Query};
 use player::{Choices, play};
@@ -116,17 +118,32 @@ fn run_sides<'a, N: Name, J: Errand, R: Wait, M: Makes<J>>(
 ) -> Option<Vec<u8>>
     requires armer { armer ≡ full_armer N.poll_row N.board.places }
 {
-    let Ok(coordinator) = Coordinator::new(shared, armer, alloc) else {
+    let Ok(mut coordinator) = Coordinator::new(shared, armer, alloc) else {
         return None;
     };
-    let sides = Sides {
+    play_sides(rt, alloc, shared, recorder, jobs, &mut coordinator)
+}
+
+fn play_sides<'a, N: Name, J: Errand, R: Wait, M: Makes<J>>(
+    rt: &'a R,
+    alloc: Global,
+    shared: &'a Shared<N, J>,
+    recorder: &'a Recorder,
+    jobs: M,
+    coordinator: &mut Coordinator<'_, N, J>,
+) -> Option<Vec<u8>> {
+    let thread = recorder.stream(alloc);
+    let hands = Hands {
         rt,
         alloc,
         shared,
-        jobs,
         coordinator,
-        thread: recorder.stream(alloc),
         stream: recorder.stream(alloc),
+    };
+    let sides = Sides {
+        hands,
+        jobs,
+        thread,
     };
     sides.log()
 }
@@ -216,19 +233,22 @@ fn run_in<'s, 'a: 's, N: Name + Send, J: Errand + Send, R: Threads + Wait + Sync
     coordinator: &mut Coordinator<'_, N, J>,
 ) -> Option<Vec<u8>> {
     let handles = start_all(scope, rt, alloc, plan, shared, allowed, recorder);
-    let mut driver = Driver {
+    let hands = Hands {
         rt,
         alloc,
         shared,
-        jobs,
         coordinator,
-        choices: Choices::new(plan.seed),
         stream: recorder.stream(alloc),
+    };
+    let mut driver = Driver {
+        hands,
+        jobs,
+        choices: Choices::new(plan.seed),
         last: 0,
     };
     driver.work(plan.rounds, allowed);
     let mut streams = join_all(rt, alloc, handles)?;
-    if streams.push(driver.stream).is_err() {
+    if streams.push(driver.hands.stream).is_err() {
         return None;
     }
     let sizes = (plan.threads, SLOTS as u64, METHODS as u64);
