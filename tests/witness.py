@@ -4,6 +4,7 @@
 | what | how |
 |---|---|
 | `witness_threads.c` runs with SEEDS seeds (3 without a number) for each of some counts of threads | recorded, with the futex and with the pthread condition |
+| `crates/recorded` runs with SEEDS seeds for each of some counts of threads, where it is built | recorded by `recorder` |
 | `examples/jit` runs for a moment, and is drawn where `timeline` is built | recorded |
 | each log has an order | `witness --order`; MONITOR answers its lines as the log says, and `confirm`, where it is built, writes them |
 | logs by hand in `calls`, texts that are no logs, and bad words | each is told as it is to be |
@@ -33,6 +34,9 @@ from search import FOUND, Search
 
 CONFIRM = ROOT / "crates" / "confirm" / "out" / "confirm"
 TIMELINE = ROOT / "crates" / "timeline" / "out" / "timeline"
+RECORDED = ROOT / "crates" / "recorded" / "out" / "recorded"
+# Threads and rounds of its runs.
+RECORDED_RUNS = ((1, 40), (2, 24), (3, 24), (6, 10), (16, 4))
 # Where the log of a run goes that has no order.
 OUT = ROOT / "out"
 # Threads and seconds of a run of examples/jit.
@@ -211,6 +215,15 @@ def recorded(tests, seeds):
                 tests.judge(f"{count} threads, seed {seed} {' '.join(words)}", tests.fault_of(tests.log(program, count, STEPS, seed)))
 
 
+def recorded_in_rattle(tests, seeds):
+    if not RECORDED.is_file():
+        print("left out: crates/recorded, since it isn't built")
+        return
+    for seed in range(1, seeds + 1):
+        for count, rounds in RECORDED_RUNS:
+            tests.judge(f"recorded, {count} threads, seed {seed}", tests.fault_of(tests.log(RECORDED, count, rounds, seed)))
+
+
 def jit(tests):
     program = tests.built("jit", JIT)
     for count, seconds in JIT_RUNS:
@@ -308,7 +321,9 @@ def main():
         by_hand(tests)
         faults(tests)
         budgets(tests)
-        recorded(tests, int(words[2]) if len(words) == 3 else 3)
+        seeds = int(words[2]) if len(words) == 3 else 3
+        recorded(tests, seeds)
+        recorded_in_rattle(tests, seeds)
         jit(tests)
         if has_liars:
             liars(tests)

@@ -1,0 +1,3 @@
+mod Rise
+mod Owned
+pub mod Crosses
