@@ -47,6 +47,7 @@ impl<'a> Stream<'a> {
         hint: Option<CodeId>,
     ) -> Result<Called, CallFault>
         requires slot { IfSome hint (λ c. c.slot < N.board.slots) }
+
         ensures noted { Notes self.old self.new Word.Call
             (called_with thread.old.place method hint) (Some (answers.enters result)) }
         ensures accepted { OnOk result (call_accepted thread.old method) }
@@ -56,6 +57,7 @@ impl<'a> Stream<'a> {
             × (new.poller ≡ old.poller)) }
         ensures state { thread.new.state ≡ thread.old.state }
         ensures same { SameThread thread.old thread.new }
+
         ensures err { IfErr result (λ e. (thread.new ≡ thread.old)
             × call_refused thread.old method e) }
     {
@@ -118,6 +120,7 @@ impl<'a> Stream<'a> {
         ensures lawful { OnOk result (is_running thread.old.state ≡ true) }
         ensures state { thread.new.state ≡ thread.old.state }
         ensures same { SameThread thread.old thread.new }
+
         ensures err { IfErr result (λ s. (s ≡ thread.old.state) × (is_running s ≡ false)
             × (thread.new ≡ thread.old)) }
     {
