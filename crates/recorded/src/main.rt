@@ -93,18 +93,32 @@ fn read_words(rt: &HostRuntime, alloc: Global) -> Option<Plan> {
 }
 
 // The run by one thread, of a system that is made of the parts.
-fn run_fixed<N: Name, R: Wait>(
-    rt: &R,
+fn run_fixed<'r, N: Name, R: Wait>(
+    rt: &'r R,
     alloc: Global,
     parts: Parts,
-    recorder: &Recorder,
+    recorder: &'r Recorder,
 ) -> Option<Vec<u8>>
     requires tables { (parts.board ≡ N.board) × (parts.row ≡ N.poll_row) }
 {
-    let Ok((shared, armer)) = Shared::<N, RecordedJob<'_, Query, R>>::new(alloc, parts) else {
+    let Ok((shared, armer)) = Shared::<N, RecordedJob<'r, Query, R>>::new(alloc, parts) else {
         return None;
     };
     let jobs = Recording { rt, recorder };
+    run_owned_sides(rt, alloc, shared, armer, recorder, jobs)
+}
+
+// Drops what is shared where its jobs name no lifetime.
+fn run_owned_sides<N: Name, J: Errand, R: Wait, M: Makes<J>>(
+    rt: &R,
+    alloc: Global,
+    shared: Shared<N, J>,
+    armer: Armer,
+    recorder: &Recorder,
+    jobs: M,
+) -> Option<Vec<u8>>
+    requires armer { armer ≡ full_armer N.poll_row N.board.places }
+{
     run_sides(rt, alloc, &shared, armer, recorder, jobs)
 }
 
@@ -149,20 +163,36 @@ fn play_sides<'a, N: Name, J: Errand, R: Wait, M: Makes<J>>(
 }
 
 // Runs a thread for each place of a system that is made of the parts, and the coordinator beside them. Answers the log.
-fn run<N: Name + Send, R: Threads + Wait + Sync>(
-    rt: &R,
+fn run<'r, N: Name + Send, R: Threads + Wait + Sync>(
+    rt: &'r R,
     alloc: Global,
     plan: Plan,
     parts: Parts,
     allowed: &AtomicU64,
-    recorder: &Recorder,
+    recorder: &'r Recorder,
 ) -> Option<Vec<u8>>
     requires tables { (parts.board ≡ N.board) × (parts.row ≡ N.poll_row) }
 {
-    let Ok((shared, armer)) = Shared::<N, RecordedJob<'_, Query, R>>::new(alloc, parts) else {
+    let Ok((shared, armer)) = Shared::<N, RecordedJob<'r, Query, R>>::new(alloc, parts) else {
         return None;
     };
     let jobs = Recording { rt, recorder };
+    run_owned(rt, alloc, plan, shared, armer, allowed, recorder, jobs)
+}
+
+// Drops what is shared where its jobs name no lifetime.
+fn run_owned<N: Name + Send, J: Errand + Send, R: Threads + Wait + Sync, M: Makes<J>>(
+    rt: &R,
+    alloc: Global,
+    plan: Plan,
+    shared: Shared<N, J>,
+    armer: Armer,
+    allowed: &AtomicU64,
+    recorder: &Recorder,
+    jobs: M,
+) -> Option<Vec<u8>>
+    requires armer { armer ≡ full_armer N.poll_row N.board.places }
+{
     run_over(rt, alloc, plan, &shared, armer, allowed, recorder, jobs)
 }
 
