@@ -23,7 +23,6 @@ static struct {
 enum {
     TRIES = 8,      /* of a call that found a lock taken, with pauses that grow, before the thread yields */
     YIELDS = 64,    /* before it sleeps; and the most with which a thread that has served gives way */
-    LEAST = 4,      /* of these where it has woken the coordinator, which may wait for this very processor */
     LOOKS = 40,     /* of the coordinator whether those that are late have come, before it sleeps */
     NAP = 500000,   /* nanoseconds, which the first sleep of a wait lasts at most, since a lock that is given back doesn't ring */
     DOUBLED = 5,    /* so often a further one lasts twice as long */
@@ -74,12 +73,9 @@ static void nap(struct bell *bell, unsigned seen, unsigned before) {
 static void wake(struct bell *bell) { syscall(SYS_futex, &bell->rings, FUTEX_WAKE_PRIVATE, INT_MAX, NULL, NULL, 0); }
 #endif
 
-/* Whether anybody slept there. */
-static bool ring(struct bell *bell) {
+static void ring(struct bell *bell) {
     atomic_fetch_add(&bell->rings, 1);
-    if (!atomic_load(&bell->sleepers)) return false;
-    wake(bell);
-    return true;
+    if (atomic_load(&bell->sleepers)) wake(bell);
 }
 
 void sp_ring(void) {
@@ -114,20 +110,16 @@ static unsigned driven(void) { return atomic_load(&all.begun) - atomic_load(&all
 
 static bool are_here(unsigned wanted) { return (int)(atomic_load(&all.came) - wanted) >= 0; }
 
-/* It has come: what it was told is served, or its stack is where a coordinator finds it. Whether it has woken that. */
-static bool come(void) {
+/* It has come: what it was told is served, or its stack is where a coordinator finds it. */
+static void come(void) {
     atomic_fetch_add(&all.came, 1);
-    return (are_here(atomic_load(&all.wanted)) || driven() > 1) && ring(&all.come);
+    if (are_here(atomic_load(&all.wanted)) || driven() > 1) ring(&all.come);
 }
 
-/* Lets others run while some have still to come for what was driven when so many had ended: where more threads run than there are processors,
-   these come within a round of the scheduler, and not after a time slice of each. It doesn't sleep instead: a scheduler that holds yields
-   against a thread would then have the coordinator wait longest. */
-static void give_way(unsigned ended, bool has_woken) {
-    for (int turn = 0; turn < YIELDS && atomic_load(&all.ended) == ended; turn++) {
-        if (are_here(atomic_load(&all.wanted)) && (!has_woken || turn >= LEAST)) return;
-        sched_yield();
-    }
+/* Lets others run until what was driven when so many had ended is over: where more threads run than there are processors, those that have still
+   to come do so within a round of the scheduler, and not after a time slice of each, and the coordinator finds a processor. */
+static void give_way(unsigned ended) {
+    for (int turn = 0; turn < YIELDS && atomic_load(&all.ended) == ended; turn++) sched_yield();
 }
 
 /* The operation to serve now, or 0. Where a census keeps its stack, it has come and waits. */
@@ -155,9 +147,9 @@ int64_t sp_stop(struct sp_party *thread, sp_callback call, void *with) {
         if (operation <= 0) return operation;
         unsigned ended = atomic_load(&all.ended);
         told = serve(thread, operation, call, with);
-        bool has_woken = come();
+        come();
         if (told > 0) continue;
-        give_way(ended, has_woken);
+        give_way(ended);
         return told;
     }
 }
