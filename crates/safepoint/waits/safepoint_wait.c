@@ -116,8 +116,8 @@ static void come(void) {
     if (are_here(atomic_load(&all.wanted)) || driven() > 1) ring(&all.come);
 }
 
-/* Lets others run until what was driven when so many had ended is over: where more threads run than there are processors, those that have still
-   to come do so within a round of the scheduler, and not after a time slice of each, and the coordinator finds a processor. */
+/* Lets others run until what was driven when so many had ended is over, as far as a scheduler heeds that: where more threads run than there are
+   processors, those that have still to come, and the coordinator, get one sooner. */
 static void give_way(unsigned ended) {
     for (int turn = 0; turn < YIELDS && atomic_load(&all.ended) == ended; turn++) sched_yield();
 }
