@@ -1,7 +1,6 @@
 -- Where a census lacks its list, what was held before all were told is held.
 use Rattle.std.proofs.Common.{◌≡◌, ◌++◌, ℕ, true, List, Option, Some, None, sym, subst, ap, ◌∙◌}
 use Rattle.std.specs.Prelude.{Result, Ok, Err, IfOk, IfErr, OnErr, IfSome}
-use Rattle.bodies.specs.Bodies.{BodyView}
 use Rattle.bodies.specs.Census.{IsCensus}
 use Rattle.desk.specs.Machine.{State}
 use Rattle.coordinator.specs.declared.faults.DriveFault.{DriveFault}

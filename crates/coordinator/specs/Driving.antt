@@ -1,5 +1,5 @@
 -- What driving answers.
-use Rattle.std.specs.Prelude.{◌≡◌, ◌⊎◌, ◌++◌, ℕ, true, List, [], ◌∷◌, Option, Some, None, IfSome}
+use Rattle.std.specs.Prelude.{◌≡◌, ◌⊎◌, ◌++◌, ℕ, true, List, [], Option, Some, None, IfSome}
 use Rattle.bodies.specs.Bodies.{BodyView}
 use Rattle.bodies.specs.Census.{IsCensus}
 use Rattle.operations.specs.declared.Kind.{Kind}

@@ -12,6 +12,7 @@ use crate::listing::{Listed, Untold, job_of};
 use berths::{BerthReceipt, locked};
 use bodies::Name;
 use desk::{Desk, Target};
+use frames::LAST;
 use held_threads::{Found, TellFault, Told, look_up};
 use operations::Kind;
 use operations::job::Errand;
@@ -210,7 +211,7 @@ impl<'a, N: Name, J: Errand> Coordinator<'a, N, J> {
     {
         let shared = self.shared;
         let mut room = locked(shared.berth(target.place).room(), rt);
-        if room.place() != target.place || number >= 1 << 40 {
+        if room.place() != target.place || number > LAST {
             return None;
         }
         let is_out = !room.has_body(name) && !self.bodies.has(target.place);

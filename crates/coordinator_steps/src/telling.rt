@@ -11,6 +11,7 @@ use crate::steps::Steps;
 use berths::{BerthReceipt, Room};
 use bodies::Name;
 use desk::{Desk, Target};
+use frames::LAST;
 use held_threads::{Found, TellFault, Told, look_up};
 use operations::Kind;
 use operations::job::Errand;
@@ -120,7 +121,7 @@ impl<N: Name> Steps<N> {
         ensures book { (desk.new.book ≡ desk.old.book) × (desk.new.keeper ≡ desk.old.keeper) }
     {
         let place = untold.target.place;
-        if room.place() != place || untold.number >= 1 << 40 || room.name() != untold.name {
+        if room.place() != place || untold.number > LAST || room.name() != untold.name {
             return None;
         }
         let job = match untold.target.kind {

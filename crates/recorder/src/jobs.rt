@@ -26,7 +26,7 @@ pub struct RecordedJob<'a, J: Errand, R: Wait> {
 }
 
 impl<'a, J: Errand, R: Wait> RecordedJob<'a, J, R> {
-    /// The same job, which notes where it runs.
+    /// Wraps a job, so that it notes where it runs.
     pub fn new(recorder: &'a Recorder, rt: &'a R, job: J) -> RecordedJob<'a, J, R>
         ensures number { ⟦<RecordedJob<'a, J, R> as Errand>⟧.number result ≡ J.number job }
         ensures whom { ⟦<RecordedJob<'a, J, R> as Errand>⟧.whom result ≡ J.whom job }

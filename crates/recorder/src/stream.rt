@@ -9,12 +9,10 @@ use crate::short::Short;
 use call_log::entry::Entry;
 use call_log::lists::{Job, Jobs, Numbers};
 use call_log::word::Word;
+use frames::LAST;
 use std::alloc::{AllocError, Global};
 use std::marker::Model;
 use std::sync::Wait;
-
-/// The least number that a log doesn't have.
-const LIMIT: u64 = 1 << 40;
 
 /// The calls that one thread of the machine made. Their tickets rise, with those of the jobs that ran in each. Where a call couldn't be
 /// noted, for want of memory or of tickets, the stream is lost: it says so, and no log is written of it.
@@ -131,7 +129,7 @@ impl<'a> Stream<'a> {
         ensures { IfSome result (λ t. above < t) }
     {
         let ticket = self.recorder.draw();
-        if ticket > above && ticket < LIMIT {
+        if ticket > above && ticket <= LAST {
             Some(ticket)
         } else {
             None
@@ -191,7 +189,7 @@ impl<'a> Stream<'a> {
         }
     }
 
-    // The same of a call in which no job ran and which answered one number at most. A call without an answer of the core isn't noted.
+    // Notes a call in which no job ran and which answered one number at most; nothing where the core has no such answer.
     pub(crate) fn note_short(&mut self, begun: Begun, called: (Word, &[u64]), said: Option<Short>)
         requires { IfSome begun.before (λ t. self.old.last < t) }
         ensures { Notes self.old self.new called.entry.0 called.entry.1.now said }
@@ -241,7 +239,8 @@ impl<'a> Stream<'a> {
         }
     }
 
-    // The same where it answered one number at most. A call without an answer of the core isn't noted.
+    // Notes a call in which the coordinator ran jobs on threads that it held, and which answered one number at most; nothing where the core
+    // has no such answer.
     pub(crate) fn note_run_short<R: Wait>(
         &mut self,
         rt: &R,

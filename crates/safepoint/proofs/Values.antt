@@ -1,5 +1,5 @@
 -- The machine values of a `Loose`, and of a pair. Assumes `Logic`.
-use Rattle.std.proofs.Common.{◌≡◌, ℕ, List, [], ◌∷◌, ◌++◌, refl, subst}
+use Rattle.std.proofs.Common.{◌≡◌, List, [], ◌∷◌, ◌++◌, refl, subst}
 use mathlib.Core.Bool.{Bool, true, false, ◌&&◌}
 use lib.Dec.{T}
 use seplogic.Ra.Ura.{Ura}
@@ -24,7 +24,6 @@ use Rattle.std.specs.Prelude.{Option, Some, None, is_some, true as yes_it_is}
 use Rattle.std.proofs.lemmas.Bool.{false≢true}
 use Rattle.std.proofs.Common.{lit<}
 use Rattle.safepoint.specs.Boxed.{maybe_owns}
-use Rattle.std_alloc.proofs.ResultValues.{and_tt}
 use Rattle.safepoint.specs.contracts.loose.Loose as loose
 
 abbrev pub both : Val → Val → Val

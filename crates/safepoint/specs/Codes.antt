@@ -1,5 +1,5 @@
 -- The numbers of the faults: -1 and below. One reason has one number, whichever act it refuses.
-use Rattle.std.specs.Prelude.{ℕ, ℤ, pos, negsuc, min, Ok, Err}
+use Rattle.std.specs.Prelude.{ℤ, pos, negsuc, min, Ok, Err}
 use Rattle.parties.specs.declared.acts.Fault.{Fault}
 use Rattle.parties.specs.declared.acts.Fault.TheVariants as fault
 use Rattle.parties.specs.Asked.{Told}

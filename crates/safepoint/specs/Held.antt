@@ -1,5 +1,5 @@
 -- What a handle owns: a box of a party to a system over this board and row, or nothing.
-use Rattle.std.specs.Prelude.{Option, Some, None}
+use Rattle.std.specs.Prelude.{Option}
 use Rattle.std.specs.Coded.{coded_option}
 use Rattle.std.specs.Global.{Global}
 use mathlib.Core.List.{[]}

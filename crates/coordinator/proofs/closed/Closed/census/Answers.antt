@@ -1,4 +1,4 @@
-use Rattle.std.proofs.Common.{◌≡◌, ℕ, sym, ap, subst}
+use Rattle.std.proofs.Common.{◌≡◌, sym, subst}
 use Rattle.std.specs.Prelude.{IfSome}
 use Rattle.coordinator.specs.Driving.{ClosedSeen, CountedSeen, IsCounted}
 use Rattle.coordinator.proofs.closed.Closed.census.Goals as goal

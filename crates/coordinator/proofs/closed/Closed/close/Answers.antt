@@ -1,7 +1,7 @@
 use Rattle.std.proofs.Common.{◌≡◌, ◌∙◌, Some, sym, rules}
 use Rattle.desk.specs.Fields.{at}
 use Rattle.desk.specs.Targets.{kind_of_oldest}
-use Rattle.coordinator.proofs.Oldest.{same_number, kind_is, number_is}
+use Rattle.coordinator.proofs.Oldest.{same_number, kind_is}
 use Rattle.coordinator.proofs.closed.Closed.close.Goals as goal
 
 pub returns-in-Ok-clause-oldest : goal.returns-in-Ok-clause-oldest

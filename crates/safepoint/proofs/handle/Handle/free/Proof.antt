@@ -1,13 +1,8 @@
 -- `free`, as the generic one under the name that a board and a row pick.
-use Rattle.std_alloc.proofs.ResultValues.{and_tt}
-use lib.Dec.{T}
-use mathlib.Core.Bool.{◌&&◌}
-use denote.Param.{layout}
-use Rattle.std.proofs.Common.{◌∙◌, ◌≡◌, ℕ, List, [], ◌∷◌, ◌++◌, refl, sym, ap, subst}
-use Rattle.std.specs.Prelude.{◌^◌, Option, Some, None, is_some, true}
-use mir.Syntax.{w64}
+use Rattle.std.proofs.Common.{◌≡◌, List, [], ◌∷◌, ◌++◌, refl, sym, ap, subst}
+use Rattle.std.specs.Prelude.{is_some, true}
 use seplogic.Ra.Ura.{Ura}
-use mir.Val.{Val, vptr, vint, vstruct, of_list, has_ty}
+use mir.Val.{Val}
 use base.Fraction.{full_share}
 use base.Logic.{SProp, ent, emp, id⊢}
 use base.Fml.{ftrue, fsep, flft}
@@ -15,46 +10,41 @@ use prog.Wp.{WpFn, Tables}
 use prog.Model.{Model}
 use prog.Wired.{Wired}
 use types.Logic.{Logic}
-use types.Kit.{Item, ‵, raw, ◌⊛◌, some, later, at_ret, ◌$◌, ◌∵◌, !, qed, by, move, keep, drop, use0, use1, join, split, split3, fsplit, fjoin, fpick, pick, suffices, rewrite, await, feq_l, feq_i, flt_l, flt_i, done}
+use types.Kit.{‵, raw, ◌⊛◌, some, later, ◌$◌, ◌∵◌, !, qed, move, drop, use0, use1, join, split, fsplit, fjoin, pick, suffices, await, done}
 use types.Part.{whole, sub, agg}
-use types.Run.{stop, fld, no_more, and_then, of_opd, returns, enter, first, blocks, exec}
+use types.Run.{stop, fld, no_more, and_then, of_opd, returns, enter}
 use types.ByLocal.{alloc_all, pass_all, free_all, look_at, get, get_in, sets, lands_as, env}
 use contract.Monad.{fact, fact_i}
 use contract.BorrowLft.{◌⊑◌, ⊑_static}
 use contract.Running.{Running, MachineTables, tables, tables_of}
 use sound.WpLaws.{WpFn-mono}
-use denote.RattleType.{RattleType, owns}
-use denote.RawPtr.{ptr_val, null_ptr}
+use denote.RattleType.{RattleType}
+use denote.RawPtr.{ptr_val}
 use Rattle.bodies.specs.declared.name.Name as Name
 use denote.Exit.{yes}
-use denote.Builtin.{u64, bool}
-use denote.Struct.Tuple.{Tuple, tuple_laws}
-use denote.Signature.{type_at, types_at}
+use denote.Builtin.{bool}
 use denote.Steps.{nothing, heard, only}
 use denote.Triple.Spec.{triple_of}
 use denote.Triple.Table.{entered}
 use denote.Triple.Clauses.{Lasts, lasts}
-use denote.Triple.Call.{calls_at, calls_at_last}
+use denote.Triple.Call.{calls_at}
 use denote.Triple.Walked.{says, Stays, stay_dropped, walk_of, ends_at, Goes-dropped, walk_Meets}
 use Rattle.core.proofs.atomic.Steps.{fm}
-use Rattle.core.proofs.cell.Inside.{Good}
 use Rattle.std.proofs.raw_atomic.Calls.{marker, marker_laws, dict}
 use Rattle.std_heap.specs.contracts.Global as Heap
 use Rattle.std_heap.specs.contracts.GlobalAllocator.TheImpl.{ghosts}
 use Rattle.std_heap.proofs.Global.TheLaws as heap
-use Rattle.safepoint.proofs.Values.{both, Loose, loose_good, loose_out, loose_in, pair_in, two_out, value_out, ptr_good, both_tt}
-use Rattle.safepoint.specs.Held.{held_owns, party_of, no_board, no_row}
-use Rattle.safepoint.specs.Told.{Obeys, Forks, Arises}
+use Rattle.safepoint.proofs.Values.{both, Loose, loose_good, loose_out, loose_in, value_out, ptr_good}
+use Rattle.safepoint.specs.Held.{party_of}
 use Rattle.parties.specs.contracts.acts.Act as Act
 use Rattle.parties.specs.contracts.acts.Fault as Fault
 use Rattle.parties.proofs.acts.Act.TheLaws as act_laws
 use Rattle.parties.proofs.acts.Fault.TheLaws as fault_laws
 use Rattle.parties.proofs.party.Party.TheLaws as party_laws
 use Rattle.core.specs.contracts.result.Result as Result
-use Rattle.core.proofs.result.Result.TheLaws.{the_row_laws as result_laws}
 use Rattle.safepoint.proofs.loose.Loose.TheLaws.{the_row_laws as loose_laws}
-use denote.Struct.Field.{u64-field, bool-field}
-use denote.Struct.Laws.{u64-laws, u64-copy, bool-laws, bool-copy}
+use denote.Struct.Field.{bool-field}
+use denote.Struct.Laws.{bool-laws, bool-copy}
 use denote.Param.Laws.{Laws, of_field, param_laws}
 use denote.Param.Shared.{copy_shared}
 use denote.Signature.{Slot, plain}
