@@ -113,7 +113,6 @@ static void name_targets(void) {
 
 static void shake_hands(void) {
     int64_t number;
-    name_targets();
     SP_WAIT(number, sp_submit(&coordinator, SP_DEPTH, 0));
     if (sp_drive(&coordinator, NULL, NULL) != must(number)) exit(1);
 }
@@ -137,9 +136,11 @@ static int64_t install(uint32_t method) {
     return must(serial);
 }
 
-/* The time of one stop, without what is made ready for it. */
+/* The time of one stop, without what is made ready for it: a code to free, and the list of the targets. */
 static uint64_t stop(void) {
-    uint64_t serial = kind == RECLAIM ? (uint64_t)install(OLD) : 0, start = now();
+    uint64_t serial = kind == RECLAIM ? (uint64_t)install(OLD) : 0;
+    if (kind == HANDSHAKE) name_targets();
+    uint64_t start = now();
     if (kind == HANDSHAKE) shake_hands();
     else if (kind == CENSUS) count();
     else reclaim(serial);

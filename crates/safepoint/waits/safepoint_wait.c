@@ -22,7 +22,8 @@ static struct {
 
 enum {
     TRIES = 8,      /* of a call that found a lock taken, with pauses that grow, before the thread yields */
-    YIELDS = 64,    /* before it sleeps; and the most with which a thread that has served gives way */
+    YIELDS = 64,    /* before it sleeps */
+    GIVES = 4096,   /* yields at most, with which a thread that has served gives way to those that have still to come */
     LOOKS = 40,     /* of the coordinator whether those that are late have come, before it sleeps */
     NAP = 500000,   /* nanoseconds, which the first sleep of a wait lasts at most, since a lock that is given back doesn't ring */
     DOUBLED = 5,    /* so often a further one lasts twice as long */
@@ -119,7 +120,7 @@ static void come(void) {
 /* Lets others run until what was driven when so many had ended is over, as far as a scheduler heeds that: where more threads run than there are
    processors, those that have still to come, and the coordinator, get one sooner. */
 static void give_way(unsigned ended) {
-    for (int turn = 0; turn < YIELDS && atomic_load(&all.ended) == ended; turn++) sched_yield();
+    for (int turn = 0; turn < GIVES && atomic_load(&all.ended) == ended; turn++) sched_yield();
 }
 
 /* The operation to serve now, or 0. Where a census keeps its stack, it has come and waits. */
