@@ -17,9 +17,10 @@
    number (sp_text gives words). A refusal changes nothing, but where the call's list says so. Each
    call is one try, and takes locks that it only tries: where a lock is taken, or what the call
    needs isn't there yet, it answers SP_AGAIN, and is to be made again; so every call may answer
-   that, but those marked (*). A call of a thread while it is no thread, and of the coordinator with
-   another party, answers SP_NOT_THIS. Of refusals that fit, the first in the order of the call's
-   list.
+   that, but those marked (*). A call of a thread while it is no thread, of the coordinator with
+   another party, and of any with a place that has no party, answers SP_NOT_THIS. Of refusals that
+   fit, the first in the order of the call's list. But SP_BAD_ASK comes before all others, and
+   SP_NO_MEMORY may come before any.
 
    STATES of a thread, as sp_state tells them: in Java it runs code and polls; in the VM it runs the
    runtime's own code and doesn't poll; in native code and blocked it doesn't own itself, and a
@@ -82,7 +83,7 @@ void sp_free(struct sp_party *party);
 int64_t sp_start(struct sp_party *thread);
 /* 0, and the party is no thread any more; or the number of a poll, which stopped it, and it goes
    on being one. SP_ILLEGAL, SP_STACK_NOT_EMPTY. After SP_AGAIN it may be that it has left
-   already: go on calling it. */
+   already, or has published its stack, polled and gone into Java: go on calling it. */
 int64_t sp_exit(struct sp_party *thread);
 /* (*) Its name, its place (from 0 on), its state. */
 int64_t sp_name(struct sp_party *thread);
@@ -146,7 +147,7 @@ int64_t sp_tell(struct sp_party *coordinator, uint64_t name);
 int64_t sp_hold(struct sp_party *coordinator, size_t place);
 /* The oldest operation of a held thread is served, once the runtime has run its callback for it:
    its number. SP_NO_SUCH_PLACE, SP_VACANT, SP_NOT_HELD, SP_NOTHING_OPEN, SP_NOT_OF (a census),
-   SP_NOT_TOLD, SP_ALREADY_DONE. */
+   SP_NOT_TOLD, SP_ALREADY_DONE. After SP_AGAIN its stack may be published. */
 int64_t sp_serve(struct sp_party *coordinator, size_t place);
 /* A held thread is let go: 0. SP_NO_SUCH_PLACE, SP_VACANT, SP_NOT_HELD. */
 int64_t sp_release(struct sp_party *coordinator, size_t place);
