@@ -6,6 +6,9 @@ plain Rust program in twin/ runs the same loops in turn with it, and each row ha
 the least and the median of seven runs; one of stops microseconds, the median and the 99th percentile of the stops of three runs. Where a
 `javac` of a JDK 17 is there, HotSpot makes its own such stops in turn with them (hotspot/), and the row of stops ends in the ratio to it.
 
+Both programs ask by queries, which take no memory, and in the rows of boxed callbacks by a closure in a box for each thread. Jobs are made before
+the time of their stop begins, and a box is freed within it. HotSpot makes no such stops.
+
 Only ratios of one run carry: the same machine differs by two from minute to minute.
 """
 import os
@@ -42,7 +45,10 @@ CALLS = [
     ("4 threads publish each 16 pairs", 9, 4, 800_000, 16, "packed", 0.70),
 ]
 
-STOPS = [("handshake", 6), ("census", 7), ("reclaim", 8)]
+BOTH = ("plain", "HotSpot")
+
+# What, the kind, and who else makes such stops.
+STOPS = [("handshake", 6, BOTH), ("handshake, boxed callbacks", 10, ("plain",)), ("census", 7, BOTH), ("reclaim", 8, BOTH)]
 
 THREADS = (1, 4, 16, 64)
 
@@ -101,7 +107,7 @@ def stop_row(program, beside, what, kind, threads, native):
         for values, (command, more) in zip(runs, [([program], []), *beside]):
             values += times([*command, *words, *more])
     name = f"{what}, {threads} {'in native code' if native else 'busy'}"
-    line = f"{name:34} {two(runs[0])}"
+    line = f"{name:45} {two(runs[0])}"
     for values in runs[1:]:
         # HotSpot may make none in its time
         line += f" {two(values)} {percentile(runs[0], 50) / percentile(values, 50):8.3g}" if values else f" {'-':>9} {'-':>9} {'-':>8}"
@@ -112,11 +118,12 @@ def stop_table(program, twin, java):
     both = (("plain", twin and ([twin], ["16yields"])), ("HotSpot", java and (java, [])))
     beside = [(name, run) for name, run in both if run]
     head = "".join(f" {name:>9} {'':>9} {'ratio':>8}" for name, _ in beside)
-    print(f"{'us a stop: median, 99th percentile':34} {'product':>9} {'':>9}{head}")
-    for what, kind in STOPS:
+    print(f"{'us a stop: median, 99th percentile':45} {'product':>9} {'':>9}{head}")
+    for what, kind, others in STOPS:
+        runs = [run for name, run in beside if name in others]
         for native in (True, False):
             for threads in THREADS:
-                stop_row(program, [run for _, run in beside], what, kind, threads, native)
+                stop_row(program, runs, what, kind, threads, native)
 
 
 def main():

@@ -1,4 +1,5 @@
 //! One function for every kind of measurement.
+use crate::callback::{Ask, Boxed, Callback, Query};
 use crate::image::*;
 use crate::proto::*;
 use std::sync::Barrier;
@@ -14,6 +15,7 @@ pub const HANDSHAKE: u32 = 6;
 pub const CENSUS: u32 = 7;
 pub const RECLAIM: u32 = 8;
 pub const SCALE: u32 = 9;
+pub const BOXED_HANDSHAKE: u32 = 10;
 pub const CALLRET_NOHINT: u32 = 12;
 
 fn ns(t: Instant) -> u64 {
@@ -26,7 +28,7 @@ pub fn bench<S: Layout, I: Image>(kind: u32, threads: u32, iters: u64, arg: u64,
         POLL | CALLRET | CALLRET_DEEP | PUBLISH | NATIVE | CALLRET_NOHINT => {
             let methods = 256;
             let slots = 1024;
-            let sh = Shared::<S, I>::new(4, slots, methods, pol);
+            let sh = Shared::<S, I, Query>::new(4, slots, methods, pol);
             for m in 0..methods {
                 sh.install(m);
             }
@@ -103,15 +105,16 @@ pub fn bench<S: Layout, I: Image>(kind: u32, threads: u32, iters: u64, arg: u64,
             m.exit();
             1
         }
-        HANDSHAKE | CENSUS | RECLAIM => latency::<S, I>(kind, threads as usize, iters as usize, arg, pol, out),
+        HANDSHAKE | CENSUS | RECLAIM => latency::<S, I, Query>(kind, threads as usize, iters as usize, arg, pol, out),
+        BOXED_HANDSHAKE => latency::<S, I, Boxed<I>>(kind, threads as usize, iters as usize, arg, pol, out),
         SCALE => scale::<S, I>(threads as usize, iters, arg, pol, out),
         _ => 0,
     }
 }
 
 /// arg 0: threads make back edges (in batches of calls and returns); 1: threads are in native.
-fn latency<S: Layout, I: Image>(kind: u32, n: usize, iters: usize, arg: u64, pol: Policy, out: &mut [u64]) -> usize {
-    let sh = Shared::<S, I>::new(64, 1024, 256, pol);
+fn latency<S: Layout, I: Image, C: Callback<I>>(kind: u32, n: usize, iters: usize, arg: u64, pol: Policy, out: &mut [u64]) -> usize {
+    let sh = Shared::<S, I, C>::new(64, 1024, 256, pol);
     let base = sh.install(0);
     let _ = base;
     let quit = AtomicBool::new(false);
@@ -154,13 +157,13 @@ fn latency<S: Layout, I: Image>(kind: u32, n: usize, iters: usize, arg: u64, pol
         ready.wait();
         let mut co = Coordinator::new(&sh);
         let names = sh.live();
-        let job = |op: u64, t: u64| Job::<I> { op, target: t, call: Box::new(|i: &I| i.depth() as u64) };
+        let job = |op: u64, t: u64| Job { op, target: t, call: C::of(Ask::Depth) };
         let limit = Instant::now() + std::time::Duration::from_secs(6);
         for i in 0..iters + 2 {
             sh.desk_history_room();
             let t;
             match kind {
-                HANDSHAKE => {
+                HANDSHAKE | BOXED_HANDSHAKE => {
                     let jobs = names.iter().map(|&x| job(0, x)).collect();
                     let tg = names.clone();
                     t = Instant::now();
@@ -206,7 +209,7 @@ fn scale<S: Layout, I: Image>(threads: usize, iters: u64, arg: u64, pol: Policy,
     let small = arg >> 17 & 1 == 1;
     let methods = if small { 4 } else { 256 };
     let slots = if small { 8 } else { 1024 };
-    let sh = Shared::<S, I>::new(if small { threads.max(1) } else { 64 }, slots, methods, pol);
+    let sh = Shared::<S, I, Query>::new(if small { threads.max(1) } else { 64 }, slots, methods, pol);
     for m in 0..methods {
         sh.install(m);
     }

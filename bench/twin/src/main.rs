@@ -5,6 +5,7 @@
 #![allow(dead_code)]
 
 mod benches;
+mod callback;
 mod image;
 mod proto;
 mod rsync;

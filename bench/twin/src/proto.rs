@@ -1,5 +1,6 @@
 //! The protocol in plain Rust: words, berths, desk, mutators, coordinator. No proofs, the same atomic steps, few refusals.
 //! `S` is the layout of the words.
+use crate::callback::Callback;
 use crate::image::*;
 use crate::rsync::{Condvar, Mutex};
 use std::collections::VecDeque;
@@ -101,12 +102,10 @@ pub enum St {
     AtPoll,
     Serving,
 }
-/// A boxed callback.
-pub type Call<I> = Box<dyn FnMut(&I) -> u64 + Send>;
-pub struct Job<I> {
+pub struct Job<C> {
     pub op: u64,
     pub target: u64,
-    pub call: Call<I>,
+    pub call: C,
 }
 pub struct Done {
     pub op: u64,
@@ -119,16 +118,16 @@ pub struct Body<I> {
     pub image: I,
     pub last: u64,
 }
-struct BerthIn<I> {
+struct BerthIn<I, C> {
     name: u64,
     body: Option<Body<I>>,
-    job: Option<Job<I>>,
+    job: Option<Job<C>>,
     census: u64,
     waiting: bool,
 }
 #[repr(align(128))]
-pub struct Berth<I> {
-    m: Mutex<BerthIn<I>>,
+pub struct Berth<I, C> {
+    m: Mutex<BerthIn<I, C>>,
     cv: Condvar,
 }
 
@@ -147,8 +146,8 @@ pub enum Entry {
     Retire(u64),
     Free(u64),
 }
-pub enum Req<I> {
-    Handshake(Vec<u64>, Vec<Job<I>>),
+pub enum Req<C> {
+    Handshake(Vec<u64>, Vec<Job<C>>),
     Census,
 }
 struct Code {
@@ -158,11 +157,11 @@ struct Code {
     inval: u64,
     looked: u64,
 }
-pub struct Desk<I> {
+pub struct Desk<C> {
     names: [u64; 64],
     next_name: u64,
     live: u64,
-    queue: VecDeque<(u64, Req<I>)>,
+    queue: VecDeque<(u64, Req<C>)>,
     next_op: u64,
     next_serial: u64,
     open: u64,
@@ -195,18 +194,18 @@ pub struct Policy {
     pub late_wakes: bool,
 }
 
-pub struct Shared<S: Layout, I> {
+pub struct Shared<S: Layout, I, C> {
     pub board: Board<S>,
     poll: Words,
     hints: Words,
-    berths: Box<[Berth<I>]>,
-    desk: Mutex<Desk<I>>,
+    berths: Box<[Berth<I, C>]>,
+    desk: Mutex<Desk<C>>,
     desk_cv: Condvar,
     pub places: usize,
     pub methods: usize,
     pub policy: Policy,
 }
-impl<S: Layout, I: Image> Shared<S, I> {
+impl<S: Layout, I: Image, C: Callback<I>> Shared<S, I, C> {
     pub fn new(places: usize, slots: usize, methods: usize, policy: Policy) -> Self {
         let board = Board::new(slots, places);
         board.g().store(1, SeqCst);
@@ -246,7 +245,7 @@ impl<S: Layout, I: Image> Shared<S, I> {
             d.history.clear();
         }
     }
-    pub fn start(&self) -> Mutator<'_, S, I> {
+    pub fn start(&self) -> Mutator<'_, S, I, C> {
         let (name, place) = {
             let mut d = self.desk.lock().unwrap();
             let place = (!d.live).trailing_zeros() as usize;
@@ -281,7 +280,7 @@ impl<S: Layout, I: Image> Shared<S, I> {
         self.hints.at(method).store(serial << 16 | (slot as u64 + 1), Relaxed);
         serial
     }
-    fn slot_of(d: &Desk<I>, serial: u64) -> usize {
+    fn slot_of(d: &Desk<C>, serial: u64) -> usize {
         d.codes.iter().position(|c| c.serial == serial && c.state != 0).unwrap()
     }
     pub fn invalidate(&self, serial: u64) {
@@ -305,7 +304,7 @@ impl<S: Layout, I: Image> Shared<S, I> {
         let w = self.hints.at(m).load(Relaxed);
         if w == 0 { None } else { Some(CodeId { slot: (w & 0xffff) as u32 - 1, serial: w >> 16 }) }
     }
-    pub fn submit(&self, req: Req<I>) -> u64 {
+    pub fn submit(&self, req: Req<C>) -> u64 {
         let mut d = self.desk.lock().unwrap();
         let n = d.next_op;
         d.next_op += 1;
@@ -354,13 +353,13 @@ impl<S: Layout, I: Image> Shared<S, I> {
     }
 }
 
-pub struct Mutator<'a, S: Layout, I: Image> {
-    pub sh: &'a Shared<S, I>,
+pub struct Mutator<'a, S: Layout, I: Image, C> {
+    pub sh: &'a Shared<S, I, C>,
     pub body: Option<Body<I>>,
     place: usize,
     state: St,
 }
-impl<S: Layout, I: Image> Mutator<'_, S, I> {
+impl<S: Layout, I: Image, C: Callback<I>> Mutator<'_, S, I, C> {
     /// `call` with a hint. None for a refusal.
     #[inline(always)]
     pub fn call(&mut self, m: usize, hint: Option<CodeId>) -> Option<Called> {
@@ -469,10 +468,10 @@ impl<S: Layout, I: Image> Mutator<'_, S, I> {
             };
             self.state = St::Serving;
             let mut all = true;
-            if let Some(mut j) = job {
+            if let Some(j) = job {
                 let b = self.body.as_mut().unwrap();
                 self.sh.publish_body(b);
-                let reply = (j.call)(&b.image);
+                let reply = j.call.answer(&b.image);
                 all = self.sh.finish(b, Done { op: j.op, target: j.target, reply });
                 self.sh.clear(b, j.op);
             }
@@ -530,13 +529,13 @@ pub enum Driven {
     Handshake(u64),
     Census(u64, Vec<(u64, u32)>),
 }
-pub struct Coordinator<'a, S: Layout, I: Image> {
-    pub sh: &'a Shared<S, I>,
+pub struct Coordinator<'a, S: Layout, I: Image, C> {
+    pub sh: &'a Shared<S, I, C>,
     bodies: Vec<(usize, Body<I>)>,
     counts: Vec<u32>,
 }
-impl<'a, S: Layout, I: Image> Coordinator<'a, S, I> {
-    pub fn new(sh: &'a Shared<S, I>) -> Self {
+impl<'a, S: Layout, I: Image, C: Callback<I>> Coordinator<'a, S, I, C> {
+    pub fn new(sh: &'a Shared<S, I, C>) -> Self {
         Coordinator { sh, bodies: Vec::with_capacity(64), counts: vec![0; sh.board.slots] }
     }
     /// place of a live target, under the desk's lock
@@ -546,7 +545,7 @@ impl<'a, S: Layout, I: Image> Coordinator<'a, S, I> {
     }
     /// Waits until the berth bears a body, or until nothing is left to do there. Spins first, on the poll word by plain
     /// looks (no lock taken), as long as the drive's budget lasts; then sleeps on the berth's Condvar.
-    fn await_body(&self, place: usize, op: u64, census: bool, budget: &mut u32) -> Option<(Body<I>, Option<Job<I>>)> {
+    fn await_body(&self, place: usize, op: u64, census: bool, budget: &mut u32) -> Option<(Body<I>, Option<Job<C>>)> {
         let be = &self.sh.berths[place];
         let p = self.sh.policy;
         let mut turn = 0u32;
@@ -646,9 +645,9 @@ impl<'a, S: Layout, I: Image> Coordinator<'a, S, I> {
                     if p == usize::MAX {
                         continue;
                     }
-                    if let Some((mut b, Some(mut j))) = self.await_body(p, op, false, &mut budget) {
+                    if let Some((mut b, Some(j))) = self.await_body(p, op, false, &mut budget) {
                         sh.publish_body(&mut b);
-                        let reply = (j.call)(&b.image);
+                        let reply = j.call.answer(&b.image);
                         sh.finish(&b, Done { op, target: j.target, reply });
                         sh.clear(&mut b, op);
                         self.give_back(p, b, true);
@@ -731,7 +730,7 @@ impl<'a, S: Layout, I: Image> Coordinator<'a, S, I> {
             }
         }
     }
-    pub fn reclaim(&mut self, serial: u64, jobs: Vec<Job<I>>) -> Reclaimed {
+    pub fn reclaim(&mut self, serial: u64, jobs: Vec<Job<C>>) -> Reclaimed {
         let sh = self.sh;
         let empty = jobs.is_empty();
         if !empty {
@@ -742,7 +741,7 @@ impl<'a, S: Layout, I: Image> Coordinator<'a, S, I> {
             let mut d = sh.desk.lock().unwrap();
             d.moment += 1;
             sh.board.g().fetch_add(1, SeqCst);
-            Shared::<S, I>::slot_of(&d, serial)
+            Shared::<S, I, C>::slot_of(&d, serial)
         };
         if !empty {
             self.drive();

@@ -4,7 +4,7 @@ use crate::lists::keep;
 use crate::wrong::Wrong;
 use bodies::Name;
 use coordinator::{Coordinator, Reclaimed};
-use operations::job::Query;
+use operations::job::{Errand, Query};
 use operations::{Ask, Request, Targets};
 use std::alloc::{AllocError, Global};
 use std::sync::Wait;
@@ -14,36 +14,51 @@ use thread_list::Shared;
 /// The method whose code is installed and reclaimed.
 pub const METHOD: u32 = 1;
 
-/// A query for each of the names, how deep its thread's stack is.
-pub fn queries_of(alloc: Global, names: &[u64]) -> Result<Vec<Query>, AllocError> {
-    let mut queries = Vec::with_capacity(alloc, names.len())?;
+/// A job for each of the names, made by `make`.
+pub fn jobs_of<J: Errand, M: Fn(u64) -> Result<J, AllocError>>(
+    alloc: Global,
+    names: &[u64],
+    make: &M,
+) -> Result<Vec<J>, AllocError>
+    requires makes { M.IsAlwaysCallable make.now }
+{
+    let mut jobs = Vec::with_capacity(alloc, names.len())?;
     for name in names {
-        keep(&mut queries, Query::new(*name, Ask::Depth))?;
+        keep(&mut jobs, make(*name)?)?;
     }
-    Ok(queries)
+    Ok(jobs)
 }
 
-/// A handshake of the names, with its jobs.
-pub fn handshake_of(alloc: Global, names: &[u64]) -> Result<(Request, Vec<Query>), AllocError> {
-    let jobs = queries_of(alloc, names)?;
+/// A query for the name, how deep its thread's stack is.
+pub fn query_of(name: u64) -> Result<Query, AllocError> {
+    Ok(Query::new(name, Ask::Depth))
+}
+
+/// A query for each of the names.
+pub fn queries_of(alloc: Global, names: &[u64]) -> Result<Vec<Query>, AllocError> {
+    jobs_of(alloc, names, &query_of)
+}
+
+/// A handshake of the names, without its jobs.
+pub fn handshake_of(alloc: Global, names: &[u64]) -> Result<Request, AllocError> {
     let targets = Targets::from_vec(Vec::from_slice(alloc, names)?);
     let ask = Ask::Depth;
-    Ok((Request::Handshake { targets, ask }, jobs))
+    Ok(Request::Handshake { targets, ask })
 }
 
-pub fn is_asked<N: Name, R: Wait>(
+pub fn is_asked<N: Name, J: Errand, R: Wait>(
     rt: &R,
-    shared: &Shared<N, Query>,
+    shared: &Shared<N, J>,
     request: Request,
-    jobs: Vec<Query>,
+    jobs: Vec<J>,
 ) -> bool {
     shared.submit(rt, request, jobs).is_ok()
 }
 
 /// Installs a code of the method. Answers its serial.
-pub fn install<N: Name, R: Wait>(
+pub fn install<N: Name, J: Errand, R: Wait>(
     rt: &R,
-    shared: &Shared<N, Query>,
+    shared: &Shared<N, J>,
     method: u32,
 ) -> Result<u64, Wrong> {
     match shared.install(rt, method) {
@@ -52,11 +67,11 @@ pub fn install<N: Name, R: Wait>(
     }
 }
 
-fn is_freed<N: Name, R: Wait>(
+fn is_freed<N: Name, J: Errand, R: Wait>(
     rt: &R,
-    coordinator: &mut Coordinator<'_, N, Query>,
+    coordinator: &mut Coordinator<'_, N, J>,
     serial: u64,
-    jobs: Vec<Query>,
+    jobs: Vec<J>,
 ) -> bool {
     matches!(
         coordinator.reclaim(rt, serial, jobs),
@@ -65,27 +80,25 @@ fn is_freed<N: Name, R: Wait>(
 }
 
 /// The code is invalidated and, with a handshake for these jobs, reclaimed.
-pub fn is_reclaimed<N: Name, R: Wait>(
+pub fn is_reclaimed<N: Name, J: Errand, R: Wait>(
     rt: &R,
-    shared: &Shared<N, Query>,
-    coordinator: &mut Coordinator<'_, N, Query>,
+    shared: &Shared<N, J>,
+    coordinator: &mut Coordinator<'_, N, J>,
     serial: u64,
-    jobs: Vec<Query>,
+    jobs: Vec<J>,
 ) -> bool {
     let is_invalidated = shared.invalidate(rt, serial).is_ok();
     is_freed(rt, coordinator, serial, jobs) && is_invalidated
 }
 
-/// The time in which a code that was just installed is invalidated and, with a handshake of these names, reclaimed.
-pub fn time_reclaim<N: Name, R: Wait + Clock>(
+/// The time in which a code that was just installed is invalidated and, with a handshake for these jobs, reclaimed.
+pub fn time_reclaim<N: Name, J: Errand, R: Wait + Clock>(
     rt: &R,
-    alloc: Global,
-    shared: &Shared<N, Query>,
-    coordinator: &mut Coordinator<'_, N, Query>,
-    names: &[u64],
+    shared: &Shared<N, J>,
+    coordinator: &mut Coordinator<'_, N, J>,
+    jobs: Vec<J>,
 ) -> Result<u64, Wrong> {
     let serial = install(rt, shared, METHOD)?;
-    let jobs = queries_of(alloc, names)?;
     let start = clock::begin(rt);
     let is_reclaimed = is_reclaimed(rt, shared, coordinator, serial, jobs);
     let time = clock::time_since(rt, start)?;

@@ -100,7 +100,8 @@ impl<'c, 'a, N: Name, R: Wait + Clock> Grown<'c, 'a, N, R> {
 
     // A handshake of the one thread.
     fn shake_hands(&mut self) -> Result<(), Wrong> {
-        let (request, jobs) = handshake_of(self.alloc, &[self.name])?;
+        let jobs = queries_of(self.alloc, &[self.name])?;
+        let request = handshake_of(self.alloc, &[self.name])?;
         if is_asked(self.rt, self.shared, request, jobs) && self.is_driven() {
             Ok(())
         } else {
@@ -163,12 +164,7 @@ impl<'c, 'a, N: Name, R: Wait + Clock> Grown<'c, 'a, N, R> {
     }
 
     fn time_reclaim(&mut self) -> Result<u64, Wrong> {
-        time_reclaim(
-            self.rt,
-            self.alloc,
-            self.shared,
-            self.coordinator,
-            &[self.name],
-        )
+        let jobs = queries_of(self.alloc, &[self.name])?;
+        time_reclaim(self.rt, self.shared, self.coordinator, jobs)
     }
 }

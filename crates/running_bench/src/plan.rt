@@ -16,6 +16,8 @@ pub enum Kind {
     Native,
     /// A handshake of all threads, which asks how deep their stacks are, from its Ask to its Close.
     Handshake,
+    /// Such a handshake, whose jobs are boxed callbacks.
+    BoxedHandshake,
     /// A census, from its Ask to its Close.
     Census,
     /// A code is invalidated and, with such a handshake, reclaimed.
@@ -39,13 +41,14 @@ pub enum Kind {
 }
 
 /// All kinds.
-pub const KINDS: [Kind; 16] = [
+pub const KINDS: [Kind; 17] = [
     Kind::BackEdge,
     Kind::Call,
     Kind::Deep,
     Kind::Publish,
     Kind::Native,
     Kind::Handshake,
+    Kind::BoxedHandshake,
     Kind::Census,
     Kind::Reclaim,
     Kind::Together,
@@ -71,6 +74,7 @@ impl Kind {
             7 => Some(Kind::Census),
             8 => Some(Kind::Reclaim),
             9 => Some(Kind::Together),
+            10 => Some(Kind::BoxedHandshake),
             12 => Some(Kind::Interpreted),
             20 => Some(Kind::Replies),
             21 => Some(Kind::InstallLate),
@@ -129,7 +133,7 @@ impl Plan {
         let _ = &self.arg;
         matches!(
             self.kind,
-            Kind::Handshake | Kind::Census | Kind::Reclaim | Kind::Together
+            Kind::Handshake | Kind::BoxedHandshake | Kind::Census | Kind::Reclaim | Kind::Together
         )
     }
 
@@ -145,11 +149,6 @@ impl Plan {
                 | Kind::InstallAmong
                 | Kind::ReclaimAmong
         )
-    }
-
-    /// Whether a coordinator works beside those who call.
-    pub fn is_coordinated(&self) -> bool {
-        self.has_threads() || self.is_grown()
     }
 
     /// How many entries the history has before its turns.
@@ -180,7 +179,7 @@ impl Plan {
     pub fn codes(&self) -> u32 {
         let _ = &self.arg;
         match self.kind {
-            Kind::Handshake | Kind::Census | Kind::Reclaim => 1,
+            Kind::Handshake | Kind::BoxedHandshake | Kind::Census | Kind::Reclaim => 1,
             _ if self.is_grown() => 0,
             _ => 256,
         }

@@ -1,5 +1,5 @@
 //! What the main thread asks of the others, once.
-use crate::acts::{handshake_of, is_asked, time_reclaim};
+use crate::acts::{handshake_of, is_asked, jobs_of, time_reclaim};
 use crate::clock;
 use crate::lists::keep;
 use crate::plan::Kind;
@@ -7,7 +7,7 @@ use crate::wrong::Wrong;
 use bodies::Name;
 use coordinator::{Coordinator, Driven};
 use operations::Request;
-use operations::job::Query;
+use operations::job::Errand;
 use std::alloc::{AllocError, Global};
 use std::sync::Wait;
 use std::time::Clock;
@@ -15,11 +15,11 @@ use thread_list::Shared;
 
 /// The main thread's part of a run.
 #[derive(Drop)]
-pub struct Asker<'c, 'a, N: Name, R> {
+pub struct Asker<'c, 'a, N: Name, J: Errand, R> {
     rt: &'c R,
     alloc: Global,
-    shared: &'c Shared<N, Query>,
-    coordinator: &'c mut Coordinator<'a, N, Query>,
+    shared: &'c Shared<N, J>,
+    coordinator: &'c mut Coordinator<'a, N, J>,
     // Of the threads, which are live throughout: they have the names from 1 on, in the order in which they started.
     names: Vec<u64>,
     // What the last census counted.
@@ -43,15 +43,15 @@ fn names_of(alloc: Global, threads: usize) -> Result<Vec<u64>, AllocError> {
     Ok(names)
 }
 
-impl<'c, 'a, N: Name, R: Wait + Clock> Asker<'c, 'a, N, R> {
+impl<'c, 'a, N: Name, J: Errand, R: Wait + Clock> Asker<'c, 'a, N, J, R> {
     /// It asks so many threads.
     pub fn new(
         rt: &'c R,
         alloc: Global,
-        shared: &'c Shared<N, Query>,
-        coordinator: &'c mut Coordinator<'a, N, Query>,
+        shared: &'c Shared<N, J>,
+        coordinator: &'c mut Coordinator<'a, N, J>,
         threads: usize,
-    ) -> Result<Asker<'c, 'a, N, R>, AllocError> {
+    ) -> Result<Asker<'c, 'a, N, J, R>, AllocError> {
         let names = names_of(alloc, threads)?;
         Ok(Asker {
             rt,
@@ -63,12 +63,21 @@ impl<'c, 'a, N: Name, R: Wait + Clock> Asker<'c, 'a, N, R> {
         })
     }
 
-    /// Makes one stop of the kind. Answers the time that it took.
-    pub fn ask(&mut self, kind: Kind) -> Result<u64, Wrong> {
+    /// Makes one stop of the kind. Its jobs are made before its time begins. Answers the time that it took.
+    pub fn ask<M: Fn(u64) -> Result<J, AllocError>>(
+        &mut self,
+        kind: Kind,
+        make: &M,
+    ) -> Result<u64, Wrong>
+        requires makes { M.IsAlwaysCallable make.now }
+    {
+        if matches!(kind, Kind::Census) {
+            return self.count();
+        }
+        let jobs = jobs_of(self.alloc, self.names.as_slice(), make)?;
         match kind {
-            Kind::Handshake => self.shake_hands(),
-            Kind::Census => self.count(),
-            _ => self.reclaim(),
+            Kind::Reclaim => time_reclaim(self.rt, self.shared, self.coordinator, jobs),
+            _ => self.shake_hands(jobs),
         }
     }
 
@@ -88,7 +97,7 @@ impl<'c, 'a, N: Name, R: Wait + Clock> Asker<'c, 'a, N, R> {
     }
 
     // The time of a request from its Ask to its Close, and what it was.
-    fn time(&mut self, request: Request, jobs: Vec<Query>) -> Result<(u64, Done), Wrong> {
+    fn time(&mut self, request: Request, jobs: Vec<J>) -> Result<(u64, Done), Wrong> {
         let start = clock::begin(self.rt);
         let is_asked = is_asked(self.rt, self.shared, request, jobs);
         let done = self.drive();
@@ -100,8 +109,8 @@ impl<'c, 'a, N: Name, R: Wait + Clock> Asker<'c, 'a, N, R> {
         }
     }
 
-    fn shake_hands(&mut self) -> Result<u64, Wrong> {
-        let (request, jobs) = handshake_of(self.alloc, self.names.as_slice())?;
+    fn shake_hands(&mut self, jobs: Vec<J>) -> Result<u64, Wrong> {
+        let request = handshake_of(self.alloc, self.names.as_slice())?;
         match self.time(request, jobs)? {
             (time, Done::Handshake) => Ok(time),
             _ => Err(Wrong::Answer),
@@ -123,15 +132,5 @@ impl<'c, 'a, N: Name, R: Wait + Clock> Asker<'c, 'a, N, R> {
             [(_, frames)] => *frames as usize == self.names.len(),
             _ => false,
         }
-    }
-
-    fn reclaim(&mut self) -> Result<u64, Wrong> {
-        time_reclaim(
-            self.rt,
-            self.alloc,
-            self.shared,
-            self.coordinator,
-            self.names.as_slice(),
-        )
     }
 }

@@ -1,0 +1,51 @@
+//! What a job calls on the stack of its target: a query, which takes no memory, or a boxed closure.
+use crate::image::Image;
+
+/// What a handshake asks of each target.
+#[derive(Clone, Copy)]
+pub enum Ask {
+    Depth,
+    CountOf(u64),
+    Top,
+}
+impl Ask {
+    #[inline(always)]
+    fn reply_on<I: Image>(self, image: &I) -> u64 {
+        match self {
+            Ask::Depth => image.depth() as u64,
+            Ask::CountOf(serial) => image.frames().iter().filter(|frame| frame.serial == serial).count() as u64,
+            Ask::Top => image.frames().last().map_or(0, |frame| frame.serial),
+        }
+    }
+}
+
+/// A callback, which is called at most once.
+pub trait Callback<I>: Send {
+    fn of(ask: Ask) -> Self;
+    /// What it answers on the image. Then its memory is free again.
+    fn answer(self, image: &I) -> u64;
+}
+
+/// Answers its ask itself.
+pub struct Query(Ask);
+impl<I: Image> Callback<I> for Query {
+    fn of(ask: Ask) -> Self {
+        Query(ask)
+    }
+    #[inline(always)]
+    fn answer(self, image: &I) -> u64 {
+        self.0.reply_on(image)
+    }
+}
+
+/// A closure in a box of its own.
+pub struct Boxed<I>(Box<dyn Fn(&I) -> u64 + Send>);
+impl<I: Image> Callback<I> for Boxed<I> {
+    fn of(ask: Ask) -> Self {
+        Boxed(Box::new(move |image| ask.reply_on(image)))
+    }
+    #[inline(always)]
+    fn answer(self, image: &I) -> u64 {
+        (self.0)(image)
+    }
+}
