@@ -1,7 +1,7 @@
 //! What a job calls on the stack of its target: a query, which takes no memory, or a boxed closure.
 use crate::image::Image;
 
-/// What a handshake asks of each target.
+/// What a handshake asks of each target. The measures ask for the depth alone; as in the product, an answer looks which it is.
 #[derive(Clone, Copy)]
 pub enum Ask {
     Depth,

@@ -1,5 +1,5 @@
 //! The protocol in plain Rust: words, berths, desk, mutators, coordinator. No proofs, the same atomic steps, few refusals.
-//! `S` is the layout of the words.
+//! `S` is the layout of the words, `I` the image of a stack, and `C` what a job calls.
 use crate::callback::Callback;
 use crate::image::*;
 use crate::rsync::{Condvar, Mutex};
