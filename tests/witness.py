@@ -43,7 +43,7 @@ OUT = ROOT / "out"
 JIT_RUNS = ((1, "0.02"), (3, "0.1"))
 THREADS = (2, 3, 4, 6, 8, 12, 16)
 # Of the threads in a run, which are some 1,000 calls with the coordinator's.
-STEPS = 660
+STEPS = 710
 SECONDS = 600
 RECORD, CONDITION = "-DSP_RECORD", "-DSP_PTHREAD"
 # What each liar stands before.
