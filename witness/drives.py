@@ -180,6 +180,8 @@ class Drives:
     def looks(self, call, serial):
         world = self.world
         code = world.codes[serial]
+        if code.state != NOT_ENTRANT:
+            return WAIT
         late = next((place for place in range(len(world.places)) if place not in code.looked and not world.is_covered(place, code)), None)
         counted = world.counted.get(serial) or 0
         said = f"late {late}" if late is not None else f"used {counted}" if counted else "freed"
