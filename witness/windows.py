@@ -155,10 +155,19 @@ class Windows:
         place = call.args[0]
         if call.word == "ok":
             call.span = held[place] = Span(call.stream, call.index, call.after, place)
-        elif call.word in ("NotSafe", "Held"):
-            for life in self.by_place.get(place, ()):
-                if told.get(life.name) and life.calls[0].before < call.after and call.before < life.calls[-1].after:
+        elif call.word in ("NotSafe", "Held", "AlreadyDone"):
+            lives = [life for life in self.by_place.get(place, ()) if life.calls[0].before < call.after and call.before < life.calls[-1].after]
+            for life in lives:
+                if told.get(life.name) and call.word != "AlreadyDone":
                     self.refused_before.setdefault((told[life.name][-1], life.name), []).append((call.stream, call.index))
+            if call.word == "AlreadyDone" and len(lives) == 1:
+                self.note_done(told.get(lives[0].name, ()), lives[0].name, call.after)
+
+    def note_done(self, numbers, name, ticket):
+        """A thread is done with all that it was told before this ticket."""
+        for number in numbers:
+            if (number, name) in self.ends_before:
+                self.ends_before[number, name] = min(ticket, self.ends_before[number, name])
 
     def note_close(self, call, opened):
         number = call.args[0] if call.args else opened[0] if opened else None
