@@ -21,9 +21,9 @@ static struct {
 } all;
 
 enum {
-    TRIES = 8,      /* of a call that found a lock taken, with pauses that grow, before the thread yields */
-    YIELDS = 64,    /* before it sleeps */
-    GIVES = 4096,   /* yields at most, with which a thread that has served gives way to those that have still to come */
+    TRIES = 400,    /* of a call that found a lock taken, with pauses that grow, before the thread yields: whoever yields may wait for a tick */
+    FEW = 8,        /* of these, where it waits for what others do rather than for a lock */
+    YIELDS = 64,    /* before it sleeps; and the most with which a thread that has served gives way */
     LOOKS = 40,     /* of the coordinator whether those that are late have come, before it sleeps */
     NAP = 500000,   /* nanoseconds, which the first sleep of a wait lasts at most, since a lock that is given back doesn't ring */
     DOUBLED = 5,    /* so often a further one lasts twice as long */
@@ -88,7 +88,7 @@ void sp_ring(void) {
 static void rest(struct sp_pause *pause) {
     unsigned turn = pause->turns++;
     if (turn < TRIES) {
-        for (unsigned i = 0; i < 1u << turn / 2; i++) PAUSE();
+        for (unsigned i = 0; i < 1u << (turn < FEW ? turn / 2 : 3); i++) PAUSE();
     } else if (turn < TRIES + YIELDS) {
         sched_yield();
     } else {
@@ -120,7 +120,7 @@ static void come(void) {
 /* Lets others run until what was driven when so many had ended is over, as far as a scheduler heeds that: where more threads run than there are
    processors, those that have still to come, and the coordinator, get one sooner. */
 static void give_way(unsigned ended) {
-    for (int turn = 0; turn < GIVES && atomic_load(&all.ended) == ended; turn++) sched_yield();
+    for (int turn = 0; turn < YIELDS && atomic_load(&all.ended) == ended; turn++) sched_yield();
 }
 
 /* The operation to serve now, or 0. Where a census keeps its stack, it has come and waits. */
@@ -128,7 +128,7 @@ static int64_t next_of(struct sp_party *thread) {
     struct sp_pause pause = {0, 0};
     int64_t operation;
     do {
-        if (pause.turns == 2) come(); /* not for a lock that was taken once */
+        if (pause.turns == 2) come(), pause.turns = TRIES - FEW; /* not for a lock that was taken once */
         operation = sp_stop_next(thread);
     } while (sp_again(operation, &pause));
     return operation;
@@ -159,7 +159,7 @@ int64_t sp_stop(struct sp_party *thread, sp_callback call, void *with) {
 typedef int64_t (*crossing)(struct sp_party *);
 
 static int64_t crossed(int64_t answer, crossing call, struct sp_party *thread) {
-    struct sp_pause pause = {0, 0};
+    struct sp_pause pause = {TRIES - FEW, 0};
     while (sp_again(answer, &pause)) answer = call(thread);
     return answer;
 }
