@@ -23,13 +23,18 @@ class RequestCalls:
             return self.refused(call, f"install {method}", world.install, method)
         if call.word and world.serials >= call.values[0]:
             return NEVER
-        if world.unfreed >= world.slots or call.word and world.serials + 1 != call.values[0] or self.is_entered_yet(world.in_use.get(method)):
+        if world.unfreed >= world.slots or call.word and world.serials + 1 != call.values[0] or self.is_used_yet(world.in_use.get(method)):
             return WAIT
         return (CHOICE if call.is_watched else EAGER), ((self.do_install, method),)
 
     def is_entered_yet(self, serial):
         """Some call that enters the code has still to be made."""
         return any(not self.is_past(stream, index) for stream, index in self.known.last_entries.get(serial, ()))
+
+    def is_used_yet(self, serial):
+        """Some call that enters the code, or takes it out of use, has still to be made."""
+        invalidation = self.known.invalidations.get(serial)
+        return self.is_entered_yet(serial) or invalidation is not None and not self.is_past(*invalidation)
 
     def do_install(self, stream, call, method):
         self.world.install(method)

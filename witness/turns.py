@@ -132,9 +132,10 @@ class Turns:
         return CHOICE, ((self.act, thread, "exit"),)
 
     def may_leave(self, thread):
-        """Whoever listed the thread as live has done so, those that started at greater places before this one was taken again have started, and
-        what it is recorded to have replied it has."""
-        if any(not self.is_past(stream, index) for stream, index in self.known.live_lists.get(thread.name, ())):
+        """Whoever listed the thread as live, or found it at its place, has done so, those that started at greater places before this one was
+        taken again have started, and what it is recorded to have replied it has."""
+        seen = (*self.known.live_lists.get(thread.name, ()), *self.known.seen_at.get(thread.name, ()))
+        if any(not self.is_past(stream, index) for stream, index in seen):
             return False
         for name, place in self.known.starts_to_come:
             if name > self.world.names:

@@ -21,6 +21,7 @@ class Windows:
     `listed`          by operation, the replies as they were listed last; `owed`: by name, the operations of these
     `starts_to_come`  the names and places of all starts
     `requests`        by operation, its ask and names
+    `invalidations`   by code, the call that took it out of use (stream and index); `seen_at`: by name, calls that found the thread at its place
     `jobs`            by operation and name, the call in which the job ran; `ends_before`: the ticket before which it was done
     """
 
@@ -31,6 +32,7 @@ class Windows:
         self.last_entries, self.live_lists, self.listed, self.owed = {}, {}, {}, {}
         self.starts_to_come = sorted(tuple(call.values) for call in log.calls if call.call == "start" and call.word == "thread")
         self.told_behind, self.refused_before, self.not_done, self.newest = {}, {}, {}, {}
+        self.invalidations, self.seen_at = {}, {}
         self.note_calls()
         self.note_overlaps()
         self.note_polls()
@@ -46,6 +48,10 @@ class Windows:
             call.span, call.drive_spans = None, ()
             if call.word == "compiled":
                 self.note_last(self.last_entries, call.values[0], call)
+            elif call.call == "invalidate" and call.word == "ok":
+                self.invalidations[call.args[0]] = (call.stream, call.index)
+            elif call.call in ("hold", "serve", "release") and call.word not in (None, "Vacant", "NoSuchPlace"):
+                self.note_seen(call)
             elif call.call == "live":
                 for name in call.values:
                     self.note_last(self.live_lists, name, call)
@@ -156,12 +162,22 @@ class Windows:
         if call.word == "ok":
             call.span = held[place] = Span(call.stream, call.index, call.after, place)
         elif call.word in ("NotSafe", "Held", "AlreadyDone"):
-            lives = [life for life in self.by_place.get(place, ()) if life.calls[0].before < call.after and call.before < life.calls[-1].after]
+            lives = self.lives_at(call)
             for life in lives:
                 if told.get(life.name) and call.word != "AlreadyDone":
                     self.refused_before.setdefault((told[life.name][-1], life.name), []).append((call.stream, call.index))
             if call.word == "AlreadyDone" and len(lives) == 1:
                 self.note_done(told.get(lives[0].name, ()), lives[0].name, call.after)
+
+    def lives_at(self, call):
+        """The lives at the call's place that it may have met."""
+        return [life for life in self.by_place.get(call.args[0], ()) if life.calls[0].before < call.after and call.before < life.calls[-1].after]
+
+    def note_seen(self, call):
+        """The call found a thread at its place: the only one that may have been there."""
+        lives = self.lives_at(call)
+        if len(lives) == 1:
+            self.seen_at.setdefault(lives[0].name, []).append((call.stream, call.index))
 
     def note_done(self, numbers, name, ticket):
         """A thread is done with all that it was told before this ticket."""
