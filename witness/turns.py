@@ -128,8 +128,14 @@ class Turns:
         if call.word == "servedexited" and not has_turned:
             return WAIT
         if self.states[stream][RAN] < len(call.jobs) or self.spans_left(call)[0] or not self.may_leave(thread):
-            return WAIT
+            return self.publishes_again(call, thread, self.states[stream][STAGE])
         return CHOICE, ((self.act, thread, "exit"),)
+
+    def publishes_again(self, call, thread, stage):
+        """An exit that is to be made again publishes again, which a reclaiming sees that began since the last time."""
+        if call.is_watched and thread.moment < self.world.moment:
+            return CHOICE, ((self.do_publish, thread, stage),)
+        return WAIT
 
     def may_leave(self, thread):
         """Whoever listed the thread as live, or found it at its place, has done so, those that started at greater places before this one was

@@ -108,8 +108,10 @@ abbrev pub exits_by : Entry → Stage → Answer → Option Stage
 exits_by entry stage (answer.Exited name) = when (says entry (exit_word stage.times) (name ∷ [])) (turned stage at.Over)
 exits_by entry stage other = when (fits entry other) (turned stage at.Over)
 
--- An exit is a publication and Exit; where something is told, a poll that stops, turns, and a publication stand between.
+-- An exit is a publication and Exit; where something is told, a poll that stops, turns, and a publication stand between. One that is to be
+-- made again publishes again.
 abbrev pub exits : Entry → Stage → Act → Answer → Option Stage
+exits entry stage act.Begin said = when (is_done said) (turned stage at.ExitBegun)
 exits entry stage act.Exit said = exits_by entry stage said
 exits entry stage act.Edge said = crosses stage said None
 exits entry stage act.FromVm said = crosses stage said None

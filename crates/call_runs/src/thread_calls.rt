@@ -74,11 +74,12 @@ fn takes(entry: &Entry, stage: Stage, act: Act, answer: &Answer) -> Option<Stage
     }
 }
 
-/// A thread that published exits, or a poll stops it.
+/// A thread that published exits, or a poll stops it; or it publishes again, where its exit is to be made again.
 fn exits(entry: &Entry, stage: Stage, act: Act, answer: &Answer) -> Option<Stage>
     ensures { result ≡ exits entry.now stage act answer.now }
 {
     match act {
+        Act::Begin => when(is_done(answer), turned(stage, At::ExitBegun)),
         Act::Exit => match answer {
             Answer::Exited(name) => {
                 let word = if stage.times == 0 {
