@@ -48,7 +48,7 @@ SECONDS = 600
 RECORD, CONDITION = "-DSP_RECORD", "-DSP_PTHREAD"
 # What each liar stands before.
 LIARS = {"hold": ("hold", "release"), "call": ("call", "install"), "publish": ("publish",), "stop": ("stop_next", "stop_serve")}
-LIED_RUNS, LIED_STEPS = 10, 1500
+LIED_RUNS, LIED_STEPS = 10, 6000
 # Of the search for one of many runs.
 MOST_STEPS, MOST_SECONDS = 20_000_000, 60
 # A text that is no log, and what is told of it.
