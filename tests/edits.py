@@ -30,6 +30,7 @@ import sys
 import tempfile
 import threading
 
+from minutes import minutes_of
 from toolchain import ROOT, is_of_the_gate, toolchain
 from wrong_bodies import PARTS, Bad, Edit, Trial, cycle_mates, grouped, types_of, write
 
@@ -176,9 +177,10 @@ def edits_of(folder, folders):
 
 
 def crates_with_edits(rtlib, names):
-    """The crates that have edits, all or those of the names, the largest first."""
-    known, size = {}, lambda it: -sum(f.stat().st_size for f in it.glob("src/**/*.rt"))
-    folders = sorted((it for it in ROOT.glob("crates/*") if edits_of(it, FOLDERS)), key=size)
+    """The crates that have edits, all or those of the names; first those that take the most time, which else would end the run alone."""
+    known, size = {}, lambda it: sum(f.stat().st_size for f in it.glob("src/**/*.rt"))
+    order = lambda it: (-minutes_of(it.name, "further"), -size(it))
+    folders = sorted((it for it in ROOT.glob("crates/*") if edits_of(it, FOLDERS)), key=order)
     return [rtlib.Crate(str(it), str(ROOT), known) for it in folders if not names or it.name in names]
 
 

@@ -124,12 +124,15 @@ def table(logs):
         yield f"| {crate.replace(REST, 'all else')} | " + " | ".join(cells) + f" | {row.total():.1f} |"
 
 
-def minutes_of(crate):
-    """The minutes that the proof of a crate takes, by the page; none where it isn't there."""
+def minutes_of(crate, kind="proof"):
+    """The minutes that checks of a kind take of a crate, by the page; none where it isn't there."""
+    column = None
     for line in PAGE.read_text().splitlines() if PAGE.is_file() else ():
         cells = [it.strip() for it in line.strip("|").split("|")]
-        if cells[0] == crate and len(cells) > 2:
-            return float(cells[1] or 0)
+        if cells[0] == "crate":
+            column = cells.index(KINDS[kind]) if KINDS[kind] in cells else None
+        elif cells[0] == crate and column:
+            return float(cells[column] or 0)
     return 0.0
 
 
