@@ -9,7 +9,8 @@ cd "$(dirname "$0")/.."
 export PYTHONUNBUFFERED=1
 mkdir -p out
 refused=$(mktemp) built=$(mktemp)
-trap 'rm -f "$refused" "$built"; kill "$watch" 2> /dev/null' EXIT
+edits=
+trap 'rm -f "$refused" "$built"; kill "$watch" $edits 2> /dev/null' EXIT
 
 # The counts of a last line 'N passed, M failed'.
 counts() {
@@ -40,15 +41,6 @@ count() {
     return "$ended"
 }
 
-# The wrong bodies beside those of the gate: over the libraries that it left here, or else over those of a copy.
-edits() {
-    if tests/edits.py --stand; then
-        tests/edits.py
-    else
-        tests/edits.sh --further
-    fi
-}
-
 # What C, C++ and Rust do with the libraries for C, what is installed, and an order for what threads of C called.
 libraries() {
     count tests/embed.py crates/model/out/libmodel.a
@@ -60,6 +52,14 @@ libraries() {
 tests/minutes.py watch $$ > out/minutes.log &
 watch=$!
 : > out/parts.log
+: > out/gate.log
+# The wrong bodies beside those of the gate take what time it leaves, of each crate once it is proved. Where something was built here before, that
+# comes back when the gate ends; then they wait for the end, and a copy has the libraries.
+is_bare=$(compgen -G 'crates/*/out/rlib' > /dev/null || echo yes)
+if [[ $is_bare ]]; then
+    nice -n 19 tests/edits.py --beside out/gate.log > "$refused" 2>&1 &
+    edits=$!
+fi
 if ! rt ci 2>&1 | tee out/gate.log; then
     tests/failures.py out/gate.log
     tail -n 1 out/gate.log
@@ -71,8 +71,10 @@ failed=0 status=0 archived=
 # (beside what runs one program after the other)
 tests/archive.py model safepoint > "$built" 2>&1 &
 archives=$!
-edits > "$refused" 2>&1 &
-edits=$!
+if [[ ! $is_bare ]]; then
+    tests/edits.sh --further > "$refused" 2>&1 &
+    edits=$!
+fi
 count tests/program.py crates/monitor/out/monitor crates/monitor/out/monitor.by-rattle
 count tests/confirm.py crates/confirm/out/confirm crates/monitor/out/monitor
 count tests/pictures.py crates/timeline/out/timeline crates/timeline/out/timeline.by-rattle
@@ -84,6 +86,7 @@ wait "$archives" && archived=yes
 count cat "$built"
 # (threads of C have the machine for themselves)
 wait "$edits" || status=1
+edits=
 count cat "$refused"
 if [[ -z $archived ]]; then
     echo "left out: what is done with the libraries for C, since these aren't built"

@@ -1,5 +1,5 @@
 #!/usr/bin/env python3
-"""Tries the wrong bodies, of all crates or of those named: edits.py [--stand | --all | CRATE ..]
+"""Tries the wrong bodies, of all crates or of those named: edits.py [--beside LOG | --all | CRATE ..]
 
 A crate's folders must-fail and wrong-bodies hold edits, each of which gives one of its functions a wrong body; that function's contract must
 refuse it. Those of must-fail tell most, and `rt ci` tries them; here they are tried only where their crate is named, or with --all. An edit
@@ -17,8 +17,9 @@ An edit counts as refused where a goal of the function that has it is not proved
 something which it calls is not proved counts for nothing. A function that no edit changes must be proved beside them. What isn't settled so
 (a check that doesn't end, a function that is proved all the same) is tried by itself, in a check of the whole crate.
 
-The libraries are those that `rt ci` left here; with --stand the status alone says whether it left them, where it is 0. Else the status is 0
-where each edit was refused, and each of must-pass proved.
+The libraries are those that `rt ci` left here. With --beside a crate's edits are tried as soon as a gate that still runs says in LOG that the
+crate is proved, those of one crate at a time; once the gate has ended, of as many as there are cores. The status is 0 where each edit was
+refused, and each of must-pass proved.
 """
 import concurrent.futures
 import os
@@ -29,6 +30,7 @@ import subprocess
 import sys
 import tempfile
 import threading
+import time
 
 from minutes import minutes_of
 from toolchain import ROOT, is_of_the_gate, toolchain
@@ -41,6 +43,9 @@ FURTHER = FOLDERS[1:]
 TOLD = re.compile(r"(?:note: (?=\S+ it is not proved that )|(?=\S+ error: ))(?:\./)?((?:src|proofs)/\S+?):(\d+):\d+: (.*)")
 # What is said where a text names something that an edit took away or that is itself not proved, which shows little of a contract.
 NAMES = re.compile(r"is not in scope|has no field|has no `|is no name|was not admitted")
+# What a gate's log says of a crate that is proved, and at its end.
+PROVED = re.compile(r"(?m)^rt: (\w+) (?:proved|is kept: .*)$")
+ENDED = re.compile(r"(?m)^\d+ passed, \d+ failed$")
 
 
 class Verdicts:
@@ -184,31 +189,63 @@ def crates_with_edits(rtlib, names):
     return [rtlib.Crate(str(it), str(ROOT), known) for it in folders if not names or it.name in names]
 
 
+class Gate:
+    """A gate that may still run: which crates it has proved, by its log, and whether it has ended. With no log it has ended."""
+
+    def __init__(self, log):
+        self.log = log
+        self.proved, self.has_ended = set(), log is None
+
+    def look(self):
+        if not self.has_ended:
+            said = self.log.read_text(errors="replace")
+            self.proved, self.has_ended = set(PROVED.findall(said)), ENDED.search(said) is not None
+
+    def lets(self, crate):
+        """Whether the libraries below the crate stand."""
+        return (self.has_ended or crate.name in self.proved) and all(map(is_of_the_gate, crate.below()))
+
+
+def in_turn(crates, gate, one):
+    """Gives what `one` returns of each crate that the gate lets it try, of one at a time while the gate runs; and the crates that it never let."""
+    cores = len(os.sched_getaffinity(0))
+    left, running, given = list(crates), set(), []
+    with concurrent.futures.ThreadPoolExecutor(cores) as pool:
+        while left or running:
+            gate.look()
+            room = (cores if gate.has_ended else 1) - len(running)
+            for crate in [it for it in left if gate.lets(it)][: max(room, 0)]:
+                left.remove(crate)
+                running.add(pool.submit(one, crate))
+            if gate.has_ended and not running:
+                break
+            done, running = concurrent.futures.wait(running, timeout=1, return_when=concurrent.futures.FIRST_COMPLETED)
+            given += [it.result() for it in done]
+            if not running:
+                time.sleep(1)
+    return given, left
+
+
 def main(words):
-    names = [it for it in words if not it.startswith("--")]
+    log = pathlib.Path(words[1]) if words[:1] == ["--beside"] else None
+    names = [it for it in words if not it.startswith("--")] if log is None else []
     rtlib, _ = toolchain()
-    crates = crates_with_edits(rtlib, names)
     rtlib.guarded()  # its first call sets a handler of signals, which the main thread alone may
-    stand = all(is_of_the_gate(dep) for it in crates for dep in it.below())
-    if "--stand" in words:
-        return 0 if stand else 1
-    if not stand:
-        print("FAILED: edits.py: no libraries that rt ci left: run it by make edits")
-        return 1
-    passed = failed = 0
     printing = threading.Lock()
 
     def one(crate):
         with tempfile.TemporaryDirectory(prefix="edits-") as room:
-            results = tried(rtlib, crate, room, bool(words))
+            results = tried(rtlib, crate, room, with_all=bool(words) and log is None)
         with printing:
             for name, is_refused, text in results:
                 print(f"{'' if is_refused else 'FAILED: '}wrong body {crate.name}/{name}: {text}", flush=True)
         return [is_refused for _, is_refused, _ in results]
 
-    with concurrent.futures.ThreadPoolExecutor(len(os.sched_getaffinity(0))) as pool:
-        for results in pool.map(one, crates):
-            passed, failed = passed + sum(results), failed + len(results) - sum(results)
+    given, left = in_turn(crates_with_edits(rtlib, names), Gate(log), one)
+    for crate in left:
+        print(f"FAILED: edits.py: {crate.name} has no libraries that rt ci left: run it by make edits")
+    passed = sum(map(sum, given))
+    failed = sum(map(len, given)) - passed + len(left)
     print(f"{passed} passed, {failed} failed")
     return 1 if failed or not passed else 0
 
