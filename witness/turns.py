@@ -61,8 +61,12 @@ class Turns:
             return EAGER, ((self.act_on, thread, "cross", AT_POLL),)
         must, may = self.spans_left(call)
         if must or self.states[stream][RAN] < len(call.jobs) or not self.is_last_turn(stream, call):
-            return WAIT
+            return self.goes_on_early(call, thread)
         return (CHOICE if may or call.is_told else EAGER), ((self.do_go_on, thread),)
+
+    def goes_on_early(self, call, thread):
+        """An exit that goes on is made again, and may then stop again for what is left."""
+        return (CHOICE, ((self.do_go_on, thread),)) if call.call == "exit" else WAIT
 
     def do_go_on(self, stream, call, thread):
         self.world.cross(thread)
