@@ -71,7 +71,7 @@ class Core(ThreadEvents, World):
             return "refused NoSuchPlace"
         if not self.is_covered(place, code):
             return "late"
-        self.set(code, "looked", code.looked | {place})
+        self.set(code, "looked", code.looked | 1 << place)
         return "clear"
 
     def weigh(self, serial):
@@ -81,7 +81,7 @@ class Core(ThreadEvents, World):
         if code.state != NOT_ENTRANT:
             return "refused NotNotEntrant"
         for place in range(len(self.places)):
-            if place not in code.looked:
+            if not code.looked >> place & 1:
                 return f"not looked {place}"
         count = self.counted.get(serial)
         if count:

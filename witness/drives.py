@@ -182,7 +182,7 @@ class Drives:
         code = world.codes[serial]
         if code.state != NOT_ENTRANT:
             return WAIT
-        late = next((place for place in range(len(world.places)) if place not in code.looked and not world.is_covered(place, code)), None)
+        late = next((place for place in range(len(world.places)) if not code.looked >> place & 1 and not world.is_covered(place, code)), None)
         counted = world.counted.get(serial) or 0
         said = f"late {late}" if late is not None else f"used {counted}" if counted else "freed"
         if call.word and said != " ".join([call.word, *map(str, call.values)]):

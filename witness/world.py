@@ -16,11 +16,11 @@ class Thread:
 
 
 class Code:
-    """A code; `moment` is that of its invalidation, `looked` the places that were found clear."""
+    """A code; `moment` is that of its invalidation, `looked` has the bits of the places that were found clear."""
     __slots__ = ("serial", "method", "state", "moment", "looked")
 
     def __init__(self, serial, method):
-        self.serial, self.method, self.state, self.moment, self.looked = serial, method, IN_USE, 0, frozenset()
+        self.serial, self.method, self.state, self.moment, self.looked = serial, method, IN_USE, 0, 0
 
 
 class Request:
