@@ -32,12 +32,90 @@ const ROOM: usize = MOVED + CELLS;
 #[derive(Drop)]
 pub(crate) struct Nets {
     // By the last bits of a slot: a code with its net. One with other last bits stands for none.
-    cells: Vec<Change>,
+    cells: Vec<CodeNet>,
     // Where there are codes in the cells, so that a flush goes over no others.
     touched: Vec<u16>,
     // The nets of codes whose cell had another code with a net. Flushed, it has all nets, sorted.
-    list: Vec<Change>,
+    list: Vec<CodeNet>,
     flushed: bool,
+}
+
+/// A code with its net, as contracts see a change by so much. It has 16 bytes, where a change has 24
+/// with a gap: a cell is found by a shift, and a line of the processor's caches has four.
+#[derive(Clone, Copy, Drop)]
+struct CodeNet {
+    serial: u64,
+    slot: u32,
+    by: i32,
+}
+
+impl Model for CodeNet {
+    ghost use Rattle.frames.specs.declared.Change.{Change};
+
+    ghost Value = { Change };
+
+    ghost view = { λ n. record {
+      code = record { slot = n.slot; serial = n.serial };
+      by = n.by;
+    } };
+
+    ghost inverse = { λ e. record { serial = e.code.serial; slot = e.code.slot; by = e.by } };
+}
+
+impl CodeNet {
+    #[inline(always)]
+    fn new(code: CodeId, by: i32) -> CodeNet
+        ensures { result ≡ record { code = code; by = by } }
+    {
+        CodeNet {
+            serial: code.serial,
+            slot: code.slot,
+            by,
+        }
+    }
+
+    #[inline(always)]
+    fn change(self) -> Change
+        ensures { result ≡ self }
+    {
+        Change {
+            code: self.code(),
+            by: self.by,
+        }
+    }
+
+    #[inline(always)]
+    fn code(self) -> CodeId
+        ensures { result ≡ self.code }
+    {
+        CodeId {
+            slot: self.slot,
+            serial: self.serial,
+        }
+    }
+
+    #[inline(always)]
+    fn by(self) -> i32
+        ensures { result ≡ self.by }
+    {
+        self.by
+    }
+
+    #[inline(always)]
+    fn is_of(&self, code: CodeId) -> bool
+        ensures { result ≡ same_code self.now.code code }
+    {
+        self.serial == code.serial && self.slot == code.slot
+    }
+
+    #[inline(always)]
+    fn move_by(&mut self, by: i32)
+        requires low { pos 0 ≤ℤ (self.old.by +ℤ by +ℤ pos 2147483648) }
+        requires high { (self.old.by +ℤ by) ≤ℤ pos 2147483647 }
+        ensures { self.new ≡ record self.old { by = self.old.by +ℤ by } }
+    {
+        self.by += by;
+    }
 }
 
 impl Model for Nets {
@@ -83,8 +161,8 @@ impl Nets {
         ensures { self.new ≡ record { entries = add self.old.entries code by; flushed = false } }
     {
         let place = cell_of(code);
-        if same_code(self.cells[place].code, code) {
-            self.cells[place].by += by;
+        if self.cells[place].is_of(code) {
+            self.cells[place].move_by(by);
         } else {
             note(
                 &mut self.cells,
@@ -175,7 +253,7 @@ impl Nets {
         }
         self.cells[place] = nothing_at(place);
         self.touched.clear();
-        Some(net)
+        Some(net.change())
     }
 
     /// Drops all nets.
@@ -189,39 +267,32 @@ impl Nets {
     }
 }
 
-fn net_at(nets: &[Change], place: usize) -> Option<Change>
+fn net_at(nets: &[CodeNet], place: usize) -> Option<Change>
     ensures { result ≡ slice_get nets.now place }
 {
-    nets.get(place).copied()
+    match nets.get(place) {
+        Some(net) => Some(net.change()),
+        None => None,
+    }
 }
 
 // What an empty cell has: a code that isn't of this cell, so that no code is found there.
 #[inline(always)]
-fn nothing_at(place: usize) -> Change
+fn nothing_at(place: usize) -> CodeNet
     ensures { result ≡ nothing_at place }
 {
     let slot = if place == 0 { 1 } else { 0 };
-    Change {
-        code: CodeId { slot, serial: 0 },
-        by: 0,
-    }
+    CodeNet::new(CodeId { slot, serial: 0 }, 0)
 }
 
 // Empty cells.
-fn no_codes(alloc: Global) -> Result<Vec<Change>, AllocError>
+fn no_codes(alloc: Global) -> Result<Vec<CodeNet>, AllocError>
     ensures cells { IfOk result (λ cells. AreCells cells.items []) }
     ensures none { IfOk result (λ cells. AreAmong cells.items []) }
 {
     let mut cells = vec![in alloc; nothing_at(1); CELLS]?;
     cells[0] = nothing_at(0);
     Ok(cells)
-}
-
-#[inline(always)]
-fn same_code(one: CodeId, other: CodeId) -> bool
-    ensures { result ≡ same_code one other }
-{
-    one.serial == other.serial && one.slot == other.slot
 }
 
 // Which cell is that of the code's slot.
@@ -235,12 +306,12 @@ fn cell_of(code: CodeId) -> usize
 
 // The place of a code whose cell has another. The list is empty but where slots shared a cell.
 #[inline(always)]
-fn searched(nets: &[Change], code: CodeId) -> Option<usize>
+fn searched(nets: &[CodeNet], code: CodeId) -> Option<usize>
     ensures some { IfSome result (λ place. IsAt nets.now code place) }
     ensures none { IfNone result (times code (codes_in nets.now) ≡ 0) }
 {
     for (place, net) in nets.iter().enumerate() {
-        if same_code(net.code, code) {
+        if net.is_of(code) {
             return Some(place);
         }
     }
@@ -248,14 +319,14 @@ fn searched(nets: &[Change], code: CodeId) -> Option<usize>
 }
 
 #[inline(always)]
-fn has_net(net: &Change) -> bool
+fn has_net(net: &CodeNet) -> bool
     ensures { result ≡ not (is_zero net.now.by) }
 {
-    net.by != 0
+    net.by() != 0
 }
 
 // Where a code moved back to 0.
-fn zero_place(nets: &[Change]) -> Option<usize>
+fn zero_place(nets: &[CodeNet]) -> Option<usize>
     ensures some { IfSome result (λ place. (place < length nets.now)
         × (is_zero (slice_index_or nets.now place
         (record { code = record { slot = 0; serial = 0 }; by = pos 0 })).by ≡ true)) }
@@ -263,7 +334,7 @@ fn zero_place(nets: &[Change]) -> Option<usize>
         ≡ length nets.now) }
 {
     for (place, net) in nets.iter().enumerate() {
-        if net.by == 0 {
+        if net.by() == 0 {
             return Some(place);
         }
     }
@@ -272,7 +343,7 @@ fn zero_place(nets: &[Change]) -> Option<usize>
 
 // Puts in the net of a code that has none.
 #[inline(always)]
-fn put(nets: &mut Vec<Change>, net: Change)
+fn put(nets: &mut Vec<CodeNet>, net: CodeNet)
     requires room { 1024 ≤ vec_capacity nets.old }
     requires fits { length nets.old.items ≤ 1024 }
     requires once { AreOnce nets.old.items }
@@ -293,7 +364,7 @@ fn put(nets: &mut Vec<Change>, net: Change)
 
 // Whether the cell can take a code: it is among the touched then.
 #[inline(always)]
-fn touch(touched: &mut Vec<u16>, cells: &[Change], place: usize) -> bool
+fn touch(touched: &mut Vec<u16>, cells: &[CodeNet], place: usize) -> bool
     requires place { place < 1024 }
     requires long { length cells.now ≡ 1024 }
     requires touched { AreTouched cells.now touched.old.items }
@@ -304,7 +375,7 @@ fn touch(touched: &mut Vec<u16>, cells: &[Change], place: usize) -> bool
     ensures taken { length touched.old.items < 1024 → result ≡ true }
     ensures capacity { vec_capacity touched.new ≡ vec_capacity touched.old }
 {
-    if cell_of(cells[place].code) == place {
+    if cell_of(cells[place].code()) == place {
         return true;
     }
     // It always is: no cell is pushed twice.
@@ -321,9 +392,9 @@ fn touch(touched: &mut Vec<u16>, cells: &[Change], place: usize) -> bool
 #[cold]
 #[inline(never)]
 fn note(
-    cells: &mut Vec<Change>,
+    cells: &mut Vec<CodeNet>,
     touched: &mut Vec<u16>,
-    list: &mut Vec<Change>,
+    list: &mut Vec<CodeNet>,
     slot: u32,
     serial: u64,
     by: i32,
@@ -351,7 +422,7 @@ fn note(
     let place = cell_of(code);
     if list.is_empty() && touched.len() < CELLS && !has_net(&cells[place]) {
         touch(touched, cells, place);
-        cells[place] = Change { code, by };
+        cells[place] = CodeNet::new(code, by);
         return;
     }
     note_listed(cells, touched, list, slot, serial, by);
@@ -360,9 +431,9 @@ fn note(
 // Adds to the net of the code, where the list may have it or the cell is another's.
 #[inline(never)]
 fn note_listed(
-    cells: &mut Vec<Change>,
+    cells: &mut Vec<CodeNet>,
     touched: &mut Vec<u16>,
-    list: &mut Vec<Change>,
+    list: &mut Vec<CodeNet>,
     slot: u32,
     serial: u64,
     by: i32,
@@ -388,22 +459,22 @@ fn note_listed(
 {
     let code = CodeId { slot, serial };
     if let Some(place) = searched(list, code) {
-        list[place].by += by;
+        list[place].move_by(by);
         return;
     }
     let place = cell_of(code);
     if !has_net(&cells[place]) {
         if touch(touched, cells, place) {
-            cells[place] = Change { code, by };
+            cells[place] = CodeNet::new(code, by);
             return;
         }
     }
-    put(list, Change { code, by });
+    put(list, CodeNet::new(code, by));
 }
 
 // Moves the net of the cell to the list, and leaves the cell empty.
 #[inline(always)]
-fn empty(cells: &mut Vec<Change>, list: &mut Vec<Change>, place: usize)
+fn empty(cells: &mut Vec<CodeNet>, list: &mut Vec<CodeNet>, place: usize)
     requires cells { AreCells cells.old.items list.old.items }
     requires place { place < 1024 }
     requires room { length list.old.items < vec_capacity list.old }
@@ -425,7 +496,7 @@ fn empty(cells: &mut Vec<Change>, list: &mut Vec<Change>, place: usize)
 }
 
 // Moves the nets of all cells that have codes into the list.
-fn drain(cells: &mut Vec<Change>, touched: &[u16], list: &mut Vec<Change>)
+fn drain(cells: &mut Vec<CodeNet>, touched: &[u16], list: &mut Vec<CodeNet>)
     requires cells { AreCells cells.old.items list.old.items }
     requires touched { AreTouched cells.old.items touched.now }
     requires fits { length list.old.items ≤ 1024 }
@@ -444,7 +515,7 @@ fn drain(cells: &mut Vec<Change>, touched: &[u16], list: &mut Vec<Change>)
 }
 
 // Sorts the nets, and drops those of 0.
-fn settle(nets: &mut Vec<Change>)
+fn settle(nets: &mut Vec<CodeNet>)
     requires once { AreOnce nets.old.items }
     ensures items { nets.new.items ≡ settled nets.old.items }
     ensures capacity { vec_capacity nets.new ≡ vec_capacity nets.old }
@@ -459,7 +530,7 @@ fn settle(nets: &mut Vec<Change>)
 // Sorts more than one net, and drops those of 0. Apart, since most publications change one code: what a sort needs of
 // registers would be saved by each.
 #[inline(never)]
-fn sort(nets: &mut Vec<Change>)
+fn sort(nets: &mut Vec<CodeNet>)
     requires once { AreOnce nets.old.items }
     ensures items { nets.new.items ≡ settled nets.old.items }
     ensures capacity { vec_capacity nets.new ≡ vec_capacity nets.old }
@@ -469,20 +540,21 @@ fn sort(nets: &mut Vec<Change>)
         return;
     }
     nets.retain(|net| has_net(net));
-    nets.sort_unstable_by_key(|net| (net.code.serial, net.code.slot));
+    nets.sort_unstable_by_key(|net| (net.serial, net.slot));
 }
 
 // Whether each has a net, and a greater serial than the one before: then there is nothing to sort.
-fn rises(nets: &[Change]) -> bool
+fn rises(nets: &[CodeNet]) -> bool
     ensures { result ≡ true → IsRising None nets.now }
 {
     let mut last = None;
     let mut rest = nets;
     while let Some((net, others)) = rest.split_first() {
-        if !(has_net(net) && is_above(last, net.code)) {
+        let code = net.code();
+        if !(has_net(net) && is_above(last, code)) {
             return false;
         }
-        last = Some(net.code);
+        last = Some(code);
         rest = others;
     }
     true
@@ -500,16 +572,16 @@ fn is_above(last: Option<CodeId>, code: CodeId) -> bool
 
 // Turns the list round where it begins falling. Codes come off a stack in the reverse order of
 // their calls: those that rose on the way down then fall, and a sort would move each past all others.
-fn turn(nets: &mut Vec<Change>)
+fn turn(nets: &mut Vec<CodeNet>)
     ensures same { IsPermutation nets.old.items nets.new.items }
     ensures capacity { vec_capacity nets.new ≡ vec_capacity nets.old }
 {
-    if nets.len() > 1 && nets[1].code.serial < nets[0].code.serial {
+    if nets.len() > 1 && nets[1].code().serial < nets[0].code().serial {
         nets.reverse();
     }
 }
 
-fn are_zero(nets: &[Change]) -> bool
+fn are_zero(nets: &[CodeNet]) -> bool
     ensures { result ≡ (length (filter (λ net. not (is_zero net.by)) nets.now) == 0) }
 {
     for net in nets {
@@ -521,7 +593,7 @@ fn are_zero(nets: &[Change]) -> bool
 }
 
 // Whether no cell has a net. Those that aren't touched have none.
-fn are_back(cells: &[Change], touched: &[u16]) -> bool
+fn are_back(cells: &[CodeNet], touched: &[u16]) -> bool
     requires long { length cells.now ≡ 1024 }
     requires nets { (k : ℕ) (d : Change) → k < 1024
         → is_zero (slice_index_or cells.now k d).by ≡ false → is_in k touched.now ≡ true }
@@ -537,14 +609,14 @@ fn are_back(cells: &[Change], touched: &[u16]) -> bool
 }
 
 // How many nets aren't 0.
-fn nonzero(nets: &[Change]) -> usize
+fn nonzero(nets: &[CodeNet]) -> usize
     ensures { result ≡ count_by (λ net. not (is_zero net.by)) nets.now }
 {
     nets.iter().filter(|net| has_net(net)).count()
 }
 
 // The sum of the nets of the serial's codes.
-fn net_sum(nets: &[Change], serial: u64) -> i32
+fn net_sum(nets: &[CodeNet], serial: u64) -> i32
     requires few { length nets.now ≤ 1024 }
     requires small { AreSmall nets.now }
     ensures value { result ≡ net_sum serial nets.now }
@@ -552,6 +624,7 @@ fn net_sum(nets: &[Change], serial: u64) -> i32
 {
     let mut sum = 0i32;
     for net in nets {
+        let net = net.change();
         if net.code.serial == serial {
             sum += net.by;
         }

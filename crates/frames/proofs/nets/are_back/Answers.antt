@@ -1,4 +1,4 @@
-use Rattle.std.proofs.Common.{◌≡◌, true, drop, get_or, [], List, ℕ, subst, pos, arith}
+use Rattle.std.proofs.Common.{◌≡◌, true, false, drop, get_or, [], List, ℕ, subst, arith}
 use Rattle.std.proofs.lemmas.List.{drop_all}
 use Rattle.frames.specs.declared.Change.{Change}
 use Rattle.frames.specs.Nets.{is_zero, is_in}
@@ -7,10 +7,11 @@ use Rattle.frames.proofs.nets.are_back.Goals as goal
 
 pub returns-then-has_net : goal.returns-then-has_net
 returns-then-has_net c =
-    let d : Change = record { code = record { slot = 0; serial = 0 }; by = pos 0 } in
+    let x : Change = c.index-cells-place.result in
     let place = c.requires.places c.loop-place.place-index 0 c.loop-place-test.true in
     let k : ℕ = get_or c.args.touched.now c.loop-place.place-index 0 in
-    some_live c.args.cells.now k d (omega arith) (tested c.has_net.result (is_zero (get_or c.args.cells.now k d).by) c.has_net.ensures c.if-has_net.true)
+    let some = tested c.has_net.result (is_zero x.by) c.has_net.ensures c.if-has_net.true in
+    some_live c.args.cells.now k x (omega arith) (subst (λ (e : Change). is_zero e.by ≡ false) c.index-cells-place.is some)
 
 pub returns : goal.returns
 returns c =

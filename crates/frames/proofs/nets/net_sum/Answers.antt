@@ -1,6 +1,7 @@
 use Rattle.std.proofs.Common.{◌≡◌, ◌+◌, ◌∙◌, ap, subst, cond, eqb, true, false, drop, get_or, ◌∷◌, pos, ◌+ℤ◌, arith}
 use Rattle.std.proofs.lemmas.Int.{ints}
 use Rattle.std.proofs.lemmas.Bool.Decides.{nat_tests}
+use Rattle.std.proofs.lemmas.List.{get_or_default}
 use Rattle.frames.specs.declared.Change.{Change}
 use Rattle.frames.specs.Nets.{net_sum, AreSmall}
 use Rattle.frames.proofs.Settling.{drop_next}
@@ -21,6 +22,9 @@ loop-net-preserved c = elim c.if-net-serial.branch [
       let inv = c.loop-net.invariant in
       let is = w.sum-is in
       let old = c.loop-net.sum-is in
+      let taken : c.change-net.result ≡ x = c.change-net.ensures ∙ (c.net-item.is ∙ get_or_default c.args.nets.now i c.net-item.result d c.loop-net-test.true) in
+      let same_serial : c.change-net.result.code.serial ≡ x.code.serial = ap (λ (e : Change). e.code.serial) taken in
+      let same_by : c.change-net.result.by ≡ x.by = ap (λ (e : Change). e.by) taken in
       let b : eqb x.code.serial c.args.serial ≡ true = grind (arith, nat_tests) in
       let more : net_sum c.args.serial (drop i c.args.nets.now) ≡ x.by +ℤ net_sum c.args.serial (drop (i + 1) c.args.nets.now) = sum ∙ ap (λ t. cond t x.by (pos 0) +ℤ net_sum c.args.serial (drop (i + 1) c.args.nets.now)) b in
       let s0 = inv.0 in let s1 = inv.1 in let s2 = inv.2 in
@@ -38,6 +42,9 @@ loop-net-preserved c = elim c.if-net-serial.branch [
       let inv = c.loop-net.invariant in
       let is = w.sum-is in
       let old = c.loop-net.sum-is in
+      let taken : c.change-net.result ≡ x = c.change-net.ensures ∙ (c.net-item.is ∙ get_or_default c.args.nets.now i c.net-item.result d c.loop-net-test.true) in
+      let same_serial : c.change-net.result.code.serial ≡ x.code.serial = ap (λ (e : Change). e.code.serial) taken in
+      let same_by : c.change-net.result.by ≡ x.by = ap (λ (e : Change). e.by) taken in
       let b : eqb x.code.serial c.args.serial ≡ false = grind (arith, nat_tests) in
       let more : net_sum c.args.serial (drop i c.args.nets.now) ≡ pos 0 +ℤ net_sum c.args.serial (drop (i + 1) c.args.nets.now) = sum ∙ ap (λ t. cond t x.by (pos 0) +ℤ net_sum c.args.serial (drop (i + 1) c.args.nets.now)) b in
       let s0 = inv.0 in let s1 = inv.1 in let s2 = inv.2 in

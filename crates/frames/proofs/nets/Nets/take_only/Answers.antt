@@ -23,4 +23,4 @@ returns-clause-some c =
     let some = tested c.has_net.result (is_zero c.index-2.result.now.by) c.has_net.ensures (search rules) in
     let only = taken_only s.cells.items s.list.items s.touched.items _ _ c.index.result.now c.index-2.result.now (rw open_ at c.self.invariant) one none c.index.ensures c.index-2.ensures some in
     let view : List Change → NetsView = λ entries. record { entries = entries; flushed = false } in
-    (rw (← c.self.view_is) only.was, rw (open_, c.nothing_at.ensures) (ap view only.none))
+    (rw (← c.self.view_is, c.change.ensures) only.was, rw (open_, c.nothing_at.ensures) (ap view only.none))
