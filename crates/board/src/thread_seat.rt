@@ -13,16 +13,19 @@ use crate::rule::{About, CountDown, CountUp, Enter, Read, Store};
 use crate::words::{MOMENT, count_at, entry_at, place_at};
 use atomic_table::Seat;
 use frames::CodeId;
-use frames::board_rule::{BoardView, Entry, EntryState};
+use frames::board_rule::BoardView;
 use std::marker::{Brand, Model};
 
-/// Whether the entry's word says that the serial is in use.
+// The serials whose words are numbers of 64 bits lie below this.
+const SERIALS: u64 = 1 << 62;
+
+/// Whether the entry's word says that the serial is in use. The word of that is compared whole: to unpack what was found takes two
+/// tests.
 #[inline(always)]
 fn is_in_use(word: u64, serial: u64) -> bool
     ensures { result ≡ (word == pack serial InUse) }
 {
-    let entry = Entry::unpack(word);
-    matches!(entry.state, EntryState::InUse) && entry.serial == serial
+    serial < SERIALS && word == 4 * serial
 }
 
 /// Enters codes, counts them, and publishes for the thread of one place. Contracts see its board and its view.
