@@ -29,8 +29,8 @@ const APART: usize = 4;
 /// A room under a lock, and a bell that rings for those that wait for a change of it. Each call takes this lock, and none another, and
 /// answers the receipt of what it did there, or what came out. Contracts see the place that it was made for.
 ///
-/// `give`, `turn`, `release_quietly`, `bring` and `resume` try once in line, and only their further tries are a call: the first nearly
-/// always succeeds, and what a call of the loop answers would go through memory.
+/// `give`, `turn`, `release_quietly` and `resume` try once in line, and only their further tries are a call: the first nearly always
+/// succeeds, and what a call of the loop answers would go through memory. So does `bring_idle`, whose caller goes on with `bring`.
 #[derive(Drop)]
 pub struct Berth<N: Name, J: Errand> {
     place: usize,
@@ -277,7 +277,6 @@ impl<N: Name, J: Errand> Berth<N, J> {
     }
 
     // The error of a try is the body alone, where the berth doesn't take it.
-    #[inline(always)]
     fn try_bring<R: Wait>(
         &self,
         rt: &R,
@@ -301,7 +300,6 @@ impl<N: Name, J: Errand> Berth<N, J> {
 
     /// A body that was taken out to serve goes back. Where its thread was told more meanwhile it doesn't, and comes back with the oldest
     /// job.
-    #[inline(always)]
     pub fn bring<R: Wait>(
         &self,
         rt: &R,
@@ -317,6 +315,38 @@ impl<N: Name, J: Errand> Berth<N, J> {
             Err(back) => tried_further(rt, back, |body| self.try_bring(rt, body)),
         };
         let (receipt, waiters) = brought?;
+        self.ring(waiters);
+        Ok(receipt)
+    }
+
+    // One try where nothing more is told to the thread. What it answers is small, so that it stays in registers.
+    #[inline(always)]
+    fn try_bring_idle<R: Wait>(
+        &self,
+        rt: &R,
+        body: Body<N>,
+    ) -> Result<(BodyReceipt<N>, Waiters<N>), Body<N>>
+        requires body { (body.seat.stored ≢ 0) × (0 < body.name) }
+        ensures ok { IfOk result (λ r. r.0 ≡ moved body (BodyAct.Released false)) }
+        ensures waiters { IfOk result (λ r. r.1.place ≡ body.seat.place) }
+        ensures err { IfErr result (λ b. b ≡ body) }
+    {
+        let mut room = locked(&self.room, rt);
+        if room.is_told() {
+            return Err(body);
+        }
+        Ok((room.release(body, false)?, room.waiters()))
+    }
+
+    /// A body that was taken out to serve goes back at once, where nothing more was told to its thread meanwhile; else it comes back, and
+    /// `bring` is for it.
+    #[inline(always)]
+    pub fn bring_idle<R: Wait>(&self, rt: &R, body: Body<N>) -> Result<BodyReceipt<N>, Body<N>>
+        requires body { (body.seat.stored ≢ 0) × (0 < body.name) }
+        ensures ok { IfOk result (λ r. r ≡ moved body (BodyAct.Released false)) }
+        ensures err { IfErr result (λ b. b ≡ body) }
+    {
+        let (receipt, waiters) = self.try_bring_idle(rt, body)?;
         self.ring(waiters);
         Ok(receipt)
     }
