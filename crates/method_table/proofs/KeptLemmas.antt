@@ -177,14 +177,9 @@ module _ (codes : List Code) (slots next : ℕ) (records : List Code) (slot_of :
   held_within slot None e h = absurd (false≢true h)
   held_within slot (Some c) e h = slice_get_within records slot c e
 
-  -- below the first slot that may be free each slot has an unfreed code's record
-  pub taken_within : (slot : ℕ) → slot < taken → slot < length records
-  taken_within slot below = held_within slot (slice_get records slot) refl (kept.full slot below)
-
-  pub newest_is : (slot : ℕ) (record_at : Code) → slot < taken → slice_get records slot ≡ Some record_at → Some record_at ≡ unfreed codes record_at.serial
-  newest_is slot record_at below e =
-      let takes : takes_slot record_at.state ≡ true = ap holds (sym e) ∙ kept.full slot below in
-      sym (unfreed_is 1 record_at.serial codes record_at kept.numbered (kept.tied.listed slot record_at e takes).0 takes)
+  -- where a slot's record is of a code that isn't freed, it is that of the serial's unfreed code
+  pub record_is : (slot : ℕ) (record_at : Code) → slice_get records slot ≡ Some record_at → takes_slot record_at.state ≡ true → Some record_at ≡ unfreed codes record_at.serial
+  record_is slot record_at e takes = sym (unfreed_is 1 record_at.serial codes record_at kept.numbered (kept.tied.listed slot record_at e takes).0 takes)
 
   unnoted_where : (serial : ℕ) (o : Option Code) → unfreed codes serial ≡ o → slot_of serial ≡ None → o ≡ None
   unnoted_where serial None e h = refl

@@ -5,5 +5,6 @@ pub mod Stored
 pub mod Edited
 pub mod TableView
 pub mod Forward
+pub mod Guesses
 pub mod Kept
 pub mod Slots

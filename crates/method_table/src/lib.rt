@@ -7,6 +7,7 @@ ghost use Rattle.std.specs.Prelude.{◌≡◌};
 ghost use Rattle.method_table.specs.Codes.{is_in_use, is_not_entrant, is_zombie, takes_slot};
 
 mod fault_texts;
+mod guesses;
 mod history;
 pub mod laws;
 mod slots;

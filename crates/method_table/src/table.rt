@@ -7,6 +7,7 @@ ghost use Rattle.method_table.specs.declared.Code.{Code};
 ghost use Rattle.method_table.specs.declared.CodeState.TheVariants.{NotEntrant, Zombie, Freed};
 ghost use Rattle.method_table.specs.TableView.{IsTable, install_fault, reason, invalidate_fault, retire_fault, free_fault, entry_of};
 
+use crate::guesses::Guesses;
 use crate::history::{Edit, History};
 use crate::slots::{Slots, forget, note, slot_of};
 use crate::{Code, CodeState};
@@ -67,6 +68,7 @@ pub struct MethodTable {
     next: u64,
     records: Vec<Code>,
     index: Slots,
+    guesses: Guesses,
     current: Vec<Option<CodeId>>,
     taken: usize,
     history: History,
@@ -163,6 +165,7 @@ impl MethodTable {
             next: 1,
             records: Vec::new(alloc),
             index: HashMap::new(alloc),
+            guesses: Guesses::new(alloc)?,
             current: vec![in alloc; None; methods as usize]?,
             taken: 0,
             history: History::new(),
@@ -233,6 +236,7 @@ impl MethodTable {
             forget(&mut self.index, code.serial);
             return Err(InstallFault::NoMemory);
         };
+        self.guesses.put(code.serial, slot);
         replace(&mut self.records, &mut self.history, replaced);
         let id = CodeId {
             slot,
@@ -357,17 +361,20 @@ impl MethodTable {
         ensures sound { IsTable self.now }
         ensures value { result ≡ unfreed self.now.codes serial }
     {
-        // The last slot of those that are taken from the first on: mostly that of the newest code.
-        if 0 < self.taken {
-            let newest = self.records[self.taken - 1];
-            if newest.serial == serial {
-                return Some(newest);
+        let slot = self.guesses.slot_of(serial) as usize;
+        if slot < self.records.len() {
+            let code = self.records[slot];
+            if code.serial == serial {
+                if code.state.takes_slot() {
+                    return Some(code);
+                }
             }
         }
         self.noted(serial)
     }
 
-    // The code of the serial, by the index.
+    // The code of the serial, by the index. It is a call, since mostly the guess is right.
+    #[inline(never)]
     fn noted(&self, serial: u64) -> Option<Code>
         ensures sound { IsTable self.now }
         ensures value { result ≡ unfreed self.now.codes serial }

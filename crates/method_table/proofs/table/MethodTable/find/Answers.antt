@@ -1,17 +1,17 @@
--- The newest code's record, where it is the one that is looked for.
-use Rattle.std.proofs.Common.{◌≡◌, ◌-◌, ◌∙◌, ap, refl, arith}
+-- The record of the guessed slot, where it is that of the code that is looked for.
+use Rattle.std.proofs.Common.{◌≡◌, ◌<◌, ◌∙◌, ap, sym, refl, length, rules}
 use Rattle.std.proofs.lemmas.Option.{slice_get_read}
 use Rattle.method_table.specs.Codes.{unfreed}
 use Rattle.method_table.specs.TableView.{TableView}
-use Rattle.method_table.proofs.KeptLemmas.{table_is, taken_within, newest_is}
+use Rattle.method_table.proofs.KeptLemmas.{table_is, record_is}
 use Rattle.method_table.proofs.table.MethodTable.find.Goals as goal
 
-pub returns-then-newest-serial-clause-sound : goal.returns-then-newest-serial-clause-sound
-returns-then-newest-serial-clause-sound c = rw (← c.self.view_is) (table_is _ _ _ _ _ _ _ c.self.invariant)
+pub returns-then-takes_slot-clause-sound : goal.returns-then-takes_slot-clause-sound
+returns-then-takes_slot-clause-sound c = rw (← c.self.view_is) (table_is _ _ _ _ _ _ _ c.self.invariant)
 
-pub returns-then-newest-serial-clause-value : goal.returns-then-newest-serial-clause-value
-returns-then-newest-serial-clause-value c =
-    let at = c.self.inside.taken - 1 in
+pub returns-then-takes_slot-clause-value : goal.returns-then-takes_slot-clause-value
+returns-then-takes_slot-clause-value c =
     let codes : c.self.inside.history.codes ≡ c.args.self.now.codes = ap (λ (v : TableView). v.codes) c.self.view_is in
-    let there = slice_get_read c.self.inside.records.items _ at c.index-newest.result.now refl (taken_within _ _ _ _ _ _ _ c.self.invariant at (omega arith)) c.index-newest.ensures in
-    rw (← codes) (newest_is _ _ _ _ _ _ _ c.self.invariant at c.index-newest.result.now (omega arith) there ∙ ap (unfreed c.self.inside.history.codes) c.if-newest-serial.true)
+    let within : c.slot_of-slot.result < length c.self.inside.records.items = search rules in
+    let there = slice_get_read c.self.inside.records.items _ _ c.index-code.result.now refl within c.index-code.ensures in
+    rw (← codes) (record_is _ _ _ _ _ _ _ c.self.invariant _ c.index-code.result.now there (sym c.takes_slot.ensures ∙ c.if-takes_slot.true) ∙ ap (unfreed c.self.inside.history.codes) c.if-code-serial.true)

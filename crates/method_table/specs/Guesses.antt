@@ -1,0 +1,5 @@
+-- The slots that are guessed.
+use Rattle.std.specs.Prelude.{ℕ, List, replicate}
+
+abbrev pub no_guess : List ℕ
+no_guess = replicate 1024 0
