@@ -52,6 +52,9 @@ pub fn act_at(
 }
 
 /// The thread at the place counts its next change.
+///
+/// It stands in the caller, as all here that answers does: so no answer goes through memory.
+#[inline(always)]
 pub fn change_at(places: &mut Vec<Option<Thread>>, place: usize) -> Result<Option<Change>, Refusal>
     ensures { DidChange place places.old.items places.new.items result }
 {
@@ -65,6 +68,7 @@ pub fn change_at(places: &mut Vec<Option<Thread>>, place: usize) -> Result<Optio
 }
 
 /// The thread at the place leaves it.
+#[inline(always)]
 pub fn exit_at(places: &mut Vec<Option<Thread>>, place: usize) -> Answer
     ensures { DidExit place places.old.items places.new.items result }
 {
@@ -83,6 +87,7 @@ pub fn exit_at(places: &mut Vec<Option<Thread>>, place: usize) -> Answer
 }
 
 /// The frames of the thread at the place, bottom first.
+#[inline(always)]
 pub fn stack_at(
     alloc: Global,
     places: &[Option<Thread>],
