@@ -18,3 +18,4 @@ pub mod Unfolding
 pub mod Walks
 pub mod Pending
 pub mod Staying
+pub mod DueLists

@@ -215,7 +215,7 @@ pub fn may_close<J>(request: &Opened<J>, live: &[Live]) -> bool
 pub fn may_finish<J>(request: &Opened<J>, live: &[Live], name: u64) -> bool
     ensures { result ≡ (is_due name (current_of request.now) && is_live name live.now) }
 {
-    request.due.has(name) && lives(live, name)
+    request.due.has_next(name) && lives(live, name)
 }
 
 /// Whether no open request with a lesser number is due for the name.

@@ -1,5 +1,6 @@
 //! Lists of names, and the list of who is due for a request.
-ghost use Rattle.std.specs.Prelude.{◌≡◌, ◌<◌, ◌≤◌, [], length, drop, true, false, IfOk, IfSome, IfNone, OnErr, slice_index, vec_capacity};
+ghost use Rattle.std.specs.Prelude.{◌≡◌, ◌<◌, ◌≤◌, ◌++◌, [], length, drop, true, false, IfOk, IfSome, IfNone, OnErr, slice_index, vec_capacity};
+ghost use Rattle.std.specs.Option.{option_to_list};
 ghost use Rattle.operations.specs.Names.{among, is_distinct};
 ghost use Rattle.desk.specs.Machine.{others, live_of, none_live, targets_of};
 
@@ -74,6 +75,18 @@ pub fn is_among(names: &[u64], name: u64) -> bool
     place_among(names, name).is_some()
 }
 
+// Whether a name is among these, of which the first is looked at before the others.
+#[tactic(auto, using(operations::proofs::Names::listed_at))]
+#[inline(always)]
+fn is_first_or_among(names: &[u64], name: u64) -> bool
+    ensures { result ≡ among name names.now }
+{
+    if !names.is_empty() && names[0] == name {
+        return true;
+    }
+    is_among(names, name)
+}
+
 // The names behind those that are gone.
 #[inline(always)]
 fn rest(names: &Vec<u64>, gone: usize) -> &[u64]
@@ -137,7 +150,10 @@ impl Names {
         let mut first = None;
         if let Request::Handshake { targets, .. } = request {
             if let Some((name, others)) = targets.as_slice().split_first() {
-                later.extend_from_slice(others)?;
+                // A single target needs no call of what copies.
+                if !others.is_empty() {
+                    later.extend_from_slice(others)?;
+                }
                 first = Some(*name);
             }
         }
@@ -153,7 +169,9 @@ impl Names {
                 self.first = None;
             }
         }
-        keep_live(&mut self.later, live);
+        if !self.later.is_empty() {
+            keep_live(&mut self.later, live);
+        }
     }
 }
 
@@ -215,6 +233,25 @@ impl Awaited {
         match self.first {
             Some(first) if first == name => true,
             _ => is_among(rest(&self.later, self.gone), name),
+        }
+    }
+
+    /// The first, where it isn't taken off, and the later ones.
+    #[inline(always)]
+    pub fn parts(&self) -> (Option<u64>, &[u64])
+        ensures { option_to_list result.0 ++ result.1.now ≡ self.now.items }
+    {
+        (self.first, rest(&self.later, self.gone))
+    }
+
+    /// Whether a name is among these. The first is looked at before the others: who is served in the order of the names is it.
+    #[inline(always)]
+    pub fn has_next(&self, name: u64) -> bool
+        ensures { result ≡ among name self.now.items }
+    {
+        match self.first {
+            Some(first) if first == name => true,
+            _ => is_first_or_among(rest(&self.later, self.gone), name),
         }
     }
 

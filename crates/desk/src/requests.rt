@@ -49,6 +49,20 @@ impl Noted {
     }
 }
 
+// Puts names to the end: one alone, as many requests have, without a call of what copies. Refused only for want of memory.
+#[inline(always)]
+fn append(names: &mut Vec<u64>, more: &[u64]) -> Result<(), AllocError>
+    ensures items { names.new.items
+        ≡ names.old.items ++ (if is_ok result then more.now else []) }
+{
+    if let [one] = more {
+        names.reserve(1)?;
+        names.push_reserved(*one);
+        return Ok(());
+    }
+    names.extend_from_slice(more)
+}
+
 // Puts the names of a request to the end. Refused only for want of memory.
 #[inline(always)]
 fn put(names: &mut Vec<u64>, request: &Request) -> Result<Noted, AllocError>
@@ -60,7 +74,7 @@ fn put(names: &mut Vec<u64>, request: &Request) -> Result<Noted, AllocError>
 {
     match request {
         Request::Handshake { targets, ask } => {
-            names.extend_from_slice(targets.as_slice())?;
+            append(names, targets.as_slice())?;
             Ok(Noted {
                 ask: Some(*ask),
                 count: targets.as_slice().len(),

@@ -1,5 +1,7 @@
 // How names stand to the open requests.
-ghost use Rattle.std.specs.Prelude.{◌≡◌, ◌&&◌, ◌<◌, ◌++◌, ◌-◌, map, take, vec_capacity, vec_len, IfSome};
+ghost use Rattle.std.specs.Prelude.{◌≡◌, ◌&&◌, ◌<◌, ◌++◌, ◌∷◌, [], ◌-◌, false, nat_lt, map, take, vec_capacity, vec_len, IfSome};
+ghost use Rattle.std.specs.Option.{option_to_list};
+ghost use Rattle.operations.specs.Names.{among};
 ghost use Rattle.std.specs.List.{list_any};
 ghost use Rattle.operations.specs.Requests.{is_census};
 ghost use Rattle.desk.specs.Machine.{names_of, place_of};
@@ -255,6 +257,43 @@ pub fn is_due_name<J>(opened: &[Opened<J>], live: &[Live], name: u64) -> bool
     false
 }
 
+// Whether the thread was live at an Open before which this name was given out next, and is one of the names that are due for it.
+#[inline(always)]
+fn is_due_among(thread: Live, before: u64, first: Option<u64>, names: &[u64]) -> bool
+    ensures { result ≡ (nat_lt thread.name before
+        && among thread.name (option_to_list first ++ names.now)) }
+{
+    thread.name < before
+        && match first {
+            Some(first) if first == thread.name => true,
+            _ => is_among(names, thread.name),
+        }
+}
+
+// Lists the live threads that are due for a handshake. What it looks at of the request is read once: what is read behind a write into the
+// list is read from memory again.
+#[inline(always)]
+fn list_due_of<J>(request: &Opened<J>, live: &[Live], list: &mut Vec<Live>)
+    requires handshake { is_census request.now.request ≡ false }
+    ensures items { list.new.items
+        ≡ list.old.items ++ take (vec_capacity list.old - vec_len list.old)
+        (due_of (current_of request.now ∷ []) live.now) }
+    ensures capacity { vec_capacity list.new ≡ vec_capacity list.old }
+{
+    let before = request.before;
+    let (first, names) = request.due.parts();
+    let mut rest = live;
+    while let Some((one, others)) = rest.split_first() {
+        if is_due_among(*one, before, first, names) {
+            if list.len() >= list.capacity() {
+                return;
+            }
+            list.push_reserved(*one);
+        }
+        rest = others;
+    }
+}
+
 /// Lists the live threads that are due for one of the requests, in their order, as far as the list has room.
 #[inline(always)]
 pub fn list_due<J>(opened: &[Opened<J>], live: &[Live], list: &mut Vec<Live>)
@@ -263,6 +302,11 @@ pub fn list_due<J>(opened: &[Opened<J>], live: &[Live], list: &mut Vec<Live>)
         (due_of (map current_of opened.now) live.now) }
     ensures capacity { vec_capacity list.new ≡ vec_capacity list.old }
 {
+    if let [one] = opened {
+        if !is_census(&one.request) {
+            return list_due_of(one, live, list);
+        }
+    }
     let mut rest = live;
     while let Some((one, others)) = rest.split_first() {
         if is_due(*one, opened) {

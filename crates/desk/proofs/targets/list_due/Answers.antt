@@ -1,20 +1,9 @@
-use Rattle.std.proofs.Common.{◌≡◌, ◌++◌, ◌-◌, ℕ, suc, true, List, [], ◌∷◌, map, take, vec_capacity, vec_len, sym, ap, ◌∙◌, rules}
-use Rattle.std.specs.Prelude.{cond}
+use Rattle.std.proofs.Common.{◌≡◌, ◌++◌, ◌-◌, suc, true, [], ◌∷◌, map, take, vec_capacity, vec_len, sym, ap, ◌∙◌, rules}
 use Rattle.std.specs.List.{list_any}
-use Rattle.std.proofs.lemmas.List.{append_assoc}
-use Rattle.desk.specs.declared.entries.Live.{Live}
-use Rattle.desk.specs.Machine.{Current}
 use Rattle.desk.specs.Targets.{is_due_target, due_of}
 use Rattle.desk.specs.Fields.{current_of}
+use Rattle.desk.proofs.DueLists.{due_first, moved}
 use Rattle.desk.proofs.targets.list_due.Goals as goal
-
--- One that is due is the first of those that are.
-due_first : (cs : List Current) (one : Live) (others : List Live) → list_any (is_due_target one) cs ≡ true → due_of cs (one ∷ others) ≡ one ∷ due_of cs others
-due_first cs one others due = ap (λ b. cond b (one ∷ due_of cs others) (due_of cs others)) due
-
--- It goes from the rest to the end.
-moved : (xs : List Live) (one : Live) (rest : List Live) (n k : ℕ) → n ≡ suc k → (xs ++ one ∷ []) ++ take k rest ≡ xs ++ take n (one ∷ rest)
-moved xs one rest n k e = append_assoc xs (one ∷ []) (take k rest) ∙ sym (ap (λ m. xs ++ take m (one ∷ rest)) e)
 
 pub loop-one-preserved-else-len-capacity : goal.loop-one-preserved-else-len-capacity
 loop-one-preserved-else-len-capacity g c =
