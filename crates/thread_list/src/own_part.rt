@@ -24,7 +24,8 @@ use thread_state::{Back, State};
 pub struct OwnPart<N: Name> {
     pub(crate) name: u64,
     pub(crate) place: usize,
-    pub(crate) methods: u32,
+    // A whole word: behind a number of 32 bits a gap would be carried along with it wherever the thread is in registers.
+    pub(crate) methods: usize,
     pub(crate) body_state: BodyState<N>,
     /// Of its start: the seat of its place came out, and its body went in, published once.
     pub(crate) seat: SeatReceipt<N>,
@@ -100,7 +101,7 @@ impl<N: Name> OwnPart<N> {
             return Err(CallFault::Illegal(self.state()));
         };
         // What is accepted comes first in each test: the compiler lays it out as one line.
-        if method < self.methods {
+        if (method as usize) < self.methods {
             if body.depth() < DEPTH {
                 Ok(body.call(board, method, hint))
             } else {
@@ -212,10 +213,10 @@ impl<N: Name> OwnPart<N> {
         Ok(poll_of(found))
     }
 
-    // A thread that has polled on its way into Java goes on there, or stops. It stands apart, since a poll in Java that goes on writes
-    // nothing: the next back edge would wait for that store.
-    #[cold]
-    #[inline(never)]
+    // A thread that has polled on its way into Java goes on there, or stops. It is in line, since a call would be given the thread's
+    // address: what a loop has by value would then lie in memory, and each call test its state anew. A poll in Java that goes on doesn't
+    // come here: the next back edge would wait for that store.
+    #[inline(always)]
     fn go_on(&mut self, stops: bool)
         requires running { is_running self.old.state ≡ true }
         ensures { self.new

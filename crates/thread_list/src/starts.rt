@@ -49,7 +49,7 @@ impl<N: Name, J: Errand> Shared<N, J> {
         let own_part = OwnPart {
             name,
             place,
-            methods: self.methods(),
+            methods: self.methods() as usize,
             body_state: BodyState::InJava(body),
             seat,
             moved_in,
