@@ -105,10 +105,13 @@ impl<'a, N: Name, J: Errand> Coordinator<'a, N, J> {
         desk.list_due(of_oldest, &mut self.due);
     }
 
-    // Brings all held bodies back.
+    // Brings all held bodies back. At the start of a handshake there are none mostly, and nothing is called.
     pub(crate) fn release_all<R: Wait>(&mut self, rt: &R)
         ensures { self.new ≡ record self.old { held = [] } }
     {
+        if self.bodies.as_slice().is_empty() {
+            return;
+        }
         let unwoken = put_back(rt, self.shared, &mut self.bodies, self.operated);
         self.shared.wake(unwoken);
     }
