@@ -1,7 +1,7 @@
 # make run       answers at once: runs the program on a shipped example, proved where it is built, else before any proof
 # make build     proves and builds the programs and the libraries for C, and says how far it is; PROGRAMS names others
 # make install   puts what is built below PREFIX (/usr/local), with DESTDIR before it; make uninstall takes it away
-# make test      the gate, then further wrong bodies, the built programs and the libraries for C from outside
+# make test      the gate, then further wrong bodies (begun within EDITS_MINUTES, if that is set), the built programs and the libraries for C from outside
 # make examples  the built program on all examples, on bad words and with each fault; then make embed
 # make embed     the toy runtimes in C and in Rust that step the model beside them, over the static library
 # make pictures  draws the pictures of PICTURES, which are in examples, again, and the small one of the README

@@ -54,10 +54,11 @@ watch=$!
 : > out/parts.log
 : > out/gate.log
 # The wrong bodies beside those of the gate take what time it leaves, of each crate once it is proved. Where something was built here before, that
-# comes back when the gate ends; then they wait for the end, and a copy has the libraries.
+# comes back when the gate ends; then they wait for the end, and a copy has the libraries. Where EDITS_MINUTES is set, no further crate's are
+# begun once so many minutes are over.
 is_bare=$(compgen -G 'crates/*/out/rlib' > /dev/null || echo yes)
 if [[ $is_bare ]]; then
-    nice -n 19 tests/edits.py --beside out/gate.log > "$refused" 2>&1 &
+    nice -n 19 tests/edits.py --beside out/gate.log ${EDITS_MINUTES:-} > "$refused" 2>&1 &
     edits=$!
 fi
 if ! rt ci 2>&1 | tee out/gate.log; then

@@ -1,5 +1,5 @@
 #!/usr/bin/env python3
-"""Tries the wrong bodies, of all crates or of those named: edits.py [--beside LOG | --all | CRATE ..]
+"""Tries the wrong bodies, of all crates or of those named: edits.py [--beside LOG [MINUTES] | --all | CRATE ..]
 
 A crate's folders must-fail and wrong-bodies hold edits, each of which gives one of its functions a wrong body; that function's contract must
 refuse it. Those of must-fail tell most, and `rt ci` tries them; here they are tried only where their crate is named, or with --all. An edit
@@ -18,10 +18,12 @@ something which it calls is not proved counts for nothing. A function that no ed
 (a check that doesn't end, a function that is proved all the same) is tried by itself, in a check of the whole crate.
 
 The libraries are those that `rt ci` left here. With --beside a crate's edits are tried as soon as a gate that still runs says in LOG that the
-crate is proved, those of one crate at a time; once the gate has ended, of as many as there are cores. The status is 0 where each edit was
-refused, and each of must-pass proved.
+crate is proved, those of one crate at a time; once the gate has ended, of as many as there are cores. Once so many MINUTES are over no
+further crate's edits are begun, and a line names the crates that are left out. The status is 0 where each edit that was tried was refused, and
+each of must-pass proved.
 """
 import concurrent.futures
+import math
 import os
 import pathlib
 import re
@@ -206,18 +208,20 @@ class Gate:
         return (self.has_ended or crate.name in self.proved) and all(map(is_of_the_gate, crate.below()))
 
 
-def in_turn(crates, gate, one):
-    """Gives what `one` returns of each crate that the gate lets it try, of one at a time while the gate runs; and the crates that it never let."""
+def in_turn(crates, gate, one, end):
+    """Gives what `one` returns of each crate that the gate lets it try before the end, of one at a time while the gate runs; and the crates that
+    are left."""
     cores = len(os.sched_getaffinity(0))
     left, running, given = list(crates), set(), []
     with concurrent.futures.ThreadPoolExecutor(cores) as pool:
         while left or running:
             gate.look()
-            room = (cores if gate.has_ended else 1) - len(running)
+            is_over = time.monotonic() >= end
+            room = 0 if is_over else (cores if gate.has_ended else 1) - len(running)
             for crate in [it for it in left if gate.lets(it)][: max(room, 0)]:
                 left.remove(crate)
                 running.add(pool.submit(one, crate))
-            if gate.has_ended and not running:
+            if (gate.has_ended or is_over) and not running:
                 break
             done, running = concurrent.futures.wait(running, timeout=1, return_when=concurrent.futures.FIRST_COMPLETED)
             given += [it.result() for it in done]
@@ -228,6 +232,7 @@ def in_turn(crates, gate, one):
 
 def main(words):
     log = pathlib.Path(words[1]) if words[:1] == ["--beside"] else None
+    end = time.monotonic() + 60 * float(words[2]) if log and len(words) > 2 else math.inf
     names = [it for it in words if not it.startswith("--")] if log is None else []
     rtlib, _ = toolchain()
     rtlib.guarded()  # its first call sets a handler of signals, which the main thread alone may
@@ -241,11 +246,14 @@ def main(words):
                 print(f"{'' if is_refused else 'FAILED: '}wrong body {crate.name}/{name}: {text}", flush=True)
         return [is_refused for _, is_refused, _ in results]
 
-    given, left = in_turn(crates_with_edits(rtlib, names), Gate(log), one)
-    for crate in left:
+    given, left = in_turn(crates_with_edits(rtlib, names), Gate(log), one, end)
+    is_late = time.monotonic() >= end
+    if left and is_late:
+        print(f"left out: the wrong bodies of {', '.join(it.name for it in left)}, since {words[2]} minutes are over: make edits tries them")
+    for crate in [] if is_late else left:
         print(f"FAILED: edits.py: {crate.name} has no libraries that rt ci left: run it by make edits")
     passed = sum(map(sum, given))
-    failed = sum(map(len, given)) - passed + len(left)
+    failed = sum(map(len, given)) - passed + (0 if is_late else len(left))
     print(f"{passed} passed, {failed} failed")
     return 1 if failed or not passed else 0
 
