@@ -33,11 +33,11 @@ use std::snapshot::Snapshot;
 /// How many entries of a history are stored at most.
 pub const MOST: usize = 1_000_000;
 
-/// What stands in the history of the desk of N. Only a log makes one.
+/// What stands in the history of the desk of N. Only a log makes one. It exists only in proofs, and takes no memory.
 #[derive(Drop)]
 pub struct Receipt<N: Name> {
     before: Snapshot<Past>,
-    behind: usize,
+    behind: Snapshot<usize>,
     entry: Snapshot<Entry>,
     of: PhantomData<N>,
 }
@@ -49,7 +49,7 @@ impl<N: Name> Model for Receipt<N> {
     ghost Value = { Stands };
 
     ghost view = { λ r. record {
-      place = length r.before.value.entries + r.behind;
+      place = length r.before.value.entries + r.behind.value;
       entry = r.entry.value;
     } };
 }
@@ -161,7 +161,7 @@ fn append<N: Name>(past: &Past, entries: &mut Vec<Kept>, entry: Entry) -> Receip
     entries.push_reserved(without_request(entry));
     Receipt {
         before: Snapshot::of(past),
-        behind: place,
+        behind: Snapshot::of(&place),
         entry: seen,
         of: PhantomData,
     }
@@ -208,7 +208,7 @@ fn append_ask<N: Name>(
     asked.add(noted);
     Receipt {
         before: Snapshot::of(past),
-        behind: place,
+        behind: Snapshot::of(&place),
         entry: seen,
         of: PhantomData,
     }
