@@ -270,8 +270,8 @@ impl<N: Name, J: Errand> Shared<N, J> {
         Ok(finished)
     }
 
-    /// Enters what a job answered on a settled body, and answers whether it woke one that waited for that. The first try is in line: it
-    /// nearly always succeeds, and what a call of the loop answers would go through memory.
+    /// Enters what a job answered on a settled body, and answers whether it woke one that waited for that. The first try nearly always
+    /// succeeds; other threads run before each further one.
     #[inline(always)]
     pub(crate) fn finish<R: Wait>(&self, rt: &R, body: &Body<N>, done: Done) -> (Finished<N>, bool)
         requires name { body.now.name ≡ done.target }
@@ -280,29 +280,13 @@ impl<N: Name, J: Errand> Shared<N, J> {
         ensures entry { result.0.stands.entry ≡ Entry.Finish done.op done.target done.reply }
         ensures seen { (result.0.body ≡ body.now) × (result.0.ask ≡ done.ask) }
     {
-        let finished = match self.try_finish(rt, body, done) {
-            Ok(finished) => finished,
-            Err(back) => self.finish_again(rt, body, back),
-        };
-        (finished, self.ring())
-    }
-
-    // Enters it after a try that failed: other threads run before each further one.
-    #[inline(never)]
-    fn finish_again<R: Wait>(&self, rt: &R, body: &Body<N>, done: Done) -> Finished<N>
-        requires name { body.now.name ≡ done.target }
-        requires settled { IsSettled body.now.image }
-        requires reply { done.reply ≡ reply done.ask body.now.image.frames }
-        ensures entry { result.stands.entry ≡ Entry.Finish done.op done.target done.reply }
-        ensures seen { (result.body ≡ body.now) × (result.ask ≡ done.ask) }
-    {
         let mut done = done;
         for _ in rt.forever() {
-            thread::yield_now();
             match self.try_finish(rt, body, done) {
-                Ok(finished) => return finished,
+                Ok(finished) => return (finished, self.ring()),
                 Err(back) => done = back,
             }
+            thread::yield_now();
         }
         unreachable!()
     }
