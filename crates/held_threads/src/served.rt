@@ -11,6 +11,7 @@ use bodies::{Body, Name};
 use desk::Receipt;
 use operations::job::Errand;
 use std::marker::{Model, PhantomData};
+use std::snapshot::Snapshot;
 use std::sync::Wait;
 use thread_list::Shared;
 
@@ -26,7 +27,7 @@ pub trait ServeKey {}
 /// A body that came out of its berth and was served, with the receipts that it came out and of what its first serve and its last one
 /// entered. It isn't `Drop`: it goes back into its berth, or is served again. Contracts see the receipts and the body.
 pub struct Served<N: Name, J: Errand> {
-    out: BodyReceipt<N>,
+    out: Snapshot<BodyReceipt<N>>,
     body: Body<N>,
     first: Receipt<N>,
     later: Option<Receipt<N>>,
@@ -40,10 +41,10 @@ impl<N: Name, J: Errand> Model for Served<N, J> {
     ghost Value = { Behind };
 
     ghost view = { λ s.
-        record { out = s.out; body = s.body; first = s.first; last = last_of s.first s.later } };
+        record { out = s.out.value; body = s.body; first = s.first; last = last_of s.first s.later } };
 
     ghost invariant = { λ s. (s.body.seat.stored ≢ 0) × (0 < s.body.name)
-        × IsServed J.number J.whom J.asks J.may_answer s.out.body s.body s.first
+        × IsServed J.number J.whom J.asks J.may_answer s.out.value.body s.body s.first
         (last_of s.first s.later) };
 }
 
@@ -68,10 +69,10 @@ impl<N: Name, J: Errand> Model for Undone<N, J> {
 /// and that it is back.
 #[derive(Drop)]
 pub struct Brought<N: Name> {
-    out: BodyReceipt<N>,
+    out: Snapshot<BodyReceipt<N>>,
     first: Receipt<N>,
     later: Option<Receipt<N>>,
-    back: BodyReceipt<N>,
+    back: Snapshot<BodyReceipt<N>>,
 }
 
 impl<N: Name> Model for Brought<N> {
@@ -81,7 +82,7 @@ impl<N: Name> Model for Brought<N> {
     ghost Value = { OutAndBack };
 
     ghost view = { λ b.
-        record { out = b.out; first = b.first; last = last_of b.first b.later; back = b.back } };
+        record { out = b.out.value; first = b.first; last = last_of b.first b.later; back = b.back.value } };
 }
 
 impl<N: Name, J: Errand> Served<N, J> {
@@ -107,7 +108,7 @@ impl<N: Name, J: Errand> Served<N, J> {
         let mut body = outgoing.in_hand(&ServerHand);
         let first = serve_body(rt, shared, &mut body, job);
         Ok(Served {
-            out,
+            out: Snapshot::of(&out),
             body,
             first,
             later: None,
@@ -116,9 +117,43 @@ impl<N: Name, J: Errand> Served<N, J> {
     }
 
     /// The body goes back into its berth, once what its thread was told meanwhile is served, job by job in order. The first try is in
-    /// line: mostly nothing was told meanwhile, and what a call answers would go through memory.
+    /// line: mostly nothing was told meanwhile.
     #[inline(always)]
     pub fn bring_back<R: Wait>(self, rt: &R, shared: &Shared<N, J>) -> Brought<N>
+        ensures same { (result.out ≡ self.out) × (result.first ≡ self.first) }
+        ensures brought { IsBrought J.number J.whom J.asks J.may_answer result }
+    {
+        let Served {
+            out,
+            body,
+            first,
+            later,
+            of,
+        } = self;
+        match shared.berth_of(&body).bring_idle(rt, body) {
+            Ok(back) => Brought {
+                out,
+                first,
+                later,
+                back: Snapshot::of(&back),
+            },
+            Err(body) => {
+                let served = Served {
+                    out,
+                    body,
+                    first,
+                    later,
+                    of,
+                };
+                served.bring_told(rt, shared)
+            }
+        }
+    }
+
+    // The body goes back, where its thread was told more meanwhile. It stands apart, since what it and its tries answer is large, and
+    // would be cleared in memory at each serve.
+    #[inline(never)]
+    fn bring_told<R: Wait>(self, rt: &R, shared: &Shared<N, J>) -> Brought<N>
         ensures same { (result.out ≡ self.out) × (result.first ≡ self.first) }
         ensures brought { IsBrought J.number J.whom J.asks J.may_answer result }
     {
@@ -129,7 +164,6 @@ impl<N: Name, J: Errand> Served<N, J> {
     }
 
     // One try.
-    #[inline(always)]
     fn try_back<R: Wait>(self, rt: &R, shared: &Shared<N, J>) -> Result<Brought<N>, Undone<N, J>>
         ensures same { IfOk result (λ b. (b.out ≡ self.out) × (b.first ≡ self.first)
             × (b.last ≡ self.last)) }
@@ -148,7 +182,7 @@ impl<N: Name, J: Errand> Served<N, J> {
                 out,
                 first,
                 later,
-                back,
+                back: Snapshot::of(&back),
             }),
             Err((outgoing, job)) => {
                 let body = outgoing.in_hand(&ServerHand);

@@ -10,7 +10,7 @@ invariant_of-result g c =
     let kept = serve_keeps e.number e.whom e.asks e.may_answer job i.body s.new.body s.result s.ensures in (
       kept.2 m.0,
       subst (λ n. 0 < n) (sym kept.0) m.1,
-      served_more e.number e.whom e.asks e.may_answer job i.out.body i.body s.new.body i.first (last_of i.first i.later) s.result m.2 s.ensures,
+      served_more e.number e.whom e.asks e.may_answer job i.out.value.body i.body s.new.body i.first (last_of i.first i.later) s.result m.2 s.ensures,
     )
 
 pub returns-clause-served : goal.returns-clause-served
