@@ -3,7 +3,8 @@
 
 PROGRAM is crates/running_bench/out/running_bench by default; its kinds are told in its source. For stops of threads in native code it prints
 microseconds for each thread, from 1 to 64 threads; for the replies of a handshake, an install and a reclaiming (with the handshake of one thread)
-nanoseconds behind histories of up to a million entries, and for the last two among up to 1024 codes. Each is the median of a run.
+nanoseconds behind histories of up to a million entries, and for the last two among up to 1024 codes; so for handshakes and censuses of one thread
+among up to 1024 codes, and over up to 256 codes on its stack. Each is the median of a run.
 
 With --plot the same goes into an SVG file of 800 pixels: a panel for each, all from 0, with what its lines are below it. With --of nothing is
 measured: the figures are read from the tables that an earlier run printed, as scale.txt keeps them. Only the shapes carry: the same machine differs by
@@ -22,13 +23,15 @@ PROGRAM = HERE.parent / "crates/running_bench/out/running_bench"
 
 STOPS = [("handshake", 6), ("census", 7), ("reclaim", 8)]
 LATE = [("replies", 20), ("install", 21), ("reclaim", 22)]
-AMONG = [("install", 31), ("reclaim", 32)]
+AMONG = [("install", 31), ("reclaim", 32), ("handshake", 33), ("census", 34)]
+OVER = [("handshake", 41), ("census", 42)]
 
 # What is on each panel: its title, what grows, the unit, and where it is measured.
 PANELS = [
     ("stops in native code, for each thread", "threads", "us", STOPS, (1, 2, 4, 8, 16, 32, 64)),
     ("behind a history", "entries", "ns", LATE, (1_000, 10_000, 100_000, 300_000, 990_000)),
     ("among codes", "slots", "ns", AMONG, (2, 16, 64, 256, 1024)),
+    ("over codes on the stack", "frames", "ns", OVER, (1, 4, 16, 64, 256)),
 ]
 TURNS = 300
 RUNS = 3
@@ -120,12 +123,14 @@ def drawn(panel, lines, left, top, wide, high):
 
 
 def plot(file, found):
-    whole, high, gap = 800, 190, 46
-    wide = (whole - 10 - len(found) * (gap + 10)) / len(found)
-    said = [f'<svg xmlns="http://www.w3.org/2000/svg" width="{whole}" height="{high + 112}" viewBox="0 0 {whole} {high + 112}" font-family="sans-serif">']
-    said.append(f'<rect width="{whole}" height="{high + 112}" fill="white"/>')
+    whole, high, gap, across = 800, 190, 46, 2
+    wide = (whole - 10 - across * (gap + 10)) / across
+    row = high + 112
+    tall = row * -(-len(found) // across)
+    said = [f'<svg xmlns="http://www.w3.org/2000/svg" width="{whole}" height="{tall}" viewBox="0 0 {whole} {tall}" font-family="sans-serif">']
+    said.append(f'<rect width="{whole}" height="{tall}" fill="white"/>')
     for at, (panel, lines) in enumerate(found):
-        said += drawn(panel, lines, gap + at * (wide + gap + 10), 44, wide, high)
+        said += drawn(panel, lines, gap + at % across * (wide + gap + 10), 44 + at // across * row, wide, high)
     pathlib.Path(file).write_text(said_once("\n".join([*said, "</svg>"]) + "\n"))
 
 

@@ -86,8 +86,9 @@ fn interpret<N: Name, J: Errand>(thread: &mut Mutator<'_, N, J>) -> bool {
     matches!(thread.call(METHOD, None), Ok(Called::Interpreted))
 }
 
+/// Publishes, where that isn't refused.
 #[inline(always)]
-fn publish<N: Name, J: Errand>(thread: &mut Mutator<'_, N, J>) -> bool {
+pub fn publish<N: Name, J: Errand>(thread: &mut Mutator<'_, N, J>) -> bool {
     thread.publish().is_ok()
 }
 
@@ -179,9 +180,9 @@ fn interpreted_pairs<'a, N: Name, J: Errand>(
     (thread, all)
 }
 
-// So many calls, of each method whose number is the step times that of the call.
+/// So many calls, of each method whose number is the step times that of the call.
 #[inline(always)]
-fn go_down<N: Name, J: Errand>(
+pub fn go_down<N: Name, J: Errand>(
     shared: &Shared<N, J>,
     thread: &mut Mutator<'_, N, J>,
     depth: u64,
@@ -196,8 +197,9 @@ fn go_down<N: Name, J: Errand>(
     true
 }
 
+/// So many returns.
 #[inline(always)]
-fn go_up<N: Name, J: Errand>(thread: &mut Mutator<'_, N, J>, depth: u64) -> bool {
+pub fn go_up<N: Name, J: Errand>(thread: &mut Mutator<'_, N, J>, depth: u64) -> bool {
     for _ in 0..depth {
         if !ret(thread) {
             return false;

@@ -1,14 +1,16 @@
-//! What a call costs behind a long history or among many codes, and what handshakes cost where the history is forgotten again and again. One
-//! thread does all: it is in native code meanwhile, where the coordinator serves it.
+//! What a call costs behind a long history, among many codes or over a deep stack, and what handshakes cost where the history is forgotten
+//! again and again. One thread does all: it is in native code meanwhile, where the coordinator serves it.
 use crate::acts::{
     METHOD, handshake_of, install, is_asked, is_reclaimed, queries_of, time_reclaim,
 };
+use crate::calls::{go_down, go_up, publish};
 use crate::lists::keep;
 use crate::plan::{Kind, Plan};
 use crate::wrong::Wrong;
 use crate::{clock, lives};
 use bodies::Name;
 use coordinator::Coordinator;
+use operations::Request;
 use operations::job::Query;
 use std::alloc::Global;
 use std::sync::Wait;
@@ -43,6 +45,7 @@ pub fn time_grown<N: Name, R: Wait + Clock>(
     let Some(mut thread) = lives::begin(rt, alloc, shared) else {
         return Err(Wrong::Answer);
     };
+    let is_down = go_down(shared, &mut thread, plan.depth(), 1) && publish(&mut thread);
     let gone = thread.to_native(rt).is_ok();
     let mut grown = Grown {
         rt,
@@ -52,8 +55,8 @@ pub fn time_grown<N: Name, R: Wait + Clock>(
         name: thread.name(),
     };
     let timed = grown.time_turns(plan, times);
-    let is_back = comes_back(rt, &mut thread);
-    if lives::exits(rt, thread) && gone && is_back {
+    let is_back = comes_back(rt, &mut thread) && go_up(&mut thread, plan.depth());
+    if lives::ends(rt, thread) && is_down && gone && is_back {
         timed
     } else {
         Err(Wrong::Answer)
@@ -86,6 +89,8 @@ impl<'c, 'a, N: Name, R: Wait + Clock> Grown<'c, 'a, N, R> {
             Kind::Replies => self.time_replies(),
             Kind::Forgetting => self.time_forgetting(plan.arg),
             Kind::InstallLate | Kind::InstallAmong => self.time_install(),
+            Kind::HandshakeAmong | Kind::HandshakeOver => self.time_handshake(),
+            Kind::CensusAmong | Kind::CensusOver => self.time_census(),
             _ => self.time_reclaim(),
         }
     }
@@ -118,6 +123,29 @@ impl<'c, 'a, N: Name, R: Wait + Clock> Grown<'c, 'a, N, R> {
             self.shake_hands()?;
         }
         Ok(())
+    }
+
+    // The time of a request from its Ask to its Close.
+    fn time_request(&mut self, request: Request, jobs: Vec<Query>) -> Result<u64, Wrong> {
+        let start = clock::begin(self.rt);
+        let is_done = is_asked(self.rt, self.shared, request, jobs) && self.is_driven();
+        let time = clock::time_since(self.rt, start)?;
+        if is_done {
+            Ok(time)
+        } else {
+            Err(Wrong::Answer)
+        }
+    }
+
+    fn time_handshake(&mut self) -> Result<u64, Wrong> {
+        let jobs = queries_of(self.alloc, &[self.name])?;
+        let request = handshake_of(self.alloc, &[self.name])?;
+        self.time_request(request, jobs)
+    }
+
+    fn time_census(&mut self) -> Result<u64, Wrong> {
+        let jobs = Vec::new(self.alloc);
+        self.time_request(Request::Census, jobs)
     }
 
     // The replies of the first handshake.

@@ -17,8 +17,8 @@ pub fn begin<'a, N: Name, J: Errand, R: Wait>(
     }
 }
 
-/// The thread exits, where that isn't refused.
-pub fn exits<N: Name, J: Errand, R: Wait>(rt: &R, thread: Mutator<'_, N, J>) -> bool {
+// The thread exits, where that isn't refused.
+fn exits<N: Name, J: Errand, R: Wait>(rt: &R, thread: Mutator<'_, N, J>) -> bool {
     thread.exit(rt).is_ok()
 }
 

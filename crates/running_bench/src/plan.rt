@@ -38,10 +38,18 @@ pub enum Kind {
     InstallAmong,
     /// A code is invalidated and reclaimed where so many slots are taken.
     ReclaimAmong,
+    /// A handshake of one native thread where so many slots are taken.
+    HandshakeAmong,
+    /// A census of one native thread where so many slots are taken.
+    CensusAmong,
+    /// A handshake of one native thread whose stack has so many codes.
+    HandshakeOver,
+    /// A census of one native thread whose stack has so many codes.
+    CensusOver,
 }
 
 /// All kinds.
-pub const KINDS: [Kind; 17] = [
+pub const KINDS: [Kind; 21] = [
     Kind::BackEdge,
     Kind::Call,
     Kind::Deep,
@@ -59,6 +67,10 @@ pub const KINDS: [Kind; 17] = [
     Kind::Forgetting,
     Kind::InstallAmong,
     Kind::ReclaimAmong,
+    Kind::HandshakeAmong,
+    Kind::CensusAmong,
+    Kind::HandshakeOver,
+    Kind::CensusOver,
 ];
 
 impl Kind {
@@ -82,6 +94,10 @@ impl Kind {
             23 => Some(Kind::Forgetting),
             31 => Some(Kind::InstallAmong),
             32 => Some(Kind::ReclaimAmong),
+            33 => Some(Kind::HandshakeAmong),
+            34 => Some(Kind::CensusAmong),
+            41 => Some(Kind::HandshakeOver),
+            42 => Some(Kind::CensusOver),
             _ => None,
         }
     }
@@ -102,7 +118,7 @@ pub struct Plan {
     pub turns: u64,
     /// The depth, for calls of methods in turn; how many codes change, for publications; of stops whether the threads make back edges (0)
     /// or are in native code (1); of many threads after how many pairs each publishes, 0 for never; how many entries the history has, how
-    /// many handshakes a turn has, or how many slots there are, of the kinds that say so.
+    /// many handshakes a turn has, how many slots there are, or how many codes the stack has, of the kinds that say so.
     pub arg: u64,
 }
 
@@ -112,20 +128,19 @@ impl Plan {
         if threads == 0 || threads > MOST_THREADS {
             return None;
         }
-        if matches!(kind, Kind::Deep | Kind::Publish) && arg > DEEPEST {
-            return None;
-        }
-        if matches!(kind, Kind::InstallAmong | Kind::ReclaimAmong)
-            && (arg < 2 || arg > SLOTS as u64)
-        {
-            return None;
-        }
-        Some(Plan {
+        let plan = Plan {
             kind,
             threads: threads as usize,
             turns,
             arg,
-        })
+        };
+        if plan.is_deep() && arg > DEEPEST {
+            return None;
+        }
+        if plan.is_among() && (arg < 2 || arg > SLOTS as u64) {
+            return None;
+        }
+        Some(plan)
     }
 
     /// Whether other threads than the main thread call.
@@ -137,7 +152,25 @@ impl Plan {
         )
     }
 
-    /// Whether its turns are measured behind a long history, or among many codes.
+    // Whether it says how many frames a stack has.
+    fn is_deep(&self) -> bool {
+        let _ = &self.arg;
+        matches!(
+            self.kind,
+            Kind::Deep | Kind::Publish | Kind::HandshakeOver | Kind::CensusOver
+        )
+    }
+
+    // Whether it says how many slots there are, of which one is free at most.
+    fn is_among(&self) -> bool {
+        let _ = &self.arg;
+        matches!(
+            self.kind,
+            Kind::InstallAmong | Kind::ReclaimAmong | Kind::HandshakeAmong | Kind::CensusAmong
+        )
+    }
+
+    /// Whether its turns are measured behind a long history, among many codes, or over a deep stack.
     pub fn is_grown(&self) -> bool {
         let _ = &self.arg;
         matches!(
@@ -146,9 +179,9 @@ impl Plan {
                 | Kind::InstallLate
                 | Kind::ReclaimLate
                 | Kind::Forgetting
-                | Kind::InstallAmong
-                | Kind::ReclaimAmong
-        )
+                | Kind::HandshakeOver
+                | Kind::CensusOver
+        ) || self.is_among()
     }
 
     /// How many entries the history has before its turns.
@@ -161,9 +194,10 @@ impl Plan {
 
     /// How many slots there are.
     pub fn slots(&self) -> usize {
-        match self.kind {
-            Kind::InstallAmong | Kind::ReclaimAmong => self.arg as usize,
-            _ => SLOTS,
+        if self.is_among() {
+            self.arg as usize
+        } else {
+            SLOTS
         }
     }
 
@@ -171,6 +205,15 @@ impl Plan {
     pub fn taken(&self) -> usize {
         match self.kind {
             Kind::InstallAmong | Kind::ReclaimAmong => self.slots().saturating_sub(1),
+            Kind::HandshakeAmong | Kind::CensusAmong => self.slots(),
+            _ => 0,
+        }
+    }
+
+    /// How many codes the one thread has on its stack in its turns.
+    pub fn depth(&self) -> u64 {
+        match self.kind {
+            Kind::HandshakeOver | Kind::CensusOver => self.arg,
             _ => 0,
         }
     }
@@ -180,6 +223,7 @@ impl Plan {
         let _ = &self.arg;
         match self.kind {
             Kind::Handshake | Kind::BoxedHandshake | Kind::Census | Kind::Reclaim => 1,
+            Kind::HandshakeOver | Kind::CensusOver => 256,
             _ if self.is_grown() => 0,
             _ => 256,
         }
