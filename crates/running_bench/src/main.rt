@@ -119,7 +119,7 @@ fn print_times(rt: &HostRuntime, times: &[u64]) -> io::Result<()> {
 // A few turns of each kind.
 fn try_each<R: Threads + Wait + Clock + Sync>(rt: &R, alloc: Global) -> Result<(), Wrong> {
     for kind in KINDS {
-        for arg in 0..2 {
+        for arg in 0..3 {
             if let Some(plan) = Plan::new(kind, 2, 4, arg) {
                 times_of(rt, alloc, plan)?;
             }
