@@ -5,10 +5,11 @@ ghost use Rattle.berths.specs.Berths.{acted, moved};
 ghost use Rattle.berths.specs.Turns.{ComesOut, TriesTurn};
 
 use crate::due::Due;
-use crate::locking::locked;
+use crate::locked;
 use crate::outgoing::{Outgoing, OutgoingSeat};
 use crate::room::{
-    BerthAct, BerthReceipt, BodyAct, BodyReceipt, CountsSleepers, Outing, Room, SeatReceipt,
+    BerthAct, BerthReceipt, BodyAct, BodyReceipt, CountsSleepers, NotBack, Outing, Room,
+    SeatReceipt,
 };
 use crate::waiters::Waiters;
 use board::Board;
@@ -183,7 +184,7 @@ impl<N: Name, J: Errand> Berth<N, J> {
         ensures waiters { IfOk result (λ r. r.1.place ≡ body.seat.place) }
         ensures err { IfErr result (λ b. b ≡ body) }
     {
-        let mut room = locked(&self.room, rt);
+        let mut room = locked!(self.room, rt);
         let receipt = room.give(body)?;
         Ok((receipt, room.waiters()))
     }
@@ -242,7 +243,7 @@ impl<N: Name, J: Errand> Berth<N, J> {
         ensures waiters { IfOk result (λ r. r.1.place ≡ body.seat.place) }
         ensures err { IfErr result (λ b. b ≡ body) }
     {
-        let mut room = locked(&self.room, rt);
+        let mut room = locked!(self.room, rt);
         let receipt = room.release(body, operated)?;
         Ok((receipt, room.waiters()))
     }
@@ -290,7 +291,7 @@ impl<N: Name, J: Errand> Berth<N, J> {
             × (0 < J.number t.1))) }
         ensures err { IfErr result (λ b. b ≡ body) }
     {
-        let mut room = locked(&self.room, rt);
+        let mut room = locked!(self.room, rt);
         if let Ok(job) = room.job(body.name()) {
             return Ok(Err((Outgoing::of(body), job)));
         }
@@ -319,34 +320,22 @@ impl<N: Name, J: Errand> Berth<N, J> {
         Ok(receipt)
     }
 
-    // One try where nothing more is told to the thread. What it answers is small, so that it stays in registers.
+    /// A body that was taken out to serve goes back at once, where nothing more was told to its thread meanwhile; else it comes back, with
+    /// the receipt of that, and `bring` is for it.
     #[inline(always)]
-    fn try_bring_idle<R: Wait>(
+    pub fn bring_idle<R: Wait>(
         &self,
         rt: &R,
         body: Body<N>,
-    ) -> Result<(BodyReceipt<N>, Waiters<N>), Body<N>>
-        requires body { (body.seat.stored ≢ 0) × (0 < body.name) }
-        ensures ok { IfOk result (λ r. r.0 ≡ moved body (BodyAct.Released false)) }
-        ensures waiters { IfOk result (λ r. r.1.place ≡ body.seat.place) }
-        ensures err { IfErr result (λ b. b ≡ body) }
-    {
-        let mut room = locked(&self.room, rt);
-        if room.is_told() {
-            return Err(body);
-        }
-        Ok((room.release(body, false)?, room.waiters()))
-    }
-
-    /// A body that was taken out to serve goes back at once, where nothing more was told to its thread meanwhile; else it comes back, and
-    /// `bring` is for it.
-    #[inline(always)]
-    pub fn bring_idle<R: Wait>(&self, rt: &R, body: Body<N>) -> Result<BodyReceipt<N>, Body<N>>
+    ) -> Result<BodyReceipt<N>, (Body<N>, NotBack<N>)>
         requires body { (body.seat.stored ≢ 0) × (0 < body.name) }
         ensures ok { IfOk result (λ r. r ≡ moved body (BodyAct.Released false)) }
-        ensures err { IfErr result (λ b. b ≡ body) }
+        ensures err { IfErr result (λ r. (r.0 ≡ body) × (r.1 ≡ body)) }
     {
-        let (receipt, waiters) = self.try_bring_idle(rt, body)?;
+        let mut room = locked!(self.room, rt);
+        let receipt = room.bring_idle(body)?;
+        let waiters = room.waiters();
+        drop(room);
         self.ring(waiters);
         Ok(receipt)
     }
@@ -383,7 +372,7 @@ impl<N: Name, J: Errand> Berth<N, J> {
         ensures left { IfErr result (λ r. (r ≡ acted place name BerthAct.Absent)
             ⊎ (r ≡ acted place name BerthAct.NothingTold)) }
     {
-        locked(&self.room, rt).take(name, place)
+        locked!(self.room, rt).take(name, place)
     }
 
     /// Takes the body of the name to serve it, with its oldest job, where both are here; the error is the receipt that the body wasn't, or
@@ -402,7 +391,7 @@ impl<N: Name, J: Errand> Berth<N, J> {
         ensures left { IfErr result (λ r. (r ≡ acted place name BerthAct.Absent)
             ⊎ (r ≡ acted place name BerthAct.NoJob)) }
     {
-        locked(&self.room, rt).take_told(name, place)
+        locked!(self.room, rt).take_told(name, place)
     }
 
     /// Takes the body of the name to be held, once it is here and something is told to its thread.
@@ -430,7 +419,7 @@ impl<N: Name, J: Errand> Berth<N, J> {
             × (r.0.seat.place ≡ place) × (r.0.seat.stored ≢ 0)) }
         ensures resumed { IfSome result (λ r. r.1 ≡ moved r.0 BodyAct.Resumed) }
     {
-        locked(&self.room, rt).resume(name, place)
+        locked!(self.room, rt).resume(name, place)
     }
 
     /// Takes the body of the name out for its thread to go on, once it is here and nobody holds it. What was told to it stays.
@@ -453,7 +442,7 @@ impl<N: Name, J: Errand> Berth<N, J> {
         ensures { TriesTurn J.number J.whom J.asks body result }
     {
         let place = body.place();
-        let mut room = locked(&self.room, rt);
+        let mut room = locked!(self.room, rt);
         let given = match room.give(body) {
             Ok(given) => given,
             Err(back) => return Tried::Refused(back),
@@ -509,7 +498,7 @@ impl<N: Name, J: Errand> Berth<N, J> {
         let mut slept = false;
         let mut looks: u32 = 0;
         for _ in rt.forever() {
-            let mut room = locked(&self.room, rt);
+            let mut room = locked!(self.room, rt);
             if room.place() == place {
                 match come_out(&mut room, place, given) {
                     Ok((mut out, waiters)) => {

@@ -19,9 +19,10 @@ mod waiters;
 
 pub use berth::{Berth, CameOut};
 pub use due::{Answered, Due, Recorder};
-pub use locking::{Guarded, Laid, locked};
+pub use locking::{Guarded, Laid};
 pub use outgoing::{Hand, Outgoing, OutgoingSeat};
 pub use room::{
-    BerthAct, BerthReceipt, BodyAct, BodyReceipt, Holder, JOBS, Outing, Room, SeatReceipt, ToldJob,
+    BerthAct, BerthReceipt, BodyAct, BodyReceipt, Holder, JOBS, NotBack, Outing, Room, SeatReceipt,
+    ToldJob,
 };
 pub use waiters::{Unwoken, Waiters};

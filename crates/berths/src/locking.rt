@@ -5,13 +5,16 @@ use std::marker::Model;
 use std::snapshot::Snapshot;
 use std::sync::{Mutex, MutexGuard, Wait};
 
-/// Takes the lock, in line where it is free, as it nearly always is: a call costs as much again as the step itself.
-#[inline(always)]
-pub fn locked<'m, T, R: Wait>(mutex: &'m Mutex<T>, rt: &R) -> MutexGuard<'m, T> {
-    match mutex.try_lock() {
-        Some(guard) => guard,
-        None => mutex.lock(rt),
-    }
+/// Takes a lock, in line where it is free, as it nearly always is: a call costs as much again as the step itself. It is a macro, since
+/// behind each call of what may wait the program looks at a word in memory, also where the call is in line.
+#[macro_export]
+macro_rules! locked {
+    ($mutex:expr, $rt:expr) => {
+        match $mutex.try_lock() {
+            Some(guard) => guard,
+            None => $mutex.lock($rt),
+        }
+    };
 }
 
 /// A value under a lock that is taken only by who may wait: so what made the lock can't change the value any more.
@@ -51,9 +54,9 @@ impl<T> Guarded<T> {
         self.mutex.lock(rt)
     }
 
-    /// Takes the lock, in line where it is free.
+    /// Takes the lock where it is free.
     #[inline(always)]
-    pub fn lock_in_line<R: Wait>(&self, rt: &R) -> MutexGuard<'_, T> {
-        locked(&self.mutex, rt)
+    pub fn try_lock(&self) -> Option<MutexGuard<'_, T>> {
+        self.mutex.try_lock()
     }
 }

@@ -10,6 +10,7 @@ ghost use Rattle.held_threads.specs.Refused.{MayClose, not_closed};
 
 use crate::closed::Closed;
 use crate::listing::Untold;
+use berths::locked;
 use bodies::Name;
 use desk::{CloseFault, Closing, Live, OpenFault, Receipt};
 use held_threads::{Held, Teller};
@@ -148,7 +149,7 @@ impl<'a, N: Name, J: Errand> Coordinator<'a, N, J> {
         ensures oldest { number ≡ None → IfOk result (λ r. r.1.oldest ≡ r.0) }
         ensures refused { IfErr result (not_closed self.now number) }
     {
-        let mut desk = self.shared.desk().lock_in_line(rt);
+        let mut desk = locked!(self.shared.desk(), rt);
         let closed = match desk.close(number, self.bodies.as_slice()) {
             Ok(closed) => closed,
             Err(fault) => return Err(fault),
@@ -182,7 +183,7 @@ impl<'a, N: Name, J: Errand> Coordinator<'a, N, J> {
         ensures oldest { IfSome result (λ c. WasOldest kind c.number c.shown) }
         ensures numbered { IfSome result (λ c. IfSome number (λ n. c.number ≡ n)) }
     {
-        let mut desk = self.shared.desk().lock_in_line(rt);
+        let mut desk = locked!(self.shared.desk(), rt);
         let closed = match Closed::close(&mut desk, self.bodies.as_slice(), kind, number) {
             Some(closed) => closed,
             None => return None,

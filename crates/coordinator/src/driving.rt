@@ -13,7 +13,7 @@ use crate::closed::Worked;
 use crate::coordinator::Coordinator;
 use crate::faults::{DriveFault, Driven};
 use crate::listing::Listed;
-use berths::Unwoken;
+use berths::{Unwoken, locked};
 use bodies::Name;
 use desk::Desk;
 use held_threads::Held;
@@ -89,7 +89,7 @@ impl<'a, N: Name, J: Errand> Coordinator<'a, N, J> {
         ensures empty { IfNone result ((s : DeskState) × (s.opened ≡ []) × (s.waiting ≡ [])) }
         ensures same { self.new ≡ self.old }
     {
-        let mut desk = self.shared.desk().lock_in_line(rt);
+        let mut desk = locked!(self.shared.desk(), rt);
         let Some(kind) = open_or_go_on(&mut desk) else {
             return None;
         };

@@ -193,7 +193,8 @@ impl<'a, N: Name, J: Errand> Coordinator<'a, N, J> {
         awaited_of(&desk, name)
     }
 
-    // Serves a target where its body is in its berth; the error is the receipt that it isn't there.
+    // Serves a target where its body is in its berth: takes it out with its oldest job, serves all its jobs in order, and brings it back.
+    // The error is the receipt that it isn't there.
     #[inline(always)]
     fn attend<R: Wait>(
         &self,
@@ -206,31 +207,12 @@ impl<'a, N: Name, J: Errand> Coordinator<'a, N, J> {
             (WasThere J.number J.whom J.asks J.may_answer due.place due.name) }
         ensures absent { IfErr result (λ r. r ≡ acted due.place due.name BerthAct.Absent) }
     {
-        match self.serve_at(rt, told, due) {
-            Ok(brought) => Ok(Attended::Served(brought)),
+        match Served::take(rt, self.shared, told, due.name, due.place) {
+            Ok(served) => Ok(Attended::Served(served.bring_back(rt, self.shared))),
             Err(left) => match left.act() {
                 BerthAct::NoJob => Ok(Attended::Idle(left)),
                 _ => Err(left),
             },
         }
-    }
-
-    // Takes the body of a target out of its berth with its oldest job, serves all its jobs in order, and brings it back; the error is the
-    // receipt that it isn't there, or has no job.
-    #[inline(always)]
-    fn serve_at<R: Wait>(
-        &self,
-        rt: &R,
-        told: &AllTold<N, J>,
-        due: Live,
-    ) -> Result<Brought<N>, BerthReceipt<N>>
-        requires { due.place < N.board.places }
-        ensures attended { IfOk result
-            (IsAttended J.number J.whom J.asks J.may_answer due.place due.name) }
-        ensures left { IfErr result (λ r. (r ≡ acted due.place due.name BerthAct.Absent)
-            ⊎ (r ≡ acted due.place due.name BerthAct.NoJob)) }
-    {
-        let served = Served::take(rt, self.shared, told, due.name, due.place)?;
-        Ok(served.bring_back(rt, self.shared))
     }
 }

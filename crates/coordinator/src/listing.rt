@@ -66,6 +66,7 @@ impl<N: Name, J: Errand> Model for Listed<N, J> {
 
 impl<N: Name, J: Errand> Listed<N, J> {
     /// Lists into these lists each thread that is due, and what it is to be told next.
+    #[inline(always)]
     pub fn list(
         desk: &mut Desk<N, J>,
         armer: &Teller,
@@ -179,6 +180,7 @@ fn with_job<N: Name, J: Errand>(desk: &mut Desk<N, J>, what: Telling) -> Untold<
 }
 
 // Lists what each of these is to be told next, as far as there is room. Answers whether any is to be told more, or there was no room.
+#[inline(always)]
 fn list_each<N: Name, J: Errand>(
     desk: &mut Desk<N, J>,
     armer: &Teller,
@@ -218,6 +220,7 @@ fn list_each<N: Name, J: Errand>(
 
 // Lists each thread that is due, and what each is to be told next, as far as there is room in either list. Answers whether any is to be
 // told more, or there may be more than there is room for.
+#[inline(always)]
 fn list_untold<N: Name, J: Errand>(
     desk: &mut Desk<N, J>,
     armer: &Teller,

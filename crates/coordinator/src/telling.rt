@@ -111,7 +111,8 @@ impl<'a, N: Name, J: Errand> Coordinator<'a, N, J> {
         self.list_from(&mut desk)
     }
 
-    // Lists them under a hold of the desk's lock.
+    // Lists them under a hold of the desk's lock. It is in line, down to its loops: the list that a call answered would go through memory.
+    #[inline(always)]
     pub(crate) fn list_from(&mut self, desk: &mut Desk<N, J>) -> Listed<N, J>
         ensures same { self.new ≡ self.old }
         ensures seen { result.seen ≡ desk.old }
@@ -210,7 +211,7 @@ impl<'a, N: Name, J: Errand> Coordinator<'a, N, J> {
         ensures arms { ArmsOn self.old.armer self.new.armer }
     {
         let shared = self.shared;
-        let mut room = locked(shared.berth(target.place).room(), rt);
+        let mut room = locked!(shared.berth(target.place).room(), rt);
         if room.place() != target.place || number > LAST {
             return None;
         }

@@ -137,7 +137,7 @@ impl<N: Name, J: Errand> Served<N, J> {
                 later,
                 back: Snapshot::of(&back),
             },
-            Err(body) => {
+            Err((body, _not_back)) => {
                 let served = Served {
                     out,
                     body,

@@ -16,7 +16,7 @@ ghost use Rattle.desk.specs.Refusals.{ask_refused, install_refused};
 use crate::forgotten::Forgotten;
 use crate::hints::Hints;
 use crate::turns::Turn;
-use berths::{Berth, BodyAct, BodyReceipt, Guarded, Laid, Unwoken};
+use berths::{Berth, BodyAct, BodyReceipt, Guarded, Laid, Unwoken, locked};
 use board::Board;
 use bodies::{Body, Name};
 use desk::{CodeFault, Desk, Finished, NotLive, Receipt, Refused, live_names_rise};
@@ -166,7 +166,7 @@ impl<N: Name, J: Errand> Shared<N, J> {
             × ask_refused s request (jobs_fit J.whom J.asks request jobs.items) book e.fault) }
         ensures handed_back { IfErr result (λ e. e.jobs ≡ jobs) }
     {
-        let mut desk = self.desk.lock_in_line(rt);
+        let mut desk = locked!(self.desk, rt);
         match desk.submit(request, jobs) {
             Ok(asked) => Ok(asked),
             Err(refused) => Err(refused),
@@ -254,22 +254,6 @@ impl<N: Name, J: Errand> Shared<N, J> {
         wanted
     }
 
-    #[inline(always)]
-    fn try_finish<R: Wait>(&self, rt: &R, body: &Body<N>, done: Done) -> Result<Finished<N>, Done>
-        requires name { body.now.name ≡ done.target }
-        requires settled { IsSettled body.now.image }
-        requires reply { done.reply ≡ reply done.ask body.now.image.frames }
-
-        ensures ok { IfOk result (λ r. r.stands.entry
-            ≡ Entry.Finish done.op done.target done.reply) }
-        ensures seen { IfOk result (λ r. (r.body ≡ body.now) × (r.ask ≡ done.ask)) }
-        ensures err { IfErr result (λ d. d ≡ done) }
-    {
-        let mut desk = self.desk.lock_in_line(rt);
-        let finished = desk.finish(body, done)?;
-        Ok(finished)
-    }
-
     /// Enters what a job answered on a settled body, and answers whether it woke one that waited for that. The first try nearly always
     /// succeeds; other threads run before each further one.
     #[inline(always)]
@@ -282,10 +266,15 @@ impl<N: Name, J: Errand> Shared<N, J> {
     {
         let mut done = done;
         for _ in rt.forever() {
-            match self.try_finish(rt, body, done) {
-                Ok(finished) => return (finished, self.ring()),
+            let mut desk = locked!(self.desk, rt);
+            match desk.finish(body, done) {
+                Ok(finished) => {
+                    drop(desk);
+                    return (finished, self.ring());
+                }
                 Err(back) => done = back,
             }
+            drop(desk);
             thread::yield_now();
         }
         unreachable!()

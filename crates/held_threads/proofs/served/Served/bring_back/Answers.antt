@@ -11,7 +11,7 @@ returns-in-Ok-clause-brought g c =
 
 pub invariant_of-served : goal.invariant_of-served
 invariant_of-served g c =
-    let e = g.J.Errand in let i = c.self.inside in let m = c.self.invariant in let same = sym c.in-Err.ensures.err in (
+    let e = g.J.Errand in let i = c.self.inside in let m = c.self.invariant in let same = sym c.in-Err.ensures.err.0 in (
       subst (λ (b : BodyView). b.seat.stored ≢ 0) same m.0,
       subst (λ (b : BodyView). 0 < b.name) same m.1,
       subst (λ (b : BodyView). IsServed e.number e.whom e.asks e.may_answer i.out.value.body b i.first (last_of i.first i.later)) same m.2,
