@@ -306,13 +306,13 @@ impl Thread {
     fn is_undone(&self, open: &Open) -> bool
         ensures { result ≡ undone_by self.now open.now }
     {
-        self.was_told(open) && !self.is_done(open)
+        !self.is_done(open) && self.was_told(open)
     }
 
     fn is_uncleared(&self, open: &Open) -> bool
         ensures { result ≡ uncleared_by self.now open.now }
     {
-        self.was_told(open) && self.marks.cleared < open.number
+        self.marks.cleared < open.number && self.was_told(open)
     }
 
     fn is_listed(&self, operations: &[Open]) -> bool
