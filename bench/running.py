@@ -3,14 +3,16 @@
 
 PROGRAM is crates/running_bench/out/running_bench by default; it and the kinds that it measures are told in its source. Where cargo is there the
 plain Rust program in twin/ runs the same loops in turn with it, and each row has the ratio of the two. A row of calls has nanoseconds a turn,
-the least and the median of seven runs; one of stops microseconds, the median and the 99th percentile of the stops of three runs. Where a
-`javac` of a JDK 17 is there, HotSpot makes its own such stops in turn with them (hotspot/), and the row of stops ends in the ratio to it.
+the least and the median of seven runs, those of one thread on one core; one of stops microseconds, the median and the 99th percentile of the
+stops of three runs. Where a `javac` of a JDK 17 is there, HotSpot makes its own such stops in turn with them (hotspot/), and the row of stops
+ends in the ratio to it.
 
 Both programs ask by queries, which take no memory, and in the rows of boxed callbacks by a closure in a box for each thread. Jobs are made before
 the time of their stop begins, and a box is freed within it. HotSpot makes no such stops.
 
 Only ratios of one run carry: the same machine differs by two from minute to minute.
 """
+import contextlib
 import os
 import pathlib
 import re
@@ -20,6 +22,7 @@ import subprocess
 import sys
 import tempfile
 
+from cores import one_core
 from plain import plain
 
 HERE = pathlib.Path(__file__).resolve().parent
@@ -82,11 +85,12 @@ def percentile(values, part):
 def call_row(program, twin, row):
     what, kind, threads, turns, arg, engine, wanted = row
     ours, theirs = [], []
-    for _ in range(7):
-        words = [kind, threads, turns, arg]
-        ours.append(statistics.mean(times([program, *words])) / turns)
-        if twin:
-            theirs.append(statistics.mean(times([twin, *words, *([engine] if engine else [])])) / turns)
+    with one_core() if threads == 1 else contextlib.nullcontext():
+        for _ in range(7):
+            words = [kind, threads, turns, arg]
+            ours.append(statistics.mean(times([program, *words])) / turns)
+            if twin:
+                theirs.append(statistics.mean(times([twin, *words, *([engine] if engine else [])])) / turns)
     line = f"{what:34} {min(ours):9.2f} {statistics.median(ours):9.2f}"
     if twin:
         least, middle = min(ours) / min(theirs), statistics.median(ours) / statistics.median(theirs)

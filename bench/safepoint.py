@@ -3,7 +3,7 @@
 
 LIBSAFEPOINT is crates/safepoint/out/libsafepoint.a by default, PROGRAM crates/running_bench/out/running_bench. Where PROGRAM is there it runs
 the same loops in turn, inside Rattle, and each row has the ratio of the two. A row of calls has nanoseconds a turn, the least and the median of
-seven runs, and how much more the least of C is; one of stops microseconds, the median and the 99th percentile of the stops of three runs.
+seven runs on one core, and how much more the least of C is; one of stops microseconds, the median and the 99th percentile of the stops of three runs.
 safepoint/measure.c is built by the C compiler with -O2, without link-time optimization, so that each call of C is a call.
 
 Only ratios of one run carry: the same machine differs by two from minute to minute.
@@ -15,6 +15,8 @@ import statistics
 import subprocess
 import sys
 import tempfile
+
+from cores import one_core
 
 HERE = pathlib.Path(__file__).resolve().parent
 ROOT = HERE.parent
@@ -71,9 +73,10 @@ def percentile(values, part):
 def call_row(programs, row):
     what, kind, turns, arg, wanted = row
     found = [[] for _ in programs]
-    for _ in range(7):
-        for program, values in zip(programs, found):
-            values.append(statistics.mean(times([program, kind, 1, turns, arg])) / turns)
+    with one_core():
+        for _ in range(7):
+            for program, values in zip(programs, found):
+                values.append(statistics.mean(times([program, kind, 1, turns, arg])) / turns)
     line = f"{what:34}" + "".join(f" {min(values):9.2f} {statistics.median(values):9.2f}" for values in found)
     if len(found) > 1:
         ours, theirs = (min(values) for values in found)
