@@ -4,7 +4,8 @@
 PROGRAM is crates/monitor/out/monitor by default, LINES 2,000,000, SEED 1, the kinds all of inputs.py. For each it prints lines a
 second (by the clock), nanoseconds of processor time a line, the least and the median of seven runs, and peak memory, beside `wc -l` and echo.c, a
 plain program that reads and writes the same lines. Where cargo is there the plain Rust program in twin/ gives the same answers in turn with it, and
-the row of the program ends in the ratios of the two. All of them take turns on one core. It needs a C compiler (CC, or cc) for echo.c, and for measure.c, which measures.
+the row of the program ends in the ratios of the two. All of them take turns on one core. It needs a C compiler (CC, or cc) for echo.c, and for
+measure.c, which measures.
 
 The aim is 8 million lines a second on a quiet core for frames, handshake, census and reclaim, and at most 8 MB whatever the length.
 """
