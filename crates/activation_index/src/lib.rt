@@ -3,7 +3,7 @@
 //! Read `specs/Counts.antt` first, then `src/lib.rt` and `src/dense.rt`.
 //!
 //! An [`Index`] is a map from serials to counts. It is a list of entries in rising serial without
-//! zeros, reserved once and searched from the front, so a census is the list as it stands.
+//! zeros, reserved once and searched by halves, so a census is the list as it stands.
 //! A [`DenseIndex`](dense::DenseIndex) has a cell for each slot instead, so that adding and reading
 //! search nothing, and sorts its cells for a census.
 #![tactic(auto)]
@@ -109,14 +109,15 @@ impl Index {
 }
 
 fn count_of(entries: &[Entry], serial: u64) -> u32
+    requires { IsRisingFrom 0 entries.now }
     ensures { result ≡ count_in entries.now serial }
 {
-    for entry in entries {
-        if entry.serial == serial {
-            return entry.count;
-        }
+    let place = place_of(entries, serial);
+    if stands_at(entries, serial, place) {
+        entries[place].count
+    } else {
+        0
     }
-    0
 }
 
 // The count after the addition, which is taken in 64 bits as neither summand's type holds both.
@@ -130,14 +131,10 @@ fn moved(count: u32, by: i32) -> u32
 
 // Where the entry of the serial stands, or would stand.
 fn place_of(entries: &[Entry], serial: u64) -> usize
+    requires { IsRisingFrom 0 entries.now }
     ensures { result ≡ place_in entries.now serial }
 {
-    for (place, entry) in entries.iter().enumerate() {
-        if entry.serial >= serial {
-            return place;
-        }
-    }
-    entries.len()
+    entries.partition_point(|entry| entry.serial < serial)
 }
 
 // Gives the serial the count: a count of 0 takes its entry away.
