@@ -34,7 +34,7 @@ use Rattle.system.proofs.Moments.{unstarted_begun, unstarted_ended, not_since}
 use Rattle.system.proofs.Seats.{each_start}
 use Rattle.system.proofs.Table.{unfreed_code}
 use Rattle.system.proofs.Threads.{started_more}
-use Rattle.system.proofs.ReclaimInvariant.{IsThread, is_unused, IsReclaimed, Silent, IsQuiet, silent_thread, lands, logged, installed, Restates, restated, or_later}
+use Rattle.system.proofs.ReclaimInvariant.{IsThread, is_unused, IsReclaimed, Silent, IsQuiet, silent_thread, lands, logged, installed, restated, or_later}
 
 same_number : (n : ℕ) → (n == n) ≡ true
 same_number n = eq-eqb n n refl

@@ -1,12 +1,13 @@
 -- Tell: what it answers, and what the system has after it.
-use Rattle.std.proofs.Common.{◌≡◌, ◌∙◌, sym, ap, refl, subst, ℕ, Bool, true, false, not, ◌&&◌, ◌||◌, eqb, cond, List, [], ◌∷◌, Option, Some, None, length, arith}
+use Rattle.std.proofs.Common.{◌≡◌, ◌<◌, ◌≤◌, ◌∙◌, sym, ap, refl, subst, ℕ, Bool, true, false, not, ◌&&◌, ◌||◌, eqb, cond, List, [], ◌∷◌, Option, Some, None, length, arith}
 use Rattle.std.specs.Prelude.{slice_get, slice_set, nat_le, nat_lt, find, filter}
 use Rattle.std.specs.List.{list_any}
-use Rattle.std.proofs.lemmas.Bool.{false≢true, and_parts, or_parts, not-true}
+use Rattle.std.proofs.lemmas.Bool.{false≢true, and_parts, and_from, or_parts, not-true}
 use Rattle.std.proofs.lemmas.Bool.Decides.{nat_tests}
 use Rattle.operations.specs.declared.Request.{Request}
 use Rattle.operations.specs.declared.Request.TheVariants.{Handshake, Census}
 use Rattle.operations.specs.Names.{is_empty}
+use Rattle.operations.specs.Requests.{is_target}
 use Rattle.system.specs.declared.events.Event.{Event}
 use Rattle.system.specs.declared.events.Event.TheVariants as event
 use Rattle.system.specs.declared.answers.Answer.{Answer}
@@ -23,12 +24,12 @@ use Rattle.system.specs.World.{World, threads, is_live, is_live_target}
 use Rattle.system.specs.Places.{in_found}
 use Rattle.system.specs.Step.{outcome, may_tell, tell_in, tell_oldest}
 use Rattle.system.specs.Facts.{IsSound}
-use Rattle.system.specs.Kept.Threads.{SameOpen, is_live_for, was_told, live_by, untold_by, marks_told, answer_of_told, answer_told, kept_told}
+use Rattle.system.specs.Kept.Threads.{SameOpen, is_live_for, was_told, live_by, untold_by, marks_told, kept_told}
 use Rattle.system.specs.Marking.{SameMarks, SameOpened}
 use Rattle.system.specs.Stands.{Matches, DoesIn, Does}
-use Rattle.system.specs.Kept.Tells.{is_named_at, may_tell_of}
+use Rattle.system.specs.Kept.Tells.{is_named_at, may_tell_of, may_tell_any, answer_of_told, answer_told}
 use Rattle.system.proofs.Outcomes.{Tells}
-use Rattle.system.proofs.Lists.{any_at, any_none_at, find_filter, find_place, found_passes}
+use Rattle.system.proofs.Lists.{any_at, any_here, any_none_at, find_filter, find_place, found_passes}
 use Rattle.system.proofs.Found.{put_back}
 use Rattle.system.proofs.Logs.{IsQuiet, IsElsewhere, moments_next, noted_matches}
 use Rattle.system.proofs.AfterAct.{SameRest, length_set}
@@ -55,7 +56,7 @@ may_is : (w : World) (request : Request) (name : ℕ) → may_tell w request nam
 may_is w (Handshake targets ask) name = refl
 may_is w Census name = refl
 
-may_any : (s : Core) (w : World) (name : ℕ) → Matches s w → list_any (λ o. may_tell w o.request name) w.requests.opened ≡ list_any (λ a. may_tell_of s.names a.request name) s.requests.opens
+may_any : (s : Core) (w : World) (name : ℕ) → Matches s w → list_any (λ o. may_tell w o.request name) w.requests.opened ≡ may_tell_any s.names s.requests.opens name
 may_any s w name m = any_same w (λ a. may_tell_of s.names a.request name) (λ o. may_tell w o.request name)
     (λ a o same. may_is w o.request name ∙ (ap (λ n. may_tell_of n o.request name) (sym m.names) ∙ ap (λ r. may_tell_of s.names r name) (sym same.request))) s.requests.opens w.requests.opened m.opened
 
@@ -65,14 +66,14 @@ some_open s w b m h = empty_same w s.requests.opens w.requests.opened m.opened �
 pub tell_nothing : (s : Core) (name : ℕ) → is_empty s.requests.opens ≡ true → Does (event.Tell name) s (answer.Refused refusal.NothingOpen) s
 tell_nothing s name none = refused_does s (event.Tell name) refusal.NothingOpen (λ w sound m. rw (some_open s w true m none) refl)
 
-pub tell_not_of : (s : Core) (name : ℕ) → is_empty s.requests.opens ≡ false → list_any (λ a. may_tell_of s.names a.request name) s.requests.opens ≡ false → Does (event.Tell name) s (answer.Refused refusal.NotOf) s
+pub tell_not_of : (s : Core) (name : ℕ) → is_empty s.requests.opens ≡ false → may_tell_any s.names s.requests.opens name ≡ false → Does (event.Tell name) s (answer.Refused refusal.NotOf) s
 tell_not_of s name some may = refused_does s (event.Tell name) refusal.NotOf (λ w sound m. rw (some_open s w false m some, may_any s w name m, may) refl)
 
 -- Where it may be told, it goes by the operations that it is a live target of.
 abbrev live_targets : World → ℕ → List Opened
 live_targets w name = filter (λ o. is_live_target w o name) w.requests.opened
 
-told_of : (s : Core) (w : World) (name : ℕ) → Matches s w → is_empty s.requests.opens ≡ false → list_any (λ a. may_tell_of s.names a.request name) s.requests.opens ≡ true → outcome w (event.Tell name) ≡ tell_oldest w name (live_targets w name)
+told_of : (s : Core) (w : World) (name : ℕ) → Matches s w → is_empty s.requests.opens ≡ false → may_tell_any s.names s.requests.opens name ≡ true → outcome w (event.Tell name) ≡ tell_oldest w name (live_targets w name)
 told_of s w name m some may = rw (some_open s w false m some, may_any s w name m, may) refl
 
 no_pass : {A : Type 0} (test : A → Bool) (xs : List A) → list_any test xs ≡ false → filter test xs ≡ []
@@ -102,12 +103,12 @@ quiet name a = record { starts_none = refl; asks_none = refl; rounds_none = refl
 elsewhere : (name : ℕ) (a : Answer) (place : ℕ) → IsElsewhere place (record { event = event.Tell name; answer = a })
 elsewhere name a place = record { starts_not = refl; begins_not = refl; ends_not = refl }
 
-gone_in : (s : Core) (w : World) (name : ℕ) → Matches s w → is_empty s.requests.opens ≡ false → list_any (λ a. may_tell_of s.names a.request name) s.requests.opens ≡ true → list_any (λ o. is_live_target w o name) w.requests.opened ≡ false → DoesIn (event.Tell name) answer.Gone s w
+gone_in : (s : Core) (w : World) (name : ℕ) → Matches s w → is_empty s.requests.opens ≡ false → may_tell_any s.names s.requests.opens name ≡ true → list_any (λ o. is_live_target w o name) w.requests.opened ≡ false → DoesIn (event.Tell name) answer.Gone s w
 gone_in s w name m some may gone =
     let said : outcome w (event.Tell name) ≡ accepted w answer.Gone = told_of s w name m some may ∙ ap (tell_oldest w name) (no_pass (λ o. is_live_target w o name) w.requests.opened gone) in
     accepted_in s w w (event.Tell name) answer.Gone said (noted_matches s w (event.Tell name) answer.Gone (quiet name answer.Gone) (elsewhere name answer.Gone) m)
 
-pub gone_nobody : (s : Core) (name : ℕ) → is_empty s.requests.opens ≡ false → list_any (λ a. may_tell_of s.names a.request name) s.requests.opens ≡ true → list_any (is_named_at name) s.places.items ≡ false → Does (event.Tell name) s answer.Gone s
+pub gone_nobody : (s : Core) (name : ℕ) → is_empty s.requests.opens ≡ false → may_tell_any s.names s.requests.opens name ≡ true → list_any (is_named_at name) s.places.items ≡ false → Does (event.Tell name) s answer.Gone s
 gone_nobody s name some may none = record {
   each = λ w sound m. gone_in s w name m some may (false_where (list_any (λ o. is_live_target w o name) w.requests.opened) (λ h. (
       let a = any_at (λ o. is_live_target w o name) w.requests.opened h in
@@ -204,20 +205,20 @@ module _ (s new : Core) (p : ℕ) (kept : Kept) (rest : SameRest s new) (at_s : 
   back after is places = places ∙ (ap (λ k. slice_set s.places.items p (Some k)) is ∙ put_back s.places.items p (Some kept) at_s)
 
   by_found : (w : World) (t : Thread) (x : Option Open) (y : Option Opened) → Matches s w → IsSound w → Both s w p kept t → BothFound (λ a o. IsPair w kept t.name a o) x y → find (λ o. not (is_marked w.requests.told o.number t.name)) (live_targets w t.name) ≡ y
-      → outcome w (event.Tell t.name) ≡ in_found refusal.AlreadyTold y (tell_in w t.name) → new.places.items ≡ slice_set s.places.items p (Some (marks_told kept x)) → DoesIn (event.Tell t.name) (answer_of_told x true) new w
+      → outcome w (event.Tell t.name) ≡ in_found refusal.AlreadyTold y (tell_in w t.name) → new.places.items ≡ slice_set s.places.items p (Some (marks_told kept x)) → DoesIn (event.Tell t.name) (answer_of_told x true true) new w
   by_found w t None None m sound b both least said places = acted.refused_in s new w (event.Tell t.name) refusal.AlreadyTold (answer.Refused refusal.AlreadyTold) rest (back kept refl places) m said refl
   by_found w t (Some a) (Some o) m sound b both least said places = told_in s new w p kept t a o m sound b rest places both.number least said
   by_found w t None (Some o) m sound b both least said places = absurd both
   by_found w t (Some a) None m sound b both least said places = absurd both
 
-  by_live : (w : World) (t : Thread) → Matches s w → IsSound w → Both s w p kept t → is_empty s.requests.opens ≡ false → list_any (λ a. may_tell_of s.names a.request t.name) s.requests.opens ≡ true → (c : Bool) → list_any (live_by kept) s.requests.opens ≡ c
-      → new.places.items ≡ slice_set s.places.items p (Some (marks_told kept (find (untold_by kept) s.requests.opens))) → DoesIn (event.Tell t.name) (answer_of_told (find (untold_by kept) s.requests.opens) c) new w
+  by_live : (w : World) (t : Thread) → Matches s w → IsSound w → Both s w p kept t → is_empty s.requests.opens ≡ false → may_tell_any s.names s.requests.opens t.name ≡ true → (c : Bool) → list_any (live_by kept) s.requests.opens ≡ c
+      → new.places.items ≡ slice_set s.places.items p (Some (marks_told kept (find (untold_by kept) s.requests.opens))) → DoesIn (event.Tell t.name) (answer_of_told (find (untold_by kept) s.requests.opens) true c) new w
   by_live w t m sound b some may false none places =
       let pairs : Pairs (λ a o. IsPair w kept t.name a o) s.requests.opens w.requests.opened = pairs_of (λ a o. IsPair w kept t.name a o) w s.requests.opens w.requests.opened m.opened (pair_of s w p kept t sound b) in
       let gone = any_pairs (λ a o. IsPair w kept t.name a o) (live_by kept) (λ o. is_live_target w o t.name) (λ a o pair. pair.live) s.requests.opens w.requests.opened pairs ∙ none in
       let did = gone_in s w t.name m some may gone in
       let nothing = none_untold kept s.requests.opens none in
-      record { answer = ap (λ x. answer_of_told x false) nothing ∙ did.answer; matches = acted.same_matches s new _ rest (back (marks_told kept (find (untold_by kept) s.requests.opens)) (ap (marks_told kept) nothing) places) did.matches }
+      record { answer = ap (λ x. answer_of_told x true false) nothing ∙ did.answer; matches = acted.same_matches s new _ rest (back (marks_told kept (find (untold_by kept) s.requests.opens)) (ap (marks_told kept) nothing) places) did.matches }
   by_live w t m sound b some may true lives places =
       let pairs : Pairs (λ a o. IsPair w kept t.name a o) s.requests.opens w.requests.opened = pairs_of (λ a o. IsPair w kept t.name a o) w s.requests.opens w.requests.opened m.opened (pair_of s w p kept t sound b) in
       let living = any_pairs (λ a o. IsPair w kept t.name a o) (live_by kept) (λ o. is_live_target w o t.name) (λ a o pair. pair.live) s.requests.opens w.requests.opened pairs ∙ lives in
@@ -226,13 +227,39 @@ module _ (s new : Core) (p : ℕ) (kept : Kept) (rest : SameRest s new) (at_s : 
       let said = told_of s w t.name m some may ∙ (oldest_told w t.name (live_targets w t.name) (some_pass (λ o. is_live_target w o t.name) w.requests.opened living) ∙ ap (λ y. in_found refusal.AlreadyTold y (tell_in w t.name)) same) in
       by_found w t (find (untold_by kept) s.requests.opens) (find (λ o. not (is_marked w.requests.told o.number t.name) && is_live_target w o t.name) w.requests.opened) m sound b both same said places
 
-pub tell_does : (s new : Core) (name p : ℕ) (kept : Kept) → is_empty s.requests.opens ≡ false → list_any (λ a. may_tell_of s.names a.request name) s.requests.opens ≡ true → slice_get s.places.items p ≡ Some (Some kept) → kept.name ≡ name → SameRest s new
-    → new.places.items ≡ slice_set s.places.items p (Some (kept_told s.requests.opens kept)) → Does (event.Tell name) s (answer_told s.requests.opens kept) new
-tell_does s new name p kept some may there named rest places = record {
+  -- A thread to which an operation is new may be told one.
+  may_found : (w : World) (t : Thread) → Matches s w → IsSound w → Both s w p kept t → (a : Open) → find (untold_by kept) s.requests.opens ≡ Some a → may_tell_any s.names s.requests.opens t.name ≡ true
+  may_found w t m sound b a found =
+      let at = find_place (untold_by kept) s.requests.opens a found in
+      let live = (and_parts (nat_lt kept.marks.told a.number) (is_live_for a kept) (found_passes (untold_by kept) s.requests.opens a found)).1 in
+      let target : is_target a.request t.name ≡ true = ap (is_target a.request) (sym b.same.thread.name) ∙ (and_parts (nat_le kept.name a.names) (is_target a.request kept.name) live).1 in
+      let known = sound.threads.each p t b.there in
+      any_here (λ o. may_tell_of s.names o.request t.name) s.requests.opens at.0 a at.1 (by a.request target known.name_from (omega (arith, known.name_to, m.names)))
+    where
+      by : (request : Request) → is_target request t.name ≡ true → 0 < t.name → t.name ≤ s.names → may_tell_of s.names request t.name ≡ true
+      by (Handshake targets ask) target from to = target
+      by Census target from to = and_from (nat_lt 0 t.name) (nat_le t.name s.names) (grind (arith, nat_tests, from)) (grind (arith, nat_tests, to))
+
+  not_of : (w : World) (t : Thread) → Matches s w → IsSound w → Both s w p kept t → is_empty s.requests.opens ≡ false → may_tell_any s.names s.requests.opens t.name ≡ false
+      → (x : Option Open) → find (untold_by kept) s.requests.opens ≡ x → new.places.items ≡ slice_set s.places.items p (Some (marks_told kept x)) → (c : Bool) → DoesIn (event.Tell t.name) (answer_of_told x false c) new w
+  not_of w t m sound b some may None e places c = acted.refused_in s new w (event.Tell t.name) refusal.NotOf (answer.Refused refusal.NotOf) rest (back kept refl places) m (rw (some_open s w false m some, may_any s w t.name m, may) refl) refl
+  not_of w t m sound b some may (Some a) e places c = absurd (false≢true (sym may ∙ may_found w t m sound b a e))
+
+  by_may : (w : World) (t : Thread) → Matches s w → IsSound w → Both s w p kept t → is_empty s.requests.opens ≡ false → (g : Bool) → may_tell_any s.names s.requests.opens t.name ≡ g
+      → new.places.items ≡ slice_set s.places.items p (Some (marks_told kept (find (untold_by kept) s.requests.opens))) → DoesIn (event.Tell t.name) (answer_of_told (find (untold_by kept) s.requests.opens) g (list_any (live_by kept) s.requests.opens)) new w
+  by_may w t m sound b some true may places = by_live w t m sound b some may (list_any (live_by kept) s.requests.opens) refl places
+  by_may w t m sound b some false may places = not_of w t m sound b some may (find (untold_by kept) s.requests.opens) refl places (list_any (live_by kept) s.requests.opens)
+
+pub tell_does : (s new : Core) (name p : ℕ) (kept : Kept) → is_empty s.requests.opens ≡ false → slice_get s.places.items p ≡ Some (Some kept) → kept.name ≡ name → SameRest s new
+    → new.places.items ≡ slice_set s.places.items p (Some (kept_told s.requests.opens kept)) → Does (event.Tell name) s (answer_told s.names s.requests.opens kept) new
+tell_does s new name p kept some there named rest places = record {
   each = λ w sound m. (
       let b = both_kept s w p kept m there in
       let name_is : b.0.name ≡ name = sym b.1.same.thread.name ∙ named in
-      subst (λ n. DoesIn (event.Tell n) (answer_told s.requests.opens kept) new w) name_is
-      (by_live s new p kept rest there w b.0 m sound b.1 some (subst (λ n. list_any (λ a. may_tell_of s.names a.request n) s.requests.opens ≡ true) (sym name_is) may) (list_any (live_by kept) s.requests.opens) refl places));
+      let here : DoesIn (event.Tell b.0.name) (answer_of_told (find (untold_by kept) s.requests.opens) (may_tell_any s.names s.requests.opens b.0.name) (list_any (live_by kept) s.requests.opens)) new w
+      = by_may s new p kept rest there w b.0 m sound b.1 some (may_tell_any s.names s.requests.opens b.0.name) refl places in
+      let told : DoesIn (event.Tell b.0.name) (answer_told s.names s.requests.opens kept) new w
+      = subst (λ n. DoesIn (event.Tell b.0.name) (answer_of_told (find (untold_by kept) s.requests.opens) (may_tell_any s.names s.requests.opens n) (list_any (live_by kept) s.requests.opens)) new w) (sym b.1.same.thread.name) here in
+      subst (λ n. DoesIn (event.Tell n) (answer_told s.names s.requests.opens kept) new w) name_is told);
   sizes = record { places = ap length places ∙ length_set s.places.items p (Some (kept_told s.requests.opens kept)); slots = ap (λ tb. tb.slots) rest.table; methods = ap (λ tb. tb.methods) rest.table };
 }

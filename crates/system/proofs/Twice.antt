@@ -1,12 +1,11 @@
 -- An Install over code in use is an Invalidate and an Install.
-use Rattle.std.proofs.Common.{◌≡◌, ◌⊎◌, inl, inr, ⊎_elim, ℕ, suc, ◌+◌, Bool, true, false, List, [], ◌∷◌, length, Option, Some, None, sym, refl, ap, ◌∙◌, subst}
-use Rattle.std.specs.Prelude.{not, ◌&&◌, ◌==◌, nat_lt, nat_le, find, slice_get}
+use Rattle.std.proofs.Common.{◌≡◌, ◌⊎◌, inl, inr, ⊎_elim, ℕ, ◌+◌, Bool, true, false, List, ◌∷◌, length, Option, Some, None, sym, refl, ap, ◌∙◌, subst}
+use Rattle.std.specs.Prelude.{◌&&◌, ◌==◌, nat_lt, nat_le, slice_get}
 use Rattle.std.proofs.lemmas.Bool.{false≢true, and_parts, eqb-true, eq-eqb}
 use Rattle.method_table.specs.declared.Code.{Code}
-use Rattle.method_table.specs.declared.CodeState.{CodeState}
-use Rattle.method_table.specs.declared.CodeState.TheVariants.{InUse, NotEntrant, Zombie, Freed}
-use Rattle.method_table.specs.Numbers.{last_number, below}
-use Rattle.method_table.specs.Codes.{is_in_use, takes_slot, unfreed, in_use_for, is_taken, free_slot, next_serial, with_code, in_state, with_state}
+use Rattle.method_table.specs.declared.CodeState.TheVariants.{NotEntrant}
+use Rattle.method_table.specs.Numbers.{last_number}
+use Rattle.method_table.specs.Codes.{is_in_use, takes_slot, unfreed, in_use_for, free_slot, next_serial, with_code, in_state, with_state}
 use Rattle.method_table.proofs.Left.{used_takes, free_left}
 use Rattle.system.specs.declared.events.Event.{Event}
 use Rattle.system.specs.declared.events.Event.TheVariants as event

@@ -117,12 +117,13 @@ impl Core {
         if operations.is_empty() {
             return Answer::Refused(Refusal::NothingOpen);
         }
-        if !may_tell_any(operations, name, self.names) {
-            return Answer::Refused(Refusal::NotOf);
-        }
         let Some(place) = place_of(&self.places, name) else {
-            return Answer::Gone;
+            return if may_tell_any(operations, name, self.names) {
+                Answer::Gone
+            } else {
+                Answer::Refused(Refusal::NotOf)
+            };
         };
-        tell_at(&mut self.places, place, operations)
+        tell_at(&mut self.places, place, operations, self.names)
     }
 }

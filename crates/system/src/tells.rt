@@ -2,8 +2,8 @@
 ghost use Rattle.std.specs.Prelude.{◌≡◌, ◌<◌, IfSome, IfNone, false, Some, slice_get, slice_set, length};
 ghost use Rattle.std.specs.List.{list_any};
 ghost use Rattle.system.specs.declared.thread.Thread.{Thread as TheThread};
-ghost use Rattle.system.specs.Kept.Threads.{answer_told, kept_told};
-ghost use Rattle.system.specs.Kept.Tells.{is_named_at, may_tell_of};
+ghost use Rattle.system.specs.Kept.Threads.{kept_told};
+ghost use Rattle.system.specs.Kept.Tells.{is_named_at, may_tell_any, answer_told};
 
 use crate::answers::Answer;
 use crate::requests::Open;
@@ -11,7 +11,7 @@ use crate::thread::Thread;
 
 /// Whether one of the operations may be told to the name, where so many names were given out.
 pub fn may_tell_any(operations: &[Open], name: u64, names: u64) -> bool
-    ensures { result ≡ list_any (λ o. may_tell_of names o.request name) operations.now }
+    ensures { result ≡ may_tell_any names operations.now name }
 {
     operations.iter().any(|open| open.may_tell(name, names))
 }
@@ -46,16 +46,21 @@ pub fn place_of(places: &[Option<Thread>], name: u64) -> Option<usize>
     None
 }
 
-/// Tells the thread at the place the least operation that has it as a live target and is new to it.
-pub fn tell_at(places: &mut Vec<Option<Thread>>, place: usize, operations: &[Open]) -> Answer
+/// Tells the thread at the place the least operation that has it as a live target and is new to it, where so many names were given out.
+pub fn tell_at(
+    places: &mut Vec<Option<Thread>>,
+    place: usize,
+    operations: &[Open],
+    names: u64,
+) -> Answer
     requires { (kept : TheThread) × (slice_get places.old.items place ≡ Some (Some kept)) }
     ensures { (kept : TheThread) → slice_get places.old.items place ≡ Some (Some kept)
-        → (result ≡ answer_told operations.now kept)
+        → (result ≡ answer_told names operations.now kept)
         × (places.new.items
         ≡ slice_set places.old.items place (Some (kept_told operations.now kept))) }
 {
     match &mut places[place] {
         None => unreachable!(),
-        Some(thread) => thread.tell(operations),
+        Some(thread) => thread.tell(operations, names),
     }
 }

@@ -10,12 +10,14 @@ ghost use Rattle.system.specs.World.{World};
 ghost use Rattle.system.specs.Places as acts;
 ghost use Rattle.system.specs.declared.events.Act.TheVariants as TheActs;
 ghost use Rattle.system.specs.Marking.{SameThread};
-ghost use Rattle.system.specs.Kept.Threads.{IsHere, IsNew, enters_frame, frame_refusal, poll_by, common_refusal, is_live_for, was_told, is_done, told_by, undone_by, uncleared_by, awaited_by, live_by, untold_by, is_asked, idle_refusal, answer_told, kept_told};
+ghost use Rattle.system.specs.Kept.Threads.{IsHere, IsNew, enters_frame, frame_refusal, poll_by, common_refusal, is_live_for, was_told, is_done, told_by, undone_by, uncleared_by, awaited_by, live_by, untold_by, is_asked, idle_refusal, kept_told};
+ghost use Rattle.system.specs.Kept.Tells.{answer_told};
 ghost use Rattle.system.specs.Kept.Acts.{Did, Followed, DidAlone, DidNext, SaysExit, is_plain};
 
 use crate::answers::{Answer, Refusal};
 use crate::events::Act;
 use crate::requests::Open;
+use crate::tells::may_tell_any;
 use frames::image::{DEPTH, Image};
 use frames::{Change, CodeId, EndFault, Frame, Publishing};
 use method_table::table::{Entry, MethodTable};
@@ -359,13 +361,16 @@ impl Thread {
         operations.iter().find(|open| self.is_uncleared(open))
     }
 
-    /// Tells the least operation that has the thread as a live target and wasn't told to it.
-    pub fn tell(&mut self, operations: &[Open]) -> Answer
-        ensures answer { result ≡ answer_told operations.now self.old }
+    /// Tells the least operation that has the thread as a live target and wasn't told to it, where so many names were given out. Whether
+    /// the name may be told anything is looked up only where there is none.
+    pub fn tell(&mut self, operations: &[Open], names: u64) -> Answer
+        ensures answer { result ≡ answer_told names operations.now self.old }
         ensures told { self.new ≡ kept_told operations.now self.old }
     {
         let Some(open) = self.next_untold(operations) else {
-            return if self.is_live_target(operations) {
+            return if !may_tell_any(operations, self.name, names) {
+                Answer::Refused(Refusal::NotOf)
+            } else if self.is_live_target(operations) {
                 Answer::Refused(Refusal::AlreadyTold)
             } else {
                 Answer::Gone

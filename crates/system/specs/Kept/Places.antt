@@ -1,12 +1,10 @@
 -- What the acts of the threads do to the places that the system keeps. In each of these `old` and `new` are all places before and
 -- after, `kept` is the thread that stands at the place before, and `answer` is what the event was answered.
-use Rattle.std.specs.Prelude.{◌≡◌, ℕ, ◌+◌, Bool, true, false, List, [], ◌∷◌, option_map, Option, Some, None, Result, Ok, Err, slice_get, slice_set}
+use Rattle.std.specs.Prelude.{◌≡◌, ℕ, Bool, true, false, List, Option, Some, None, Result, Ok, Err, slice_get, slice_set}
 use Rattle.method_table.specs.TableView.{TableView}
 use Rattle.frames.specs.declared.Change.{Change as CodeChange}
 use Rattle.thread_state.specs.declared.State.TheVariants.{Vacant}
-use Rattle.system.specs.declared.requests.Open.{Open}
 use Rattle.system.specs.declared.thread.Thread.{Thread as Kept}
-use Rattle.system.specs.declared.events.Act.{Act}
 use Rattle.system.specs.declared.events.Act.TheVariants as act
 use Rattle.system.specs.declared.answers.Answer.{Answer}
 use Rattle.system.specs.declared.answers.Answer.TheVariants.{Refused, Frames, Exited}

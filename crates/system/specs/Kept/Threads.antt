@@ -10,10 +10,8 @@ use Rattle.system.specs.declared.thread.Marks.{Marks}
 use Rattle.system.specs.declared.thread.Thread.{Thread as Kept}
 use Rattle.system.specs.declared.requests.Open.{Open}
 use Rattle.system.specs.declared.events.Act.{Act}
-use Rattle.system.specs.declared.answers.Answer.{Answer}
-use Rattle.system.specs.declared.answers.Answer.TheVariants.{Told, Gone, Refused}
 use Rattle.system.specs.declared.answers.Refusal.{Refusal}
-use Rattle.system.specs.declared.answers.Refusal.TheVariants.{Illegal, Publishing, Unpublished, DepthFull, NothingOpen, NotOf, NotTold, AlreadyDone, AlreadyTold}
+use Rattle.system.specs.declared.answers.Refusal.TheVariants.{Illegal, Publishing, Unpublished, DepthFull, NothingOpen, NotOf, NotTold, AlreadyDone}
 use Rattle.system.specs.Verdict.{Verdict, unless◌refuse◌then◌}
 use Rattle.system.specs.Operations.{Requests, Opened, is_marked, poll_of}
 use Rattle.system.specs.Threads.{Thread}
@@ -63,14 +61,6 @@ untold_by kept open_ = nat_lt kept.marks.told open_.number && is_live_for open_ 
 
 abbrev pub live_by : Kept → Open → Bool
 live_by kept open_ = is_live_for open_ kept
-
--- What a Tell answers where it found an operation that is new, and where it found none, by whether one has the thread as a live target.
-abbrev pub answer_of_told : Option Open → Bool → Answer
-answer_of_told None live = if live then Refused AlreadyTold else Gone
-answer_of_told (Some open_) live = Told
-
-abbrev pub answer_told : List Open → Kept → Answer
-answer_told opens kept = answer_of_told (find (untold_by kept) opens) (list_any (live_by kept) opens)
 
 abbrev pub marks_told : Kept → Option Open → Kept
 marks_told kept None = kept
