@@ -4,7 +4,7 @@
 PROGRAM is crates/running_bench/out/running_bench by default; its kinds are told in its source. For stops of threads in native code it prints
 microseconds for each thread, from 1 to 64 threads; for the replies of a handshake, an install and a reclaiming (with the handshake of one thread)
 nanoseconds behind histories of up to a million entries, and for the last two among up to 1024 codes; so for handshakes and censuses of one thread
-among up to 1024 codes, and over up to 256 codes on its stack. Each is the median of a run.
+among up to 1024 codes, and over up to 256 codes on its stack. Each is the least of the medians of fifteen runs.
 
 With --plot the same goes into an SVG file of 800 pixels: a panel for each, all from 0, with what its lines are below it. With --of nothing is
 measured: the figures are read from the tables that an earlier run printed, as scale.txt keeps them. Only the shapes carry: the same machine differs by
@@ -34,32 +34,30 @@ PANELS = [
     ("over codes on the stack", "frames", "ns", OVER, (1, 4, 16, 64, 256)),
 ]
 TURNS = 300
-RUNS = 3
+ROUNDS = 15
 
 # A line has its colour on each panel.
 COLORS = {"handshake": "#1b6ca8", "census": "#c0504d", "reclaim": "#4f8a3d", "replies": "#7a5ca8", "install": "#b8860b"}
 
 
 def median(program, *words):
-    """The median of what some runs print: each run has many turns, and the least of the medians disturbs least."""
-    found = []
-    for _ in range(RUNS):
-        said = subprocess.run([str(program), *map(str, words)], check=True, capture_output=True, text=True, timeout=600).stdout
-        found.append(statistics.median(map(int, said.split())))
-    return min(found)
+    """The median of the turns that a run prints."""
+    said = subprocess.run([str(program), *map(str, words)], check=True, capture_output=True, text=True, timeout=600).stdout
+    return statistics.median(map(int, said.split()))
+
+
+def once(program, panel):
+    """The values of each line of a panel, by one run for each."""
+    _, grows, _, kinds, places = panel
+    if grows == "threads":
+        return [[median(program, kind, at, TURNS, 1) / at / 1e3 for at in places] for _, kind in kinds]
+    return [[median(program, kind, 1, TURNS, at) for at in places] for _, kind in kinds]
 
 
 def measured(program, panel):
-    """For each line of a panel its name and its values."""
-    _, grows, _, kinds, places = panel
-    lines = []
-    for name, kind in kinds:
-        if grows == "threads":
-            values = [median(program, kind, at, TURNS, 1) / at / 1e3 for at in places]
-        else:
-            values = [median(program, kind, 1, TURNS, at) for at in places]
-        lines.append((name, values))
-    return lines
+    """For each line of a panel its name and its values: the least of some rounds, as a machine's speed changes from second to second."""
+    rounds = [once(program, panel) for _ in range(ROUNDS)]
+    return [(name, list(map(min, zip(*line)))) for (name, _), line in zip(panel[3], zip(*rounds))]
 
 
 def kept(page, panel):
