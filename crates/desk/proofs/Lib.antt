@@ -6,7 +6,6 @@ pub mod Keeping
 pub mod Once
 pub mod Rising
 pub mod LiveNames
-pub mod RequestLists
 pub mod Spans
 pub mod ReplyLists
 pub mod RoomKept
@@ -14,7 +13,6 @@ pub mod RoomSteps
 pub mod JobsLeft
 pub mod Listed
 pub mod Distinct
-pub mod Unfolding
 pub mod Walks
 pub mod Pending
 pub mod Staying

@@ -4,7 +4,7 @@ use Rattle.std.proofs.lemmas.List.{drop-drop, drop-map, drop-append-le, take-app
 use Rattle.std.specs.Prelude.{slice_set}
 use Rattle.desk.specs.declared.replies.Span.{Span}
 use Rattle.desk.specs.Replies.{Said, nothing_said}
-use Rattle.desk.specs.Spans.{said_in, AreBehind, silent, answered, earlier}
+use Rattle.desk.specs.Spans.{said_in, AreBehind, AreFew, silent, answered, earlier}
 
 abbrev end_of : Span → ℕ
 end_of s = s.start + (s.said + s.room)
@@ -175,3 +175,39 @@ mapped_so_far f xs ys k x low is read = sym (not_reached f xs k x low) ∙ ap (�
 
 pub dropped_below : (all : List (ℕ × ℕ)) (ss : List Span) (lists : List Said) (k n : ℕ) → map (said_in all) ss ≡ lists → k ≤ length lists → n ≡ length ss → k ≢ n → k < length ss
 dropped_below all ss lists k n is low len ne = let l = ap (λ (l : List Said). length l) is in let m = length-map ss (said_in all) in omega arith
+
+-- no span has too many places, through each change
+few_behind : (ss : List Span) (s : Span) → AreFew ss → s.said + s.room ≤ 64 → AreFew (ss ++ s ∷ [])
+few_behind [] s h low = (low, tt)
+few_behind (x ∷ ss) s h low = (h.0, few_behind ss s h.1 low)
+
+pub few_more : (ss ss' : List Span) (start room : ℕ) → AreFew ss → room ≤ 64 → ss' ≡ ss ++ fresh start room ∷ [] → AreFew ss'
+few_more ss ss' start room h low is = subst AreFew (sym is) (few_behind ss (fresh start room) h (omega (arith, low)))
+
+few_there : (ss : List Span) (k : ℕ) (d : Span) → AreFew ss → k < length ss → (get_or ss k d).said + (get_or ss k d).room ≤ 64
+few_there [] k d h low = absurd (omega arith)
+few_there (x ∷ ss) zero d h low = h.0
+few_there (x ∷ ss) (suc k) d h low = few_there ss k d h.1 (omega arith)
+
+pub few_at : (ss : List Span) (k : ℕ) (s : Span) → AreFew ss → k < length ss → s ≡ get_or ss k s → s.said + s.room ≤ 64
+few_at ss k s h low is = subst (λ (z : Span). z.said + z.room ≤ 64) (sym is) (few_there ss k s h low)
+
+few_put : (ss : List Span) (k : ℕ) (s : Span) → AreFew ss → s.said + s.room ≤ 64 → AreFew (slice_set ss k s)
+few_put [] k s h low = tt
+few_put (x ∷ ss) zero s h low = (low, h.1)
+few_put (x ∷ ss) (suc k) s h low = (h.0, few_put ss k s h.1 low)
+
+pub few_set : (ss : List Span) (k : ℕ) (s : Span) → AreFew ss → k < length ss → s ≡ get_or ss k s → 0 < s.room → AreFew (slice_set ss k (next s))
+few_set ss k s h low is room = few_put ss k (next s) h (let l = few_at ss k s h low is in omega arith)
+
+few_drop : (ss : List Span) (k : ℕ) → AreFew ss → AreFew (drop k ss)
+few_drop ss zero h = h
+few_drop [] (suc k) h = tt
+few_drop (x ∷ ss) (suc k) h = few_drop ss k h.1
+
+few_earlier : (ss : List Span) (less : ℕ) → AreFew ss → AreFew (map (earlier less) ss)
+few_earlier [] less h = tt
+few_earlier (x ∷ ss) less h = (h.0, few_earlier ss less h.1)
+
+pub few_dropped : (ss ss' : List Span) (k less : ℕ) → AreFew ss → ss' ≡ map (earlier less) (drop k ss) → AreFew ss'
+few_dropped ss ss' k less h is = subst AreFew (sym is) (few_earlier (drop k ss) less (few_drop ss k h))

@@ -9,10 +9,8 @@ pub mod JobsFit
 pub mod Rising
 pub mod Replies
 pub mod Spans
-pub mod Unfolded
-pub mod Requested
 pub mod Names
-pub mod Forgotten
+pub mod Stored
 pub mod Pending
 pub mod Finishing
 pub mod Weighings

@@ -12,14 +12,13 @@ pub record Said : Type 0 where
 abbrev pub nothing_said : Said
 nothing_said = record { said = []; room = 0 }
 
--- what contracts see of a log: its book, what was said to each operation behind those whose replies were forgotten, for how many more operations there is room, for
--- how many more replies, and the names that were noted of the request that is entered next
+-- what contracts see of a log: its book, what was said to each operation behind those whose replies were forgotten, for how many more
+-- operations there is room, and for how many more replies
 pub record Logged : Type 0 where
   pub book : Book
   pub lists : List Said
   pub spare : ℕ
   pub places : ℕ
-  pub noted : List ℕ
 
 -- the operation of this number, where there is one
 abbrev pub of_number : ℕ → List Said → Said

@@ -1,5 +1,5 @@
 -- The replies of all operations, which lie behind one another in one list: a span of it for each operation.
-use Rattle.std.specs.Prelude.{◌≡◌, ℕ, ◌+◌, ◌-◌, List, [], ◌∷◌, ◌++◌, take, drop}
+use Rattle.std.specs.Prelude.{◌≡◌, ◌≤◌, ℕ, ◌+◌, ◌-◌, List, [], ◌∷◌, ◌++◌, take, drop}
 use Rattle.desk.specs.declared.replies.Span.{Span}
 use Rattle.desk.specs.Replies.{Said}
 
@@ -12,6 +12,11 @@ said_in all s = record { said = take s.said (drop s.start all); room = s.room }
 abbrev pub AreBehind : ℕ → List Span → ℕ → Type 0
 AreBehind from [] to = from ≡ to
 AreBehind from (s ∷ ss) to = (s.start ≡ from) × AreBehind (s.start + (s.said + s.room)) ss to
+
+-- no span has more places than a handshake has targets
+abbrev pub AreFew : List Span → Type 0
+AreFew [] = Unit {0}
+AreFew (s ∷ ss) = (s.said + s.room ≤ 64) × AreFew ss
 
 -- what contracts see of the block: what was said to each operation, for how many more operations there is room, and for how many more
 -- replies

@@ -89,8 +89,8 @@ impl<N: Name, J: Errand> Desk<N, J> {
             return Err(Refused { fault, jobs });
         }
         let entries = 3 + steps_of(&request);
-        let noted = match self.log.keep_request(&request) {
-            Ok(noted) => noted,
+        let targets = match self.log.keep_request(&request) {
+            Ok(targets) => targets,
             Err(fault) => return Err(Refused {
                 fault: ask_fault(fault),
                 jobs,
@@ -107,7 +107,7 @@ impl<N: Name, J: Errand> Desk<N, J> {
             });
         }
         self.next_number += 1;
-        Ok((number, self.log.enter_ask(number, noted, seen)))
+        Ok((number, self.log.enter_ask(targets, seen)))
     }
 
     // Why a request is refused before room is kept for it: one that has targets or not, and whose targets are good and its jobs fit it,

@@ -33,8 +33,8 @@ impl<N: Name, J: Errand> Desk<N, J> {
         Ok(Some(list))
     }
 
-    /// Forgets all entries so far, and the replies of each operation before the first that is open or waits. The memory in which they were
-    /// is used for later ones. Contracts see the whole history as before; HistoryFull counts from now on what is entered later.
+    /// Forgets all entries so far, and the replies of each operation before the first that is open or waits: the memory of these replies
+    /// is used for later ones, and HistoryFull counts from now on what is entered later. Contracts see the whole history as before.
     pub fn forget(&mut self)
         ensures history { (self.new.book.history ≡ self.old.book.history)
             × (self.new.book.reserved ≡ self.old.book.reserved) }

@@ -5,7 +5,7 @@ ghost use Rattle.operations.specs.Names.{among, is_distinct};
 ghost use Rattle.operations.specs.Requests.{is_census, are_targets};
 ghost use Rattle.desk.specs.declared.entries.Opened.{Opened as OpenedOf};
 ghost use Rattle.desk.specs.declared.entries.Live.{Live as LiveOf};
-ghost use Rattle.desk.specs.Machine.{Current as CurrentOf, names_of, is_live, is_taken, without, has_census, awaits_census, may_open_more, may_close, finished, as_operated, is_due, is_least, steps_of};
+ghost use Rattle.desk.specs.Machine.{Current as CurrentOf, names_of, is_live, is_taken, without, has_census, awaits_census, may_open_more, may_close, finished, as_operated, is_due, is_least, steps_of, targets_of};
 ghost use Rattle.desk.specs.Refusals.{has_body, are_all, chosen, oldest_of, holds_target};
 ghost use Rattle.desk.specs.Pending.{first_waiting, least_open};
 ghost use Rattle.desk.specs.Targets.{kind_among};
@@ -109,6 +109,17 @@ pub fn steps_of(request: &Request) -> usize
 {
     match request {
         Request::Census => 1,
+        Request::Handshake { targets, .. } => targets.as_slice().len(),
+    }
+}
+
+/// How many targets it has.
+#[inline(always)]
+pub fn count_of_targets(request: &Request) -> usize
+    ensures { result ≡ length (targets_of request.now) }
+{
+    match request {
+        Request::Census => 0,
         Request::Handshake { targets, .. } => targets.as_slice().len(),
     }
 }

@@ -1,11 +1,10 @@
 //! The history with the room that is kept in it and the replies by operation, and receipts of its entries.
 //!
-//! It is kept in two parts: the entries, where an Ask is without its request, and the requests. A request is larger than all else that
-//! an entry has, and few entries have one.
+//! Nothing reads an entry, so the entries exist only in proofs, and what is stored is how many there are and what the threads replied.
 //!
-//! A first part of the history can be forgotten: contracts go on seeing the whole, but only the rest is stored. So can the replies of
-//! the first operations, and contracts see for which.
-ghost use Rattle.std.specs.Prelude.{◌≡◌, ℕ, List, ◌+◌, ◌-◌, ◌<◌, ◌≤◌, [], ◌∷◌, ◌++◌, length, drop, true, false, None, OnOk, IfOk, IfErr, vec_len, vec_capacity};
+//! A first part of the history can be forgotten: contracts go on seeing the whole, but it counts no more. So can the replies of the first
+//! operations, and contracts see for which.
+ghost use Rattle.std.specs.Prelude.{◌≡◌, ℕ, ◌+◌, ◌-◌, ◌<◌, ◌≤◌, [], ◌∷◌, ◌++◌, length, drop, true, None, OnOk, IfOk, IfErr};
 ghost use Rattle.desk.specs.declared.entries.Entry.{Entry as EntryOf};
 ghost use Rattle.desk.specs.Fields.{install_entries, kept_before};
 ghost use Rattle.desk.specs.Once.{reply_in};
@@ -13,16 +12,11 @@ ghost use Rattle.desk.specs.Machine.{stands, steps_of, targets_of};
 ghost use Rattle.desk.specs.Room.{has_room, entries_kept, room_fault};
 ghost use Rattle.desk.specs.Replies.{of_number, replies_kept, HasLess};
 ghost use Rattle.desk.specs.Spans.{silent};
-ghost use Rattle.desk.specs.Unfolded.{unfolded, asks, is_ask};
-ghost use Rattle.desk.specs.Requested.{request_of};
-ghost use Rattle.operations.specs.declared.Request.{Request as RequestOf};
 
 use crate::entries::Entry;
-use crate::kept::{Kept, without_request};
-use crate::lists::steps_of;
+use crate::lists::{count_of_targets, steps_of};
 use crate::past::Past;
 use crate::replies::{Replies, place_of};
-use crate::requests::{Noted, Requests};
 use bodies::Name;
 use method_table::table::Installed;
 use operations::Request;
@@ -30,26 +24,25 @@ use std::alloc::{AllocError, Global};
 use std::marker::{Model, PhantomData};
 use std::snapshot::Snapshot;
 
-/// How many entries of a history are stored at most.
+/// How many entries a history has at most, without those that were forgotten.
 pub const MOST: usize = 1_000_000;
 
 /// What stands in the history of the desk of N. Only a log makes one. It exists only in proofs, and takes no memory.
 #[derive(Drop)]
 pub struct Receipt<N: Name> {
     before: Snapshot<Past>,
-    behind: Snapshot<usize>,
     entry: Snapshot<Entry>,
     of: PhantomData<N>,
 }
 
 impl<N: Name> Model for Receipt<N> {
-    ghost use Rattle.std.specs.Prelude.{◌+◌, length};
+    ghost use Rattle.std.specs.Prelude.{length};
     ghost use Rattle.desk.specs.Machine.{Stands};
 
     ghost Value = { Stands };
 
     ghost view = { λ r. record {
-      place = length r.before.value.entries + r.behind.value;
+      place = length r.before.value.entries;
       entry = r.entry.value;
     } };
 }
@@ -57,57 +50,55 @@ impl<N: Name> Model for Receipt<N> {
 /// How long the history of the desk of N was. Only a log makes one.
 #[derive(Drop)]
 pub struct Length<N: Name> {
-    before: Snapshot<Past>,
-    behind: Snapshot<usize>,
+    past: Snapshot<Past>,
     of: PhantomData<N>,
 }
 
 impl<N: Name> Model for Length<N> {
-    ghost use Rattle.std.specs.Prelude.{ℕ, ◌+◌, length};
+    ghost use Rattle.std.specs.Prelude.{ℕ, length};
 
     ghost Value = { ℕ };
 
-    ghost view = { λ l. length l.before.value.entries + l.behind.value };
+    ghost view = { λ l. length l.past.value.entries };
 }
 
-/// Contracts see the entries, each Ask with its request, with for how many more room is kept, the replies of each operation that was
-/// asked, for how many more operations and replies there is room, and the names that were noted for the next Ask.
+/// Contracts see the entries with for how many more room is kept, the replies of each operation that was asked, and for how many more
+/// operations and replies there is room.
 #[derive(Drop)]
 pub struct Log<N: Name> {
-    entries: Vec<Kept>,
+    past: Past,
+    /// How many entries there are, without those that were forgotten.
+    count: usize,
     reserved: usize,
     /// Up to which operation the replies were forgotten. A Finish reads it, so it lies beside what a Finish changes.
     forgotten: u64,
     replies: Replies,
-    asked: Requests,
-    past: Past,
     of: PhantomData<N>,
 }
 
 impl<N: Name> Model for Log<N> {
-    ghost use Rattle.std.specs.Prelude.{◌≡◌, ◌+◌, ◌≤◌, ◌++◌, length, min, vec_len, vec_capacity};
+    ghost use Rattle.std.specs.Prelude.{◌-◌, ◌+◌, ◌≤◌, length};
     ghost use Rattle.desk.specs.Replies.{Logged, AreReplies};
-    ghost use Rattle.desk.specs.Unfolded.{unfolded, asks};
 
     ghost Value = { Logged };
 
     ghost view = { λ l. record {
       book = record {
-        history = l.past.entries
-            ++ unfolded l.entries.items l.asked.list;
+        history = l.past.entries;
         reserved = l.reserved;
-        gone = record { entries = length l.past.entries; operations = l.forgotten };
+        gone = record {
+          entries = length l.past.entries - l.count;
+          operations = l.forgotten;
+        };
       };
       lists = l.replies.lists;
-      spare = min l.replies.spare l.asked.spare;
+      spare = l.replies.spare;
       places = l.replies.places;
-      noted = l.asked.noted;
     } };
 
-    ghost invariant = { λ l. (vec_len l.entries + l.reserved ≤ vec_capacity l.entries)
-        × (asks l.entries.items ≡ length l.asked.list)
-        × AreReplies l.forgotten (l.past.entries ++ unfolded l.entries.items l.asked.list)
-        l.replies.lists };
+    ghost invariant = { λ l. (l.count ≤ length l.past.entries)
+        × (l.count + l.reserved ≤ 1000000)
+        × AreReplies l.forgotten l.past.entries l.replies.lists };
 }
 
 /// Why no room is kept.
@@ -130,39 +121,21 @@ fn fits(len: usize, reserved: usize, more: usize) -> bool
     }
 }
 
-// How many entries there are, with those that were forgotten.
-fn length_of<N: Name>(past: &Past, entries: &Vec<Kept>) -> Length<N>
-    ensures { result ≡ length past.now.entries + vec_len entries.now }
-{
-    let behind = entries.len();
-    Length {
-        before: Snapshot::of(past),
-        behind: Snapshot::of(&behind),
-        of: PhantomData,
-    }
-}
-
-// Puts an entry that has no request to the end.
+// Puts an entry to the end.
 #[inline(always)]
-fn append<N: Name>(past: &Past, entries: &mut Vec<Kept>, entry: Entry) -> Receipt<N>
-    requires room { vec_len entries.old < vec_capacity entries.old }
-    requires no_request { is_ask entry ≡ false }
-
-    ensures history { (rs : List RequestOf)
-        → asks entries.old.items ≡ length rs
-        → unfolded entries.new.items rs ≡ unfolded entries.old.items rs ++ entry ∷ [] }
-    ensures asks { asks entries.new.items ≡ asks entries.old.items }
-    ensures sizes { (vec_len entries.new ≡ vec_len entries.old + 1)
-        × (vec_capacity entries.new ≡ vec_capacity entries.old) }
-    ensures receipt { result ≡ stands (length past.now.entries + vec_len entries.old) entry }
+fn append<N: Name>(past: &mut Past, count: &mut usize, entry: Snapshot<Entry>) -> Receipt<N>
+    requires { count.old < 1000000 }
+    ensures history { past.new.entries ≡ past.old.entries ++ entry.value ∷ [] }
+    ensures length { length past.new.entries ≡ length past.old.entries + 1 }
+    ensures count { count.new ≡ count.old + 1 }
+    ensures receipt { result ≡ stands (length past.old.entries) entry.value }
 {
-    let place = entries.len();
-    let seen = Snapshot::of(&entry);
-    entries.push_reserved(without_request(entry));
+    let before = Snapshot::of(past);
+    *past = past.then(&entry);
+    *count += 1;
     Receipt {
-        before: Snapshot::of(past),
-        behind: Snapshot::of(&place),
-        entry: seen,
+        before,
+        entry,
         of: PhantomData,
     }
 }
@@ -180,40 +153,6 @@ pub fn seen_as_ask(number: u64, request: Request) -> (Snapshot<Entry>, Request)
     }
 }
 
-// Puts an Ask to the end, and its request, whose names were noted, to the requests.
-#[inline(always)]
-fn append_ask<N: Name>(
-    past: &Past,
-    entries: &mut Vec<Kept>,
-    asked: &mut Requests,
-    number: u64,
-    noted: Noted,
-    seen: Snapshot<Entry>,
-) -> Receipt<N>
-    requires room { vec_len entries.old < vec_capacity entries.old }
-    requires spare { 0 < asked.old.spare }
-    requires noted { noted.count ≤ length asked.old.noted }
-    requires whole { asks entries.old.items ≡ length asked.old.list }
-
-    ensures history { unfolded entries.new.items asked.new.list
-        ≡ unfolded entries.old.items asked.old.list ++ Entry.Ask number
-        (request_of noted asked.old.noted) ∷ [] }
-    ensures whole { asks entries.new.items ≡ length asked.new.list }
-    ensures sizes { (vec_len entries.new ≡ vec_len entries.old + 1)
-        × (vec_capacity entries.new ≡ vec_capacity entries.old) }
-    ensures receipt { result ≡ stands (length past.now.entries + vec_len entries.old) seen.value }
-{
-    let place = entries.len();
-    entries.push_reserved(Kept::Asked(number));
-    asked.add(noted);
-    Receipt {
-        before: Snapshot::of(past),
-        behind: Snapshot::of(&place),
-        entry: seen,
-        of: PhantomData,
-    }
-}
-
 impl<N: Name> Log<N> {
     pub fn new(alloc: Global) -> Log<N>
         ensures empty { (result.book.history ≡ [])
@@ -223,10 +162,9 @@ impl<N: Name> Log<N> {
     {
         Log {
             past: Past::new(),
-            forgotten: 0,
-            entries: Vec::new(alloc),
-            asked: Requests::new(alloc),
+            count: 0,
             reserved: 0,
+            forgotten: 0,
             replies: Replies::new(alloc),
             of: PhantomData,
         }
@@ -247,7 +185,10 @@ impl<N: Name> Log<N> {
     pub fn length(&self) -> Length<N>
         ensures { result ≡ length self.now.book.history }
     {
-        length_of(&self.past, &self.entries)
+        Length {
+            past: Snapshot::of(&self.past),
+            of: PhantomData,
+        }
     }
 
     /// Up to which operation the replies were forgotten.
@@ -257,14 +198,14 @@ impl<N: Name> Log<N> {
         self.forgotten
     }
 
-    /// Whether the history has room for more entries, where there is memory for them.
+    /// Whether the history has room for more entries.
     pub fn has_room(&self, more: usize) -> bool
         ensures { result ≡ has_room (entries_kept self.now.book) self.now.book.reserved more }
     {
-        fits(self.entries.len(), self.reserved, more)
+        fits(self.count, self.reserved, more)
     }
 
-    /// Keeps room for more entries.
+    /// Keeps room for more entries. Refused only where the history has none.
     pub fn keep(&mut self, more: usize) -> Result<(), RoomFault>
         ensures ok { OnOk result
             ((self.new.book.history ≡ self.old.book.history)
@@ -279,9 +220,6 @@ impl<N: Name> Log<N> {
     {
         if !self.has_room(more) {
             return Err(RoomFault::HistoryFull);
-        }
-        if self.entries.reserve(self.reserved + more).is_err() {
-            return Err(RoomFault::NoMemory);
         }
         self.reserved += more;
         Ok(())
@@ -299,32 +237,16 @@ impl<N: Name> Log<N> {
         self.reserved -= less;
     }
 
-    /// Notes the names of a request that is to be entered, and keeps room for it and its replies. Refused only for want of memory.
+    /// Keeps room for all entries and all replies that a request can make, and tells how many targets it has. Where that is refused no
+    /// room is kept.
     #[inline(always)]
-    pub fn note(&mut self, request: &Request) -> Result<Noted, AllocError>
-        ensures noted { IfOk result (λ noted.
-            (request_of noted self.new.noted ≡ request.now)
-            × (noted.count ≡ length (targets_of request.now))
-            × (noted.count ≤ length self.new.noted)) }
-        ensures room { IfOk result (λ noted.
-            (0 < self.new.spare) × (noted.count ≤ self.new.places)) }
-        ensures same { (self.new.book ≡ self.old.book) × (self.new.lists ≡ self.old.lists) }
-    {
-        let noted = self.asked.note(request)?;
-        self.replies.reserve(noted.count())?;
-        Ok(noted)
-    }
-
-    /// Keeps room for all entries that a request can make, and notes it. Where that is refused no room is kept.
-    #[inline(always)]
-    pub fn keep_request(&mut self, request: &Request) -> Result<Noted, RoomFault>
+    pub fn keep_request(&mut self, request: &Request) -> Result<usize, RoomFault>
         requires steps { steps_of request.now ≤ 64 }
 
-        ensures noted { IfOk result (λ noted. (request_of noted self.new.noted ≡ request.now)
-            × (noted.count ≡ length (targets_of request.now))
-            × (noted.count ≤ length self.new.noted)) }
-        ensures room { IfOk result (λ noted.
-            (0 < self.new.spare) × (noted.count ≤ self.new.places)) }
+        ensures targets { IfOk result (λ targets.
+            (targets ≡ length (targets_of request.now)) × (targets ≤ 64)) }
+        ensures room { IfOk result (λ targets.
+            (0 < self.new.spare) × (targets ≤ self.new.places)) }
         ensures reserved { OnOk result
             (self.new.book.reserved ≡ self.old.book.reserved + (3 + steps_of request.now)) }
         ensures accepted { OnOk result (has_room (entries_kept self.old.book) self.old.book.reserved
@@ -339,20 +261,18 @@ impl<N: Name> Log<N> {
     {
         let entries = 3 + steps_of(request);
         self.keep(entries)?;
-        match self.note(request) {
-            Ok(noted) => Ok(noted),
-            Err(_) => {
-                self.give_back(entries);
-                Err(RoomFault::NoMemory)
-            }
+        let targets = count_of_targets(request);
+        if self.replies.reserve(targets).is_err() {
+            self.give_back(entries);
+            return Err(RoomFault::NoMemory);
         }
+        Ok(targets)
     }
 
-    /// Puts an entry that has no request and no reply to the end, in room that was kept.
+    /// Puts an entry that has no reply to the end, in room that was kept.
     #[inline(always)]
     pub fn enter(&mut self, entry: Entry) -> Receipt<N>
         requires reserved { 0 < self.old.book.reserved }
-        requires no_request { is_ask entry ≡ false }
         requires no_reply { (n : ℕ) → reply_in n entry ≡ None }
 
         ensures gone { self.new.book.gone ≡ self.old.book.gone }
@@ -361,8 +281,9 @@ impl<N: Name> Log<N> {
         ensures lists { self.new.lists ≡ self.old.lists }
         ensures receipt { result ≡ stands (length self.old.book.history) entry }
     {
+        let seen = Snapshot::of(&entry);
         self.reserved -= 1;
-        append(&self.past, &mut self.entries, entry)
+        append(&mut self.past, &mut self.count, seen)
     }
 
     /// Enters an install: where it replaced a code, that this one isn't entrant, and then the Install, of which the receipt is.
@@ -385,31 +306,24 @@ impl<N: Name> Log<N> {
         self.enter(Entry::Install(installed.code, method))
     }
 
-    /// Puts an Ask to the end, of the request that was noted, with places for its replies, in room that was kept.
+    /// Puts an Ask to the end, with places for so many replies, in room that was kept.
     #[inline(always)]
-    pub fn enter_ask(&mut self, number: u64, noted: Noted, seen: Snapshot<Entry>) -> Receipt<N>
+    pub fn enter_ask(&mut self, targets: usize, seen: Snapshot<Entry>) -> Receipt<N>
         requires reserved { 0 < self.old.book.reserved }
         requires spare { 0 < self.old.spare }
-        requires places { noted.count ≤ self.old.places }
-        requires noted { noted.count ≤ length self.old.noted }
-        requires seen { seen.value ≡ Entry.Ask number (request_of noted self.old.noted) }
+        requires places { targets ≤ self.old.places }
+        requires few { targets ≤ 64 }
+        requires no_reply { (n : ℕ) → reply_in n seen.value ≡ None }
 
         ensures gone { self.new.book.gone ≡ self.old.book.gone }
         ensures history { self.new.book.history ≡ self.old.book.history ++ seen.value ∷ [] }
         ensures reserved { self.new.book.reserved + 1 ≡ self.old.book.reserved }
-        ensures lists { self.new.lists ≡ self.old.lists ++ silent noted.count ∷ [] }
+        ensures lists { self.new.lists ≡ self.old.lists ++ silent targets ∷ [] }
         ensures receipt { result ≡ stands (length self.old.book.history) seen.value }
     {
         self.reserved -= 1;
-        self.replies.add(noted.count());
-        append_ask(
-            &self.past,
-            &mut self.entries,
-            &mut self.asked,
-            number,
-            noted,
-            seen,
-        )
+        self.replies.add(targets);
+        append(&mut self.past, &mut self.count, seen)
     }
 
     /// Puts a Finish to the end, and its reply to those of its operation, in room that was kept.
@@ -430,14 +344,11 @@ impl<N: Name> Log<N> {
         self.reserved -= 1;
         self.replies
             .push((op - self.forgotten - 1) as usize, name, reply);
-        append(
-            &self.past,
-            &mut self.entries,
-            Entry::Finish(op, name, reply),
-        )
+        let entry = Entry::Finish(op, name, reply);
+        append(&mut self.past, &mut self.count, Snapshot::of(&entry))
     }
 
-    /// Forgets all entries so far, and the replies of the operations up to this one. Their memory is kept for others.
+    /// Counts none of the entries so far any more, and forgets the replies of the operations up to this one. Their memory is kept for others.
     pub fn forget(&mut self, last: u64)
         requires later { self.old.book.gone.operations ≤ last }
         requires given { last ≤ self.old.book.gone.operations + length self.old.lists }
@@ -448,9 +359,7 @@ impl<N: Name> Log<N> {
         ensures lists { self.new.lists
             ≡ drop (last - self.old.book.gone.operations) self.old.lists }
     {
-        self.past = self.past.with(&self.entries, &self.asked);
-        self.entries.clear();
-        self.asked.clear();
+        self.count = 0;
         self.replies.forget((last - self.forgotten) as usize);
         self.forgotten = last;
     }

@@ -114,10 +114,13 @@ fn take_off(names: &mut Vec<u64>, gone: usize, name: u64) -> usize
     gone
 }
 
-fn keep_live(names: &mut Vec<u64>, live: &[Live])
-    ensures { names.new.items ≡ live_of live.now names.old.items }
+// Those that are live. It takes the list itself, so that a list that isn't given to it need not lie in memory.
+fn live_among(names: Vec<u64>, live: &[Live]) -> Vec<u64>
+    ensures { result.items ≡ live_of live.now names.items }
 {
+    let mut names = names;
     names.retain(|x| lives(live, *x));
+    names
 }
 
 fn all_gone(names: &[u64], live: &[Live]) -> bool
@@ -160,17 +163,23 @@ impl Names {
         Ok(Names { first, later })
     }
 
-    /// Keeps those that are live.
-    pub fn keep_live(&mut self, live: &[Live])
-        ensures { self.new.items ≡ live_of live.now self.old.items }
+    /// Those that are live.
+    #[inline(always)]
+    pub fn live(self, live: &[Live]) -> Names
+        ensures { result.items ≡ live_of live.now self.items }
     {
-        if let Some(first) = self.first {
-            if !lives(live, first) {
-                self.first = None;
+        let Names { mut first, later } = self;
+        if let Some(name) = first {
+            if !lives(live, name) {
+                first = None;
             }
         }
-        if !self.later.is_empty() {
-            keep_live(&mut self.later, live);
+        if later.is_empty() {
+            return Names { first, later };
+        }
+        Names {
+            first,
+            later: live_among(later, live),
         }
     }
 }

@@ -44,15 +44,14 @@ impl<N: Name, J: Errand> Desk<N, J> {
             request,
             load,
         } = first;
-        let Carried { mut due, jobs } = load;
-        due.keep_live(self.live.as_slice());
+        let Carried { due, jobs } = load;
         let left = steps_of(&request);
         self.opened.push_reserved(Opened {
             number,
             request,
             before: self.next_name,
             left,
-            due: Awaited::of(due),
+            due: Awaited::of(due.live(self.live.as_slice())),
             operated: false,
             jobs: VecDeque::from_vec(jobs),
         });

@@ -1,15 +1,14 @@
-//! The entries that were forgotten. They exist only in proofs, and take no memory.
-ghost use Rattle.std.specs.Prelude.{◌≡◌, ◌++◌, [], List};
+//! The entries of a history. They exist only in proofs, and take no memory.
+ghost use Rattle.std.specs.Prelude.{◌≡◌, ◌++◌, ◌∷◌, [], List};
 ghost use Rattle.desk.specs.declared.entries.Entry.{Entry as EntryOf};
-ghost use Rattle.desk.specs.Forgotten.{entries_code};
-ghost use Rattle.desk.specs.Unfolded.{unfolded};
+ghost use Rattle.desk.specs.Stored.{entries_code};
 ghost use base.Fml.{ftrue};
 
-use crate::kept::Kept;
-use crate::requests::Requests;
+use crate::entries::Entry;
 use std::marker::Model;
+use std::snapshot::Snapshot;
 
-/// The entries that were forgotten, in their order.
+/// The entries so far, in their order.
 #[derive(Drop)]
 pub struct Past {
     pub ghost entries: { List EntryOf } by { entries_code },
@@ -26,9 +25,9 @@ impl Past {
         Past {}
     }
 
-    /// With these entries behind the others.
-    pub fn with(&self, _entries: &Vec<Kept>, _asked: &Requests) -> Past
-        ensures { result.entries ≡ self.now.entries ++ unfolded _entries.now.items _asked.now.list }
+    /// With one entry more behind the others.
+    pub fn then(&self, _entry: &Snapshot<Entry>) -> Past
+        ensures { result.entries ≡ self.now.entries ++ _entry.now.value ∷ [] }
     {
         Past {}
     }

@@ -11,8 +11,8 @@ use std::marker::Model;
 #[derive(Clone, Copy)]
 pub struct Span {
     start: usize,
-    said: usize,
-    room: usize,
+    said: u32,
+    room: u32,
 }
 
 /// Names with their replies by operation, in the order in which they came. Contracts see for each operation its replies with the room
@@ -25,7 +25,7 @@ pub struct Replies {
 
 impl Model for Replies {
     ghost use Rattle.std.specs.Prelude.{◌-◌, map, length, vec_len, vec_capacity};
-    ghost use Rattle.desk.specs.Spans.{RepliesSeen, said_in, AreBehind};
+    ghost use Rattle.desk.specs.Spans.{RepliesSeen, said_in, AreBehind, AreFew};
 
     ghost Value = { RepliesSeen };
 
@@ -35,7 +35,8 @@ impl Model for Replies {
       places = vec_capacity r.all - vec_len r.all;
     } };
 
-    ghost invariant = { λ r. AreBehind 0 r.spans.items (length r.all.items) };
+    ghost invariant = { λ r. AreBehind 0 r.spans.items (length r.all.items)
+        × AreFew r.spans.items };
 }
 
 // Puts as many places to the end, in room that was kept, so that a reply is written into its place later.
@@ -107,6 +108,7 @@ impl Replies {
     pub fn add(&mut self, replies: usize)
         requires spare { 0 < self.old.spare }
         requires places { replies ≤ self.old.places }
+        requires few { replies ≤ 64 }
         ensures { self.new.lists ≡ self.old.lists ++ silent replies ∷ [] }
     {
         let start = self.all.len();
@@ -114,7 +116,7 @@ impl Replies {
         self.spans.push_reserved(Span {
             start,
             said: 0,
-            room: replies,
+            room: replies as u32,
         });
     }
 
@@ -128,12 +130,12 @@ impl Replies {
             (answered (name, reply) (get_or self.old.lists place nothing_said)) }
     {
         let Span { start, said, room } = self.spans[place];
-        self.all[start + said] = (name, reply);
         self.spans[place] = Span {
             start,
             said: said + 1,
             room: room - 1,
         };
+        self.all[start + said as usize] = (name, reply);
     }
 
     /// Forgets the first operations. Their memory is kept for others.
@@ -163,7 +165,7 @@ impl Replies {
             said,
             room: _,
         } = self.spans[place];
-        Vec::from_slice(alloc, &self.all[start..start + said])
+        Vec::from_slice(alloc, &self.all[start..start + said as usize])
     }
 }
 

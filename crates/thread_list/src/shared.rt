@@ -232,8 +232,8 @@ impl<N: Name, J: Errand> Shared<N, J> {
         Ok(list)
     }
 
-    /// Forgets all entries of the history so far, and the replies of each operation before the first that is open or waits: their memory is
-    /// used for later ones, and HistoryFull counts from now on what is entered later. Answers the receipt of that.
+    /// Forgets all entries of the history so far, and the replies of each operation before the first that is open or waits: the memory of
+    /// these replies is used for later ones, and HistoryFull counts from now on what is entered later. Answers the receipt of that.
     pub fn forget<R: Wait>(&self, rt: &R) -> Forgotten<N, J>
         ensures { Forgets result }
     {

@@ -20,10 +20,10 @@ use Rattle.desk.proofs.desk.Desk.submit.Goals.{then-are_targets, else-are_target
 
 pub invariant_of-self-2 : goal.invariant_of-self-2
 invariant_of-self-2 g c =
-    let i = c.self.inside in let m = c.self.invariant in let noted = c.in-Ok.noted in
+    let i = c.self.inside in let m = c.self.invariant in let targets = c.in-Ok.targets in
     let request : c.seen_as_ask-seen.result.1 ≡ c.args.request = c.seen_as_ask-seen.ensures.1 in
     let seen : c.seen_as_ask-seen.result.0.value ≡ entry.Ask i.next_number c.args.request = c.seen_as_ask-seen.ensures.0 in
-    let enough : length (targets_of c.args.request) ≤ noted.count = omega (arith, c.in-Ok.ensures.noted.1) in
+    let enough : length (targets_of c.args.request) ≤ targets = omega (arith, c.in-Ok.ensures.targets.0) in
     let low : 0 < i.next_number = (let n = m.replies.count in omega arith) in
     let fit : jobs_fit g.J.Errand.whom g.J.Errand.asks c.args.request c.args.jobs.items ≡ true = search rules in
     let waits = c.in_default-wait_for_its_turn.ensures.ok in
@@ -39,7 +39,7 @@ invariant_of-self-2 g c =
       capacity = m.capacity;
       places = m.places;
       named = m.named;
-      replies = same_room (ask_has_room c.wait_for_its_turn.new.queue w c.enter_ask.new.self.lists (silent noted.count) m pushed refl enough (search rules)) refl (search rules);
+      replies = same_room (ask_has_room c.wait_for_its_turn.new.queue w c.enter_ask.new.self.lists (silent targets) m pushed refl enough (search rules)) refl (search rules);
       pending = later_stays (entry.Ask i.next_number c.args.request ∷ []) m.kept k refl refl (search rules) (search rules) m.pending;
     }
 

@@ -1,28 +1,14 @@
-use Rattle.std.proofs.Common.{◌≡◌, ◌+◌, ◌++◌, ◌∷◌, [], ◌∙◌, length, sym, ap, subst, rules}
-use Rattle.std.specs.Prelude.{vec_len}
-use Rattle.desk.specs.Machine.{stands}
-use Rattle.desk.specs.Replies.{Logged, AreReplies}
-use Rattle.desk.specs.Unfolded.{unfolded}
+use Rattle.std.proofs.Common.{◌≡◌, ◌++◌, ◌∷◌, [], List, sym, subst, rules}
+use Rattle.desk.specs.declared.entries.Entry.{Entry}
+use Rattle.desk.specs.Replies.{AreReplies}
 use Rattle.desk.proofs.ReplyLists.{same_lists}
-use Rattle.desk.proofs.Unfolding.{behind_past, whole_length}
 use Rattle.desk.proofs.log.Log.enter.Goals as goal
 
 pub invariant_of-self : goal.invariant_of-self
 invariant_of-self g c =
-    let i = c.self.inside in let m = c.self.invariant in (
+    let i = c.self.inside in let m = c.self.invariant in
+    let history : c.append.new.past.entries ≡ i.past.entries ++ c.args.entry ∷ [] = search rules in (
       search rules,
-      c.append.ensures.asks ∙ m.1,
-      subst (λ h. AreReplies i.forgotten h i.replies.lists) (sym (behind_past i.past.entries _ _ c.args.entry (c.append.ensures.history i.asked.list m.1))) (same_lists i.forgotten (i.past.entries ++ unfolded i.entries.items i.asked.list) i.replies.lists c.args.entry m.2 c.requires.no_reply),
+      search rules,
+      subst (λ (h : List Entry). AreReplies i.forgotten h i.replies.lists) (sym history) (same_lists i.forgotten i.past.entries i.replies.lists c.args.entry m.2 c.requires.no_reply),
     )
-
-pub returns-clause-history : goal.returns-clause-history
-returns-clause-history g c =
-    let i = c.self.inside in
-    subst (λ (d : Logged). i.past.entries ++ unfolded c.append.new.entries.items i.asked.list ≡ d.book.history ++ c.args.entry ∷ []) c.self.view_is (behind_past i.past.entries _ _ c.args.entry (c.append.ensures.history i.asked.list c.self.invariant.1))
-
-pub returns-clause-receipt : goal.returns-clause-receipt
-returns-clause-receipt g c =
-    let i = c.self.inside in
-    let count : vec_len i.entries ≡ length i.entries.items = search rules in
-    subst (λ (d : Logged). c.append.result ≡ stands (length d.book.history) c.args.entry) c.self.view_is
-    (c.append.ensures.receipt ∙ ap (λ k. stands k c.args.entry) (ap (λ k. length i.past.entries + k) count ∙ sym (whole_length i.past.entries i.entries.items i.asked.list c.self.invariant.1)))
