@@ -102,10 +102,6 @@ install_refused s m b (code.Install fault) = install_fault s.table m ≡ Some fa
 install_refused s m b code.HistoryFull = (install_fault s.table m ≡ None) × (room_for b 4 ≡ false)
 install_refused s m b code.NoMemory = MayInstall s m b
 
-abbrev pub start_fault : RoomFault → StartFault
-start_fault room.HistoryFull = start.HistoryFull
-start_fault room.NoMemory = start.NoMemory
-
 abbrev pub ask_fault : RoomFault → AskFault
 ask_fault room.HistoryFull = ask.HistoryFull
 ask_fault room.NoMemory = ask.NoMemory

@@ -1,6 +1,6 @@
 //! Why the desk refuses a call. The faults of a call are tested in the order in which they stand here.
 ghost use Rattle.std.specs.Prelude.{◌≡◌};
-ghost use Rattle.desk.specs.Refusals.{ask_fault, start_fault};
+ghost use Rattle.desk.specs.Refusals.{ask_fault};
 
 use crate::log::RoomFault;
 use method_table::table::{InstallFault, RetireFault};
@@ -226,15 +226,6 @@ impl fmt::Display for CodeFault {
 }
 
 impl Error for CodeFault {}
-
-pub(crate) fn start_fault(fault: RoomFault) -> StartFault
-    ensures { result ≡ start_fault fault }
-{
-    match fault {
-        RoomFault::HistoryFull => StartFault::HistoryFull,
-        RoomFault::NoMemory => StartFault::NoMemory,
-    }
-}
 
 pub(crate) fn ask_fault(fault: RoomFault) -> AskFault
     ensures { result ≡ ask_fault fault }

@@ -12,7 +12,7 @@ ghost use Rattle.desk.specs.Fields.{at, Enters, EntersInstall, kept_before};
 use crate::desk::Desk;
 use crate::entries::Entry;
 use crate::faults::CodeFault;
-use crate::log::{Receipt, RoomFault};
+use crate::log::Receipt;
 use board::Board;
 use bodies::Name;
 use method_table::table::{FreeFault, Installed, InvalidateFault};
@@ -46,10 +46,8 @@ impl<N: Name, J: Errand> Desk<N, J> {
         if let Some(fault) = self.codes.refusal(method) {
             return Err(CodeFault::Install(fault));
         }
-        match self.log.keep(4) {
-            Ok(()) => {}
-            Err(RoomFault::HistoryFull) => return Err(CodeFault::HistoryFull),
-            Err(RoomFault::NoMemory) => return Err(CodeFault::NoMemory),
+        if !self.log.keep(4) {
+            return Err(CodeFault::HistoryFull);
         }
         match self.codes.install(board, method) {
             Ok(installed) => Ok((installed, self.log.enter_install(installed, method))),

@@ -4,7 +4,7 @@
 //!
 //! A first part of the history can be forgotten: contracts go on seeing the whole, but it counts no more. So can the replies of the first
 //! operations, and contracts see for which.
-ghost use Rattle.std.specs.Prelude.{◌≡◌, ℕ, ◌+◌, ◌-◌, ◌<◌, ◌≤◌, [], ◌∷◌, ◌++◌, length, drop, true, None, OnOk, IfOk, IfErr};
+ghost use Rattle.std.specs.Prelude.{◌≡◌, ℕ, ◌+◌, ◌-◌, ◌<◌, ◌≤◌, [], ◌∷◌, ◌++◌, length, drop, true, false, None, OnOk, IfOk, IfErr};
 ghost use Rattle.desk.specs.declared.entries.Entry.{Entry as EntryOf};
 ghost use Rattle.desk.specs.Fields.{install_entries, kept_before};
 ghost use Rattle.desk.specs.Once.{reply_in};
@@ -205,24 +205,22 @@ impl<N: Name> Log<N> {
         fits(self.count, self.reserved, more)
     }
 
-    /// Keeps room for more entries. Refused only where the history has none.
-    pub fn keep(&mut self, more: usize) -> Result<(), RoomFault>
-        ensures ok { OnOk result
-            ((self.new.book.history ≡ self.old.book.history)
-            × (self.new.book.reserved ≡ self.old.book.reserved + more)
-            × (has_room (entries_kept self.old.book) self.old.book.reserved more ≡ true)) }
+    /// Keeps room for more entries, and answers whether the history has it.
+    pub fn keep(&mut self, more: usize) -> bool
+        ensures answer { result ≡ has_room (entries_kept self.old.book) self.old.book.reserved more }
+        ensures kept { result ≡ true → self.new.book.reserved ≡ self.old.book.reserved + more }
+        ensures full { result ≡ false → self.new.book.reserved ≡ self.old.book.reserved }
+        ensures history { self.new.book.history ≡ self.old.book.history }
         ensures gone { self.new.book.gone ≡ self.old.book.gone }
-        ensures lists { self.new.lists ≡ self.old.lists }
-        ensures err { IfErr result (λ e.
-            (self.new.book ≡ self.old.book)
-            × room_fault (has_room (entries_kept self.old.book) self.old.book.reserved more)
-            e) }
+        ensures replies { (self.new.lists ≡ self.old.lists)
+            × (self.new.spare ≡ self.old.spare)
+            × (self.new.places ≡ self.old.places) }
     {
         if !self.has_room(more) {
-            return Err(RoomFault::HistoryFull);
+            return false;
         }
         self.reserved += more;
-        Ok(())
+        true
     }
 
     /// Gives up room that was kept.
@@ -260,7 +258,9 @@ impl<N: Name> Log<N> {
             (3 + steps_of request.now)) e) }
     {
         let entries = 3 + steps_of(request);
-        self.keep(entries)?;
+        if !self.keep(entries) {
+            return Err(RoomFault::HistoryFull);
+        }
         let targets = count_of_targets(request);
         if self.replies.reserve(targets).is_err() {
             self.give_back(entries);

@@ -7,7 +7,7 @@ ghost use Rattle.desk.specs.Targets.{name_at, live_after};
 
 use crate::desk::Desk;
 use crate::entries::{Entry, Live};
-use crate::faults::{NotLive, StartFault, start_fault};
+use crate::faults::{NotLive, StartFault};
 use crate::lists::{has_census, least_free, lives, make_room, names_of, take_off_live};
 use crate::log::Receipt;
 use crate::targets::{live_after, name_at};
@@ -44,8 +44,8 @@ impl<N: Name, J: Errand> Desk<N, J> {
         if self.next_name > LAST {
             return Err(StartFault::Spent);
         }
-        if let Err(fault) = self.log.keep(2) {
-            return Err(start_fault(fault));
+        if !self.log.keep(2) {
+            return Err(StartFault::HistoryFull);
         }
         if !make_room(&mut self.live, has_image) {
             self.log.give_back(2);
