@@ -160,7 +160,7 @@ fn latency<S: Layout, I: Image, C: Callback<I>>(kind: u32, n: usize, iters: usiz
         let job = |op: u64, t: u64| Job { op, target: t, call: C::of(Ask::Depth) };
         let limit = Instant::now() + std::time::Duration::from_secs(6);
         for i in 0..iters + 2 {
-            sh.desk_history_room();
+            sh.make_room_for_replies();
             let t;
             match kind {
                 HANDSHAKE | BOXED_HANDSHAKE => {

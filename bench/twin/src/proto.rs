@@ -131,21 +131,8 @@ pub struct Berth<I, C> {
     cv: Condvar,
 }
 
-/// An entry of the history, which is only written here.
-#[derive(Clone, Copy)]
-pub enum Entry {
-    Start(u64, u32),
-    Exit(u64),
-    Ask(u64),
-    Open(u64),
-    Finish(u64, u64, u64),
-    Operate(u64),
-    Close(u64),
-    Install(u64),
-    Invalidate(u64),
-    Retire(u64),
-    Free(u64),
-}
+/// What a thread replied to an operation: the operation, the thread's name and the reply. It is only written here.
+pub type Reply = (u64, u64, u64);
 pub enum Req<C> {
     Handshake(Vec<u64>, Vec<Job<C>>),
     Census,
@@ -170,7 +157,7 @@ pub struct Desk<C> {
     codes: Vec<Code>,
     current: Vec<u64>,
     moment: u64,
-    pub history: Vec<Entry>,
+    pub replies: Vec<Reply>,
 }
 #[derive(Clone, Copy, PartialEq, Eq, Debug)]
 pub enum Called {
@@ -225,7 +212,7 @@ impl<S: Layout, I: Image, C: Callback<I>> Shared<S, I, C> {
             codes: (0..slots).map(|_| Code { serial: 0, state: 0, method: 0, inval: 0, looked: 0 }).collect(),
             current: vec![0; methods],
             moment: 1,
-            history: Vec::with_capacity(1_000_000),
+            replies: Vec::with_capacity(1_000_000),
         };
         Shared {
             board,
@@ -239,10 +226,10 @@ impl<S: Layout, I: Image, C: Callback<I>> Shared<S, I, C> {
             policy,
         }
     }
-    pub fn desk_history_room(&self) {
+    pub fn make_room_for_replies(&self) {
         let mut d = self.desk.lock().unwrap();
-        if d.history.len() > 900_000 {
-            d.history.clear();
+        if d.replies.len() > 900_000 {
+            d.replies.clear();
         }
     }
     pub fn start(&self) -> Mutator<'_, S, I, C> {
@@ -254,7 +241,6 @@ impl<S: Layout, I: Image, C: Callback<I>> Shared<S, I, C> {
             d.next_name += 1;
             d.names[place] = name;
             d.live |= 1 << place;
-            d.history.push(Entry::Start(name, place as u32));
             (name, place)
         };
         let g = self.board.g().load(SeqCst);
@@ -276,7 +262,6 @@ impl<S: Layout, I: Image, C: Callback<I>> Shared<S, I, C> {
         d.codes[slot] = Code { serial, state: IN_USE, method: method as u32, inval: 0, looked: 0 };
         self.board.e(slot).store(entry(serial, IN_USE), SeqCst);
         d.current[method] = serial;
-        d.history.push(Entry::Install(serial));
         self.hints.at(method).store(serial << 16 | (slot as u64 + 1), Relaxed);
         serial
     }
@@ -297,7 +282,6 @@ impl<S: Layout, I: Image, C: Callback<I>> Shared<S, I, C> {
             d.current[me] = 0;
             self.hints.at(me).store(0, Relaxed);
         }
-        d.history.push(Entry::Invalidate(serial));
     }
     #[inline(always)]
     pub fn hint(&self, m: usize) -> Option<CodeId> {
@@ -318,14 +302,13 @@ impl<S: Layout, I: Image, C: Callback<I>> Shared<S, I, C> {
             r => r,
         };
         d.queue.push_back((n, req));
-        d.history.push(Entry::Ask(n));
         n
     }
     fn finish(&self, body: &Body<I>, done: Done) -> bool {
         let mut d = self.desk.lock().unwrap();
         debug_assert!(d.open == done.op && d.names[body.place] == done.target && d.done >> body.place & 1 == 0);
         d.done |= 1 << body.place;
-        d.history.push(Entry::Finish(done.op, done.target, done.reply));
+        d.replies.push((done.op, done.target, done.reply));
         let all = d.open_targets & d.live & !d.done == 0;
         drop(d);
         if all {
@@ -517,7 +500,6 @@ impl<S: Layout, I: Image, C: Callback<I>> Mutator<'_, S, I, C> {
             drop(g);
             let mut d = self.sh.desk.lock().unwrap();
             d.live &= !(1 << self.place);
-            d.history.push(Entry::Exit(b.name));
             drop(d);
             self.sh.desk_cv.notify_one();
             return;
@@ -604,7 +586,6 @@ impl<'a, S: Layout, I: Image, C: Callback<I>> Coordinator<'a, S, I, C> {
             let (op, req) = d.queue.pop_front()?;
             d.open = op;
             d.done = 0;
-            d.history.push(Entry::Open(op));
             d.open_targets = match &req {
                 Req::Handshake(t, _) => {
                     let mut m = 0u64;
@@ -666,7 +647,6 @@ impl<'a, S: Layout, I: Image, C: Callback<I>> Coordinator<'a, S, I, C> {
                     d = sh.desk_cv.wait(d).unwrap();
                 }
                 d.open = 0;
-                d.history.push(Entry::Close(op));
                 Some(Driven::Handshake(op))
             }
             Req::Census => {
@@ -699,7 +679,7 @@ impl<'a, S: Layout, I: Image, C: Callback<I>> Coordinator<'a, S, I, C> {
                         }
                     }
                 }
-                let mut d = sh.desk.lock().unwrap();
+                let d = sh.desk.lock().unwrap();
                 let mut list: Vec<(u64, u32)> = Vec::with_capacity(16);
                 for (s, c) in self.counts.iter_mut().enumerate() {
                     if *c != 0 {
@@ -708,7 +688,6 @@ impl<'a, S: Layout, I: Image, C: Callback<I>> Coordinator<'a, S, I, C> {
                     }
                 }
                 list.sort_unstable();
-                d.history.push(Entry::Operate(op));
                 drop(d);
                 while let Some((p, mut b)) = self.bodies.pop() {
                     sh.clear(&mut b, op);
@@ -716,7 +695,6 @@ impl<'a, S: Layout, I: Image, C: Callback<I>> Coordinator<'a, S, I, C> {
                 }
                 let mut d = sh.desk.lock().unwrap();
                 d.open = 0;
-                d.history.push(Entry::Close(op));
                 drop(d);
                 if sh.policy.late_wakes {
                     let mut m = mask;
@@ -767,10 +745,8 @@ impl<'a, S: Layout, I: Image, C: Callback<I>> Coordinator<'a, S, I, C> {
             return Reclaimed::Used(used);
         }
         sh.board.e(slot).store(entry(serial, ZOMBIE), SeqCst);
-        d.history.push(Entry::Retire(serial));
         sh.board.e(slot).store(entry(serial, 0), SeqCst);
         d.codes[slot].state = 0;
-        d.history.push(Entry::Free(serial));
         Reclaimed::Freed
     }
 }

@@ -241,7 +241,7 @@ pub record Stands : Type 0 where
 abbrev pub stands : (place : ℕ) → Entry → Stands
 stands k e = record { place = k; entry = e }
 
--- what was forgotten: how many of the first entries are stored no more, and up to which operation the replies
+-- what was forgotten: how many of the first entries count no more, and up to which operation the replies
 pub record Gone : Type 0 where
   pub entries : ℕ
   pub operations : ℕ

@@ -32,13 +32,13 @@ needs_of_codes (c ∷ cs) = states_left c.state + needs_of_codes cs
 abbrev pub needs : State → ℕ
 needs s = length s.live + (needs_of_asked s.waiting + (needs_of_opened s.opened + needs_of_codes s.table.codes))
 
--- how many entries are stored
+-- how many entries count
 abbrev pub entries_kept : Book → ℕ
 entries_kept b = length b.history - b.gone.entries
 
--- whether more entries fit in a history of which so many are stored and so many reserved
-abbrev pub has_room : (stored reserved more : ℕ) → Bool
-has_room len reserved more = nat_le (len + reserved + more) 1000000
+-- whether more entries fit in a history of which so many count and so many are reserved
+abbrev pub has_room : (count reserved more : ℕ) → Bool
+has_room count reserved more = nat_le (count + reserved + more) 1000000
 
 -- why no room is kept: the history has none, or there is no memory for it
 abbrev pub room_fault : (has_room : Bool) → RoomFault → Type 0

@@ -348,7 +348,7 @@ impl<N: Name> Log<N> {
         append(&mut self.past, &mut self.count, Snapshot::of(&entry))
     }
 
-    /// Counts none of the entries so far any more, and forgets the replies of the operations up to this one. Their memory is kept for others.
+    /// Forgets the entries so far, which count no more, and the replies of the operations up to this one, whose memory is kept for others.
     pub fn forget(&mut self, last: u64)
         requires later { self.old.book.gone.operations ≤ last }
         requires given { last ≤ self.old.book.gone.operations + length self.old.lists }
