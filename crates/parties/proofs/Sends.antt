@@ -16,7 +16,6 @@ use Rattle.operations.proofs.queue.Queue.TheSendSync as queue
 use Rattle.desk.proofs.entries.Carried.TheSendSync as carried
 use Rattle.desk.proofs.entries.Opened.TheSendSync as opened
 use Rattle.desk.proofs.replies.Replies.TheSendSync as replies
-use Rattle.desk.proofs.requests.Requests.TheSendSync as requests
 use Rattle.tried_lock.proofs.lock.TriedLock.TheSendSync as lock
 use Rattle.method_table.specs.contracts.history.History as History
 use Rattle.method_table.specs.contracts.table.MethodTable as MethodTable
@@ -58,7 +57,7 @@ module _ (N J : RattleType) (n : name.Ghosts N.Denot) (j : errand.Ghosts J.Denot
   holder_send = search (sendable, body.the_send, spare.the_send) depth 20
 
   log_send : IsSend (Log.the_row N n)
-  log_send = search (sendable, crosses, past_send, replies.the_send, requests.the_send) depth 40
+  log_send = search (sendable, crosses, past_send, replies.the_send) depth 40
 
   codes_send : IsSend (Codes.the_row N n)
   codes_send = search (sendable, table_send, keeper.the_send) depth 20
