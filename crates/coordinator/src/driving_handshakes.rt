@@ -112,30 +112,21 @@ impl<'a, N: Name, J: Errand> Coordinator<'a, N, J> {
         passes.is_first = false;
     }
 
-    // Serves each that was listed, in the pass that is made: only looks are spent.
+    // Serves each that was listed, in the pass that is made: at once where its body is in its berth, and else it waits for it. Only looks
+    // are spent.
     fn serve_listed<R: Wait>(&self, rt: &R, passes: &mut Passes<N, J>)
         ensures pass { (passes.new.told ≡ passes.old.told)
             × (passes.new.is_first ≡ passes.old.is_first) }
         ensures looks { passes.new.looks ≤ passes.old.looks }
     {
         for who in self.due.as_slice() {
-            self.serve_due(rt, passes, *who);
-        }
-    }
-
-    // Serves a target at once where its body is in its berth, and else waits for it.
-    #[inline(always)]
-    fn serve_due<R: Wait>(&self, rt: &R, passes: &mut Passes<N, J>, who: Live)
-        ensures pass { (passes.new.told ≡ passes.old.told)
-            × (passes.new.is_first ≡ passes.old.is_first) }
-        ensures looks { passes.new.looks ≤ passes.old.looks }
-    {
-        if who.place >= self.places {
-            return;
-        }
-        let is_out = (self.out >> (who.place % 64)) & 1 == 1;
-        if is_out || self.attend(rt, &passes.told, who).is_err() {
-            self.serve_later(rt, passes, who);
+            if who.place >= self.places {
+                continue;
+            }
+            let is_out = (self.out >> (who.place % 64)) & 1 == 1;
+            if is_out || self.attend(rt, &passes.told, *who).is_err() {
+                self.serve_later(rt, passes, *who);
+            }
         }
     }
 

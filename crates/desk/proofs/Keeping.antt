@@ -157,7 +157,7 @@ pub record OpensIt {J : Type 0} (d : Fields J) (w : Waiting (Carried J)) (o : Op
   pub request : o.request ≡ w.request
   pub before : o.before ≡ d.next_name
   pub left : o.left ≡ steps_of w.request
-  pub due : o.due.items ≡ live_of d.live w.load.due.items
+  pub due : o.due.items ≡ live_of d.live (targets_of w.request)
   pub operated : o.operated ≡ false
 
 pub open_keeps : {J : Type 0} {d : Fields J} (whom : J → ℕ) (b : Book) (queue : List (Waiting (Carried J))) (opened : List (Opened J)) (w : Waiting (Carried J)) (o : Opened J)
@@ -168,7 +168,7 @@ open_keeps {d = d} whom b queue opened w o k are none is there_is opens there ke
     let asked : map asked_of d.queue ≡ asked_of w ∷ map asked_of queue = ap (map asked_of) is in
     let n : needs_of_asked (map asked_of d.queue) ≡ (2 + steps_of w.request) + needs_of_asked (map asked_of queue) = ap needs_of_asked asked in
     let new : Current = opened_of d.next_name d.live (asked_of w) in
-    let o_is : current_of o ≡ new = λ i. record { number = opens.number i; request = opens.request i; before = opens.before i; left = opens.left i; due = (opens.due ∙ ap (live_of d.live) carried.0.due) i; operated = opens.operated i } in
+    let o_is : current_of o ≡ new = λ i. record { number = opens.number i; request = opens.request i; before = opens.before i; left = opens.left i; due = opens.due i; operated = opens.operated i } in
     let os_is : map current_of opened ≡ map current_of d.opened ++ new ∷ [] = ap (map current_of) there_is ∙ map-append current_of d.opened (o ∷ []) ∙ ap (λ (c : Current). map current_of d.opened ++ c ∷ []) o_is in
     let m : needs_of_opened (map current_of opened) ≡ needs_of_opened (map current_of d.opened) + (1 + steps_of w.request) = ap needs_of_opened os_is ∙ needs_push (map current_of d.opened) new in
     let once = distinct_part (λ (name : ℕ). is_live name d.live) (targets_of w.request) carried.0.distinct in (

@@ -32,13 +32,12 @@ ask_has_room {d = d} queue w lists x m is number enough lists_is =
     ask_room f.next_number (map asked_of f.queue) (map asked_of queue) (map current_of f.opened) (asked_of w) d.lists lists x m.replies (ap (map asked_of) is ∙ map-append asked_of f.queue (w ∷ [])) number enough lists_is
 
 pub open_has_room : {J : Type 0} {whom : J → ℕ} {places : ℕ} {d : Inside J} (queue : List (Waiting (Carried J))) (opened : List (Opened J)) (w : Waiting (Carried J)) (o : Opened J) → IsDesk whom places d
-    → d.fields.queue ≡ w ∷ queue → opened ≡ d.fields.opened ++ o ∷ [] → o.number ≡ w.number → o.due.items ≡ live_of d.fields.live w.load.due.items
+    → d.fields.queue ≡ w ∷ queue → opened ≡ d.fields.opened ++ o ∷ [] → o.number ≡ w.number → o.due.items ≡ live_of d.fields.live (targets_of w.request)
     → HasRoom (record d.fields { queue = queue; opened = opened }) d.lists
 open_has_room {whom = whom} {d = d} queue opened w o m is there number due =
     let f = d.fields in
-    let carried : IsCarried whom w × AreCarried whom queue = subst (AreCarried whom) is m.carried in
-    let less = filter_le (λ (t : ℕ). is_live t f.live) w.load.due.items in
-    let a = ap (λ (l : List ℕ). length l) due in let b = ap (λ (l : List ℕ). length l) carried.0.due in
+    let less = filter_le (λ (t : ℕ). is_live t f.live) (targets_of w.request) in
+    let a = ap (λ (l : List ℕ). length l) due in
     open_room f.next_number (map asked_of f.queue) (map asked_of queue) (map current_of f.opened) (map current_of opened) (asked_of w) (current_of o) d.lists m.replies (ap (map asked_of) is) (ap (map current_of) there ∙ map-append current_of f.opened (o ∷ [])) number (omega arith)
 
 pub due_has_room : {J : Type 0} {whom : J → ℕ} {places : ℕ} {d : Inside J} {n : ℕ} {o : Opened J} (name : ℕ) → IsDesk whom places d

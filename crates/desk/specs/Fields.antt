@@ -46,10 +46,11 @@ state_of d = record {
   table = d.table;
 }
 
--- a waiting request has a number, and carries a list of its targets, of which none stands there twice, and a job for each of them
+-- a waiting request has a number, and carries memory for its targets behind the first, of which none stands there twice, and a job for
+-- each of them
 pub record IsCarried {J : Type 0} (whom : J → ℕ) (w : Waiting (Carried J)) : Type 0 where
   pub number : 0 < w.number
-  pub due : w.load.due.items ≡ targets_of w.request
+  pub room : length (targets_of w.request) ≤ w.load.room + 1
   pub distinct : is_distinct (targets_of w.request) ≡ true
   pub jobs : map whom w.load.jobs.items ≡ targets_of w.request
 

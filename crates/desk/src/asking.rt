@@ -1,10 +1,9 @@
 //! A request is made, or refused.
-ghost use Rattle.std.specs.Prelude.{◌≡◌, ◌&&◌, ◌+◌, ◌<◌, ◌^◌, ◌++◌, ◌∷◌, [], Bool, true, length, IfOk, IfErr, IfSome, IfNone, OnOk, OnErr};
+ghost use Rattle.std.specs.Prelude.{◌≡◌, ◌&&◌, ◌+◌, ◌<◌, ◌^◌, ◌++◌, ◌∷◌, [], Bool, ℕ, ◌≤◌, true, length, IfOk, IfErr, IfSome, IfNone, OnOk, OnErr};
 ghost use Rattle.operations.specs.declared.Request.{Request as RequestOf};
 ghost use Rattle.operations.specs.Requests.{are_targets, has_targets};
 ghost use Rattle.operations.specs.Queues.{MayWait};
-ghost use Rattle.desk.specs.Machine.{Book, steps_of, targets_of};
-ghost use Rattle.desk.specs.Names.{NamesSeen};
+ghost use Rattle.desk.specs.Machine.{Book, steps_of};
 ghost use Rattle.desk.specs.Refusals.{ask_refused, ask_refused_if, MayAsk};
 ghost use Rattle.desk.specs.Fields.{at, Enters};
 ghost use Rattle.desk.specs.JobsFit.{jobs_fit, request_of};
@@ -14,7 +13,7 @@ use crate::entries::{Carried, Entry};
 use crate::faults::{AskFault, Refused, ask_fault};
 use crate::lists::{fit_their_request, jobs_fit, steps_of};
 use crate::log::{Receipt, seen_as_ask};
-use crate::names::Names;
+use crate::names::DueRoom;
 use bodies::Name;
 use frames::LAST;
 use operations::Request;
@@ -22,31 +21,32 @@ use operations::job::Errand;
 use operations::queue::{Queue, Unqueued};
 use std::mem;
 
-// Puts a request behind those that wait, with its jobs and the list of who is due for it, which is made in the memory of the spare one.
-// Refused only for want of memory, with the jobs.
+// Puts a request behind those that wait, with its jobs and the memory for the names that are due of so many targets, which is the spare
+// one where that is enough. Refused only for want of memory, with the jobs.
 #[inline(always)]
 fn wait_for_its_turn<J>(
     queue: &mut Queue<Carried<J>>,
-    spare: Names,
+    spare: DueRoom,
+    targets: usize,
     number: u64,
     request: Request,
     jobs: Vec<J>,
 ) -> Result<(), Vec<J>>
     requires tested { MayWait (length queue.old) request }
-    ensures ok { OnOk result ((due : NamesSeen) × (due.items ≡ targets_of request)
+    ensures ok { OnOk result ((room : ℕ) × (targets ≤ room + 1)
         × (queue.new ≡ queue.old
         ++ record {
           number = number;
           request = request;
-          load = record { due = due; jobs = jobs };
+          load = record { room = room; jobs = jobs };
         } ∷ [])) }
     ensures handed_back { IfErr result (λ back. back ≡ jobs) }
     ensures unchanged { OnErr result (queue.new ≡ queue.old) }
 {
-    let Ok(due) = spare.of_targets(&request) else {
+    let Ok(room) = spare.for_names(targets) else {
         return Err(jobs);
     };
-    match queue.push_tested(number, request, Carried { due, jobs }) {
+    match queue.push_tested(number, request, Carried { room, jobs }) {
         Ok(()) => Ok(()),
         Err(back) => {
             let Unqueued {
@@ -54,7 +54,7 @@ fn wait_for_its_turn<J>(
                 request: _,
                 load,
             } = back;
-            let Carried { due: _, jobs } = load;
+            let Carried { room: _, jobs } = load;
             Err(jobs)
         }
     }
@@ -98,8 +98,15 @@ impl<N: Name, J: Errand> Desk<N, J> {
         };
         let number = self.next_number;
         let (seen, request) = seen_as_ask(number, request);
-        let spare = mem::replace(&mut self.spare, Names::new(self.alloc));
-        if let Err(jobs) = wait_for_its_turn(&mut self.queue, spare, number, request, jobs) {
+        let spare = mem::replace(&mut self.spare, DueRoom::new(self.alloc));
+        if let Err(jobs) = wait_for_its_turn(
+            &mut self.queue,
+            spare,
+            targets,
+            number,
+            request,
+            jobs,
+        ) {
             self.log.give_back(entries);
             return Err(Refused {
                 fault: AskFault::NoMemory,

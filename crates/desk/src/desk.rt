@@ -10,7 +10,7 @@ use crate::codes::Codes;
 use crate::entries::{Carried, Live, Opened};
 use crate::lists::{OPEN, is_idle};
 use crate::log::Log;
-use crate::names::Names;
+use crate::names::DueRoom;
 use board::{Board, Keeper};
 use bodies::Name;
 use method_table::table::MethodTable;
@@ -31,8 +31,8 @@ pub struct Desk<N: Name, J: Errand> {
     pub(crate) next_name: u64,
     pub(crate) next_number: u64,
     pub(crate) queue: Queue<Carried<J>>,
-    /// The memory of the list of who was due for the request that was closed last: the next to be submitted takes it.
-    pub(crate) spare: Names,
+    /// The memory for the names that were due of the request that was closed last: the next to be submitted takes it.
+    pub(crate) spare: DueRoom,
     pub(crate) codes: Codes<N>,
 }
 
@@ -100,7 +100,7 @@ impl<N: Name, J: Errand> Desk<N, J> {
             next_number: 1,
             queue: Queue::new(alloc),
             opened,
-            spare: Names::new(alloc),
+            spare: DueRoom::new(alloc),
             codes: Codes::new(table, keeper, board),
             log: Log::new(alloc),
         })

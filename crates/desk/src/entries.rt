@@ -1,5 +1,5 @@
 //! Entries of the history, and what the desk keeps of them.
-use crate::names::{Awaited, Names};
+use crate::names::{Awaited, DueRoom};
 use frames::CodeId;
 use operations::{Kind, Request};
 use std::collections::VecDeque;
@@ -63,10 +63,10 @@ pub enum Entry {
     Free(u64),
 }
 
-/// What a waiting request carries: its jobs, and a list of its targets of which those that aren't live go at the Open.
+/// What a waiting request carries: its jobs, and the memory for the names that are due of it once it is open.
 #[derive(Drop)]
 pub struct Carried<J> {
-    pub due: Names,
+    pub room: DueRoom,
     pub jobs: Vec<J>,
 }
 

@@ -1,5 +1,5 @@
-//! Lists of names, and the list of who is due for a request.
-ghost use Rattle.std.specs.Prelude.{◌≡◌, ◌<◌, ◌≤◌, ◌++◌, [], length, drop, true, false, IfOk, IfSome, IfNone, OnErr, slice_index, vec_capacity};
+//! The list of who is due for an open request, and the memory that is kept for it while the request waits.
+ghost use Rattle.std.specs.Prelude.{◌≡◌, ◌<◌, ◌≤◌, ◌+◌, ◌++◌, length, drop, true, false, IfOk, IfSome, IfNone, OnErr, slice_index, vec_len, vec_capacity};
 ghost use Rattle.std.specs.Option.{option_to_list};
 ghost use Rattle.operations.specs.Names.{among, is_distinct};
 ghost use Rattle.desk.specs.Machine.{others, live_of, none_live, targets_of};
@@ -10,26 +10,20 @@ use operations::Request;
 use std::alloc::{AllocError, Global};
 use std::marker::Model;
 
-/// Names, of which the first lies here: whoever comes with the lines of a request finds a single target there, and needs no line
-/// more. Contracts see the names in their order, and for how many behind the first there is memory.
+/// The memory for the names that are due of a request. Contracts see for how many behind the first there is.
 #[derive(Drop)]
-pub struct Names {
-    first: Option<u64>,
+pub struct DueRoom {
     later: Vec<u64>,
 }
 
-impl Model for Names {
-    ghost use Rattle.std.specs.Prelude.{◌++◌, vec_capacity};
-    ghost use Rattle.std.specs.Option.{option_to_list};
-    ghost use Rattle.desk.specs.Names.{NamesSeen};
+impl Model for DueRoom {
+    ghost use Rattle.std.specs.Prelude.{◌≡◌, [], ℕ, vec_capacity};
 
-    ghost Value = { NamesSeen };
+    ghost Value = { ℕ };
 
-    ghost view = { λ n. record {
-      items = option_to_list n.first
-          ++ n.later.items;
-      capacity = vec_capacity n.later;
-    } };
+    ghost view = { λ r. vec_capacity r.later };
+
+    ghost invariant = { λ r. r.later.items ≡ [] };
 }
 
 // Where a name stands among these, looked for one by one.
@@ -114,13 +108,20 @@ fn take_off(names: &mut Vec<u64>, gone: usize, name: u64) -> usize
     gone
 }
 
-// Those that are live. It takes the list itself, so that a list that isn't given to it need not lie in memory.
-fn live_among(names: Vec<u64>, live: &[Live]) -> Vec<u64>
-    ensures { result.items ≡ live_of live.now names.items }
+// Puts those of the names that are live behind the others, in room that was kept.
+#[inline(always)]
+fn push_live(list: &mut Vec<u64>, names: &[u64], live: &[Live])
+    requires room { vec_len list.old + length names.now ≤ vec_capacity list.old }
+    ensures items { list.new.items ≡ list.old.items ++ live_of live.now names.now }
+    ensures capacity { vec_capacity list.new ≡ vec_capacity list.old }
 {
-    let mut names = names;
-    names.retain(|x| lives(live, *x));
-    names
+    let mut rest = names;
+    while let Some((name, others)) = rest.split_first() {
+        if lives(live, *name) {
+            list.push_reserved(*name);
+        }
+        rest = others;
+    }
 }
 
 fn all_gone(names: &[u64], live: &[Live]) -> bool
@@ -129,62 +130,28 @@ fn all_gone(names: &[u64], live: &[Live]) -> bool
     names.iter().all(|x| !lives(live, *x))
 }
 
-impl Names {
-    pub fn new(alloc: Global) -> Names
-        ensures { result.items ≡ [] }
-    {
-        Names {
-            first: None,
+impl DueRoom {
+    /// Takes no memory.
+    pub fn new(alloc: Global) -> DueRoom {
+        DueRoom {
             later: Vec::new(alloc),
         }
     }
 
-    /// The targets of the request, in the memory of this list, whose names go. Refused only where that is too small and there is no
-    /// more.
-    pub fn of_targets(self, request: &Request) -> Result<Names, AllocError>
-        ensures ok { IfOk result (λ v. v.items ≡ targets_of request.now) }
-        ensures err { OnErr result (self.capacity < length (targets_of request.now)) }
-    {
-        let Names {
-            first: _,
-            mut later,
-        } = self;
-        later.clear();
-        let mut first = None;
-        if let Request::Handshake { targets, .. } = request {
-            if let Some((name, others)) = targets.as_slice().split_first() {
-                // A single target needs no call of what copies.
-                if !others.is_empty() {
-                    later.extend_from_slice(others)?;
-                }
-                first = Some(*name);
-            }
-        }
-        Ok(Names { first, later })
-    }
-
-    /// Those that are live.
+    /// Memory for so many names: this one, where it is enough. Refused only where it isn't and there is no more.
     #[inline(always)]
-    pub fn live(self, live: &[Live]) -> Names
-        ensures { result.items ≡ live_of live.now self.items }
+    pub fn for_names(self, count: usize) -> Result<DueRoom, AllocError>
+        ensures ok { IfOk result (λ room. count ≤ room + 1) }
+        ensures err { OnErr result (self + 1 < count) }
     {
-        let Names { mut first, later } = self;
-        if let Some(name) = first {
-            if !lives(live, name) {
-                first = None;
-            }
-        }
-        if later.is_empty() {
-            return Names { first, later };
-        }
-        Names {
-            first,
-            later: live_among(later, live),
-        }
+        let DueRoom { mut later } = self;
+        later.reserve(count.saturating_sub(1))?;
+        Ok(DueRoom { later })
     }
 }
 
-/// The names that are due of an open request. Contracts see them in their order, and for how many behind the first there is memory.
+/// The names that are due of an open request, of which the first lies here: whoever comes with the lines of a request finds a single
+/// target there, and needs no line more. Contracts see the names in their order, and for how many behind the first there is memory.
 #[derive(Drop)]
 pub struct Awaited {
     first: Option<u64>,
@@ -210,11 +177,23 @@ impl Model for Awaited {
 }
 
 impl Awaited {
-    /// All of these.
-    pub fn of(names: Names) -> Awaited
-        ensures { result ≡ names }
+    /// Those of the request's targets that are live, in this memory.
+    #[inline(always)]
+    pub fn live_targets(room: DueRoom, request: &Request, live: &[Live]) -> Awaited
+        requires room { length (targets_of request.now) ≤ room + 1 }
+        ensures items { result.items ≡ live_of live.now (targets_of request.now) }
+        ensures capacity { result.capacity ≡ room }
     {
-        let Names { first, later } = names;
+        let DueRoom { mut later } = room;
+        let mut first = None;
+        if let Request::Handshake { targets, .. } = request {
+            if let Some((name, others)) = targets.as_slice().split_first() {
+                if lives(live, *name) {
+                    first = Some(*name);
+                }
+                push_live(&mut later, others, live);
+            }
+        }
         Awaited {
             first,
             later,
@@ -222,16 +201,18 @@ impl Awaited {
         }
     }
 
-    /// A list in the memory of this one.
-    pub fn into_names(self) -> Names
-        ensures { result.capacity ≡ self.capacity }
+    /// The memory of this list, whose names go.
+    #[inline(always)]
+    pub fn into_room(self) -> DueRoom
+        ensures { result ≡ self.capacity }
     {
         let Awaited {
-            first,
-            later,
+            first: _,
+            mut later,
             gone: _,
         } = self;
-        Names { first, later }
+        later.clear();
+        DueRoom { later }
     }
 
     /// Whether a name is among these.

@@ -44,14 +44,15 @@ impl<N: Name, J: Errand> Desk<N, J> {
             request,
             load,
         } = first;
-        let Carried { due, jobs } = load;
+        let Carried { room, jobs } = load;
         let left = steps_of(&request);
+        let due = Awaited::live_targets(room, &request, self.live.as_slice());
         self.opened.push_reserved(Opened {
             number,
             request,
             before: self.next_name,
             left,
-            due: Awaited::of(due.live(self.live.as_slice())),
+            due,
             operated: false,
             jobs: VecDeque::from_vec(jobs),
         });
@@ -106,7 +107,7 @@ impl<N: Name, J: Errand> Desk<N, J> {
             operated: _,
             jobs,
         } = self.opened.remove(place);
-        self.spare = due.into_names();
+        self.spare = due.into_room();
         self.log.give_back(left);
         Ok((
             number,

@@ -254,8 +254,8 @@ impl<N: Name, J: Errand> Shared<N, J> {
         wanted
     }
 
-    /// Enters what a job answered on a settled body, and answers whether it woke one that waited for that. The first try nearly always
-    /// succeeds; other threads run before each further one.
+    /// Enters what a job answered on a settled body, and answers whether it woke one that waited for that. Other threads run before each
+    /// further try.
     #[inline(always)]
     pub(crate) fn finish<R: Wait>(&self, rt: &R, body: &Body<N>, done: Done) -> (Finished<N>, bool)
         requires name { body.now.name ≡ done.target }
@@ -264,18 +264,48 @@ impl<N: Name, J: Errand> Shared<N, J> {
         ensures entry { result.0.stands.entry ≡ Entry.Finish done.op done.target done.reply }
         ensures seen { (result.0.body ≡ body.now) × (result.0.ask ≡ done.ask) }
     {
+        match self.try_finish(rt, body, done) {
+            Ok(finished) => finished,
+            Err(back) => self.finish_later(rt, body, back),
+        }
+    }
+
+    // One try.
+    #[inline(always)]
+    fn try_finish<R: Wait>(
+        &self,
+        rt: &R,
+        body: &Body<N>,
+        done: Done,
+    ) -> Result<(Finished<N>, bool), Done>
+        requires name { body.now.name ≡ done.target }
+        requires settled { IsSettled body.now.image }
+        requires reply { done.reply ≡ reply done.ask body.now.image.frames }
+        ensures entry { IfOk result (λ r.
+            r.0.stands.entry ≡ Entry.Finish done.op done.target done.reply) }
+        ensures seen { IfOk result (λ r. (r.0.body ≡ body.now) × (r.0.ask ≡ done.ask)) }
+        ensures back { IfErr result (λ back. back ≡ done) }
+    {
+        let finished = locked!(self.desk, rt).finish(body, done)?;
+        Ok((finished, self.ring()))
+    }
+
+    // Tries until it succeeds. It stands apart, since the first try nearly always does.
+    #[inline(never)]
+    fn finish_later<R: Wait>(&self, rt: &R, body: &Body<N>, done: Done) -> (Finished<N>, bool)
+        requires name { body.now.name ≡ done.target }
+        requires settled { IsSettled body.now.image }
+        requires reply { done.reply ≡ reply done.ask body.now.image.frames }
+        ensures entry { result.0.stands.entry ≡ Entry.Finish done.op done.target done.reply }
+        ensures seen { (result.0.body ≡ body.now) × (result.0.ask ≡ done.ask) }
+    {
         let mut done = done;
         for _ in rt.forever() {
-            let mut desk = locked!(self.desk, rt);
-            match desk.finish(body, done) {
-                Ok(finished) => {
-                    drop(desk);
-                    return (finished, self.ring());
-                }
+            thread::yield_now();
+            match self.try_finish(rt, body, done) {
+                Ok(finished) => return finished,
                 Err(back) => done = back,
             }
-            drop(desk);
-            thread::yield_now();
         }
         unreachable!()
     }

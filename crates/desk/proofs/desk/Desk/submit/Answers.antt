@@ -27,8 +27,8 @@ invariant_of-self-2 g c =
     let low : 0 < i.next_number = (let n = m.replies.count in omega arith) in
     let fit : jobs_fit g.J.Errand.whom g.J.Errand.asks c.args.request c.args.jobs.items ≡ true = search rules in
     let waits = c.in_default-wait_for_its_turn.ensures.ok in
-    let w : Waiting (Carried g.row.J.Denot) = record { number = i.next_number; request = c.args.request; load = record { due = waits.0; jobs = c.args.jobs } } in
-    let carried : IsCarried g.J.Errand.whom w = record { number = low; due = waits.1 ∙ ap targets_of request; distinct = targets_distinct c.args.request (search rules); jobs = fitting g.J.Errand.whom g.J.Errand.asks c.args.request c.args.jobs.items fit } in
+    let w : Waiting (Carried g.row.J.Denot) = record { number = i.next_number; request = c.args.request; load = record { room = waits.0; jobs = c.args.jobs } } in
+    let carried : IsCarried g.J.Errand.whom w = record { number = low; room = (let wide = waits.1 in omega (arith, enough, wide)); distinct = targets_distinct c.args.request (search rules); jobs = fitting g.J.Errand.whom g.J.Errand.asks c.args.request c.args.jobs.items fit } in
     let pushed : c.wait_for_its_turn.new.queue ≡ i.queue ++ w ∷ [] = waits.2 ∙ ap (λ (r : Request). i.queue ++ record { number = i.next_number; request = r; load = w.load } ∷ []) request in
     let entered : c.enter_ask.new.self.book.history ≡ i.log.book.history ++ entry.Ask i.next_number c.args.request ∷ [] = search rules in
     let k = ask_keeps c.enter_ask.new.self.book c.wait_for_its_turn.new.queue w m.kept refl pushed entered (search rules) in
