@@ -55,6 +55,9 @@ STOPS = [("handshake", 6, BOTH), ("handshake, boxed callbacks", 10, ("plain",)),
 
 THREADS = (1, 4, 16, 64)
 
+# A run makes no further stop after six seconds. One that isn't over after so many is taken to have no end.
+LONGEST = 60
+
 # How many stops of threads that make back edges a run has, by their number.
 BUSY = {1: 300, 4: 60, 16: 15, 64: 15}
 
@@ -73,8 +76,11 @@ def hotspot(folder):
 
 
 def times(words):
-    """The times that a run prints."""
-    said = subprocess.run([str(word) for word in words], check=True, capture_output=True, text=True, timeout=600).stdout
+    """The times that a run prints, or none where it comes to no end."""
+    try:
+        said = subprocess.run([str(word) for word in words], check=True, capture_output=True, text=True, timeout=LONGEST).stdout
+    except subprocess.TimeoutExpired:
+        return []
     return [int(word) for word in said.split()]
 
 
@@ -110,6 +116,8 @@ def stop_row(program, beside, what, kind, threads, native):
         words = [kind, threads, 300 if native else BUSY[threads], 1 if native else 0]
         for values, (command, more) in zip(runs, [([program], []), *beside]):
             values += times([*command, *words, *more])
+    if not runs[0]:
+        sys.exit(f"{program} {words} came to no end in {LONGEST} seconds")
     name = f"{what}, {threads} {'in native code' if native else 'busy'}"
     line = f"{name:45} {two(runs[0])}"
     for values in runs[1:]:

@@ -16,6 +16,7 @@ import sun.hotspot.WhiteBox;
 public class Stops {
     private static final long MOST_NANOSECONDS = 6_000_000_000L;
     private static final int MOST_SWEEPS = 64;
+    private static final int MOST_RESTS = 1_000;
 
     private static final WhiteBox HOTSPOT = new WhiteBox();
     private static volatile boolean ends;
@@ -85,11 +86,17 @@ public class Stops {
         return x * 31 + 7;
     }
 
+    /** Has the method compiled, and says whether it was. The compiler may refuse that, and then tells nobody. */
+    private static boolean isCompiled(Executable method) throws Exception {
+        HOTSPOT.compile(method);
+        for (int i = 0; i < MOST_RESTS && !HOTSPOT.isCompiled(method); i++) Thread.sleep(1);
+        return HOTSPOT.isCompiled(method);
+    }
+
     /** Invalidates the code of a method, and sweeps until memory for code is free. That the code is made isn't timed, nor are the rests. */
     private static long reclaim() throws Exception {
         Executable method = Stops.class.getDeclaredMethod("method", int.class);
-        HOTSPOT.compile(method);
-        while (!HOTSPOT.isCompiled(method)) Thread.sleep(1);
+        if (!isCompiled(method)) return -1;
         long before = codeBytes();
         long took = timed(() -> HOTSPOT.invalidate(method));
         for (int i = 0; i < MOST_SWEEPS && codeBytes() >= before; i++) {
