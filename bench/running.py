@@ -84,6 +84,14 @@ def times(words):
     return [int(word) for word in said.split()]
 
 
+def mean_of(words):
+    """The mean of the times that a run prints."""
+    values = times(words)
+    if not values:
+        sys.exit(f"{words} came to no end in {LONGEST} seconds")
+    return statistics.mean(values)
+
+
 def percentile(values, part):
     return sorted(values)[min(len(values) - 1, len(values) * part // 100)]
 
@@ -94,9 +102,9 @@ def call_row(program, twin, row):
     with one_core() if threads == 1 else contextlib.nullcontext():
         for _ in range(7):
             words = [kind, threads, turns, arg]
-            ours.append(statistics.mean(times([program, *words])) / turns)
+            ours.append(mean_of([program, *words]) / turns)
             if twin:
-                theirs.append(statistics.mean(times([twin, *words, *([engine] if engine else [])])) / turns)
+                theirs.append(mean_of([twin, *words, *([engine] if engine else [])]) / turns)
     line = f"{what:34} {min(ours):9.2f} {statistics.median(ours):9.2f}"
     if twin:
         least, middle = min(ours) / min(theirs), statistics.median(ours) / statistics.median(theirs)
