@@ -5,6 +5,7 @@ pub mod OpenLists
 pub mod Keeping
 pub mod Once
 pub mod Rising
+pub mod DueTold
 pub mod LiveNames
 pub mod Spans
 pub mod ReplyLists

@@ -46,8 +46,8 @@ state_of d = record {
   table = d.table;
 }
 
--- a waiting request has a number, and carries memory for its targets behind the first, of which none stands there twice, and a job for
--- each of them
+-- a waiting request has a number; no target stands there twice; and it carries a job for each target, and memory for those behind the
+-- first
 pub record IsCarried {J : Type 0} (whom : J → ℕ) (w : Waiting (Carried J)) : Type 0 where
   pub number : 0 < w.number
   pub room : length (targets_of w.request) ≤ w.load.room + 1

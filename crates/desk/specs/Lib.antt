@@ -7,6 +7,7 @@ pub mod Targets
 pub mod Once
 pub mod JobsFit
 pub mod Rising
+pub mod DueTold
 pub mod Replies
 pub mod Spans
 pub mod Names

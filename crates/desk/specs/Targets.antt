@@ -114,6 +114,16 @@ abbrev pub live_after : ℕ → List Live → Option ℕ
 live_after name [] = None
 live_after name (l ∷ ls) = if nat_lt name l.name then Some l.name else live_after name ls
 
+-- the number of the handshake that is open alone; None where a census is open, or not one request
+abbrev pub only_handshake : List Current → Option ℕ
+only_handshake [] = None
+only_handshake (c ∷ []) = if is_census c.request then None else Some c.number
+only_handshake (c ∷ d ∷ cs) = None
+
+-- what of a request of this number is to be told to a thread that it is of, which was told the last number
+abbrev pub untold_of : ℕ → ℕ → Option ℕ
+untold_of n last = if nat_lt last n then Some n else None
+
 -- of which kind the oldest of these requests is
 abbrev pub kind_of_oldest : List Current → Option Kind
 kind_of_oldest [] = None

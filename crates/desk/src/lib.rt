@@ -38,7 +38,7 @@ pub use faults::{
     Refused, StartFault,
 };
 pub use finished::Finished;
-pub use law::{at_most_once, live_names_rise};
+pub use law::{at_most_once, due_are_told, live_names_rise};
 pub use log::Receipt;
 pub use operating::Operating;
 pub use weighing::Weighing;

@@ -132,16 +132,20 @@ fn all_gone(names: &[u64], live: &[Live]) -> bool
 
 impl DueRoom {
     /// Takes no memory.
-    pub fn new(alloc: Global) -> DueRoom {
+    pub fn new(alloc: Global) -> DueRoom
+        ensures { result ≡ 0 }
+    {
         DueRoom {
             later: Vec::new(alloc),
         }
     }
 
-    /// Memory for so many names: this one, where it is enough. Refused only where it isn't and there is no more.
+    /// Memory for so many names, and never less than there was: this one, where it is enough. Refused only where it isn't and there is no
+    /// more.
     #[inline(always)]
     pub fn for_names(self, count: usize) -> Result<DueRoom, AllocError>
         ensures ok { IfOk result (λ room. count ≤ room + 1) }
+        ensures no_less { IfOk result (λ room. self ≤ room) }
         ensures err { OnErr result (self + 1 < count) }
     {
         let DueRoom { mut later } = self;

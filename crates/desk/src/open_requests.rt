@@ -2,13 +2,13 @@
 ghost use Rattle.std.specs.Prelude.{◌≡◌, ◌-◌, ◌<◌, ◌++◌, take, IfSome, vec_len, vec_capacity};
 ghost use Rattle.desk.specs.Fields.{at};
 ghost use Rattle.desk.specs.Pending.{least_pending};
-ghost use Rattle.desk.specs.Targets.{standing, untold, progress, due_of, of_which, is_awaited};
+ghost use Rattle.desk.specs.Targets.{standing, untold, progress, due_of, of_which, only_handshake, is_awaited};
 
 use crate::desk::Desk;
 use crate::entries::{Live, Progress, Standing};
 use crate::lists::least_pending;
 use crate::targets::{
-    is_due_name, list_due, of_which, oldest, progress_in, standing_to, untold_in,
+    is_due_name, list_due, of_which, oldest, only_handshake, progress_in, standing_to, untold_in,
 };
 use bodies::Name;
 use operations::job::Errand;
@@ -34,6 +34,15 @@ impl<N: Name, J: Errand> Desk<N, J> {
         ensures later { IfSome result (λ number. last < number) }
     {
         untold_in(self.opened.as_slice(), self.next_name, name, last)
+    }
+
+    /// The number of the handshake that is open alone; None where a census is open, or not one request. It is what each thread that is
+    /// due is to be told (`due_are_told`).
+    #[inline(always)]
+    pub fn only_handshake(&self) -> Option<u64>
+        ensures { result ≡ only_handshake (at self.now).opened }
+    {
+        only_handshake(self.opened.as_slice())
     }
 
     /// The least number of a request that is open or waits, and where there is none the number that is given out next.

@@ -6,7 +6,7 @@ ghost use Rattle.std.specs.List.{list_any};
 ghost use Rattle.operations.specs.Requests.{is_census};
 ghost use Rattle.desk.specs.Machine.{names_of, place_of};
 ghost use Rattle.desk.specs.Rising.{AreRising};
-ghost use Rattle.desk.specs.Targets.{is_asked, is_owed, is_target_of, standing_to, is_untold, is_told, is_undone, untold_in, progress_in, is_due_target, is_due_name, due_of, of_which, oldest, name_at, live_after};
+ghost use Rattle.desk.specs.Targets.{is_asked, is_owed, is_target_of, standing_to, is_untold, is_told, is_undone, untold_in, progress_in, is_due_target, is_due_name, due_of, of_which, oldest, only_handshake, name_at, live_after};
 ghost use Rattle.desk.specs.Fields.{current_of};
 
 use crate::entries::{Live, Opened, Progress, Standing, Target};
@@ -336,4 +336,15 @@ pub fn of_which<J>(opened: &[Opened<J>], of_oldest: bool) -> &[Opened<J>]
     ensures { map current_of result.now ≡ of_which of_oldest (map current_of opened.now) }
 {
     if of_oldest { oldest(opened) } else { opened }
+}
+
+/// The number of the handshake that is open alone.
+#[inline(always)]
+pub fn only_handshake<J>(opened: &[Opened<J>]) -> Option<u64>
+    ensures { result ≡ only_handshake (map current_of opened.now) }
+{
+    match opened {
+        [one] if !is_census(&one.request) => Some(one.number),
+        _ => None,
+    }
 }
