@@ -6,3 +6,4 @@ mod Asked
 mod Opens
 mod Oldest
 mod Tellings
+mod Alone

@@ -8,7 +8,7 @@ use Rattle.operations.specs.Requests.{kind_of}
 use Rattle.desk.specs.declared.entries.Live.{Live}
 use Rattle.desk.specs.Fields.{DeskSeen, at}
 use Rattle.desk.specs.Machine.{State, Current}
-use Rattle.desk.specs.Targets.{untold, due_of}
+use Rattle.desk.specs.Targets.{untold, untold_of, due_of}
 use Rattle.coordinator.specs.declared.listing.Telling.{Telling}
 
 -- A request of this kind, of this number, is to be told to the thread, where there is one.
@@ -29,6 +29,16 @@ kind_told s = kind_told_in s.opened
 abbrev pub telling_of : State → Kind → Arming → Live → Option Telling
 telling_of s k armer l =
     if nat_lt l.place (length armer.armed) then telling_by k l (untold s l.name (slice_index armer.armed l.place)) else None
+
+-- What a live thread is to be told that a handshake of this number is of, where nothing else is open.
+abbrev pub telling_alone : Arming → ℕ → Live → Option Telling
+telling_alone armer n l =
+    if nat_lt l.place (length armer.armed) then telling_by kind.Handshake l (untold_of n (slice_index armer.armed l.place)) else None
+
+-- The request of this number is of each of these live threads, and nothing else is open.
+abbrev pub AreAskedAlone : State → ℕ → List Live → Type 0
+AreAskedAlone s n [] = Unit {0}
+AreAskedAlone s n (l ∷ ls) = ((last : ℕ) → untold s l.name last ≡ untold_of n last) × AreAskedAlone s n ls
 
 -- What each of these live threads is to be told next, in their order.
 abbrev pub tellings : State → Kind → Arming → List Live → List Telling

@@ -70,6 +70,7 @@ impl<'a, N: Name, J: Errand> Coordinator<'a, N, J> {
 
     // Opens the oldest request where nothing is open, and tells all targets of what is open. Answers which kind that is; None where
     // nothing is open and nothing waits.
+    #[inline(always)]
     pub(crate) fn begin<R: Wait>(&mut self, rt: &R) -> Option<(Kind, AllTold<N, J>)>
         ensures empty { IfNone result ((self.new ≡ self.old)
             × ((s : DeskState) × (s.opened ≡ []) × (s.waiting ≡ []))) }

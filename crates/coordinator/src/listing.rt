@@ -2,11 +2,12 @@
 //! what the desk said.
 ghost use Rattle.std.specs.Prelude.{◌≡◌, ◌≤◌, ◌<◌, ◌-◌, ◌⊎◌, ◌++◌, ℕ, true, false, Some, None, [], All, IfSome, length, map, take, vec_len, vec_capacity};
 ghost use Rattle.desk.specs.Fields.{at};
+ghost use Rattle.operations.specs.declared.Kind.TheVariants as kind;
 ghost use Rattle.desk.specs.Targets.{untold};
-ghost use Rattle.coordinator.specs.Telling.{telling_of, tellings, kind_told, is_there, any_more, due_in, IsListing};
+ghost use Rattle.coordinator.specs.Telling.{telling_of, telling_alone, tellings, kind_told, is_there, any_more, due_in, AreAskedAlone, IsListing};
 
 use bodies::Name;
-use desk::{Desk, Live, Target};
+use desk::{Desk, Live, Target, due_are_told};
 use held_threads::Teller;
 use operations::Kind;
 use operations::job::Errand;
@@ -218,6 +219,64 @@ fn list_each<N: Name, J: Errand>(
     more
 }
 
+// What a thread is to be told where it is due for the handshake of this number, which is open alone. None where it was told that, or there is
+// no such place.
+#[inline(always)]
+fn telling_alone(armer: &Teller, places: usize, number: u64, who: Live) -> Option<Telling>
+    requires places { places ≡ length armer.now.seen.armed }
+    ensures { result ≡ telling_alone armer.now.seen number who }
+{
+    if who.place >= places || armer.last(who.place) >= number {
+        return None;
+    }
+    Some(Telling {
+        name: who.name,
+        target: Target {
+            place: who.place,
+            kind: Kind::Handshake,
+        },
+        number,
+    })
+}
+
+// As `list_each`, for threads that are due for the handshake of this number, which is open alone: its targets aren't looked through, and
+// nothing is to be told behind it.
+#[inline(always)]
+fn list_alone<N: Name, J: Errand>(
+    desk: &mut Desk<N, J>,
+    armer: &Teller,
+    places: usize,
+    number: u64,
+    due: &[Live],
+    list: &mut Vec<Untold<J>>,
+) -> bool
+    requires places { places ≡ length armer.now.seen.armed }
+    requires asked { AreAskedAlone (at desk.old) number due.now }
+
+    ensures items { map (λ u. u.what) list.new.items
+        ≡ map (λ u. u.what) list.old.items ++ take (vec_capacity list.old - vec_len list.old)
+        (tellings (at desk.old) kind.Handshake armer.now.seen due.now) }
+    ensures alone { any_more (at desk.old) kind.Handshake armer.now.seen due.now ≡ false }
+    ensures all { result ≡ false → length (tellings (at desk.old) kind.Handshake armer.now.seen due.now)
+        ≤ vec_capacity list.old - vec_len list.old }
+    ensures more { result ≡ true → vec_capacity list.old - vec_len list.old
+        < length (tellings (at desk.old) kind.Handshake armer.now.seen due.now) }
+    ensures same { (desk.new.book ≡ desk.old.book) × (desk.new.keeper ≡ desk.old.keeper) }
+    ensures sizes { (desk.new.slots ≡ desk.old.slots) × (desk.new.methods ≡ desk.old.methods) }
+{
+    let mut rest = due;
+    while let Some((who, others)) = rest.split_first() {
+        if let Some(what) = telling_alone(armer, places, number, *who) {
+            if list.len() >= list.capacity() {
+                return true;
+            }
+            list.push_reserved(with_job(desk, what));
+        }
+        rest = others;
+    }
+    false
+}
+
 // Lists each thread that is due, and what each is to be told next, as far as there is room in either list. Answers whether any is to be
 // told more, or there may be more than there is room for.
 #[inline(always)]
@@ -249,6 +308,10 @@ fn list_untold<N: Name, J: Errand>(
         return false;
     };
     desk.list_due(false, due);
-    let more = list_each(desk, armer, places, kind, due.as_slice(), list);
+    due_are_told();
+    let more = match desk.only_handshake() {
+        Some(number) => list_alone(desk, armer, places, number, due.as_slice(), list),
+        None => list_each(desk, armer, places, kind, due.as_slice(), list),
+    };
     more || due.len() >= due.capacity()
 }

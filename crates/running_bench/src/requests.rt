@@ -1,5 +1,5 @@
 //! What the main thread asks of the others, once.
-use crate::acts::{handshake_of, is_asked, jobs_of, time_reclaim};
+use crate::acts::{handshake_of, jobs_of, time_reclaim};
 use crate::clock;
 use crate::lists::keep;
 use crate::plan::Kind;
@@ -31,7 +31,6 @@ pub struct Asker<'c, 'a, N: Name, J: Errand, R> {
 enum Done {
     Handshake,
     Census,
-    Nothing,
 }
 
 // The names from 1 to that of the last thread.
@@ -81,12 +80,8 @@ impl<'c, 'a, N: Name, J: Errand, R: Wait + Clock> Asker<'c, 'a, N, J, R> {
         }
     }
 
-    // The oldest request is worked on to its Close.
-    fn drive(&mut self) -> Done {
-        let driven = match self.coordinator.drive(self.rt) {
-            Ok((driven, _receipt)) => driven,
-            Err(_) => return Done::Nothing,
-        };
+    // What was worked on. The list of a census is kept.
+    fn done_of(&mut self, driven: Driven) -> Done {
         match driven {
             Driven::Handshake(_) => Done::Handshake,
             Driven::Census(_, list) => {
@@ -96,16 +91,18 @@ impl<'c, 'a, N: Name, J: Errand, R: Wait + Clock> Asker<'c, 'a, N, J, R> {
         }
     }
 
-    // The time of a request from its Ask to its Close, and what it was.
+    // The time of a request from its Ask to its Close, and what it was. What both were answered is looked at once the time has ended.
     fn time(&mut self, request: Request, jobs: Vec<J>) -> Result<(u64, Done), Wrong> {
         let start = clock::begin(self.rt);
-        let is_asked = is_asked(self.rt, self.shared, request, jobs);
-        let done = self.drive();
+        let asked = self.shared.submit(self.rt, request, jobs);
+        let driven = self.coordinator.drive(self.rt);
         let time = clock::time_since(self.rt, start)?;
-        if is_asked {
-            Ok((time, done))
-        } else {
-            Err(Wrong::Answer)
+        if asked.is_err() {
+            return Err(Wrong::Answer);
+        }
+        match driven {
+            Ok((driven, _receipt)) => Ok((time, self.done_of(driven))),
+            Err(_) => Err(Wrong::Answer),
         }
     }
 
