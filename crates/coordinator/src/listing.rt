@@ -256,9 +256,9 @@ fn list_alone<N: Name, J: Errand>(
     ensures items { map (λ u. u.what) list.new.items
         ≡ map (λ u. u.what) list.old.items ++ take (vec_capacity list.old - vec_len list.old)
         (tellings (at desk.old) kind.Handshake armer.now.seen due.now) }
-    ensures alone { any_more (at desk.old) kind.Handshake armer.now.seen due.now ≡ false }
-    ensures all { result ≡ false → length (tellings (at desk.old) kind.Handshake armer.now.seen due.now)
-        ≤ vec_capacity list.old - vec_len list.old }
+    ensures all { result ≡ false → (any_more (at desk.old) kind.Handshake armer.now.seen due.now ≡ false)
+        × (length (tellings (at desk.old) kind.Handshake armer.now.seen due.now)
+        ≤ vec_capacity list.old - vec_len list.old) }
     ensures more { result ≡ true → vec_capacity list.old - vec_len list.old
         < length (tellings (at desk.old) kind.Handshake armer.now.seen due.now) }
     ensures same { (desk.new.book ≡ desk.old.book) × (desk.new.keeper ≡ desk.old.keeper) }

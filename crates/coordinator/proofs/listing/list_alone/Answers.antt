@@ -1,5 +1,5 @@
-use Rattle.std.proofs.Common.{rules, ◌≡◌, ◌+◌, ◌-◌, ◌++◌, suc, Some, [], ◌∷◌, length, map, take, vec_len, vec_capacity, sym, ap, subst, ◌∙◌, arith}
-use Rattle.std.proofs.lemmas.List.{map-append}
+use Rattle.std.proofs.Common.{rules, ◌≡◌, ◌≤◌, ◌+◌, ◌-◌, ◌++◌, suc, Some, [], ◌∷◌, length, map, take, vec_len, vec_capacity, sym, ap, subst, ◌∙◌, arith}
+use Rattle.std.proofs.lemmas.List.{map-append, nil_from_length}
 use Rattle.operations.specs.declared.Kind.TheVariants as kind
 use Rattle.desk.specs.Fields.{at}
 use Rattle.coordinator.specs.Telling.{telling_of, tellings, AreAskedAlone}
@@ -42,8 +42,12 @@ loop-who-preserved-else-len-capacity g c =
       search rules,
     )
 
-pub returns-then-len-capacity-clause-alone : goal.returns-then-len-capacity-clause-alone
-returns-then-len-capacity-clause-alone g c = none_further (at c.args.desk.now) c.args.number c.args.armer.now.seen c.args.due.now c.requires.asked
-
-pub returns-clause-alone : goal.returns-clause-alone
-returns-clause-alone g c = none_further (at c.args.desk.now) c.args.number c.args.armer.now.seen c.args.due.now c.requires.asked
+pub returns-clause-all : goal.returns-clause-all
+returns-clause-all g c =
+    let l = c.loop-who in let s = at c.args.desk.now in let armer = c.args.armer.now.seen in
+    let over : l.rest.now ≡ [] = nil_from_length l.rest.now (search rules) in
+    let none : length (tellings s kind.Handshake armer l.rest.now) ≡ 0 = ap (λ ls. length (tellings s kind.Handshake armer ls)) over in
+    let count = l.invariant.1 in
+    let same : vec_capacity l.list ≡ vec_capacity c.args.list.now = search rules in
+    let inside : vec_len l.list ≤ vec_capacity l.list = search rules in
+    λ _. (none_further s c.args.number armer c.args.due.now c.requires.asked, omega (arith, none, count, same, inside))
