@@ -34,14 +34,14 @@ JAVA_FLAGS = ["--add-modules", "jdk.incubator.foreign", "-XX:+UnlockDiagnosticVM
 # What, the kind, threads, turns, the argument, how the twin is built, and which ratio is wanted at most.
 CALLS = [
     ("back edge", 1, 1, 5_000_000, 0, "", 1.10),
-    ("call and return by hint", 2, 1, 3_000_000, 0, "", 1.10),
+    ("call and return by hint", 2, 1, 3_000_000, 0, "", 1.00),
     ("call and return, interpreted", 12, 1, 3_000_000, 0, "", 1.10),
     ("call and return, 16 deep", 3, 1, 1_500_000, 16, "", 1.10),
     ("call and return, 256 deep", 3, 1, 1_499_904, 256, "", None),
     ("the same, nets in a sorted list", 3, 1, 1_499_904, 256, "sorted", 1.10),
     ("2 publications, nothing changed", 4, 1, 400_000, 0, "", 1.15),
     ("2 publications of 1 code", 4, 1, 200_000, 1, "", 1.15),
-    ("2 publications of 8 codes", 4, 1, 44_000, 8, "", 1.15),
+    ("2 publications of 8 codes", 4, 1, 44_000, 8, "", 1.00),
     ("2 publications of 256 codes", 4, 1, 1_500, 256, "sorted", 1.15),
     ("into native code and back", 5, 1, 1_000_000, 0, "", 1.10),
     ("4 threads publish each pair", 9, 4, 400_000, 1, "packed", 0.40),
