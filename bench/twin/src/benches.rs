@@ -161,19 +161,24 @@ fn latency<S: Layout, I: Image, C: Callback<I>>(kind: u32, n: usize, iters: usiz
         let limit = Instant::now() + std::time::Duration::from_secs(6);
         for i in 0..iters + 2 {
             sh.make_room_for_replies();
-            let t;
+            let (t, d);
             match kind {
                 HANDSHAKE | BOXED_HANDSHAKE => {
                     let jobs = names.iter().map(|&x| job(0, x)).collect();
                     let tg = names.clone();
                     t = Instant::now();
-                    sh.submit(Req::Handshake(tg, jobs));
+                    let asked = sh.submit(Req::Handshake(tg, Ask::Depth, jobs));
                     co.drive();
+                    d = ns(t);
+                    asked.expect("the Ask is refused");
                 }
                 CENSUS => {
                     t = Instant::now();
-                    sh.submit(Req::Census);
-                    match co.drive() {
+                    let asked = sh.submit(Req::Census);
+                    let driven = co.drive();
+                    d = ns(t);
+                    asked.expect("the Ask is refused");
+                    match driven {
                         Some(Driven::Census(_, l)) => assert!(l.len() == 1 && l[0].1 as usize == n, "{l:?}"),
                         _ => panic!(),
                     }
@@ -184,10 +189,10 @@ fn latency<S: Layout, I: Image, C: Callback<I>>(kind: u32, n: usize, iters: usiz
                     t = Instant::now();
                     sh.invalidate(s);
                     let r = co.reclaim(s, jobs);
+                    d = ns(t);
                     assert!(r == Reclaimed::Freed, "{r:?}");
                 }
             }
-            let d = ns(t);
             if i >= 2 && w < out.len() {
                 out[w] = d;
                 w += 1;

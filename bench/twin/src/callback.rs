@@ -2,7 +2,7 @@
 use crate::image::Image;
 
 /// What a handshake asks of each target. The measures ask for the depth alone; as in the product, an answer looks which it is.
-#[derive(Clone, Copy)]
+#[derive(Clone, Copy, PartialEq, Eq)]
 pub enum Ask {
     Depth,
     CountOf(u64),
@@ -22,6 +22,7 @@ impl Ask {
 /// A callback, which is called at most once.
 pub trait Callback<I>: Send {
     fn of(ask: Ask) -> Self;
+    fn asks(&self) -> Ask;
     /// What it answers on the image. Then its memory is free again.
     fn answer(self, image: &I) -> u64;
 }
@@ -33,19 +34,27 @@ impl<I: Image> Callback<I> for Query {
         Query(ask)
     }
     #[inline(always)]
+    fn asks(&self) -> Ask {
+        self.0
+    }
+    #[inline(always)]
     fn answer(self, image: &I) -> u64 {
         self.0.reply_on(image)
     }
 }
 
-/// A closure in a box of its own.
-pub struct Boxed<I>(Box<dyn Fn(&I) -> u64 + Send>);
+/// A closure in a box of its own, beside what it asks.
+pub struct Boxed<I>(Ask, Box<dyn Fn(&I) -> u64 + Send>);
 impl<I: Image> Callback<I> for Boxed<I> {
     fn of(ask: Ask) -> Self {
-        Boxed(Box::new(move |image| ask.reply_on(image)))
+        Boxed(ask, Box::new(move |image| ask.reply_on(image)))
+    }
+    #[inline(always)]
+    fn asks(&self) -> Ask {
+        self.0
     }
     #[inline(always)]
     fn answer(self, image: &I) -> u64 {
-        (self.0)(image)
+        (self.1)(image)
     }
 }

@@ -1,6 +1,7 @@
-//! The protocol in plain Rust: words, berths, desk, mutators, coordinator. No proofs, the same atomic steps, few refusals.
+//! The protocol in plain Rust: words, berths, desk, mutators, coordinator. No proofs, the same atomic steps. An Ask is refused as the product
+//! refuses it, but for want of room or memory; there are few other refusals.
 //! `S` is the layout of the words, `I` the image of a stack, and `C` what a job calls.
-use crate::callback::Callback;
+use crate::callback::{Ask, Callback};
 use crate::image::*;
 use crate::rsync::{Condvar, Mutex};
 use std::collections::VecDeque;
@@ -134,8 +135,43 @@ pub struct Berth<I, C> {
 /// What a thread replied to an operation: the operation, the thread's name and the reply. It is only written here.
 pub type Reply = (u64, u64, u64);
 pub enum Req<C> {
-    Handshake(Vec<u64>, Vec<Job<C>>),
+    Handshake(Vec<u64>, Ask, Vec<Job<C>>),
     Census,
+}
+/// Why an Ask is refused, in the order of the tests: as the product refuses it.
+#[derive(Clone, Copy, PartialEq, Eq, Debug)]
+pub enum Refused {
+    Spent,
+    QueueFull,
+    NoTargets,
+    BadTargets,
+}
+const LAST: u64 = (1 << 40) - 1;
+const WAITING: usize = 64;
+const TARGETS: usize = 64;
+
+fn are_distinct(names: &[u64]) -> bool {
+    names.is_sorted_by(|a, b| a < b) || (1..names.len()).all(|i| !names[..i].contains(&names[i]))
+}
+impl<C> Req<C> {
+    fn has_targets(&self) -> bool {
+        !matches!(self, Req::Handshake(targets, ..) if targets.is_empty())
+    }
+    /// The targets are few and distinct, and the jobs are one for each in order, with the request's ask.
+    fn is_good<I: Image>(&self) -> bool
+    where
+        C: Callback<I>,
+    {
+        match self {
+            Req::Handshake(targets, ask, jobs) => {
+                targets.len() <= TARGETS
+                    && are_distinct(targets)
+                    && targets.len() == jobs.len()
+                    && targets.iter().zip(jobs).all(|(name, job)| job.target == *name && job.call.asks() == *ask)
+            }
+            Req::Census => true,
+        }
+    }
 }
 struct Code {
     serial: u64,
@@ -288,21 +324,29 @@ impl<S: Layout, I: Image, C: Callback<I>> Shared<S, I, C> {
         let w = self.hints.at(m).load(Relaxed);
         if w == 0 { None } else { Some(CodeId { slot: (w & 0xffff) as u32 - 1, serial: w >> 16 }) }
     }
-    pub fn submit(&self, req: Req<C>) -> u64 {
+    pub fn submit(&self, mut req: Req<C>) -> Result<u64, Refused> {
         let mut d = self.desk.lock().unwrap();
         let n = d.next_op;
+        if n > LAST {
+            return Err(Refused::Spent);
+        }
+        if d.queue.len() >= WAITING {
+            return Err(Refused::QueueFull);
+        }
+        if !req.has_targets() {
+            return Err(Refused::NoTargets);
+        }
+        if !req.is_good() {
+            return Err(Refused::BadTargets);
+        }
         d.next_op += 1;
-        let req = match req {
-            Req::Handshake(t, mut j) => {
-                for x in &mut j {
-                    x.op = n;
-                }
-                Req::Handshake(t, j)
+        if let Req::Handshake(_, _, jobs) = &mut req {
+            for job in jobs {
+                job.op = n;
             }
-            r => r,
-        };
+        }
         d.queue.push_back((n, req));
-        n
+        Ok(n)
     }
     fn finish(&self, body: &Body<I>, done: Done) -> bool {
         let mut d = self.desk.lock().unwrap();
@@ -587,7 +631,7 @@ impl<'a, S: Layout, I: Image, C: Callback<I>> Coordinator<'a, S, I, C> {
             d.open = op;
             d.done = 0;
             d.open_targets = match &req {
-                Req::Handshake(t, _) => {
+                Req::Handshake(t, ..) => {
                     let mut m = 0u64;
                     for p in 0..64 {
                         if d.live >> p & 1 == 1 && t.contains(&d.names[p]) {
@@ -601,7 +645,7 @@ impl<'a, S: Layout, I: Image, C: Callback<I>> Coordinator<'a, S, I, C> {
             (op, req)
         };
         match req {
-            Req::Handshake(targets, jobs) => {
+            Req::Handshake(targets, _, jobs) => {
                 let mut places = [usize::MAX; 64];
                 let mut budget = sh.policy.spins;
                 for (i, (&name, job)) in targets.iter().zip(jobs).enumerate() {
@@ -710,10 +754,12 @@ impl<'a, S: Layout, I: Image, C: Callback<I>> Coordinator<'a, S, I, C> {
     }
     pub fn reclaim(&mut self, serial: u64, jobs: Vec<Job<C>>) -> Reclaimed {
         let sh = self.sh;
-        let empty = jobs.is_empty();
-        if !empty {
-            let t = jobs.iter().map(|j| j.target).collect();
-            sh.submit(Req::Handshake(t, jobs));
+        let mut asked = false;
+        if let Some(first) = jobs.first() {
+            let ask = first.call.asks();
+            let targets = jobs.iter().map(|job| job.target).collect();
+            sh.submit(Req::Handshake(targets, ask, jobs)).expect("the Ask is refused");
+            asked = true;
         }
         let slot = {
             let mut d = sh.desk.lock().unwrap();
@@ -721,7 +767,7 @@ impl<'a, S: Layout, I: Image, C: Callback<I>> Coordinator<'a, S, I, C> {
             sh.board.g().fetch_add(1, SeqCst);
             Shared::<S, I, C>::slot_of(&d, serial)
         };
-        if !empty {
+        if asked {
             self.drive();
         }
         let mut d = sh.desk.lock().unwrap();
