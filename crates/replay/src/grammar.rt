@@ -1,5 +1,5 @@
 // The grammar of a line.
-ghost use Rattle.std.specs.Prelude.{◌≡◌, ◌≢◌, true, IfOk, OnErr, option_map, is_some};
+ghost use Rattle.std.specs.Prelude.{◌≡◌, ◌≢◌, true, None, IfOk, OnErr, option_map, is_some};
 ghost use Rattle.replay.specs.Room.{is_handshake};
 ghost use Rattle.replay.specs.Words.{words_after};
 ghost use Rattle.replay.specs.Grammar.{command_of, of_word, size_of, enter_of, close_of, asking, handshake, alone, of_one, of_two, numbers};
@@ -20,6 +20,9 @@ pub enum Command {
 
 /// The longest line, without its newline.
 const LONGEST: usize = 1024;
+
+/// The most names for which there is room before any is read: no handshake has more.
+const LISTED: usize = 64;
 
 /// The command that the line spells. The names of a handshake take memory, nothing else does.
 pub fn parse(alloc: Global, line: &[u8]) -> Result<Option<Command>, AllocError>
@@ -138,15 +141,50 @@ fn handshake(alloc: Global, ask: Ask, tail: &[u8]) -> Result<Option<Command>, Al
     ensures command { IfOk result (λ command. command ≡ handshake ask (words_after tail.now)) }
     ensures no_memory { OnErr result (is_handshake (handshake ask (words_after tail.now)) ≡ true) }
 {
-    if !are_numbers(tail) {
-        return Ok(None);
-    }
     match numbers(alloc, tail)? {
         None => Ok(None),
         Some(names) => {
             let targets = Targets::from_vec(names);
             Ok(Some(Command::Do(Event::Ask(Request::Handshake { targets, ask }))))
         }
+    }
+}
+
+/// All words as numbers. Memory is refused only where all are.
+fn numbers(alloc: Global, tail: &[u8]) -> Result<Option<Vec<u64>>, AllocError>
+    ensures read { IfOk result
+        (λ read. option_map (λ names. names.items) read ≡ numbers (words_after tail.now)) }
+    ensures no_memory { OnErr result (is_some (numbers (words_after tail.now)) ≡ true) }
+{
+    // A name has two bytes at least, with its space.
+    let Ok(mut names) = Vec::with_capacity(alloc, (tail.len() / 2).min(LISTED)) else {
+        return without_memory(tail);
+    };
+    let mut rest = tail;
+    while !rest.is_empty() {
+        match next(rest) {
+            None => return Ok(None),
+            Some((name, behind)) => {
+                if names.push(name).is_err() {
+                    return without_memory(behind);
+                }
+                rest = behind;
+            }
+        }
+    }
+    Ok(Some(names))
+}
+
+/// What words spell for whose numbers there is no memory: nothing where one isn't a number.
+#[cold]
+fn without_memory(tail: &[u8]) -> Result<Option<Vec<u64>>, AllocError>
+    ensures bad { IfOk result (λ read. (read ≡ None) × (numbers (words_after tail.now) ≡ None)) }
+    ensures no_memory { OnErr result (is_some (numbers (words_after tail.now)) ≡ true) }
+{
+    if are_numbers(tail) {
+        Err(AllocError)
+    } else {
+        Ok(None)
     }
 }
 
@@ -162,23 +200,4 @@ fn are_numbers(tail: &[u8]) -> bool
         }
     }
     true
-}
-
-/// All words as numbers.
-fn numbers(alloc: Global, tail: &[u8]) -> Result<Option<Vec<u64>>, AllocError>
-    ensures { IfOk result
-        (λ read. option_map (λ names. names.items) read ≡ numbers (words_after tail.now)) }
-{
-    let mut names = Vec::new(alloc);
-    let mut rest = tail;
-    while !rest.is_empty() {
-        match next(rest) {
-            None => return Ok(None),
-            Some((name, behind)) => {
-                names.push(name)?;
-                rest = behind;
-            }
-        }
-    }
-    Ok(Some(names))
 }
