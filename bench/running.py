@@ -3,9 +3,9 @@
 
 PROGRAM is crates/running_bench/out/running_bench by default; it and the kinds that it measures are told in its source. Where cargo is there the
 plain Rust program in twin/ runs the same loops in turn with it, and each row has the ratio of the two. A row of calls has nanoseconds a turn,
-the least and the median of seven runs, those of one thread on one core; one of stops microseconds, the median and the 99th percentile of the
-stops of three runs. Where a `javac` of a JDK 17 is there, HotSpot makes its own such stops in turn with them (hotspot/), and the row of stops
-ends in the ratio to it.
+the least and the median of fifteen runs, those of one thread on one core; one of stops microseconds, the median and the 99th percentile of the
+stops of fifteen runs, and of three where threads are busy. Where a `javac` of a JDK 17 is there, HotSpot makes its own such stops in turn with
+them (hotspot/), and the row of stops ends in the ratio to it.
 
 Both programs ask by queries, which take no memory, and in the rows of boxed callbacks by a closure in a box for each thread. Jobs are made before
 the time of their stop begins, and a box is freed within it. HotSpot makes no such stops.
@@ -61,6 +61,10 @@ LONGEST = 60
 # How many stops of threads that make back edges a run has, by their number.
 BUSY = {1: 300, 4: 60, 16: 15, 64: 15}
 
+# How many runs each program makes for a row. One of native threads lasts a millisecond, and the machine's speed changes from run to run.
+RUNS = 15
+BUSY_RUNS = 3
+
 
 def hotspot(folder):
     """The words that run HotSpot's stops, or nothing, and a line that says so, where there is no JDK 17."""
@@ -96,15 +100,22 @@ def percentile(values, part):
     return sorted(values)[min(len(values) - 1, len(values) * part // 100)]
 
 
+def in_turn(runners, count):
+    """The runners so many times, forwards and backwards by turns: so none always comes behind the same other."""
+    for turn in range(count):
+        yield from runners if turn % 2 == 0 else reversed(runners)
+
+
 def call_row(program, twin, row):
     what, kind, threads, turns, arg, engine, wanted = row
     ours, theirs = [], []
+    words = [kind, threads, turns, arg]
+    runners = [(ours, [program, *words])]
+    if twin:
+        runners.append((theirs, [twin, *words, *([engine] if engine else [])]))
     with one_core() if threads == 1 else contextlib.nullcontext():
-        for _ in range(7):
-            words = [kind, threads, turns, arg]
-            ours.append(mean_of([program, *words]) / turns)
-            if twin:
-                theirs.append(mean_of([twin, *words, *([engine] if engine else [])]) / turns)
+        for values, command in in_turn(runners, RUNS):
+            values.append(mean_of(command) / turns)
     line = f"{what:34} {min(ours):9.2f} {statistics.median(ours):9.2f}"
     if twin:
         least, middle = min(ours) / min(theirs), statistics.median(ours) / statistics.median(theirs)
@@ -120,10 +131,10 @@ def two(values):
 def stop_row(program, beside, what, kind, threads, native):
     """Runs the program and those beside it in turn: each of these is what runs it, and the words that it takes behind the others."""
     runs = [[] for _ in range(1 + len(beside))]
-    for _ in range(3):
-        words = [kind, threads, 300 if native else BUSY[threads], 1 if native else 0]
-        for values, (command, more) in zip(runs, [([program], []), *beside]):
-            values += times([*command, *words, *more])
+    words = [kind, threads, 300 if native else BUSY[threads], 1 if native else 0]
+    runners = [(values, [*command, *words, *more]) for values, (command, more) in zip(runs, [([program], []), *beside])]
+    for values, command in in_turn(runners, RUNS if native else BUSY_RUNS):
+        values += times(command)
     if not runs[0]:
         sys.exit(f"{program} {words} came to no end in {LONGEST} seconds")
     name = f"{what}, {threads} {'in native code' if native else 'busy'}"
