@@ -29,20 +29,6 @@ pub struct Untold<J> {
     pub job: Option<J>,
 }
 
-impl<J> Untold<J> {
-    /// Takes the job out, and answers what the thread is to be told with it.
-    #[inline(always)]
-    pub fn taken(&mut self) -> Untold<J>
-        ensures same { result ≡ self.old }
-        ensures left { self.new ≡ record self.old { job = None } }
-    {
-        Untold {
-            what: self.what,
-            job: self.job.take(),
-        }
-    }
-}
-
 /// A look at the desk, with what was listed. Contracts see the desk then, what is listed without its jobs, and whether there is more.
 #[derive(Drop)]
 pub struct Listed<N: Name, J: Errand> {

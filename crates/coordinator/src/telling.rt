@@ -149,32 +149,31 @@ impl<'a, N: Name, J: Errand> Coordinator<'a, N, J> {
     {
         let mut is_told = true;
         for at in 0..list.len() {
-            let untold = list[at].taken();
-            is_told = self.tell_at(rt, untold) && is_told;
+            is_told = self.tell_at(rt, &mut list[at]) && is_told;
         }
         is_told
     }
 
     // Tells a thread what was listed for it. Where its berth bears another name or none, the name is told as by `tell`. Answers whether
-    // it was told what was listed.
+    // it was told what was listed. Its job goes out of the list straight into the berth, since each store of a copy would be waited for.
     #[inline(always)]
-    fn tell_at<R: Wait>(&mut self, rt: &R, untold: Untold<J>) -> bool
+    fn tell_at<R: Wait>(&mut self, rt: &R, untold: &mut Untold<J>) -> bool
         ensures told { result ≡ true
-            → untold.what.number ≤ slice_index self.new.armer.armed untold.what.target.place }
+            → untold.old.what.number ≤ slice_index self.new.armer.armed untold.old.what.target.place }
+        ensures listed { untold.new.what ≡ untold.old.what }
         ensures held { (self.new.held ≡ self.old.held) × (self.new.operated ≡ self.old.operated) }
         ensures arms { ArmsOn self.old.armer self.new.armer }
     {
-        let Untold { what, job } = untold;
-        let mut hand = job;
+        let what = untold.what;
         if what.target.place < self.places
             && self.armer.last(what.target.place) < what.number
             && self
-                .put(rt, what.name, what.target, what.number, &mut hand)
+                .put(rt, what.name, what.target, what.number, &mut untold.job)
                 .is_some()
         {
             return true;
         }
-        let _ = self.tell_with(rt, what.name, hand);
+        let _ = self.tell_with(rt, what.name, untold.job.take());
         false
     }
 

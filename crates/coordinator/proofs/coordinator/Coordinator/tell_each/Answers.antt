@@ -18,11 +18,11 @@ loop-at-preserved g c =
     let one = c.index_mut.result.now in
     let arms = arms_then c.args.self.now.armer l.self.armer new l.invariant.2 c.tell_at.ensures.arms in
     let here : get_or l.list.items i one ≡ one = search rules in
-    let stays : f c.taken-untold.new.self ≡ f (get_or l.list.items i one) = ap f c.taken-untold.ensures.left ∙ sym (ap f here) in
+    let stays : f c.tell_at.new.untold ≡ f (get_or l.list.items i one) = c.tell_at.ensures.listed ∙ sym (ap f here) in
     let within : i < length l.list.items = search rules in
     let below : i < length ts = subst (λ n. i < n) (sym (length-map l.list.items f) ∙ ap length l.invariant.3) within in
-    let listed : get_or ts i (f one) ≡ f c.taken-untold.result =
-    sym (ap (λ xs. get_or xs i (f one)) l.invariant.3) ∙ get_or-map f l.list.items i one ∙ ap f here ∙ sym (ap f c.taken-untold.ensures.same) in
+    let listed : get_or ts i (f one) ≡ f one =
+    sym (ap (λ xs. get_or xs i (f one)) l.invariant.3) ∙ get_or-map f l.list.items i one ∙ ap f here in
     let both : c.if-tell_at.is_told ≡ (c.tell_at.result && l.is_told) = elim c.if-tell_at.branch [
       | then-tell_at w ↦ (let told : c.tell_at.result ≡ true = search rules in let now : c.if-tell_at.is_told ≡ l.is_told = search rules in now ∙ sym (ap (λ b. b && l.is_told) told))
       | else-tell_at w ↦ (let told : c.tell_at.result ≡ false = search rules in let now : c.if-tell_at.is_told ≡ false = search rules in now ∙ sym (ap (λ b. b && l.is_told) told))
@@ -30,11 +30,11 @@ loop-at-preserved g c =
       search rules,
       search rules,
       arms,
-      map-set_same f l.list.items i c.taken-untold.new.self one stays ∙ l.invariant.3,
+      map-set_same f l.list.items i c.tell_at.new.untold one stays ∙ l.invariant.3,
       λ is.
           let all = sym both ∙ is in
           let was = armed_on l.self.armer new (take i ts) c.tell_at.ensures.arms (l.invariant.4 (and_right c.tell_at.result l.is_told all)) in
           let low = c.tell_at.ensures.told (and_left c.tell_at.result l.is_told all) in
           subst (λ xs. AreArmed new xs) (sym (take_more ts i (f one) below ∙ ap (λ t. take i ts ++ t ∷ []) listed))
-          (armed_more new (take i ts) (f c.taken-untold.result) was low),
+          (armed_more new (take i ts) (f one) was low),
     )
