@@ -3,9 +3,9 @@
 
 PROGRAM is crates/running_bench/out/running_bench by default; it and the kinds that it measures are told in its source. Where cargo is there the
 plain Rust program in twin/ runs the same loops in turn with it, and each row has the ratio of the two. A row of calls has nanoseconds a turn,
-the least and the median of fifteen runs, those of one thread on one core; one of stops microseconds, the median and the 99th percentile of the
-stops of fifteen runs, and of three where threads are busy. Where a `javac` of a JDK 17 is there, HotSpot makes its own such stops in turn with
-them (hotspot/), and the row of stops ends in the ratio to it.
+the least and the median of fifteen runs. One of stops has microseconds, the median and the 99th percentile of the stops of thirty-one runs, and
+of three where threads are busy. Where one thread runs at a time, as where all others are in native code, both programs take turns on one core.
+Where a `javac` of a JDK 17 is there, HotSpot makes its own such stops behind them (hotspot/), in three runs, and the row ends in the ratio to it.
 
 Both programs ask by queries, which take no memory, and in the rows of boxed callbacks by a closure in a box for each thread. Jobs are made before
 the time of their stop begins, and a box is freed within it. HotSpot makes no such stops.
@@ -48,10 +48,8 @@ CALLS = [
     ("4 threads publish each 16 pairs", 9, 4, 800_000, 16, "packed", 0.70),
 ]
 
-BOTH = ("plain", "HotSpot")
-
-# What, the kind, and who else makes such stops.
-STOPS = [("handshake", 6, BOTH), ("handshake, boxed callbacks", 10, ("plain",)), ("census", 7, BOTH), ("reclaim", 8, BOTH)]
+# What, the kind, and whether HotSpot makes such stops.
+STOPS = [("handshake", 6, True), ("handshake, boxed callbacks", 10, False), ("census", 7, True), ("reclaim", 8, True)]
 
 THREADS = (1, 4, 16, 64)
 
@@ -61,8 +59,9 @@ LONGEST = 60
 # How many stops of threads that make back edges a run has, by their number.
 BUSY = {1: 300, 4: 60, 16: 15, 64: 15}
 
-# How many runs each program makes for a row. One of native threads lasts a millisecond, and the machine's speed changes from run to run.
-RUNS = 15
+# How many runs a row has. One of native threads lasts a millisecond, and takes a fourth more or less than the one before.
+CALL_RUNS = 15
+NATIVE_RUNS = 31
 BUSY_RUNS = 3
 
 
@@ -114,7 +113,7 @@ def call_row(program, twin, row):
     if twin:
         runners.append((theirs, [twin, *words, *([engine] if engine else [])]))
     with one_core() if threads == 1 else contextlib.nullcontext():
-        for values, command in in_turn(runners, RUNS):
+        for values, command in in_turn(runners, CALL_RUNS):
             values.append(mean_of(command) / turns)
     line = f"{what:34} {min(ours):9.2f} {statistics.median(ours):9.2f}"
     if twin:
@@ -128,33 +127,36 @@ def two(values):
     return f"{percentile(values, 50) / 1e3:9.1f} {percentile(values, 99) / 1e3:9.1f}"
 
 
-def stop_row(program, beside, what, kind, threads, native):
-    """Runs the program and those beside it in turn: each of these is what runs it, and the words that it takes behind the others."""
-    runs = [[] for _ in range(1 + len(beside))]
+def stop_row(program, twin, java, what, kind, threads, native):
+    """A row of stops: of the program and the plain one, in turn, and behind them of HotSpot; of either only if it is there."""
     words = [kind, threads, 300 if native else BUSY[threads], 1 if native else 0]
-    runners = [(values, [*command, *words, *more]) for values, (command, more) in zip(runs, [([program], []), *beside])]
-    for values, command in in_turn(runners, RUNS if native else BUSY_RUNS):
-        values += times(command)
-    if not runs[0]:
+    ours, plains, hotspots = [], [], []
+    runners = [(ours, [program, *words])]
+    if twin:
+        runners.append((plains, [twin, *words, "16yields"]))
+    with one_core() if native else contextlib.nullcontext():
+        for values, command in in_turn(runners, NATIVE_RUNS if native else BUSY_RUNS):
+            values += times(command)
+    for _ in range(BUSY_RUNS if java else 0):
+        hotspots += times([*java, *words])
+    if not ours:
         sys.exit(f"{program} {words} came to no end in {LONGEST} seconds")
     name = f"{what}, {threads} {'in native code' if native else 'busy'}"
-    line = f"{name:45} {two(runs[0])}"
-    for values in runs[1:]:
+    line = f"{name:45} {two(ours)}"
+    for values in ([plains] if twin else []) + ([hotspots] if java else []):
         # HotSpot may make none in its time
-        line += f" {two(values)} {percentile(runs[0], 50) / percentile(values, 50):8.3g}" if values else f" {'-':>9} {'-':>9} {'-':>8}"
+        line += f" {two(values)} {percentile(ours, 50) / percentile(values, 50):8.3g}" if values else f" {'-':>9} {'-':>9} {'-':>8}"
     print(line, flush=True)
 
 
 def stop_table(program, twin, java):
-    both = (("plain", twin and ([twin], ["16yields"])), ("HotSpot", java and (java, [])))
-    beside = [(name, run) for name, run in both if run]
-    head = "".join(f" {name:>9} {'':>9} {'ratio':>8}" for name, _ in beside)
+    beside = (["plain"] if twin else []) + (["HotSpot"] if java else [])
+    head = "".join(f" {name:>9} {'':>9} {'ratio':>8}" for name in beside)
     print(f"{'us a stop: median, 99th percentile':45} {'product':>9} {'':>9}{head}")
-    for what, kind, others in STOPS:
-        runs = [run for name, run in beside if name in others]
+    for what, kind, in_java in STOPS:
         for native in (True, False):
             for threads in THREADS:
-                stop_row(program, runs, what, kind, threads, native)
+                stop_row(program, twin, java if in_java else None, what, kind, threads, native)
 
 
 def main():
