@@ -112,14 +112,17 @@ fn back_edges<'a, N: Name, J: Errand>(
     (thread, all)
 }
 
-// A call of the method by its hint.
+// A call of the method by its hint. A call by one and a call without go on apart, so that the hint isn't looked at twice.
 #[inline(always)]
 fn call<N: Name, J: Errand>(
     shared: &Shared<N, J>,
     thread: &mut Mutator<'_, N, J>,
     method: u32,
 ) -> bool {
-    thread.call(method, shared.hint(method)).is_ok()
+    match shared.hint(method) {
+        Some(code) => thread.call(method, Some(code)).is_ok(),
+        None => thread.call(method, None).is_ok(),
+    }
 }
 
 #[inline(always)]
