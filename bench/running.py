@@ -3,7 +3,7 @@
 
 PROGRAM is crates/running_bench/out/running_bench by default; it and the kinds that it measures are told in its source. Where cargo is there the
 plain Rust program in twin/ runs the same loops in turn with it, and each row has the ratio of the two. A row of calls has nanoseconds a turn,
-the least and the median of fifteen runs. One of stops has microseconds, the median and the 99th percentile of the stops of thirty-one runs, and
+the least and the median of seven runs. One of stops has microseconds, the median and the 99th percentile of the stops of thirty-one runs, and
 of three where threads are busy. Where one thread runs at a time, as where all others are in native code, both programs take turns on one core.
 Where a `javac` of a JDK 17 is there, HotSpot makes its own such stops behind them (hotspot/), in three runs, and the row ends in the ratio to it.
 
@@ -60,7 +60,7 @@ LONGEST = 60
 BUSY = {1: 300, 4: 60, 16: 15, 64: 15}
 
 # How many runs a row has. One of native threads lasts a millisecond, and takes a fourth more or less than the one before.
-CALL_RUNS = 15
+CALL_RUNS = 7
 NATIVE_RUNS = 31
 BUSY_RUNS = 3
 
