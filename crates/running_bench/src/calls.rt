@@ -183,16 +183,30 @@ fn interpreted_pairs<'a, N: Name, J: Errand>(
     (thread, all)
 }
 
-/// So many calls, of each method whose number is the step times that of the call.
+/// So many calls, at most 256, of the methods from 0 on.
 #[inline(always)]
 pub fn go_down<N: Name, J: Errand>(
     shared: &Shared<N, J>,
     thread: &mut Mutator<'_, N, J>,
     depth: u64,
-    step: u64,
+) -> bool {
+    for method in 0..depth.min(256) as u32 {
+        if !call(shared, thread, method) {
+            return false;
+        }
+    }
+    true
+}
+
+// So many calls, of methods that lie seven apart.
+#[inline(always)]
+fn go_down_apart<N: Name, J: Errand>(
+    shared: &Shared<N, J>,
+    thread: &mut Mutator<'_, N, J>,
+    depth: u64,
 ) -> bool {
     for level in 0..depth {
-        let method = (level.wrapping_mul(step) % 256) as u32;
+        let method = (level.wrapping_mul(7) % 256) as u32;
         if !call(shared, thread, method) {
             return false;
         }
@@ -220,7 +234,7 @@ fn make_stacks<N: Name, J: Errand>(
     depth: u64,
 ) -> bool {
     for _ in 0..count {
-        if !(go_down(shared, thread, depth, 7) && go_up(thread, depth)) {
+        if !(go_down_apart(shared, thread, depth) && go_up(thread, depth)) {
             return false;
         }
     }
@@ -249,7 +263,7 @@ fn make_publications<N: Name, J: Errand>(
     codes: u64,
 ) -> bool {
     for _ in 0..turns {
-        if !(go_down(shared, thread, codes, 1)
+        if !(go_down(shared, thread, codes)
             && publish(thread)
             && go_up(thread, codes)
             && publish(thread))
