@@ -8,7 +8,7 @@ use Rattle.std.specs.Prelude.{filter}
 use Rattle.frames.specs.declared.CodeId.{CodeId}
 use Rattle.frames.specs.declared.Change.{Change}
 use Rattle.frames.specs.Stack.{same_code, times}
-use Rattle.frames.specs.Nets.{net_in, is_zero, net_of, add, settled, by_code, total, codes_in, cell_of, nothing_at, is_in, IsWithin, IsAt, IsPut, AreOnce, AreAmong, AreTouched, AreCells, AreKept, AreSmall, net_sum}
+use Rattle.frames.specs.Nets.{net_in, is_zero, net_of, add, settled, by_code, total, codes_in, cell_of, nothing_at, is_in, IsWithin, IsAt, IsPut, AreOnce, AreAmong, AreNetsAmong, AreAtRest, AreTouched, AreCells, AreApart, AreKept, AreSmall, net_sum}
 use Rattle.frames.proofs.Bags.{same_code-equal, same_code-refl, times-cons}
 use Rattle.frames.proofs.Moves.{zero_is, zero_not}
 use Rattle.frames.proofs.Settling.{times_codes}
@@ -151,25 +151,25 @@ times_append (x ∷ xs) ys c =
     omega (arith, a, b, rest)
 
 -- a cell's net is all that its code has
-whole : (cells list : List Change) → AreCells cells list → (code : CodeId) (d : Change) → same_code (get_or cells (cell_of code) d).code code ≡ true → total (cells ++ list) code ≡ (get_or cells (cell_of code) d).by
-whole cells list a code d h =
+whole : (cells list : List Change) → AreCells cells list → AreApart cells list → (code : CodeId) (d : Change) → same_code (get_or cells (cell_of code) d).code code ≡ true → total (cells ++ list) code ≡ (get_or cells (cell_of code) d).by
+whole cells list a apart code d h =
     total_append cells list code
-    ∙ first_only (total cells code) (get_or cells (cell_of code) d).by (total list code) (in_cells cells list a code d ∙ ap (λ b. cond b (get_or cells (cell_of code) d).by (pos 0)) h) (no_total list code (a.apart code d h))
+    ∙ first_only (total cells code) (get_or cells (cell_of code) d).by (total list code) (in_cells cells list a code d ∙ ap (λ b. cond b (get_or cells (cell_of code) d).by (pos 0)) h) (no_total list code (apart code d h))
 
 -- the nets that aren't 0 are of codes that stand once
 once_live : (cells list : List Change) → AreCells cells list → AreOnce (live cells ++ list)
 once_live cells list a c =
     let all = times_append (live cells) list c in
     let mine = live_only cells (cell_of c) nothing c (elsewhere cells list a c) (cell_bound cells list a c) in
-    by_case (is_zero (get_or cells (cell_of c) nothing).by) (same_code (get_or cells (cell_of c) nothing).code c) refl (omega (arith, all, mine))
+    by_case (is_zero (get_or cells (cell_of c) nothing).by) refl (same_code (get_or cells (cell_of c) nothing).code c) refl (omega (arith, all, mine))
   where
     nothing : Change
     nothing = nothing_at 0
 
-    by_case : {n : ℕ} (z s : Bool) → same_code (get_or cells (cell_of c) nothing).code c ≡ s → n ≡ cond (not z && s) 1 0 + times c (codes_in list) → n ≤ 1
-    by_case true s h e = let few = a.once c in omega (arith, few, e)
-    by_case false false h e = let few = a.once c in omega (arith, few, e)
-    by_case false true h e = let none = a.apart c nothing h in omega (arith, none, e)
+    by_case : {n : ℕ} (z : Bool) → is_zero (get_or cells (cell_of c) nothing).by ≡ z → (s : Bool) → same_code (get_or cells (cell_of c) nothing).code c ≡ s → n ≡ cond (not z && s) 1 0 + times c (codes_in list) → n ≤ 1
+    by_case true z s h e = let few = a.once c in omega (arith, few, e)
+    by_case false z false h e = let few = a.once c in omega (arith, few, e)
+    by_case false z true h e = let none = a.apart c nothing h z in omega (arith, none, e)
 
 same_live : (cells list : List Change) → settled (live cells ++ list) ≡ settled (cells ++ list)
 same_live cells list = same_settled (live cells ++ list) (cells ++ list) (λ c. total_append (live cells) list c ∙ (ap (λ t. t +ℤ total list c) (total_filter cells c) ∙ sym (total_append cells list c)))
@@ -208,13 +208,16 @@ at_set es i k y d lt P here other = by_case (eqb k i) refl
         subst P (sym (get_or-set_other es i k y d ne)) (other ne)
 
 -- a code takes its cell, or its net moves there
-taken : (cells list : List Change) → AreCells cells list → (code : CodeId) (z : ℤ) → times code (codes_in list) ≡ 0 → AreCells (set cells (cell_of code) (net_of code z)) list
-taken cells list a code z none = record {
+taken_apart : (cells list : List Change) → AreCells cells list → AreApart cells list → (code : CodeId) (z : ℤ) → times code (codes_in list) ≡ 0 → AreApart (set cells (cell_of code) (net_of code z)) list
+taken_apart cells list a apart code z none = λ c d. at_set cells (cell_of code) (cell_of c) (net_of code z) d (cell_bound cells list a code) (λ e. same_code e.code c ≡ true → times c (codes_in list) ≡ 0)
+    (λ is s. subst (λ x. times x (codes_in list) ≡ 0) (same_code-equal code c s) none) (λ ne s. apart c d s)
+
+taken : (cells list : List Change) → AreCells cells list → AreApart cells list → (code : CodeId) (z : ℤ) → times code (codes_in list) ≡ 0 → AreCells (set cells (cell_of code) (net_of code z)) list
+taken cells list a apart code z none = record {
   long = length-set cells (cell_of code) (net_of code z) ∙ a.long;
   home = λ k d lt. at_set cells (cell_of code) k (net_of code z) d (cell_bound cells list a code) (λ e. is_zero e.by ≡ false → cell_of e.code ≡ k) (λ is s. sym is) (λ ne s. a.home k d lt s);
   once = a.once;
-  apart = λ c d. at_set cells (cell_of code) (cell_of c) (net_of code z) d (cell_bound cells list a code) (λ e. same_code e.code c ≡ true → times c (codes_in list) ≡ 0)
-      (λ is s. subst (λ x. times x (codes_in list) ≡ 0) (same_code-equal code c s) none) (λ ne s. a.apart c d s);
+  apart = λ c d s some. taken_apart cells list a apart code z none c d s;
 }
 
 -- the list loses codes, or none
@@ -223,32 +226,38 @@ relisted cells list more a h = record {
   long = a.long;
   home = a.home;
   once = λ c. (let le = h c in let one = a.once c in omega arith);
-  apart = λ c d s. (let le = h c in let none = a.apart c d s in omega arith);
+  apart = λ c d s some. (let le = h c in let none = a.apart c d s some in omega arith);
 }
+
+relisted_apart : (cells list more : List Change) → AreApart cells list → ((c : CodeId) → times c (codes_in more) ≤ times c (codes_in list)) → AreApart cells more
+relisted_apart cells list more apart h = λ c d s. (let le = h c in let none = apart c d s in omega arith)
 
 -- the list takes a code
-listed : (cells list more : List Change) (code : CodeId) (by : ℤ) → AreCells cells list → IsPut (net_of code by) list more → times code (codes_in list) ≡ 0 → ((d : Change) → same_code (get_or cells (cell_of code) d).code code ≡ false) → AreCells cells more
-listed cells list more code by a put none new = record {
+listed_bound : (list more : List Change) (code : CodeId) (by : ℤ) → IsPut (net_of code by) list more → (c : CodeId) → times c (codes_in more) ≤ times c (codes_in list) + cond (same_code code c) 1 0
+listed_bound list more code by put c = let all = put.codes c in omega (arith, all)
+
+listed_apart : (cells list more : List Change) (code : CodeId) (by : ℤ) → AreApart cells list → IsPut (net_of code by) list more → ((d : Change) → same_code (get_or cells (cell_of code) d).code code ≡ false) → AreApart cells more
+listed_apart cells list more code by apart put new = λ c d s. gone c d s (same_code code c) refl (listed_bound list more code by put c)
+  where
+    gone : (c : CodeId) (d : Change) → same_code (get_or cells (cell_of c) d).code c ≡ true → (b : Bool) → same_code code c ≡ b → times c (codes_in more) ≤ times c (codes_in list) + cond b 1 0 → times c (codes_in more) ≡ 0
+    gone c d s true e all =
+        let differs : same_code (get_or cells (cell_of c) d).code c ≡ false = subst (λ x. same_code (get_or cells (cell_of x) d).code x ≡ false) (same_code-equal code c e) (new d) in
+        cc
+    gone c d s false e all = let was = apart c d s in omega (arith, all, was)
+
+listed : (cells list more : List Change) (code : CodeId) (by : ℤ) → AreCells cells list → AreApart cells list → IsPut (net_of code by) list more → times code (codes_in list) ≡ 0 → ((d : Change) → same_code (get_or cells (cell_of code) d).code code ≡ false) → AreCells cells more
+listed cells list more code by a apart put none new = record {
   long = a.long;
   home = a.home;
-  once = λ c. one c (same_code code c) refl (bound c);
-  apart = λ c d s. gone c d s (same_code code c) refl (bound c);
+  once = λ c. one c (same_code code c) refl (listed_bound list more code by put c);
+  apart = λ c d s some. listed_apart cells list more code by apart put new c d s;
 }
   where
-    bound : (c : CodeId) → times c (codes_in more) ≤ times c (codes_in list) + cond (same_code code c) 1 0
-    bound c = let all = put.codes c in omega (arith, all)
-
     one : (c : CodeId) (b : Bool) → same_code code c ≡ b → times c (codes_in more) ≤ times c (codes_in list) + cond b 1 0 → times c (codes_in more) ≤ 1
     one c true e all =
         let no : times c (codes_in list) ≡ 0 = subst (λ x. times x (codes_in list) ≡ 0) (same_code-equal code c e) none in
         omega (arith, all, no)
     one c false e all = let was = a.once c in omega (arith, all, was)
-
-    gone : (c : CodeId) (d : Change) → same_code (get_or cells (cell_of c) d).code c ≡ true → (b : Bool) → same_code code c ≡ b → times c (codes_in more) ≤ times c (codes_in list) + cond b 1 0 → times c (codes_in more) ≡ 0
-    gone c d s true e all =
-        let differs : same_code (get_or cells (cell_of c) d).code c ≡ false = subst (λ x. same_code (get_or cells (cell_of x) d).code x ≡ false) (same_code-equal code c e) (new d) in
-        cc
-    gone c d s false e all = let was = a.apart c d s in omega (arith, all, was)
 
 -- an empty cell
 nothing_apart : (i : ℕ) → cell_of (nothing_at i).code ≢ i
@@ -261,59 +270,60 @@ nothing_apart i = by_case (eqb i 0) refl
         none : i ≡ 0 → ⊥
         none is = let no : eqb i 0 ≡ true = grind (arith, nat_tests) in cc
 
-emptied : (cells list more : List Change) (i : ℕ) → AreCells cells list → i < 1024 → AreOnce more → ((c : CodeId) → cell_of c ≢ i → times c (codes_in more) ≡ times c (codes_in list)) → AreCells (set cells i (nothing_at i)) more
-emptied cells list more i a lt once same =
+-- what is left where the net of a cell goes, and another code may come with none
+pub record Rested (cells list : List Change) (i : ℕ) (code : CodeId) (more : List Change) : Type 0 where
+  pub are : AreCells (set cells i (net_of code (pos 0))) more
+  pub totals : (c : CodeId) → total (set cells i (net_of code (pos 0)) ++ more) c ≡ total (cells ++ list) c
+  pub nets : (places : List ℕ) → AreNetsAmong cells (i ∷ places) → AreNetsAmong (set cells i (net_of code (pos 0))) places
+
+rested : (cells list more : List Change) (i : ℕ) (code : CodeId) → AreCells cells list → i < 1024 → AreOnce more → ((c : CodeId) → cell_of c ≢ i → times c (codes_in more) ≡ times c (codes_in list)) → AreCells (set cells i (net_of code (pos 0))) more
+rested cells list more i code a lt once same =
     let bound : i < length cells = let long = a.long in omega arith in
     record {
-      long = length-set cells i (nothing_at i) ∙ a.long;
-      home = λ k d l. at_set cells i k (nothing_at i) d bound (λ e. is_zero e.by ≡ false → cell_of e.code ≡ k) (λ is s. cc) (λ ne s. a.home k d l s);
+      long = length-set cells i (net_of code (pos 0)) ∙ a.long;
+      home = λ k d l. at_set cells i k (net_of code (pos 0)) d bound (λ e. is_zero e.by ≡ false → cell_of e.code ≡ k) (λ is s. cc) (λ ne s. a.home k d l s);
       once = once;
-      apart = λ c d. at_set cells i (cell_of c) (nothing_at i) d bound (λ e. same_code e.code c ≡ true → times c (codes_in more) ≡ 0)
-          (λ is s. absurd (nothing_apart i (ap cell_of (same_code-equal (nothing_at i).code c s) ∙ is))) (λ ne s. same c ne ∙ a.apart c d s);
+      apart = λ c d. at_set cells i (cell_of c) (net_of code (pos 0)) d bound (λ e. same_code e.code c ≡ true → is_zero e.by ≡ false → times c (codes_in more) ≡ 0)
+          (λ is s some. cc) (λ ne s some. same c ne ∙ a.apart c d s some);
     }
 
--- what emptying a cell leaves
-pub record Emptied (cells list : List Change) (i : ℕ) (more : List Change) : Type 0 where
-  pub are : AreCells (set cells i (nothing_at i)) more
-  pub totals : (c : CodeId) → total (set cells i (nothing_at i) ++ more) c ≡ total (cells ++ list) c
-  pub among : (places : List ℕ) → AreAmong cells (i ∷ places) → AreAmong (set cells i (nothing_at i)) places
+-- a place that is the first or one of the others
+not_first : (i k : ℕ) (places : List ℕ) (b : Bool) → eqb i k ≡ b → k ≢ i → (b || is_in k places) ≡ true → is_in k places ≡ true
+not_first i k places true e ne h = absurd (ne (let is : i ≡ k = grind (arith, nat_tests) in sym is))
+not_first i k places false e ne h = h
 
-among_less : (cells : List Change) (i : ℕ) → i < length cells → (places : List ℕ) → AreAmong cells (i ∷ places) → AreAmong (set cells i (nothing_at i)) places
-among_less cells i bound places all = λ k d lt. at_set cells i k (nothing_at i) d bound (λ e. cell_of e.code ≡ k → is_in k places ≡ true) (λ is h. absurd (nothing_apart i (h ∙ is))) (λ ne h. rest k (eqb i k) refl ne (all k d lt h))
-  where
-    rest : (k : ℕ) (b : Bool) → eqb i k ≡ b → k ≢ i → (b || is_in k places) ≡ true → is_in k places ≡ true
-    rest k true e ne h = absurd (ne (let is : i ≡ k = grind (arith, nat_tests) in sym is))
-    rest k false e ne h = h
+nets_less : (cells : List Change) (i : ℕ) (code : CodeId) → i < length cells → (places : List ℕ) → AreNetsAmong cells (i ∷ places) → AreNetsAmong (set cells i (net_of code (pos 0))) places
+nets_less cells i code bound places all = λ k d lt. at_set cells i k (net_of code (pos 0)) d bound (λ e. is_zero e.by ≡ false → is_in k places ≡ true) (λ is some. cc) (λ ne some. not_first i k places (eqb i k) refl ne (all k d lt some))
 
 no_net : (b : Bool) → cond b (pos 0) (pos 0) ≡ pos 0
 no_net true = refl
 no_net false = refl
 
-pub emptied_zero : (cells list : List Change) (i : ℕ) (e : Change) → AreCells cells list → i < 1024 → e ≡ get_or cells i e → is_zero e.by ≡ true → Emptied cells list i list
-emptied_zero cells list i e a lt is z =
+pub rested_zero : (cells list : List Change) (i : ℕ) (code : CodeId) (e : Change) → AreCells cells list → i < 1024 → e ≡ get_or cells i e → is_zero e.by ≡ true → Rested cells list i code list
+rested_zero cells list i code e a lt is z =
     let bound : i < length cells = let long = a.long in omega arith in
     record {
-      are = emptied cells list list i a lt a.once (λ c ne. refl);
-      totals = λ c. total_append (set cells i (nothing_at i)) list c ∙ (ap (λ t. t +ℤ total list c) (same c bound) ∙ sym (total_append cells list c));
-      among = among_less cells i bound;
+      are = rested cells list list i code a lt a.once (λ c ne. refl);
+      totals = λ c. total_append (set cells i (net_of code (pos 0))) list c ∙ (ap (λ t. t +ℤ total list c) (same c bound) ∙ sym (total_append cells list c));
+      nets = nets_less cells i code bound;
     }
   where
     plain : (s t : ℤ) (b : Bool) (x : ℤ) → x ≡ pos 0 → s +ℤ cond b x (pos 0) ≡ t +ℤ pos 0 → s ≡ t
     plain s t true x e h = omega (arith, ints, e, h)
     plain s t false x e h = omega (arith, ints, h)
 
-    same : (c : CodeId) → i < length cells → total (set cells i (nothing_at i)) c ≡ total cells c
+    same : (c : CodeId) → i < length cells → total (set cells i (net_of code (pos 0))) c ≡ total cells c
     same c bound =
-        let all = rw (no_net (same_code (nothing_at i).code c)) at (rw (← is) at (total_set cells i e (nothing_at i) bound c)) in
-        plain (total (set cells i (nothing_at i)) c) (total cells c) (same_code e.code c) e.by (zero_is e.by z) all
+        let all = rw (no_net (same_code code c)) at (rw (← is) at (total_set cells i e (net_of code (pos 0)) bound c)) in
+        plain (total (set cells i (net_of code (pos 0))) c) (total cells c) (same_code e.code c) e.by (zero_is e.by z) all
 
-pub emptied_net : (cells list : List Change) (i : ℕ) (e : Change) → AreCells cells list → i < 1024 → e ≡ get_or cells i e → is_zero e.by ≡ false → Emptied cells list i (list ++ e ∷ [])
-emptied_net cells list i e a lt is some =
+pub rested_net : (cells list : List Change) (i : ℕ) (code : CodeId) (e : Change) → AreCells cells list → i < 1024 → e ≡ get_or cells i e → is_zero e.by ≡ false → Rested cells list i code (list ++ e ∷ [])
+rested_net cells list i code e a lt is some =
     let bound : i < length cells = let long = a.long in omega arith in
     record {
-      are = emptied cells list (list ++ e ∷ []) i a lt (λ c. one c (same_code e.code c) refl (pushed c)) (λ c ne. other c ne (same_code e.code c) refl (pushed c));
+      are = rested cells list (list ++ e ∷ []) i code a lt (λ c. one c (same_code e.code c) refl (pushed c)) (λ c ne. other c ne (same_code e.code c) refl (pushed c));
       totals = λ c. join c bound;
-      among = among_less cells i bound;
+      nets = nets_less cells i code bound;
     }
   where
     home : cell_of e.code ≡ i
@@ -324,6 +334,7 @@ emptied_net cells list i e a lt is some =
 
     gone : times e.code (codes_in list) ≡ 0
     gone = a.apart e.code e (subst (λ j. same_code (get_or cells j e).code e.code ≡ true) (sym home) (subst (λ (x : Change). same_code x.code e.code ≡ true) is (same_code-refl e.code)))
+        (subst (λ j. is_zero (get_or cells j e).by ≡ false) (sym home) (subst (λ (x : Change). is_zero x.by ≡ false) is some))
 
     one : (c : CodeId) (b : Bool) → same_code e.code c ≡ b → times c (codes_in (list ++ e ∷ [])) ≡ times c (codes_in list) + cond b 1 0 → times c (codes_in (list ++ e ∷ [])) ≤ 1
     one c true h all =
@@ -338,11 +349,31 @@ emptied_net cells list i e a lt is some =
     sums : (s t x l m : ℤ) → s +ℤ x ≡ t +ℤ pos 0 → m ≡ l +ℤ x → s +ℤ m ≡ t +ℤ l
     sums s t x l m h k = omega (arith, ints, h, k)
 
-    join : (c : CodeId) → i < length cells → total (set cells i (nothing_at i) ++ (list ++ e ∷ [])) c ≡ total (cells ++ list) c
+    join : (c : CodeId) → i < length cells → total (set cells i (net_of code (pos 0)) ++ (list ++ e ∷ [])) c ≡ total (cells ++ list) c
     join c bound =
-        let all = rw (no_net (same_code (nothing_at i).code c)) at (rw (← is) at (total_set cells i e (nothing_at i) bound c)) in
-        total_append (set cells i (nothing_at i)) (list ++ e ∷ []) c
-        ∙ (sums (total (set cells i (nothing_at i)) c) (total cells c) (by_code e.code e.by c) (total list c) (total (list ++ e ∷ []) c) all (total_push list e c) ∙ sym (total_append cells list c))
+        let all = rw (no_net (same_code code c)) at (rw (← is) at (total_set cells i e (net_of code (pos 0)) bound c)) in
+        total_append (set cells i (net_of code (pos 0))) (list ++ e ∷ []) c
+        ∙ (sums (total (set cells i (net_of code (pos 0))) c) (total cells c) (by_code e.code e.by c) (total list c) (total (list ++ e ∷ []) c) all (total_push list e c) ∙ sym (total_append cells list c))
+
+-- what emptying a cell leaves
+pub record Emptied (cells list : List Change) (i : ℕ) (more : List Change) : Type 0 where
+  pub are : AreCells (set cells i (nothing_at i)) more
+  pub totals : (c : CodeId) → total (set cells i (nothing_at i) ++ more) c ≡ total (cells ++ list) c
+  pub among : (places : List ℕ) → AreAmong cells (i ∷ places) → AreAmong (set cells i (nothing_at i)) places
+
+among_less : (cells list : List Change) → AreCells cells list → (i : ℕ) → i < 1024 → (places : List ℕ) → AreAmong cells (i ∷ places) → AreAmong (set cells i (nothing_at i)) places
+among_less cells list a i lt places all =
+    let bound : i < length cells = let long = a.long in omega arith in
+    λ k d l. at_set cells i k (nothing_at i) d bound (λ e. cell_of e.code ≡ k → is_in k places ≡ true) (λ is h. absurd (nothing_apart i (h ∙ is))) (λ ne h. not_first i k places (eqb i k) refl ne (all k d l h))
+
+emptied : (cells list more : List Change) (i : ℕ) → AreCells cells list → i < 1024 → Rested cells list i (nothing_at i).code more → Emptied cells list i more
+emptied cells list more i a lt left = record { are = left.are; totals = left.totals; among = among_less cells list a i lt }
+
+pub emptied_zero : (cells list : List Change) (i : ℕ) (e : Change) → AreCells cells list → i < 1024 → e ≡ get_or cells i e → is_zero e.by ≡ true → Emptied cells list i list
+emptied_zero cells list i e a lt is z = emptied cells list list i a lt (rested_zero cells list i (nothing_at i).code e a lt is z)
+
+pub emptied_net : (cells list : List Change) (i : ℕ) (e : Change) → AreCells cells list → i < 1024 → e ≡ get_or cells i e → is_zero e.by ≡ false → Emptied cells list i (list ++ e ∷ [])
+emptied_net cells list i e a lt is some = emptied cells list (list ++ e ∷ []) i a lt (rested_net cells list i (nothing_at i).code e a lt is some)
 
 -- cells of which each is empty
 abbrev pub IsFresh : List Change → Type 0
@@ -359,7 +390,7 @@ fresh_cells cells long fresh = record {
   long = long;
   home = λ k d lt some. (let none = (fresh k d lt).0 in cc);
   once = λ c. omega arith;
-  apart = λ c d s. refl;
+  apart = λ c d s some. refl;
 }
 
 pub fresh_among : (cells : List Change) → IsFresh cells → AreAmong cells []
@@ -376,20 +407,31 @@ touched_set cells touched i y t lt in_ = record {
   few = t.few;
 }
 
--- no cell has a net where none has a code of its own
-all_back : (cells list : List Change) → AreCells cells list → AreAmong cells [] → (c : CodeId) → total cells c ≡ pos 0
-all_back cells list a none c = in_cells cells list a c nothing ∙ by_case (same_code (get_or cells (cell_of c) nothing).code c) refl
+-- a cell whose net goes keeps its code
+pub touched_rested : (cells : List Change) (i : ℕ) (e : Change) → i < length cells → e ≡ get_or cells i e → (places : List ℕ) → AreTouched cells places → AreTouched (set cells i (net_of e.code (pos 0))) places
+touched_rested cells i e bound is places t = record {
+  among = λ k d l. at_set cells i k (net_of e.code (pos 0)) d bound (λ x. cell_of x.code ≡ k → is_in k places ≡ true)
+      (λ same h. t.among k e l (subst (λ j. cell_of (get_or cells j e).code ≡ k) (sym same) (subst (λ (x : Change). cell_of x.code ≡ k) is h))) (λ ne h. t.among k d l h);
+  places = t.places;
+  few = t.few;
+}
+
+-- where the nets are
+pub nets_touched : (cells list : List Change) (touched : List ℕ) → AreCells cells list → AreTouched cells touched → AreNetsAmong cells touched
+nets_touched cells list touched a t = λ k d lt some. t.among k d lt (a.home k d lt some)
+
+pub none_rest : (cells : List Change) → AreNetsAmong cells [] → AreAtRest cells
+none_rest cells none = λ k d lt. left_zero (is_zero (get_or cells k d).by) (none k d lt)
+
+pub among_rest : (cells list : List Change) → AreCells cells list → AreAmong cells [] → AreAtRest cells
+among_rest cells list a none = none_rest cells (λ k d lt some. none k d lt (a.home k d lt some))
+
+-- where no cell has a net the list has all
+pub list_all : (cells list : List Change) → AreCells cells list → AreAtRest cells → settled (cells ++ list) ≡ settled list
+list_all cells list a rest = same_settled (cells ++ list) list (λ c. total_append cells list c ∙ none_plus (total cells c) (total list c) (all_none cells c (λ k d lt. dead c k d (let long = a.long in omega arith))))
   where
-    nothing : Change
-    nothing = nothing_at 0
-
-    by_case : (s : Bool) → same_code (get_or cells (cell_of c) nothing).code c ≡ s → cond s (get_or cells (cell_of c) nothing).by (pos 0) ≡ pos 0
-    by_case true h = let no : false ≡ true = none (cell_of c) nothing (place_bound c) (ap cell_of (same_code-equal (get_or cells (cell_of c) nothing).code c h)) in cc
-    by_case false h = refl
-
--- then the list has all
-pub list_all : (cells list : List Change) → AreCells cells list → AreAmong cells [] → settled (cells ++ list) ≡ settled list
-list_all cells list a none = same_settled (cells ++ list) list (λ c. total_append cells list c ∙ none_plus (total cells c) (total list c) (all_back cells list a none c))
+    dead : (c : CodeId) (k : ℕ) (d : Change) → k < 1024 → lives (get_or cells k d) c ≡ false
+    dead c k d lt = rw (rest k d lt) refl
 
 -- what a move leaves
 pub record Noted (cells list more : List Change) (touched : List ℕ) (places : ℕ) (others : List Change) (room : ℕ) (code : CodeId) (by : ℤ) : Type 0 where
@@ -397,10 +439,10 @@ pub record Noted (cells list more : List Change) (touched : List ℕ) (places : 
   pub same : settled (more ++ others) ≡ add (settled (cells ++ list)) code by
 
 noted :
-    (cells list more others : List Change) (touched now_touched : List ℕ) (places room : ℕ) (code : CodeId) (by : ℤ) → AreKept cells touched places list room false → AreCells more others → AreTouched more now_touched
+    (cells list more others : List Change) (touched now_touched : List ℕ) (places room : ℕ) (code : CodeId) (by : ℤ) → AreKept cells touched places list room false → AreCells more others → AreApart more others → AreTouched more now_touched
     → length others ≤ 1024 → ((c : CodeId) → total (more ++ others) c ≡ total (cells ++ list) c +ℤ by_code code by c)
     → is_zero by ≡ false → IsWithin (net_in (settled (cells ++ list)) code +ℤ by) 256 → length (add (settled (cells ++ list)) code by) ≤ 512 → Noted cells list more now_touched places others room code by
-noted cells list more others touched now_touched places room code by k a t fits moves some w few =
+noted cells list more others touched now_touched places room code by k a apart t fits moves some w few =
     let same = moved_settled (cells ++ list) (more ++ others) code by some moves in
     record {
       kept = record {
@@ -412,7 +454,8 @@ noted cells list more others touched now_touched places room code by k a t fits 
         small = rw same (within_add (settled (cells ++ list)) code by (settled_rising (cells ++ list)) k.small w);
         few = rw same few;
         rising = λ no. cc;
-        untouched = λ no. cc;
+        apart = λ open_. apart;
+        at_rest = λ no. cc;
       };
       same = same;
     }
@@ -456,10 +499,10 @@ right_moves cells list others code by h c = total_append cells others c ∙ (ap 
     group t x u = omega (arith, ints)
 
 -- the code's cell has it
-pub here_within : (cells list : List Change) (touched : List ℕ) (places room : ℕ) (flushed : Bool) (code : CodeId) (x : Change) → AreKept cells touched places list room flushed
+pub here_within : (cells list : List Change) (touched : List ℕ) (places room : ℕ) (code : CodeId) (x : Change) → AreKept cells touched places list room false
     → x ≡ get_or cells (cell_of code) x → same_code x.code code ≡ true → IsWithin x.by 256
-here_within cells list touched places room flushed code x k is same =
-    let all = settled_net (cells ++ list) code ∙ (whole cells list k.cells_are code x (subst (λ (e : Change). same_code e.code code ≡ true) is same) ∙ ap (λ (e : Change). e.by) (sym is)) in
+here_within cells list touched places room code x k is same =
+    let all = settled_net (cells ++ list) code ∙ (whole cells list k.cells_are (k.apart refl) code x (subst (λ (e : Change). same_code e.code code ≡ true) is same) ∙ ap (λ (e : Change). e.by) (sym is)) in
     subst (λ z. IsWithin z 256) all (k.small code)
 
 pub noted_here : (cells list : List Change) (touched : List ℕ) (places room : ℕ) (code : CodeId) (by z : ℤ) (x : Change) → AreKept cells touched places list room false
@@ -469,7 +512,8 @@ pub noted_here : (cells list : List Change) (touched : List ℕ) (places room : 
 noted_here cells list touched places room code by z x k is same sum some w few =
     subst (λ q. Noted cells list (set cells (cell_of code) (net_of q z)) touched places list room code by) (sym code_is)
     (noted cells list (set cells (cell_of code) (net_of code z)) list touched touched places room code by k
-    (taken cells list k.cells_are code z none)
+    (taken cells list k.cells_are (k.apart refl) code z none)
+    (taken_apart cells list k.cells_are (k.apart refl) code z none)
     (touched_set cells touched (cell_of code) (net_of code z) k.touched_are bound in_)
     k.fits
     (left_moves cells (set cells (cell_of code) (net_of code z)) list code by (written cells (cell_of code) x (net_of code z) code by bound is moves))
@@ -482,7 +526,7 @@ noted_here cells list touched places room code by z x k is same sum some w few =
     bound = cell_bound cells list k.cells_are code
 
     none : times code (codes_in list) ≡ 0
-    none = k.cells_are.apart code x (subst (λ (e : Change). same_code e.code code ≡ true) is same)
+    none = k.apart refl code x (subst (λ (e : Change). same_code e.code code ≡ true) is same)
 
     in_ : is_in (cell_of code) touched ≡ true
     in_ = touched_here cells touched (cell_of code) x k.touched_are (place_bound code) is (ap cell_of code_is)
@@ -497,7 +541,8 @@ pub noted_taken : (cells list : List Change) (touched now_touched : List ℕ) (p
     → Noted cells list (set cells (cell_of code) (net_of code by)) now_touched places list room code by
 noted_taken cells list touched now_touched places room code by x k is zero_net none t in_ some w few =
     noted cells list (set cells (cell_of code) (net_of code by)) list touched now_touched places room code by k
-    (taken cells list k.cells_are code by none)
+    (taken cells list k.cells_are (k.apart refl) code by none)
+    (taken_apart cells list k.cells_are (k.apart refl) code by none)
     (touched_set cells now_touched (cell_of code) (net_of code by) t bound in_)
     k.fits
     (left_moves cells (set cells (cell_of code) (net_of code by)) list code by (written cells (cell_of code) x (net_of code by) code by bound is (λ c. none_moves code x.code c x.by by zero_net)))
@@ -522,7 +567,8 @@ pub noted_listed : (cells list : List Change) (touched : List ℕ) (places room 
     → Noted cells list cells touched places (set list place (net_of x.code z)) room code by
 noted_listed cells list touched places room code by z place x k at_ is sum some w few =
     noted cells list cells (set list place (net_of x.code z)) touched touched places room code by k
-    (relisted cells list (set list place (net_of x.code z)) k.cells_are (λ c. codes c))
+    (relisted cells list (set list place (net_of x.code z)) k.cells_are codes)
+    (relisted_apart cells list (set list place (net_of x.code z)) (k.apart refl) codes)
     k.touched_are
     (let long = length-set list place (net_of x.code z) in let fits = k.fits in omega arith)
     (right_moves cells list (set list place (net_of x.code z)) code by (written list place x (net_of x.code z) code by at_.within is moves))
@@ -553,27 +599,33 @@ pub noted_put : (cells list others : List Change) (touched now_touched : List �
     → Noted cells list cells now_touched places others room code by
 noted_put cells list others touched now_touched places room code by k new none t put some w few =
     noted cells list cells others touched now_touched places room code by k
-    (listed cells list others code by k.cells_are put none new)
+    (listed cells list others code by k.cells_are (k.apart refl) put none new)
+    (listed_apart cells list others code by (k.apart refl) put new)
     t put.fits (right_moves cells list others code by put.totals) some w few
 
--- none is left in the cells
-pub none_kept : (cells : List Change) (places room : ℕ) → AreCells cells [] → AreAmong cells [] → 1024 ≤ places → 2048 ≤ room → AreKept cells [] places [] room false
-none_kept cells places room a none has_places has_room =
-    let all = list_all cells [] a none in
+-- no net is left
+pub none_kept : (cells : List Change) (touched : List ℕ) (places room : ℕ) → AreCells cells [] → AreTouched cells touched → AreAtRest cells → 1024 ≤ places → 2048 ≤ room → AreKept cells touched places [] room false
+none_kept cells touched places room a t rest has_places has_room =
+    let all = list_all cells [] a rest in
     record {
       cells_are = a;
-      touched_are = record { among = none; places = All-nil (λ k. k < 1024); few = omega arith };
+      touched_are = t;
       has_places = has_places;
       has_room = has_room;
       fits = omega arith;
       small = rw all (λ c. record { low = omega (arith, ints); high = omega (arith, ints) });
       few = rw all (omega arith);
       rising = λ no. cc;
-      untouched = λ no. cc;
+      apart = λ open_ c d s. refl;
+      at_rest = λ no. cc;
     }
 
-same_all : (cells list more others : List Change) → AreCells more others → AreAmong more [] → ((c : CodeId) → total (more ++ others) c ≡ total (cells ++ list) c) → settled others ≡ settled (cells ++ list)
-same_all cells list more others a none same = sym (list_all more others a none) ∙ same_settled (more ++ others) (cells ++ list) same
+-- none was touched
+pub none_touched : (cells : List Change) → AreAmong cells [] → AreTouched cells []
+none_touched cells none = record { among = none; places = All-nil (λ k. k < 1024); few = omega arith }
+
+same_all : (cells list more others : List Change) → AreCells more others → AreAtRest more → ((c : CodeId) → total (more ++ others) c ≡ total (cells ++ list) c) → settled others ≡ settled (cells ++ list)
+same_all cells list more others a rest same = sym (list_all more others a rest) ∙ same_settled (more ++ others) (cells ++ list) same
 
 settled_part : (es : List Change) (c : CodeId) → times c (codes_in (settled es)) ≤ times c (codes_in es)
 settled_part es c = by_case (times c (codes_in es)) refl (is_zero (net_in (settled es) c)) refl (times_codes (settled es) None c (settled_rising es))
@@ -583,31 +635,32 @@ settled_part es c = by_case (times c (codes_in es)) refl (is_zero (net_in (settl
     by_case zero e false z h = absurd (zero_not (net_in (settled es) c) z (settled_net es c ∙ no_total es c e))
     by_case (suc n) e false z h = omega (arith, e, h)
 
-pub flushed_kept : (cells list more others : List Change) (touched : List ℕ) (places room : ℕ) (flushed : Bool) → AreKept cells touched places list room flushed
-    → AreCells more others → AreAmong more [] → ((c : CodeId) → total (more ++ others) c ≡ total (cells ++ list) c) → AreKept more [] places (settled others) room true
-flushed_kept cells list more others touched places room flushed k a none same =
+pub flushed_kept : (cells list more others : List Change) (touched now_touched : List ℕ) (places room : ℕ) → AreKept cells touched places list room false
+    → AreCells more others → AreTouched more now_touched → AreAtRest more → ((c : CodeId) → total (more ++ others) c ≡ total (cells ++ list) c) → AreKept more now_touched places (settled others) room true
+flushed_kept cells list more others touched now_touched places room k a t rest same =
     let b = relisted more others (settled others) a (settled_part others) in
-    let all : settled (more ++ settled others) ≡ settled (cells ++ list) = list_all more (settled others) b none ∙ (rising_settled (settled others) (settled_rising others) ∙ same_all cells list more others a none same) in
+    let all : settled (more ++ settled others) ≡ settled (cells ++ list) = list_all more (settled others) b rest ∙ (rising_settled (settled others) (settled_rising others) ∙ same_all cells list more others a rest same) in
     record {
       cells_are = b;
-      touched_are = record { among = none; places = All-nil (λ k. k < 1024); few = omega arith };
+      touched_are = t;
       has_places = k.has_places;
       has_room = k.has_room;
-      fits = (let long = ap length (same_all cells list more others a none same) in let few = k.few in omega arith);
+      fits = (let long = ap length (same_all cells list more others a rest same) in let few = k.few in omega arith);
       small = rw all k.small;
       few = rw all k.few;
       rising = λ f. settled_rising others;
-      untouched = λ f. refl;
+      apart = λ no. cc;
+      at_rest = λ f. rest;
     }
 
-pub flushed_same : (cells list more others : List Change) → AreCells more others → AreAmong more [] → ((c : CodeId) → total (more ++ others) c ≡ total (cells ++ list) c) → settled (more ++ settled others) ≡ settled (cells ++ list)
-flushed_same cells list more others a none same =
-    list_all more (settled others) (relisted more others (settled others) a (settled_part others)) none ∙ (rising_settled (settled others) (settled_rising others) ∙ same_all cells list more others a none same)
+pub flushed_same : (cells list more others : List Change) → AreCells more others → AreAtRest more → ((c : CodeId) → total (more ++ others) c ≡ total (cells ++ list) c) → settled (more ++ settled others) ≡ settled (cells ++ list)
+flushed_same cells list more others a rest same =
+    list_all more (settled others) (relisted more others (settled others) a (settled_part others)) rest ∙ (rising_settled (settled others) (settled_rising others) ∙ same_all cells list more others a rest same)
 
 -- flushed, the list has all as it is
 pub flushed_is : (cells list : List Change) (touched : List ℕ) (places room : ℕ) (flushed : Bool) → AreKept cells touched places list room flushed → flushed ≡ true → settled (cells ++ list) ≡ list
 flushed_is cells list touched places room flushed k f =
-    list_all cells list k.cells_are (subst (λ (ks : List ℕ). AreAmong cells ks) (k.untouched f) k.touched_are.among) ∙ rising_settled list (k.rising f)
+    list_all cells list k.cells_are (k.at_rest f) ∙ rising_settled list (k.rising f)
 
 -- two reads of a code's cell
 pub read_same : (cells list : List Change) → AreCells cells list → (code : CodeId) (x y : Change) (b : Bool) → x ≡ get_or cells (cell_of code) x → y ≡ get_or cells (cell_of code) y → b ≡ same_code y.code code → b ≡ true → same_code x.code code ≡ true
@@ -617,7 +670,7 @@ read_same cells list a code x y b is was test h =
 
 -- nothing was touched, and the list is empty
 pub unmoved_none : (cells list : List Change) (touched : List ℕ) → AreCells cells list → AreTouched cells touched → length touched ≡ 0 → length list ≡ 0 → settled (cells ++ list) ≡ []
-unmoved_none cells [] [] a t unmoved none = list_all cells [] a t.among
+unmoved_none cells [] [] a t unmoved none = list_all cells [] a (among_rest cells [] a t.among)
 unmoved_none cells (x ∷ xs) touched a t unmoved none = absurd (omega (arith, none))
 unmoved_none cells [] (k ∷ ks) a t unmoved none = absurd (omega (arith, unmoved))
 
@@ -670,25 +723,26 @@ sum_append serial (x ∷ xs) ys = step (net_sum serial (xs ++ ys)) (net_sum seri
 pub dropped : (cells list : List Change) → AreCells cells list → AreCells cells []
 dropped cells list a = relisted cells list [] a (λ c. omega arith)
 
--- the only net is taken out of its cell
-pub record TakenOnly (cells list more : List Change) (places room : ℕ) (e : Change) : Type 0 where
-  pub kept : AreKept more [] places list room false
+-- the only net is taken out of its cell, which keeps its code
+pub record TakenOnly (cells list more : List Change) (touched : List ℕ) (places room : ℕ) (e : Change) : Type 0 where
+  pub kept : AreKept more touched places list room false
   pub was : settled (cells ++ list) ≡ e ∷ []
   pub none : settled (more ++ list) ≡ []
 
 pub taken_only : (cells list : List Change) (touched : List ℕ) (places room i : ℕ) (e : Change) → AreKept cells touched places list room false → length touched ≡ 1 → length list ≡ 0
-    → i ≡ get_or touched 0 i → e ≡ get_or cells i e → is_zero e.by ≡ false → TakenOnly cells list (set cells i (nothing_at i)) places room e
+    → i ≡ get_or touched 0 i → e ≡ get_or cells i e → is_zero e.by ≡ false → TakenOnly cells list (set cells i (net_of e.code (pos 0))) touched places room e
 taken_only cells list [] places room i e k one none at_ is some = absurd (omega (arith, one))
 taken_only cells list (j ∷ m ∷ ms) places room i e k one none at_ is some = absurd (omega (arith, one))
 taken_only cells (x ∷ xs) (j ∷ []) places room i e k one none at_ is some = absurd (omega (arith, none))
 taken_only cells [] (j ∷ []) places room i e k one none at_ is some =
-    let bound : i < 1024 = rw at_ (k.touched_are.places 0 i (omega arith)) in
-    let left = emptied_net cells [] i e k.cells_are bound is some in
-    let more : List Change = set cells i (nothing_at i) in
+    let lt : i < 1024 = rw at_ (k.touched_are.places 0 i (omega arith)) in
+    let bound : i < length cells = let long = k.cells_are.long in omega arith in
+    let left = rested_net cells [] i e.code e k.cells_are lt is some in
+    let more : List Change = set cells i (net_of e.code (pos 0)) in
     let empty : AreCells more [] = dropped more (e ∷ []) left.are in
-    let untouched : AreAmong more [] = left.among [] (rw at_ k.touched_are.among) in
+    let rest : AreAtRest more = none_rest more (left.nets [] (rw at_ (nets_touched cells [] (j ∷ []) k.cells_are k.touched_are))) in
     record {
-      kept = none_kept more places room empty untouched k.has_places k.has_room;
-      was = sym (same_all cells [] more (e ∷ []) left.are untouched left.totals) ∙ (rw some refl);
-      none = list_all more [] empty untouched;
+      kept = none_kept more (j ∷ []) places room empty (touched_rested cells i e bound is (j ∷ []) k.touched_are) rest k.has_places k.has_room;
+      was = sym (same_all cells [] more (e ∷ []) left.are rest left.totals) ∙ (rw some refl);
+      none = list_all more [] empty rest;
     }

@@ -132,12 +132,24 @@ pub record AreTouched (cells : List Change) (touched : List ℕ) : Type 0 where
   pub places : All (λ k. k < 1024) touched
   pub few : length touched ≤ 1024
 
--- a net is where its code's cell is, or in the list, and no code is in both
+-- each cell that has a net is one of these
+abbrev pub AreNetsAmong : List Change → List ℕ → Type 0
+AreNetsAmong cells places = (k : ℕ) (d : Change) → k < 1024 → is_zero (slice_index_or cells k d).by ≡ false → is_in k places ≡ true
+
+-- no cell has a net
+abbrev pub AreAtRest : List Change → Type 0
+AreAtRest cells = (k : ℕ) (d : Change) → k < 1024 → is_zero (slice_index_or cells k d).by ≡ true
+
+-- a net is where its code's cell is, or in the list, and no code has one in both
 pub record AreCells (cells list : List Change) : Type 0 where
   pub long : length cells ≡ 1024
   pub home : (k : ℕ) (d : Change) → k < 1024 → is_zero (slice_index_or cells k d).by ≡ false → cell_of (slice_index_or cells k d).code ≡ k
   pub once : AreOnce list
-  pub apart : (code : CodeId) (d : Change) → same_code (slice_index_or cells (cell_of code) d).code code ≡ true → times code (codes_in list) ≡ 0
+  pub apart : (code : CodeId) (d : Change) → same_code (slice_index_or cells (cell_of code) d).code code ≡ true → is_zero (slice_index_or cells (cell_of code) d).by ≡ false → times code (codes_in list) ≡ 0
+
+-- no code is in its cell and in the list, with a net or without
+abbrev pub AreApart : List Change → List Change → Type 0
+AreApart cells list = (code : CodeId) (d : Change) → same_code (slice_index_or cells (cell_of code) d).code code ≡ true → times code (codes_in list) ≡ 0
 
 -- what is true of the cells, the touched ones and the list
 pub record AreKept (cells : List Change) (touched : List ℕ) (places : ℕ) (list : List Change) (room : ℕ) (flushed : Bool) : Type 0 where
@@ -149,4 +161,5 @@ pub record AreKept (cells : List Change) (touched : List ℕ) (places : ℕ) (li
   pub small : (code : CodeId) → IsWithin (net_in (settled (cells ++ list)) code) 256
   pub few : length (settled (cells ++ list)) ≤ 512
   pub rising : flushed ≡ true → IsRising None list
-  pub untouched : flushed ≡ true → touched ≡ []
+  pub apart : flushed ≡ false → AreApart cells list
+  pub at_rest : flushed ≡ true → AreAtRest cells

@@ -248,7 +248,8 @@ impl Image {
     /// [`next_change`](Image::next_change) and [`end`](Image::end) would.
     ///
     /// `None` promises only that nothing changed: it is answered where no count differs or more do,
-    /// and maybe where one does, but other codes moved and moved back, or share its cell.
+    /// and maybe where one does, but other codes moved and moved back, were counted by the
+    /// publication before, or share its cell.
     #[inline(always)]
     pub fn settle_only(&mut self) -> Option<Change>
         requires closed { self.old.publishing ≡ false }
@@ -277,8 +278,8 @@ impl Image {
         !self.publishing && self.nets.is_empty()
     }
 
-    /// Whether no code has moved since the last publication: then each is counted as often as it has frames, and none is open. Where
-    /// codes moved and moved back the answer may be `false` though the image is settled.
+    /// Whether it is known at once that each code is counted as often as it has frames, and no publication is open: no code was
+    /// counted by the last publication, and none has moved since. The answer may be `false` though the image is settled.
     #[inline(always)]
     pub fn is_unmoved(&self) -> bool
         ensures { result ≡ true → IsSettled self.now }

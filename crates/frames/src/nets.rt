@@ -1,12 +1,12 @@
 // Codes with their nets: how many frames each has more than are counted.
 ghost use Rattle.std.specs.Prelude.{None, ◌≡◌, ◌≢◌, ℕ, ◌+◌, ◌<◌, ◌≤◌, ◌==◌, List, [], ◌∷◌, ◌++◌, length, false, true, drop, pos, ◌+ℤ◌, ◌≤ℤ◌, vec_capacity, slice_get, slice_index_or, IfOk, IfSome, IfNone, filter, not, count_by};
-ghost use Rattle.std.specs.List.{All};
+ghost use Rattle.std.specs.List.{All, list_any};
 ghost use Rattle.std.specs.List.Sorted.{IsPermutation};
 ghost use Rattle.frames.specs.declared.CodeId.{CodeId};
 ghost use Rattle.frames.specs.declared.Change.{Change};
 ghost use Rattle.frames.specs.Stack.{same_code, times};
 ghost use Rattle.frames.specs.Kept.{upto};
-ghost use Rattle.frames.specs.Nets.{NetsView, IsRising, net_in, add, settled, total, codes_in, cell_of, nothing_at, is_zero, is_in, IsAt, IsPut, IsWithin, AreAmong, AreOnce, AreCells, AreTouched, AreKept, net_sum, AreSmall};
+ghost use Rattle.frames.specs.Nets.{NetsView, IsRising, net_in, add, settled, total, codes_in, cell_of, nothing_at, is_zero, is_in, IsAt, IsPut, IsWithin, AreAmong, AreOnce, AreNetsAmong, AreAtRest, AreCells, AreTouched, AreKept, net_sum, AreSmall};
 
 use crate::{Change, CodeId};
 use std::alloc::{AllocError, Global};
@@ -28,14 +28,15 @@ const ROOM: usize = MOVED + CELLS;
 /// Calls and returns only note them: the cell of a code's slot has the code with its net, so that
 /// a move looks at that cell alone, and neither searches nor shifts any list: a call and its return
 /// take about 10 ns at a depth of 256, and 90 over a sorted list (docs/project/SPEED.md). A
-/// publication first flushes, which lists and sorts them.
+/// publication first flushes, which lists and sorts them. The cells keep their codes where each has a
+/// net: what moved is likely to move back before the next publication, and isn't noted anew then.
 #[derive(Drop)]
 pub(crate) struct Nets {
     // By the last bits of a slot: a code with its net. One with other last bits stands for none.
     cells: Vec<CodeNet>,
-    // Where there are codes in the cells, so that a flush goes over no others.
+    // Where there are codes in the cells, with a net or without, so that a flush goes over no others.
     touched: Vec<u16>,
-    // The nets of codes whose cell had another code with a net. Flushed, it has all nets, sorted.
+    // The nets of codes whose cell had another code with a net. Flushed, it has all nets, sorted, and the cells have none.
     list: Vec<CodeNet>,
     flushed: bool,
 }
@@ -99,6 +100,14 @@ impl CodeNet {
         ensures { result ≡ self.by }
     {
         self.by
+    }
+
+    // The code without a net.
+    #[inline(always)]
+    fn at_rest(self) -> CodeNet
+        ensures { result ≡ record { code = self.code; by = pos 0 } }
+    {
+        CodeNet { by: 0, ..self }
     }
 
     #[inline(always)]
@@ -177,10 +186,10 @@ impl Nets {
 
     /// Sorts the nets.
     pub(crate) fn flush(&mut self)
+        requires { self.old.flushed ≡ false }
         ensures { self.new ≡ record { entries = self.old.entries; flushed = true } }
     {
-        drain(&mut self.cells, &self.touched, &mut self.list);
-        self.touched.clear();
+        move_out(&mut self.cells, &mut self.touched, &mut self.list);
         settle(&mut self.list);
         self.flushed = true;
     }
@@ -204,7 +213,7 @@ impl Nets {
         }
     }
 
-    /// Whether no code has moved since all were dropped; then there are none.
+    /// Whether no cell has a code and the list is empty; then there are none.
     #[inline(always)]
     pub(crate) fn is_unmoved(&self) -> bool
         ensures { result ≡ true → self.now.entries ≡ [] }
@@ -251,17 +260,15 @@ impl Nets {
         if !has_net(&net) {
             return None;
         }
-        self.cells[place] = nothing_at(place);
-        self.touched.clear();
+        self.cells[place] = net.at_rest();
         Some(net.change())
     }
 
     /// Drops all nets.
     pub(crate) fn clear(&mut self)
+        requires { self.old.flushed ≡ true }
         ensures { self.new ≡ record { entries = []; flushed = false } }
     {
-        drain(&mut self.cells, &self.touched, &mut self.list);
-        self.touched.clear();
         self.list.clear();
         self.flushed = false;
     }
@@ -512,6 +519,92 @@ fn drain(cells: &mut Vec<CodeNet>, touched: &[u16], list: &mut Vec<CodeNet>)
     for place in touched {
         empty(cells, list, *place as usize);
     }
+}
+
+// Moves the net of the cell to the list. The cell keeps its code.
+#[inline(always)]
+fn unload(cells: &mut Vec<CodeNet>, list: &mut Vec<CodeNet>, place: usize)
+    requires cells { AreCells cells.old.items list.old.items }
+    requires place { place < 1024 }
+    requires room { length list.old.items < vec_capacity list.old }
+
+    ensures cells { AreCells cells.new.items list.new.items }
+    ensures totals { (code : CodeId)
+        → total (cells.new.items ++ list.new.items) code
+        ≡ total (cells.old.items ++ list.old.items) code }
+    ensures nets { (places : List ℕ) → AreNetsAmong cells.old.items (place ∷ places)
+        → AreNetsAmong cells.new.items places }
+    ensures touched { (places : List ℕ) → AreTouched cells.old.items places
+        → AreTouched cells.new.items places }
+    ensures fits { length list.new.items ≤ length list.old.items + 1 }
+    ensures capacity { vec_capacity list.new ≡ vec_capacity list.old }
+{
+    let moved = cells[place];
+    cells[place] = moved.at_rest();
+    if has_net(&moved) {
+        list.push_reserved(moved);
+    }
+}
+
+// Moves the nets of all cells into the list. The cells keep their codes.
+fn unload_all(cells: &mut Vec<CodeNet>, touched: &[u16], list: &mut Vec<CodeNet>)
+    requires cells { AreCells cells.old.items list.old.items }
+    requires touched { AreTouched cells.old.items touched.now }
+    requires nets { AreNetsAmong cells.old.items touched.now }
+    requires fits { length list.old.items ≤ 1024 }
+    requires room { 2048 ≤ vec_capacity list.old }
+
+    ensures cells { AreCells cells.new.items list.new.items }
+    ensures totals { (code : CodeId)
+        → total (cells.new.items ++ list.new.items) code
+        ≡ total (cells.old.items ++ list.old.items) code }
+    ensures none { AreNetsAmong cells.new.items [] }
+    ensures touched { AreTouched cells.new.items touched.now }
+    ensures capacity { vec_capacity list.new ≡ vec_capacity list.old }
+{
+    for place in touched {
+        unload(cells, list, *place as usize);
+    }
+}
+
+// Whether one of the cells has no net.
+fn some_rest(cells: &[CodeNet], touched: &[u16]) -> bool
+    requires long { length cells.now ≡ 1024 }
+    requires places { All (λ k. k < 1024) touched.now }
+    ensures { result ≡ list_any (λ k. is_zero (slice_index_or cells.now k (nothing_at 0)).by)
+        touched.now }
+{
+    for place in touched {
+        if !has_net(&cells[*place as usize]) {
+            return true;
+        }
+    }
+    false
+}
+
+// Moves the nets of all cells into the list. Where each cell that was touched has one, the cells keep their codes, and else
+// none does: so a flush goes over a cell at most once more than its codes were noted.
+fn move_out(cells: &mut Vec<CodeNet>, touched: &mut Vec<u16>, list: &mut Vec<CodeNet>)
+    requires cells { AreCells cells.old.items list.old.items }
+    requires touched { AreTouched cells.old.items touched.old.items }
+    requires fits { length list.old.items ≤ 1024 }
+    requires room { 2048 ≤ vec_capacity list.old }
+
+    ensures cells { AreCells cells.new.items list.new.items }
+    ensures touched { AreTouched cells.new.items touched.new.items }
+    ensures rest { AreAtRest cells.new.items }
+    ensures totals { (code : CodeId)
+        → total (cells.new.items ++ list.new.items) code
+        ≡ total (cells.old.items ++ list.old.items) code }
+    ensures places { vec_capacity touched.new ≡ vec_capacity touched.old }
+    ensures capacity { vec_capacity list.new ≡ vec_capacity list.old }
+{
+    if some_rest(cells, touched) {
+        drain(cells, touched, list);
+        touched.clear();
+        return;
+    }
+    unload_all(cells, touched, list);
 }
 
 // Sorts the nets, and drops those of 0.

@@ -6,8 +6,10 @@ use std::alloc::{AllocError, Global};
 use std::marker::Model;
 use std::sync::atomic::{AtomicU64, Ordering};
 
-// A word is the serial and the slot below it; no code has the serial 0.
-const SLOTS: u64 = 1024;
+// A word is the serial and the slot below it. A board has at most 1024 slots: so the last of these stands for no hint.
+const SLOTS: u64 = 2048;
+
+const NO_HINT: u64 = SLOTS - 1;
 
 /// A plain word for each method. Contracts see how many slots the codes' board has.
 #[derive(Drop)]
@@ -32,7 +34,7 @@ impl Hints {
     {
         let mut words = Vec::with_capacity(alloc, methods as usize)?;
         for _ in 0..methods {
-            words.push(AtomicU64::new(0)).map_err(|_| AllocError)?;
+            words.push(AtomicU64::new(NO_HINT)).map_err(|_| AllocError)?;
         }
         Ok(Hints {
             words,
@@ -62,12 +64,14 @@ impl Hints {
         ensures { IfSome result (λ c. c.slot < self.now.slots) }
     {
         let word = self.words.get(method as usize)?.load(Ordering::SeqCst);
-        let slot = (word % SLOTS) as u32;
-        let serial = word / SLOTS;
-        if serial == 0 || slot >= self.slots {
+        let slot = word % SLOTS;
+        if slot >= self.slots as u64 {
             return None;
         }
-        Some(CodeId { slot, serial })
+        Some(CodeId {
+            slot: slot as u32,
+            serial: word / SLOTS,
+        })
     }
 
     /// The method's calls try this code first from now on.

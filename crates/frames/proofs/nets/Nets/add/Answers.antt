@@ -12,7 +12,8 @@ move_by-requires-clause-low c =
     let is = rw c.cell_of-place.ensures.value at c.index_mut.ensures.value in
     let was = rw c.cell_of-place.ensures.value at c.index.ensures in
     let same = read_same s.cells.items s.list.items c.self.invariant.cells_are c.args.code x c.index.result.now c.is_of.result is was c.is_of.ensures c.if-is_of.true in
-    let w = here_within s.cells.items s.list.items s.touched.items _ _ s.flushed c.args.code x c.self.invariant is same in
+    let open_ : s.flushed ≡ false = ap (λ v. v.flushed) c.self.view_is ∙ c.requires.open in
+    let w = here_within s.cells.items s.list.items s.touched.items _ _ c.args.code x (rw open_ at c.self.invariant) is same in
     let low = w.low in
     let one = c.requires.one in
     omega (arith, ints, low)
@@ -24,7 +25,8 @@ move_by-requires-clause-high c =
     let is = rw c.cell_of-place.ensures.value at c.index_mut.ensures.value in
     let was = rw c.cell_of-place.ensures.value at c.index.ensures in
     let same = read_same s.cells.items s.list.items c.self.invariant.cells_are c.args.code x c.index.result.now c.is_of.result is was c.is_of.ensures c.if-is_of.true in
-    let w = here_within s.cells.items s.list.items s.touched.items _ _ s.flushed c.args.code x c.self.invariant is same in
+    let open_ : s.flushed ≡ false = ap (λ v. v.flushed) c.self.view_is ∙ c.requires.open in
+    let w = here_within s.cells.items s.list.items s.touched.items _ _ c.args.code x (rw open_ at c.self.invariant) is same in
     let high = w.high in
     let one = c.requires.one in
     omega (arith, ints, high)

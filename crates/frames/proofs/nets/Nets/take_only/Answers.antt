@@ -12,7 +12,7 @@ invariant_of-self c =
     let none : length s.list.items ≡ 0 = search rules in
     let some = tested c.has_net.result (is_zero c.index-2.result.now.by) c.has_net.ensures (search rules) in
     let only = taken_only s.cells.items s.list.items s.touched.items _ _ c.index.result.now c.index-2.result.now (rw open_ at c.self.invariant) one none c.index.ensures c.index-2.ensures some in
-    rw (open_, c.nothing_at.ensures, c.clear.ensures.items, c.clear.ensures.capacity) only.kept
+    rw (open_, c.at_rest.ensures) only.kept
 
 pub returns-clause-some : goal.returns-clause-some
 returns-clause-some c =
@@ -23,4 +23,4 @@ returns-clause-some c =
     let some = tested c.has_net.result (is_zero c.index-2.result.now.by) c.has_net.ensures (search rules) in
     let only = taken_only s.cells.items s.list.items s.touched.items _ _ c.index.result.now c.index-2.result.now (rw open_ at c.self.invariant) one none c.index.ensures c.index-2.ensures some in
     let view : List Change → NetsView = λ entries. record { entries = entries; flushed = false } in
-    (rw (← c.self.view_is, c.change.ensures) only.was, rw (open_, c.nothing_at.ensures) (ap view only.none))
+    (rw (← c.self.view_is, c.change.ensures) only.was, rw (open_, c.at_rest.ensures) (ap view only.none))
