@@ -583,7 +583,7 @@ fn some_rest(cells: &[CodeNet], touched: &[u16]) -> bool
 }
 
 // Moves the nets of all cells into the list. Where each cell that was touched has one, the cells keep their codes, and else
-// none does: so a flush goes over a cell at most once more than its codes were noted.
+// none does: so a flush goes over a cell whose code didn't move at most once, and forgets it.
 fn move_out(cells: &mut Vec<CodeNet>, touched: &mut Vec<u16>, list: &mut Vec<CodeNet>)
     requires cells { AreCells cells.old.items list.old.items }
     requires touched { AreTouched cells.old.items touched.old.items }
