@@ -46,12 +46,12 @@ impl Stack {
     }
 }
 
-/// Net per slot in an array, with a list of the slots touched. O(1) a push and a pop; a publication sorts what changed.
+/// Net per slot in an array, with a list of the slots that have a code there. O(1) a push and a pop; a publication sorts what changed, and
+/// the cells keep their codes where each has a net, as the product's do.
 #[derive(Clone, Copy)]
 struct Cell {
     serial: u64,
     net: i32,
-    mark: u32,
 }
 pub struct Dense {
     s: Stack,
@@ -64,23 +64,24 @@ impl Dense {
     fn bump(&mut self, f: &Frame, by: i32) {
         let c = &mut self.cell[f.slot as usize];
         c.net += by;
-        if c.mark == 0 {
+        if c.serial != f.serial {
             Self::touch(c, &mut self.touched, f);
         }
     }
     #[cold]
     #[inline(never)]
     fn touch(c: &mut Cell, t: &mut Vec<u16>, f: &Frame) {
-        c.mark = 1;
+        if c.serial == 0 {
+            t.push(f.slot as u16);
+        }
         c.serial = f.serial;
-        t.push(f.slot as u16);
     }
 }
 impl Image for Dense {
     fn new(slots: usize) -> Self {
         Dense {
             s: Stack::new(),
-            cell: vec![Cell { serial: 0, net: 0, mark: 0 }; slots].into(),
+            cell: vec![Cell { serial: 0, net: 0 }; slots].into(),
             touched: Vec::with_capacity(slots),
             tmp: Vec::with_capacity(slots),
         }
@@ -109,23 +110,30 @@ impl Image for Dense {
         if let [i] = self.touched[..] {
             // the usual case: no sort, no second list
             let c = &mut self.cell[i as usize];
-            c.mark = 0;
             let n = std::mem::take(&mut c.net);
             if n != 0 {
                 g(CodeId { slot: i as u32, serial: c.serial }, n);
+            } else {
+                c.serial = 0;
+                self.touched.clear();
             }
-            self.touched.clear();
             return;
         }
+        // What moved since the last publication is likely to move again: its cells keep their codes, where all moved.
+        let all = self.touched.iter().all(|&i| self.cell[i as usize].net != 0);
         for &i in &self.touched {
             let c = &mut self.cell[i as usize];
-            c.mark = 0;
             if c.net != 0 {
                 self.tmp.push((c.serial, i, c.net as i16));
                 c.net = 0;
             }
+            if !all {
+                c.serial = 0;
+            }
         }
-        self.touched.clear();
+        if !all {
+            self.touched.clear();
+        }
         if self.tmp.len() > 1 {
             self.tmp.sort_unstable();
         }
