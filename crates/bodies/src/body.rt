@@ -187,7 +187,7 @@ fn publish_all(image: &mut Image, seat: &mut ThreadSeat, board: &Board)
     requires begun { seat.old.seen.moment ≢ 0 }
     ensures { AreCounted image.old image.new seat.old seat.new }
 {
-    match image.begin() {
+    match image.begin_keeping() {
         Ok(()) => {}
         Err(_) => unreachable!(),
     }

@@ -183,11 +183,37 @@ impl Image {
         ensures refused { OnErr result (self.old.publishing ≡ true) }
         ensures unchanged { OnErr result (self.new ≡ self.old) }
     {
+        self.may_begin()?;
+        self.nets.flush();
+        self.publishing = true;
+        Ok(())
+    }
+
+    /// Opens a publication, as [`begin`](Image::begin) does, of a stack on which the same codes come and go: where each code that
+    /// was noted differs, it stays noted. Its next moves cost less then, and [`is_settled`](Image::is_settled) looks at each.
+    ///
+    /// # Errors
+    /// One is open.
+    pub fn begin_keeping(&mut self) -> Result<(), Publishing>
+        ensures ok { OnOk result (self.new ≡ record self.old { publishing = true }) }
+        ensures opened { OnOk result (self.new.changed ≡ []) }
+        ensures accepted { OnOk result (self.old.publishing ≡ false) }
+        ensures refused { OnErr result (self.old.publishing ≡ true) }
+        ensures unchanged { OnErr result (self.new ≡ self.old) }
+    {
+        self.may_begin()?;
+        self.nets.flush_keeping();
+        self.publishing = true;
+        Ok(())
+    }
+
+    fn may_begin(&self) -> Result<(), Publishing>
+        ensures accepted { OnOk result (self.now.publishing ≡ false) }
+        ensures refused { OnErr result (self.now.publishing ≡ true) }
+    {
         if self.publishing {
             return Err(Publishing);
         }
-        self.nets.flush();
-        self.publishing = true;
         Ok(())
     }
 
@@ -248,8 +274,8 @@ impl Image {
     /// [`next_change`](Image::next_change) and [`end`](Image::end) would.
     ///
     /// `None` promises only that nothing changed: it is answered where no count differs or more do,
-    /// and maybe where one does, but other codes moved and moved back, were counted by the
-    /// publication before, or share its cell.
+    /// and maybe where one does, but other codes moved and moved back, were kept by the last
+    /// publication, or share its cell. A code that it gives stays noted.
     #[inline(always)]
     pub fn settle_only(&mut self) -> Option<Change>
         requires closed { self.old.publishing ≡ false }
@@ -278,8 +304,8 @@ impl Image {
         !self.publishing && self.nets.is_empty()
     }
 
-    /// Whether it is known at once that each code is counted as often as it has frames, and no publication is open: no code was
-    /// counted by the last publication, and none has moved since. The answer may be `false` though the image is settled.
+    /// Whether no code is noted: then each is counted as often as it has frames, and no publication is open. Where codes moved and
+    /// moved back, and where the last publication kept codes, the answer may be `false` though the image is settled.
     #[inline(always)]
     pub fn is_unmoved(&self) -> bool
         ensures { result ≡ true → IsSettled self.now }

@@ -28,8 +28,8 @@ const ROOM: usize = MOVED + CELLS;
 /// Calls and returns only note them: the cell of a code's slot has the code with its net, so that
 /// a move looks at that cell alone, and neither searches nor shifts any list: a call and its return
 /// take about 10 ns at a depth of 256, and 90 over a sorted list (docs/project/SPEED.md). A
-/// publication first flushes, which lists and sorts them. The cells keep their codes where each has a
-/// net: what moved is likely to move back before the next publication, and isn't noted anew then.
+/// publication first flushes, which lists and sorts them. One that keeps codes leaves them in their
+/// cells, if each has a net: what moved is likely to move back before the next, and isn't noted anew then.
 #[derive(Drop)]
 pub(crate) struct Nets {
     // By the last bits of a slot: a code with its net. One with other last bits stands for none.
@@ -184,8 +184,20 @@ impl Nets {
         }
     }
 
-    /// Sorts the nets.
+    /// Sorts the nets. No cell has a code then.
     pub(crate) fn flush(&mut self)
+        requires { self.old.flushed ≡ false }
+        ensures { self.new ≡ record { entries = self.old.entries; flushed = true } }
+    {
+        drain(&mut self.cells, &self.touched, &mut self.list);
+        self.touched.clear();
+        settle(&mut self.list);
+        self.flushed = true;
+    }
+
+    /// Sorts the nets, as [`flush`](Nets::flush) does. The cells keep their codes where each that was
+    /// touched has a net.
+    pub(crate) fn flush_keeping(&mut self)
         requires { self.old.flushed ≡ false }
         ensures { self.new ≡ record { entries = self.old.entries; flushed = true } }
     {

@@ -11,6 +11,7 @@ impl Player for Image {
             "push" => told(rt, alloc, self.push(frame(rt, numbers))),
             "pop" => told(rt, alloc, self.pop()),
             "begin" => told(rt, alloc, self.begin()),
+            "keep" => told(rt, alloc, self.begin_keeping()),
             "next" => told(rt, alloc, self.next_change()),
             "end" => told(rt, alloc, self.end()),
             _ => told_by(rt, alloc, self, call, numbers),
@@ -199,26 +200,26 @@ fn a_code_may_follow_another_in_its_slot_after_a_publication(rt: HostRuntime) {
         &rt,
         rt.alloc(),
         "\
-push 0 0 1 => Ok(()); push 0 1 2 => Ok(()); begin => Ok(())
+push 0 0 1 => Ok(()); push 0 1 2 => Ok(()); keep => Ok(())
 next => Some(Change { code: CodeId { slot: 0, serial: 1 }, by: 1 })
 next => Some(Change { code: CodeId { slot: 1, serial: 2 }, by: 1 })
 end => Ok(()); settled => true; unsettled => 0; net 1 => 0
 pop => Ok(Frame { method: 0, code: Some(CodeId { slot: 1, serial: 2 }) })
 pop => Ok(Frame { method: 0, code: Some(CodeId { slot: 0, serial: 1 }) })
-net 1 => -1; net 2 => -1; unsettled => 2; begin => Ok(())
+net 1 => -1; net 2 => -1; unsettled => 2; keep => Ok(())
 next => Some(Change { code: CodeId { slot: 0, serial: 1 }, by: -1 })
 next => Some(Change { code: CodeId { slot: 1, serial: 2 }, by: -1 })
 next => None; end => Ok(()); settled => true
-push 0 0 4 => Ok(()); push 0 1025 3 => Ok(()); push 0 1 2 => Ok(()); net 1 => 0; net 4 => 1; unsettled => 3; begin => Ok(())
+push 0 0 4 => Ok(()); push 0 1025 3 => Ok(()); push 0 1 2 => Ok(()); net 1 => 0; net 4 => 1; unsettled => 3; keep => Ok(())
 next => Some(Change { code: CodeId { slot: 1, serial: 2 }, by: 1 })
 next => Some(Change { code: CodeId { slot: 1025, serial: 3 }, by: 1 })
 next => Some(Change { code: CodeId { slot: 0, serial: 4 }, by: 1 })
 next => None; end => Ok(())
-begin => Ok(()); next => None; end => Ok(()); settled => true
+keep => Ok(()); next => None; end => Ok(()); settled => true
 pop => Ok(Frame { method: 0, code: Some(CodeId { slot: 1, serial: 2 }) })
-begin => Ok(())
+keep => Ok(())
 next => Some(Change { code: CodeId { slot: 1, serial: 2 }, by: -1 })
-next => None; end => Ok(()); begin => Ok(()); next => None; end => Ok(())
+next => None; end => Ok(()); keep => Ok(()); next => None; end => Ok(())
 push 0 1 2 => Ok(()); settled => false; unsettled => 1; net 2 => 1",
     );
 }
