@@ -18,8 +18,8 @@ pub const DEPTH: usize = 256;
 /// whose count differs, and an [`end`](Image::end). While one is open the stack doesn't change.
 ///
 /// What differs is kept as frames come and go, so that calls and returns cost the same at any
-/// depth, and a publication no more than a sort of the codes that moved. Only
-/// [`count_of`](Image::count_of) goes over the frames.
+/// depth. A publication costs a sort of the codes that moved, and a look at each code that the
+/// one before it kept. Only [`count_of`](Image::count_of) goes over the frames.
 ///
 /// Contracts see the frames, the bag of counted codes, the codes already changed in the open
 /// publication, and whether one is open. Of the bag they say only how often a code is in it.

@@ -26,8 +26,8 @@ const ROOM: usize = MOVED + CELLS;
 /// reserves its room once.
 ///
 /// Calls and returns only note them: the cell of a code's slot has the code with its net, so that
-/// a move looks at that cell alone, and neither searches nor shifts any list: a call and its return
-/// take about 10 ns at a depth of 256, and 90 over a sorted list (docs/project/SPEED.md). A
+/// a move looks at that cell alone, and neither searches nor shifts any list. Over a sorted list a
+/// call and its return take several times as long at a depth of 256 (docs/project/SPEED.md). A
 /// publication first flushes, which lists and sorts them. One that keeps codes leaves them in their
 /// cells, if each has a net: what moved is likely to move back before the next, and isn't noted anew then.
 #[derive(Drop)]
