@@ -95,7 +95,7 @@ fn live<N: Name, J: Errand, R: Wait>(
     signals: &Signals,
 ) -> Option<()> {
     let (mut thread, _start) = shared.start(rt, alloc).ok()?;
-    run_code(rt, shared, signals, &mut thread)?;
+    run_code(rt, signals, &mut thread)?;
     thread.exit(rt).ok()?;
     Some(())
 }
@@ -103,11 +103,10 @@ fn live<N: Name, J: Errand, R: Wait>(
 // Loops in the code until it is asked to end.
 fn run_code<N: Name, J: Errand, R: Wait>(
     rt: &R,
-    shared: &Shared<N, J>,
     signals: &Signals,
     thread: &mut Mutator<'_, N, J>,
 ) -> Option<()> {
-    thread.call(0, shared.hint(0)).ok()?;
+    thread.call_by_hint(0).ok()?;
     signals.is_there.store(true, Ordering::SeqCst);
     for _ in rt.forever() {
         let poll = thread.back_edge().ok()?;

@@ -155,7 +155,7 @@ impl<N: Name> SharedSystem<N> {
         ensures { IfSome result (λ c. c.slot < N.board.slots) }
     {
         let _ = &self.desk;
-        self.hints.of(method)
+        self.hints.of(method)?
     }
 
     pub fn set_hint(&self, method: u32, code: CodeId) {

@@ -29,7 +29,7 @@ pub fn time_calls<N: Name, J: Errand, R: Wait + Clock>(
     let Some(thread) = lives::begin(rt, alloc, shared) else {
         return Err(Wrong::Answer);
     };
-    let time = time_turns(rt, plan, shared, thread)?;
+    let time = time_turns(rt, plan, thread)?;
     keep(times, time)?;
     Ok(())
 }
@@ -38,11 +38,10 @@ pub fn time_calls<N: Name, J: Errand, R: Wait + Clock>(
 fn time_turns<N: Name, J: Errand, R: Wait + Clock>(
     rt: &R,
     plan: Plan,
-    shared: &Shared<N, J>,
     thread: Mutator<'_, N, J>,
 ) -> Result<u64, Wrong> {
     let start = clock::begin(rt);
-    let (thread, goes_on) = turns_of(rt, plan, shared, thread);
+    let (thread, goes_on) = turns_of(rt, plan, thread);
     let time = clock::time_since(rt, start);
     let has_ended = lives::ends(rt, thread);
     let time = time?;
@@ -57,16 +56,15 @@ fn time_turns<N: Name, J: Errand, R: Wait + Clock>(
 fn turns_of<'a, N: Name, J: Errand, R: Wait>(
     rt: &R,
     plan: Plan,
-    shared: &'a Shared<N, J>,
     thread: Mutator<'a, N, J>,
 ) -> (Mutator<'a, N, J>, bool) {
     match plan.kind {
         Kind::Native => crossings(rt, thread, plan.turns),
         Kind::BackEdge => back_edges(thread, plan.turns),
         Kind::Interpreted => interpreted_pairs(thread, plan.turns),
-        Kind::Call => hinted_pairs(shared, thread, plan.turns),
-        Kind::Deep => stacks(shared, thread, plan.turns, plan.arg),
-        Kind::Publish => publications(shared, thread, plan.turns, plan.arg),
+        Kind::Call => hinted_pairs(thread, plan.turns),
+        Kind::Deep => stacks(thread, plan.turns, plan.arg),
+        Kind::Publish => publications(thread, plan.turns, plan.arg),
         _ => (thread, false),
     }
 }
@@ -112,28 +110,15 @@ fn back_edges<'a, N: Name, J: Errand>(
     (thread, all)
 }
 
-// A call of the method by its hint. A call by one and a call without go on apart, so that the hint isn't looked at twice.
 #[inline(always)]
-fn call<N: Name, J: Errand>(
-    shared: &Shared<N, J>,
-    thread: &mut Mutator<'_, N, J>,
-    method: u32,
-) -> bool {
-    match shared.hint(method) {
-        Some(code) => thread.call(method, Some(code)).is_ok(),
-        None => thread.call(method, None).is_ok(),
-    }
+fn call<N: Name, J: Errand>(thread: &mut Mutator<'_, N, J>, method: u32) -> bool {
+    thread.call_by_hint(method).is_ok()
 }
 
 #[inline(always)]
-fn make_pairs<N: Name, J: Errand>(
-    shared: &Shared<N, J>,
-    thread: &mut Mutator<'_, N, J>,
-    method: u32,
-    turns: u64,
-) -> bool {
+fn make_pairs<N: Name, J: Errand>(thread: &mut Mutator<'_, N, J>, method: u32, turns: u64) -> bool {
     for _ in 0..turns {
-        if !(call(shared, thread, method) && ret(thread)) {
+        if !(call(thread, method) && ret(thread)) {
             return false;
         }
     }
@@ -142,24 +127,18 @@ fn make_pairs<N: Name, J: Errand>(
 
 /// Calls the method by its hint and returns, so many times.
 #[inline(never)]
-pub fn pairs<N: Name, J: Errand>(
-    shared: &Shared<N, J>,
-    thread: &mut Mutator<'_, N, J>,
-    method: u32,
-    turns: u64,
-) -> bool {
-    make_pairs(shared, thread, method, turns)
+pub fn pairs<N: Name, J: Errand>(thread: &mut Mutator<'_, N, J>, method: u32, turns: u64) -> bool {
+    make_pairs(thread, method, turns)
 }
 
 // Calls the method by its hint and returns, so many times.
 #[inline(never)]
 fn hinted_pairs<'a, N: Name, J: Errand>(
-    shared: &'a Shared<N, J>,
     thread: Mutator<'a, N, J>,
     turns: u64,
 ) -> (Mutator<'a, N, J>, bool) {
     let mut thread = thread;
-    let all = make_pairs(shared, &mut thread, METHOD, turns);
+    let all = make_pairs(&mut thread, METHOD, turns);
     (thread, all)
 }
 
@@ -185,13 +164,9 @@ fn interpreted_pairs<'a, N: Name, J: Errand>(
 
 /// So many calls, at most 256, of the methods from 0 on.
 #[inline(always)]
-pub fn go_down<N: Name, J: Errand>(
-    shared: &Shared<N, J>,
-    thread: &mut Mutator<'_, N, J>,
-    depth: u64,
-) -> bool {
+pub fn go_down<N: Name, J: Errand>(thread: &mut Mutator<'_, N, J>, depth: u64) -> bool {
     for method in 0..depth.min(256) as u32 {
-        if !call(shared, thread, method) {
+        if !call(thread, method) {
             return false;
         }
     }
@@ -200,14 +175,10 @@ pub fn go_down<N: Name, J: Errand>(
 
 // So many calls, of methods that lie seven apart.
 #[inline(always)]
-fn go_down_apart<N: Name, J: Errand>(
-    shared: &Shared<N, J>,
-    thread: &mut Mutator<'_, N, J>,
-    depth: u64,
-) -> bool {
+fn go_down_apart<N: Name, J: Errand>(thread: &mut Mutator<'_, N, J>, depth: u64) -> bool {
     for level in 0..depth {
         let method = (level.wrapping_mul(7) % 256) as u32;
-        if !call(shared, thread, method) {
+        if !call(thread, method) {
             return false;
         }
     }
@@ -227,14 +198,9 @@ pub fn go_up<N: Name, J: Errand>(thread: &mut Mutator<'_, N, J>, depth: u64) -> 
 
 // So many stacks of this depth.
 #[inline(always)]
-fn make_stacks<N: Name, J: Errand>(
-    shared: &Shared<N, J>,
-    thread: &mut Mutator<'_, N, J>,
-    count: u64,
-    depth: u64,
-) -> bool {
+fn make_stacks<N: Name, J: Errand>(thread: &mut Mutator<'_, N, J>, count: u64, depth: u64) -> bool {
     for _ in 0..count {
-        if !(go_down_apart(shared, thread, depth) && go_up(thread, depth)) {
+        if !(go_down_apart(thread, depth) && go_up(thread, depth)) {
             return false;
         }
     }
@@ -244,30 +210,24 @@ fn make_stacks<N: Name, J: Errand>(
 // So many calls in all, a stack of this depth at a time.
 #[inline(never)]
 fn stacks<'a, N: Name, J: Errand>(
-    shared: &'a Shared<N, J>,
     thread: Mutator<'a, N, J>,
     turns: u64,
     depth: u64,
 ) -> (Mutator<'a, N, J>, bool) {
     let mut thread = thread;
     let count = turns.checked_div(depth).unwrap_or(0);
-    let all = make_stacks(shared, &mut thread, count, depth);
+    let all = make_stacks(&mut thread, count, depth);
     (thread, all)
 }
 
 #[inline(always)]
 fn make_publications<N: Name, J: Errand>(
-    shared: &Shared<N, J>,
     thread: &mut Mutator<'_, N, J>,
     turns: u64,
     codes: u64,
 ) -> bool {
     for _ in 0..turns {
-        if !(go_down(shared, thread, codes)
-            && publish(thread)
-            && go_up(thread, codes)
-            && publish(thread))
-        {
+        if !(go_down(thread, codes) && publish(thread) && go_up(thread, codes) && publish(thread)) {
             return false;
         }
     }
@@ -276,13 +236,12 @@ fn make_publications<N: Name, J: Errand>(
 
 #[inline(never)]
 fn publications<'a, N: Name, J: Errand>(
-    shared: &'a Shared<N, J>,
     thread: Mutator<'a, N, J>,
     turns: u64,
     codes: u64,
 ) -> (Mutator<'a, N, J>, bool) {
     let mut thread = thread;
-    let all = make_publications(shared, &mut thread, turns, codes);
+    let all = make_publications(&mut thread, turns, codes);
     (thread, all)
 }
 
@@ -311,19 +270,18 @@ fn crossings<'a, N: Name, J: Errand, R: Wait>(
 /// never for 0.
 #[inline(never)]
 pub fn publishing_pairs<N: Name, J: Errand>(
-    shared: &Shared<N, J>,
     thread: &mut Mutator<'_, N, J>,
     method: u32,
     turns: u64,
     every: u64,
 ) -> bool {
     if every == 0 {
-        return pairs(shared, thread, method, turns);
+        return pairs(thread, method, turns);
     }
     for _ in 0..turns.checked_div(every).unwrap_or(0) {
-        if !(call(shared, thread, method)
+        if !(call(thread, method)
             && publish(thread)
-            && pairs(shared, thread, method, every.saturating_sub(1))
+            && pairs(thread, method, every.saturating_sub(1))
             && ret(thread)
             && publish(thread))
         {

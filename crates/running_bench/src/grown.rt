@@ -45,7 +45,7 @@ pub fn time_grown<N: Name, R: Wait + Clock>(
     let Some(mut thread) = lives::begin(rt, alloc, shared) else {
         return Err(Wrong::Answer);
     };
-    let is_down = go_down(shared, &mut thread, plan.depth()) && publish(&mut thread);
+    let is_down = go_down(&mut thread, plan.depth()) && publish(&mut thread);
     let gone = thread.to_native(rt).is_ok();
     let mut grown = Grown {
         rt,

@@ -77,7 +77,7 @@ fn live<N: Name, J: Errand, R: Wait + Clock>(
         signals.note_ready();
         return Err(Wrong::Answer);
     };
-    let time = time_thread(rt, plan, shared, signals, &mut thread, method);
+    let time = time_thread(rt, plan, signals, &mut thread, method);
     if lives::ends(rt, thread) {
         time
     } else {
@@ -88,14 +88,13 @@ fn live<N: Name, J: Errand, R: Wait + Clock>(
 fn time_thread<N: Name, J: Errand, R: Wait + Clock>(
     rt: &R,
     plan: Plan,
-    shared: &Shared<N, J>,
     signals: &Signals,
     thread: &mut Mutator<'_, N, J>,
     method: u32,
 ) -> Result<u64, Wrong> {
     match plan.kind {
-        Kind::Together => time_pairs(rt, plan, shared, signals, thread, method),
-        _ => be_stopped(rt, plan, shared, signals, thread),
+        Kind::Together => time_pairs(rt, plan, signals, thread, method),
+        _ => be_stopped(rt, plan, signals, thread),
     }
 }
 
@@ -103,7 +102,6 @@ fn time_thread<N: Name, J: Errand, R: Wait + Clock>(
 fn time_pairs<N: Name, J: Errand, R: Wait + Clock>(
     rt: &R,
     plan: Plan,
-    shared: &Shared<N, J>,
     signals: &Signals,
     thread: &mut Mutator<'_, N, J>,
     method: u32,
@@ -111,7 +109,7 @@ fn time_pairs<N: Name, J: Errand, R: Wait + Clock>(
     signals.note_ready();
     signals.wait_begun(rt);
     let start = clock::begin(rt);
-    let all = publishing_pairs(shared, thread, method, plan.turns, plan.arg);
+    let all = publishing_pairs(thread, method, plan.turns, plan.arg);
     let time = clock::time_since(rt, start)?;
     if all { Ok(time) } else { Err(Wrong::Answer) }
 }
@@ -120,11 +118,10 @@ fn time_pairs<N: Name, J: Errand, R: Wait + Clock>(
 fn be_stopped<N: Name, J: Errand, R: Wait>(
     rt: &R,
     plan: Plan,
-    shared: &Shared<N, J>,
     signals: &Signals,
     thread: &mut Mutator<'_, N, J>,
 ) -> Result<u64, Wrong> {
-    let entered = thread.call(0, shared.hint(0)).is_ok() && thread.publish().is_ok();
+    let entered = thread.call_by_hint(0).is_ok() && thread.publish().is_ok();
     let lived = if plan.arg == 0 {
         loop_until_over(rt, signals, thread)
     } else {

@@ -1,13 +1,15 @@
 -- What contracts see of a mutator, what its type keeps, and what a poll leads to.
-use Rattle.std.specs.Prelude.{◌≡◌, ◌≢◌, ◌⊎◌, ◌<◌, ◌==◌, ◌++◌, ◌∷◌, [], ℕ, Option, Some, None, Bool, true, false, if◌then◌else◌}
+use Rattle.std.specs.Prelude.{◌≡◌, ◌≢◌, ◌⊎◌, ◌<◌, ◌==◌, ◌++◌, ◌∷◌, [], ℕ, Option, Some, None, Bool, true, false, if◌then◌else◌, IfSome}
 use Rattle.thread_state.specs.declared.State.{State}
 use Rattle.thread_state.specs.declared.State.TheVariants.{InJava, InVm, AtPoll}
 use Rattle.thread_state.specs.PollRule.{polled, exchanged}
 use Rattle.thread_state.specs.declared.Back.{Back}
 use Rattle.thread_state.specs.States.{cross, either, state_of}
+use Rattle.frames.specs.declared.CodeId.{CodeId}
 use Rattle.frames.specs.declared.Frame.{Frame}
 use Rattle.frames.specs.ImageView.{ImageView, HasFrames, IsSettled}
-use Rattle.bodies.specs.Bodies.{BodyView, SpareView, IsPublished}
+use Rattle.bodies.specs.Bodies.{BodyView, SpareView, IsCalled, IsPublished}
+use Rattle.bodies.specs.declared.body.Called.{Called}
 use Rattle.operations.specs.Asks.{reply}
 use Rattle.desk.specs.declared.entries.Entry.{Entry}
 use Rattle.desk.specs.Finishing.{FinishSeen}
@@ -76,6 +78,17 @@ pub record IsRunning (places name place : ℕ) (state : State) (body : Option Bo
 -- It is the same thread: what no call changes.
 abbrev pub SameThread : Running → Running → Type 0
 SameThread old new = (new.name ≡ old.name) × (new.place ≡ old.place) × (new.methods ≡ old.methods)
+
+-- A frame of the method goes on the stack, by the code of the hint where that is found in use.
+abbrev pub Calls : Running → Running → ℕ → Option CodeId → Called → Type 0
+Calls old new method hint said
+    = (before : BodyView) × (after : BodyView) × (old.body ≡ Some before) × (new.body ≡ Some after)
+    × IsCalled before after method hint said × (after.name ≡ before.name) × (after.poller ≡ before.poller)
+
+-- A frame of the method goes on the stack, by a hint whose slot is one of so many, or by none.
+abbrev pub CallsByHint : ℕ → Running → Running → ℕ → Called → Type 0
+CallsByHint slots old new method said
+    = (hint : Option CodeId) × IfSome hint (λ c. c.slot < slots) × Calls old new method hint said
 
 -- What a poll answers that found this number: go on at 0, otherwise stop for it.
 abbrev pub poll_of : ℕ → Poll

@@ -1,5 +1,5 @@
 //! Which code a call of a method tries first.
-ghost use Rattle.std.specs.Prelude.{◌≡◌, ◌<◌, ◌≤◌, ◌^◌, IfOk, IfSome};
+ghost use Rattle.std.specs.Prelude.{◌≡◌, ◌<◌, ◌≤◌, ◌^◌, IfOk, IfSome, OnSome, IfNone};
 
 use frames::CodeId;
 use std::alloc::{AllocError, Global};
@@ -20,11 +20,14 @@ pub struct Hints {
 }
 
 impl Model for Hints {
+    ghost use Rattle.std.specs.Prelude.{◌≡◌, length};
     ghost use Rattle.thread_list.specs.Hinted.{Hinted};
 
     ghost Value = { Hinted };
 
     ghost view = { λ h. record { methods = h.methods; slots = h.slots } };
+
+    ghost invariant = { λ h. length h.words.items ≡ h.methods };
 }
 
 impl Hints {
@@ -33,7 +36,7 @@ impl Hints {
         ensures { IfOk result (λ h. (h.methods ≡ methods) × (h.slots ≡ slots)) }
     {
         let mut words = Vec::with_capacity(alloc, methods as usize)?;
-        for _ in 0..methods {
+        while words.len() < methods as usize {
             words.push(AtomicU64::new(NO_HINT)).map_err(|_| AllocError)?;
         }
         Ok(Hints {
@@ -58,20 +61,23 @@ impl Hints {
         self.slots
     }
 
-    /// The code that was set last for the method; None without one, and where its slot isn't one of the board's.
+    /// The code that was set last for the method, None without one, and where its slot isn't one of the board's. None without such a
+    /// method.
     #[inline(always)]
-    pub fn of(&self, method: u32) -> Option<CodeId>
-        ensures { IfSome result (λ c. c.slot < self.now.slots) }
+    pub fn of(&self, method: u32) -> Option<Option<CodeId>>
+        ensures there { OnSome result (method < self.now.methods) }
+        ensures none { IfNone result (self.now.methods ≤ method) }
+        ensures slot { IfSome result (λ h. IfSome h (λ c. c.slot < self.now.slots)) }
     {
         let word = self.words.get(method as usize)?.load(Ordering::SeqCst);
         let slot = word % SLOTS;
         if slot >= self.slots as u64 {
-            return None;
+            return Some(None);
         }
-        Some(CodeId {
+        Some(Some(CodeId {
             slot: slot as u32,
             serial: word / SLOTS,
-        })
+        }))
     }
 
     /// The method's calls try this code first from now on.

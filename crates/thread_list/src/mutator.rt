@@ -1,8 +1,8 @@
 //! A thread's own part: what it calls while it runs, and waits for nobody.
 ghost use Rattle.std.specs.Prelude.{◌≡◌, ◌≢◌, ◌<◌, ◌==◌, ◌++◌, ◌∷◌, [], ℕ, true, false, Some, None, IfOk, OnOk, OnErr, IfErr, IfSome, length, if◌then◌else◌};
 ghost use Rattle.thread_state.specs.declared.State.TheVariants.{InJava as IsInJava, InVm as IsInVm};
-ghost use Rattle.bodies.specs.Bodies.{BodyView, IsCalled, IsPublished};
-ghost use Rattle.thread_list.specs.Moves.{SameThread, Polls, Leaves, is_running};
+ghost use Rattle.bodies.specs.Bodies.{BodyView, IsPublished};
+ghost use Rattle.thread_list.specs.Moves.{SameThread, Calls, CallsByHint, Polls, Leaves, is_running};
 ghost use Rattle.thread_list.specs.Refused.{call_accepted, call_refused, return_refused};
 
 use crate::own_part::OwnPart;
@@ -81,15 +81,26 @@ impl<'a, N: Name, J: Errand> Mutator<'a, N, J> {
         requires slot { IfSome hint (λ c. c.slot < N.board.slots) }
 
         ensures accepted { OnOk result (call_accepted self.old method) }
-        ensures step { IfOk result (λ said. (old : BodyView) × (new : BodyView)
-            × (self.old.body ≡ Some old) × (self.new.body ≡ Some new)
-            × IsCalled old new method hint said × (new.name ≡ old.name)
-            × (new.poller ≡ old.poller)) }
+        ensures step { IfOk result (Calls self.old self.new method hint) }
         ensures state { self.new.state ≡ self.old.state }
         ensures same { SameThread self.old self.new }
         ensures err { IfErr result (λ e. (self.new ≡ self.old) × call_refused self.old method e) }
     {
         self.own_part.call(self.shared.board(), method, hint)
+    }
+
+    /// Enters a method by its hint, the code that was installed for it last, as `call` does: by that code where its entry is found in
+    /// use, by one load, and otherwise, or without a hint, as an interpreted frame.
+    #[inline(always)]
+    pub fn call_by_hint(&mut self, method: u32) -> Result<Called, CallFault>
+        ensures accepted { OnOk result (call_accepted self.old method) }
+        ensures step { IfOk result (CallsByHint N.board.slots self.old self.new method) }
+        ensures state { self.new.state ≡ self.old.state }
+        ensures same { SameThread self.old self.new }
+        ensures err { IfErr result (λ e. (self.new ≡ self.old) × call_refused self.old method e) }
+    {
+        self.own_part
+            .call_by_hint(self.shared.board(), self.shared.hints(), method)
     }
 
     /// Returns from the method of the top frame, and polls: one load.

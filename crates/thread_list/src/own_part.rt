@@ -2,11 +2,12 @@
 ghost use Rattle.std.specs.Prelude.{◌≡◌, ◌≢◌, ◌<◌, ◌==◌, ◌++◌, ◌∷◌, [], ℕ, true, false, Some, None, IfOk, OnOk, OnErr, IfErr, IfSome, length, if◌then◌else◌};
 ghost use Rattle.thread_state.specs.declared.State.TheVariants.{InJava as IsInJava, InVm as IsInVm, AtPoll as IsAtPoll};
 ghost use Rattle.thread_state.specs.declared.Back.TheVariants.{Java as OfJava};
-ghost use Rattle.bodies.specs.Bodies.{BodyView, IsCalled, IsPublished};
-ghost use Rattle.thread_list.specs.Moves.{SameThread, Polls, Leaves, is_running};
+ghost use Rattle.bodies.specs.Bodies.{BodyView, IsPublished};
+ghost use Rattle.thread_list.specs.Moves.{SameThread, Calls, CallsByHint, Polls, Leaves, is_running};
 ghost use Rattle.thread_list.specs.Refused.{call_accepted, call_refused, return_refused};
 
 use crate::body_state::BodyState;
+use crate::hints::Hints;
 use crate::mutator::{CallFault, ReturnFault};
 use crate::polls::{Poll, poll_of};
 use berths::{BodyReceipt, SeatReceipt};
@@ -89,10 +90,7 @@ impl<N: Name> OwnPart<N> {
         requires slot { IfSome hint (λ c. c.slot < N.board.slots) }
 
         ensures accepted { OnOk result (call_accepted self.old method) }
-        ensures step { IfOk result (λ said. (old : BodyView) × (new : BodyView)
-            × (self.old.body ≡ Some old) × (self.new.body ≡ Some new)
-            × IsCalled old new method hint said × (new.name ≡ old.name)
-            × (new.poller ≡ old.poller)) }
+        ensures step { IfOk result (Calls self.old self.new method hint) }
         ensures state { self.new.state ≡ self.old.state }
         ensures same { SameThread self.old self.new }
         ensures err { IfErr result (λ e. (self.new ≡ self.old) × call_refused self.old method e) }
@@ -109,6 +107,44 @@ impl<N: Name> OwnPart<N> {
             }
         } else {
             Err(CallFault::NoSuchMethod)
+        }
+    }
+
+    /// Enters a method by its hint, as `call` does.
+    #[inline(always)]
+    pub fn call_by_hint(
+        &mut self,
+        board: &Board,
+        hints: &Hints,
+        method: u32,
+    ) -> Result<Called, CallFault>
+        requires board { board.now ≡ N.board }
+        requires slots { hints.now.slots ≡ N.board.slots }
+        requires methods { hints.now.methods ≡ self.old.methods }
+
+        ensures accepted { OnOk result (call_accepted self.old method) }
+        ensures step { IfOk result (CallsByHint N.board.slots self.old self.new method) }
+        ensures state { self.new.state ≡ self.old.state }
+        ensures same { SameThread self.old self.new }
+        ensures err { IfErr result (λ e. (self.new ≡ self.old) × call_refused self.old method e) }
+    {
+        let BodyState::InJava(body) = &mut self.body_state else {
+            return Err(CallFault::Illegal(self.body_state.state()));
+        };
+        // The hint's word is there for each method: so that it is looked for is the test of the method too.
+        match hints.of(method) {
+            Some(hint) => {
+                if body.depth() < DEPTH {
+                    // By a code and without one apart, so that the hint isn't looked at twice.
+                    Ok(match hint {
+                        Some(code) => body.call(board, method, Some(code)),
+                        None => body.call(board, method, None),
+                    })
+                } else {
+                    Err(CallFault::DepthFull)
+                }
+            }
+            None => Err(CallFault::NoSuchMethod),
         }
     }
 

@@ -128,7 +128,16 @@ impl<N: Name, J: Errand> Shared<N, J> {
     pub fn hint(&self, method: u32) -> Option<CodeId>
         ensures { IfSome result (λ c. c.slot < N.board.slots) }
     {
-        self.hints.of(method)
+        self.hints.of(method)?
+    }
+
+    // Which code a call of each method tries first.
+    #[inline(always)]
+    pub(crate) fn hints(&self) -> &Hints
+        ensures slots { result.now.slots ≡ N.board.slots }
+        ensures methods { result.now.methods ≡ self.now.methods }
+    {
+        &self.hints
     }
 
     // The first place from this one on where something is armed, or past the last. What is armed there by then isn't promised.

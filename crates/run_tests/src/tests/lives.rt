@@ -12,7 +12,10 @@ const LIVES: &str = "
     call 1 0 = compiled 1
     call 1 1 = interpreted
     call 1 2 none = NoSuchMethod
-    1..2: ret 1 = go
+    call_by_hint 1 0 = compiled 1
+    call_by_hint 1 1 = interpreted
+    call_by_hint 1 2 = NoSuchMethod
+    1..4: ret 1 = go
     ret 1 = EmptyStack
     publish 1 = ok
     exit 1 = exited
@@ -195,13 +198,15 @@ const CODES: &str = "
     hint 1 = none
     call 1 0 = compiled 2
     call 1 1 = interpreted
+    call_by_hint 1 0 = compiled 2
 
     # It is taken out of use while it is on the stack.
     publish 1 = ok
-    peek_counts = 3
+    peek_counts = 4
     invalidate 2 = ok
     invalidate 2 = NotInUse
-    1..5: ret 1 = go
+    call_by_hint 1 0 = interpreted
+    1..7: ret 1 = go
     exit 1 = exited
 ";
 
@@ -221,19 +226,19 @@ const DEPTH: &str = "
     publish 1 = ok
     peek_counts = 128
     hint 0 = 0:1
-    call 1 0, call 1 0 none = DepthFull
-    call 1 1 = NoSuchMethod
+    call 1 0, call 1 0 none, call_by_hint 1 0 = DepthFull
+    call 1 1, call_by_hint 1 1 = NoSuchMethod
     state 1 = InJava
     publish 1 = ok
     peek_counts = 128
 
     # There is room again after a return.
     ret 1 = go
-    call 1 0 = compiled 1
+    call_by_hint 1 0 = compiled 1
     publish 1 = ok
     peek_counts = 129
-    call 1 0, call 1 0 none = DepthFull
-    call 1 1 = NoSuchMethod
+    call 1 0, call 1 0 none, call_by_hint 1 0 = DepthFull
+    call 1 1, call_by_hint 1 1 = NoSuchMethod
     state 1 = InJava
     publish 1 = ok
     peek_counts = 129

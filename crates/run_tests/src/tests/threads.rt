@@ -54,6 +54,7 @@ pub fn run<N: Name, J: Errand>(
 ) -> Option<Said> {
     let said = match row.name {
         "call" => called(alloc, thread.call(row.second, hint_of(shared, row))),
+        "call_by_hint" => called(alloc, thread.call_by_hint(row.second)),
         "ret" => polled(alloc, thread.ret()),
         "back_edge" => polled(alloc, thread.back_edge()),
         "publish" => done(alloc, thread.publish()),
