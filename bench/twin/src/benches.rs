@@ -17,15 +17,113 @@ pub const RECLAIM: u32 = 8;
 pub const SCALE: u32 = 9;
 pub const BOXED_HANDSHAKE: u32 = 10;
 pub const CALLRET_NOHINT: u32 = 12;
+pub const CALLRET_LENT: u32 = 13;
 
 fn ns(t: Instant) -> u64 {
     t.elapsed().as_nanos() as u64
 }
 
+/// A thread, and something wrong that it was answered, or 0.
+type Called<'a, S, I> = (Mutator<'a, S, I, Query>, u64);
+
+/// The loops of one thread. Each is a function of its own, which has the thread by value, as in the product's program.
+#[inline(never)]
+fn back_edges<S: Layout, I: Image>(mut m: Mutator<'_, S, I, Query>, iters: u64) -> Called<'_, S, I> {
+    let mut bad = 0;
+    for _ in 0..iters {
+        bad |= m.back_edge().unwrap_or(1);
+    }
+    (m, bad)
+}
+
+#[inline(always)]
+fn make_pairs<S: Layout, I: Image>(sh: &Shared<S, I, Query>, m: &mut Mutator<'_, S, I, Query>, iters: u64) -> u64 {
+    let mut bad = 0;
+    for _ in 0..iters {
+        let h = sh.hint(3);
+        bad |= m.call(3, h).is_none() as u64;
+        bad |= m.ret().unwrap_or(1);
+    }
+    bad
+}
+
+#[inline(never)]
+fn hinted_pairs<'a, S: Layout, I: Image>(sh: &'a Shared<S, I, Query>, mut m: Mutator<'a, S, I, Query>, iters: u64) -> Called<'a, S, I> {
+    let bad = make_pairs(sh, &mut m, iters);
+    (m, bad)
+}
+
+/// Over a thread that is lent, by reference.
+#[inline(never)]
+fn lent_pairs<S: Layout, I: Image>(sh: &Shared<S, I, Query>, m: &mut Mutator<'_, S, I, Query>, iters: u64) -> u64 {
+    make_pairs(sh, m, iters)
+}
+
+#[inline(never)]
+fn interpreted_pairs<S: Layout, I: Image>(mut m: Mutator<'_, S, I, Query>, iters: u64) -> Called<'_, S, I> {
+    let mut bad = 0;
+    for _ in 0..iters {
+        bad |= m.call(3, None).is_none() as u64;
+        bad |= m.ret().unwrap_or(1);
+    }
+    (m, bad)
+}
+
+/// So many stacks of calls of methods in turn, never published.
+#[inline(never)]
+fn stacks<'a, S: Layout, I: Image>(sh: &'a Shared<S, I, Query>, mut m: Mutator<'a, S, I, Query>, count: u64, deep: usize, methods: usize) -> Called<'a, S, I> {
+    let mut bad = 0;
+    for _ in 0..count {
+        for i in 0..deep {
+            let x = i * 7 % methods;
+            let h = sh.hint(x);
+            bad |= m.call(x, h).is_none() as u64;
+        }
+        for _ in 0..deep {
+            bad |= m.ret().unwrap_or(1);
+        }
+    }
+    (m, bad)
+}
+
+#[inline(never)]
+fn publications<'a, S: Layout, I: Image>(sh: &'a Shared<S, I, Query>, mut m: Mutator<'a, S, I, Query>, iters: u64, codes: usize, publishes: bool) -> Called<'a, S, I> {
+    let mut bad = 0;
+    for _ in 0..iters {
+        for i in 0..codes {
+            let h = sh.hint(i);
+            bad |= m.call(i, h).is_none() as u64;
+        }
+        if publishes {
+            m.publish();
+        }
+        for _ in 0..codes {
+            bad |= m.ret().unwrap_or(1);
+        }
+        if publishes {
+            m.publish();
+        }
+    }
+    if !publishes {
+        m.publish();
+    }
+    (m, bad)
+}
+
+#[inline(never)]
+fn crossings<S: Layout, I: Image>(mut m: Mutator<'_, S, I, Query>, iters: u64) -> Called<'_, S, I> {
+    let mut bad = 0;
+    for _ in 0..iters {
+        m.to_native();
+        bad |= m.from_native();
+    }
+    (m, bad)
+}
+
 /// Rows of `out`: of one thread's calls one total in ns, of stops one sample in ns each, of many threads one total each. Returns the rows written.
 pub fn bench<S: Layout, I: Image>(kind: u32, threads: u32, iters: u64, arg: u64, pol: Policy, out: &mut [u64]) -> usize {
     match kind {
-        POLL | CALLRET | CALLRET_DEEP | PUBLISH | NATIVE | CALLRET_NOHINT => {
+        POLL | CALLRET | CALLRET_DEEP | PUBLISH | NATIVE | CALLRET_NOHINT | CALLRET_LENT => {
             let methods = 256;
             let slots = 1024;
             let sh = Shared::<S, I, Query>::new(4, slots, methods, pol);
@@ -33,72 +131,21 @@ pub fn bench<S: Layout, I: Image>(kind: u32, threads: u32, iters: u64, arg: u64,
                 sh.install(m);
             }
             let mut m = sh.start();
-            let mut bad = 0u64;
             let t = Instant::now();
-            match kind {
-                POLL => {
-                    for _ in 0..iters {
-                        bad |= m.back_edge().unwrap_or(1);
-                    }
+            let (mut m, bad) = match kind {
+                POLL => back_edges(m, iters),
+                CALLRET => hinted_pairs(&sh, m, iters),
+                CALLRET_LENT => {
+                    let bad = lent_pairs(&sh, &mut m, iters);
+                    (m, bad)
                 }
-                CALLRET => {
-                    for _ in 0..iters {
-                        let h = sh.hint(3);
-                        bad |= m.call(3, h).is_none() as u64;
-                        bad |= m.ret().unwrap_or(1);
-                    }
-                }
-                CALLRET_NOHINT => {
-                    for _ in 0..iters {
-                        bad |= m.call(3, None).is_none() as u64;
-                        bad |= m.ret().unwrap_or(1);
-                    }
-                }
-                CALLRET_DEEP => {
-                    // arg deep over methods in turn, never published
-                    let d = arg as usize;
-                    for _ in 0..iters / arg {
-                        for i in 0..d {
-                            let x = i * 7 % methods;
-                            let h = sh.hint(x);
-                            bad |= m.call(x, h).is_none() as u64;
-                        }
-                        for _ in 0..d {
-                            bad |= m.ret().unwrap_or(1);
-                        }
-                    }
-                }
-                PUBLISH => {
-                    // low 32 bits: changed codes k; bit 32: leave the publications out
-                    let k = (arg & 0xffff_ffff) as usize;
-                    let p = arg >> 32 == 0;
-                    for _ in 0..iters {
-                        for i in 0..k {
-                            let h = sh.hint(i);
-                            bad |= m.call(i, h).is_none() as u64;
-                        }
-                        if p {
-                            m.publish();
-                        }
-                        for _ in 0..k {
-                            bad |= m.ret().unwrap_or(1);
-                        }
-                        if p {
-                            m.publish();
-                        }
-                    }
-                    if !p {
-                        m.publish();
-                    }
-                }
-                NATIVE => {
-                    for _ in 0..iters {
-                        m.to_native();
-                        bad |= m.from_native();
-                    }
-                }
+                CALLRET_NOHINT => interpreted_pairs(m, iters),
+                CALLRET_DEEP => stacks(&sh, m, iters / arg, arg as usize, methods),
+                // low 32 bits: changed codes; bit 32: leave the publications out
+                PUBLISH => publications(&sh, m, iters, (arg & 0xffff_ffff) as usize, arg >> 32 == 0),
+                NATIVE => crossings(m, iters),
                 _ => unreachable!(),
-            }
+            };
             out[0] = ns(t);
             assert!(bad == 0);
             m.publish();

@@ -63,6 +63,7 @@ fn turns_of<'a, N: Name, J: Errand, R: Wait>(
         Kind::BackEdge => back_edges(thread, plan.turns),
         Kind::Interpreted => interpreted_pairs(thread, plan.turns),
         Kind::Call => hinted_pairs(thread, plan.turns),
+        Kind::Lent => over_lent(thread, plan.turns),
         Kind::Deep => stacks(thread, plan.turns, plan.arg),
         Kind::Publish => publications(thread, plan.turns, plan.arg),
         _ => (thread, false),
@@ -139,6 +140,21 @@ fn hinted_pairs<'a, N: Name, J: Errand>(
 ) -> (Mutator<'a, N, J>, bool) {
     let mut thread = thread;
     let all = make_pairs(&mut thread, METHOD, turns);
+    (thread, all)
+}
+
+#[inline(never)]
+fn lent_pairs<N: Name, J: Errand>(thread: &mut Mutator<'_, N, J>, turns: u64) -> bool {
+    make_pairs(thread, METHOD, turns)
+}
+
+// The same over a thread that is lent.
+fn over_lent<'a, N: Name, J: Errand>(
+    thread: Mutator<'a, N, J>,
+    turns: u64,
+) -> (Mutator<'a, N, J>, bool) {
+    let mut thread = thread;
+    let all = lent_pairs(&mut thread, turns);
     (thread, all)
 }
 

@@ -8,6 +8,8 @@ pub enum Kind {
     BackEdge,
     /// A call of a method by its hint, and the return.
     Call,
+    /// The same, by a loop that has the thread by reference.
+    Lent,
     /// So many calls of methods in turn by their hints, and their returns. Nothing is published.
     Deep,
     /// Calls of so many methods, a publication, their returns, and a publication.
@@ -49,9 +51,10 @@ pub enum Kind {
 }
 
 /// All kinds.
-pub const KINDS: [Kind; 21] = [
+pub const KINDS: [Kind; 22] = [
     Kind::BackEdge,
     Kind::Call,
+    Kind::Lent,
     Kind::Deep,
     Kind::Publish,
     Kind::Native,
@@ -88,6 +91,7 @@ impl Kind {
             9 => Some(Kind::Together),
             10 => Some(Kind::BoxedHandshake),
             12 => Some(Kind::Interpreted),
+            13 => Some(Kind::Lent),
             20 => Some(Kind::Replies),
             21 => Some(Kind::InstallLate),
             22 => Some(Kind::ReclaimLate),
