@@ -1,6 +1,6 @@
 //! The calls of one thread, in loops. Each loop is a function of its own, which the compiler gives registers of its own: in line, its
-//! counters would lie in memory. It has the thread by value, as a runtime's thread has its own, and ends at the first call that is refused
-//! or tells the thread to stop. What such a function lends the thread to is in line in it.
+//! counters would lie in memory. It has the thread by value, as a runtime's thread has its own, but for `lent_pairs`, and ends at the first
+//! call that is refused or tells the thread to stop. What such a function lends the thread to is in line in it, but for `pairs`.
 ghost use Rattle.std.specs.Prelude.{◌≡◌};
 
 use crate::lists::keep;
@@ -143,12 +143,12 @@ fn hinted_pairs<'a, N: Name, J: Errand>(
     (thread, all)
 }
 
+// Such pairs over a thread that is lent, where each call finds its state and its body in memory.
 #[inline(never)]
 fn lent_pairs<N: Name, J: Errand>(thread: &mut Mutator<'_, N, J>, turns: u64) -> bool {
     make_pairs(thread, METHOD, turns)
 }
 
-// The same over a thread that is lent.
 fn over_lent<'a, N: Name, J: Errand>(
     thread: Mutator<'a, N, J>,
     turns: u64,
