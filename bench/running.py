@@ -35,7 +35,7 @@ JAVA_FLAGS = ["--add-modules", "jdk.incubator.foreign", "-XX:+UnlockDiagnosticVM
 CALLS = [
     ("back edge", 1, 1, 5_000_000, 0, "", 1.10),
     ("call and return by hint", 2, 1, 3_000_000, 0, "", 1.00),
-    ("the same, over a thread that is lent", 13, 1, 3_000_000, 0, "", None),
+    ("the same, the thread lent", 13, 1, 3_000_000, 0, "", None),
     ("call and return, interpreted", 12, 1, 3_000_000, 0, "", 1.10),
     ("call and return, 16 deep", 3, 1, 1_500_000, 16, "", 1.10),
     ("call and return, 256 deep", 3, 1, 1_499_904, 256, "", None),
