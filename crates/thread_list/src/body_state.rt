@@ -1,5 +1,7 @@
 //! Where a thread stands, with its body where it has that in hand.
 ghost use Rattle.std.specs.Prelude.{◌≡◌, ◌≢◌, true, Some, None};
+ghost use Rattle.thread_state.specs.declared.State.TheVariants.{AtPoll as IsAtPoll};
+ghost use Rattle.thread_state.specs.declared.Back.TheVariants.{Java as OfJava};
 ghost use Rattle.thread_list.specs.Moves.{owns};
 ghost use Rattle.thread_list.specs.BodyStates.{state_in, body_in};
 
@@ -24,6 +26,17 @@ pub(crate) enum BodyState<N: Name> {
     /// In these the body is in its berth, or held.
     InNative(Back),
     Blocked,
+}
+
+/// The state of a thread that stops at a poll in Java. It stands apart, since few polls stop: in line, the compiler makes this state by moves
+/// at each poll, also where the thread goes on.
+#[cold]
+#[inline(never)]
+pub(crate) fn at_poll<N: Name>(body: Body<N>) -> BodyState<N>
+    ensures state { state_in result ≡ IsAtPoll OfJava }
+    ensures body { body_in result ≡ Some body }
+{
+    BodyState::AtPoll(Back::Java, body)
 }
 
 impl<N: Name> BodyState<N> {

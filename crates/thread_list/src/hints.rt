@@ -55,10 +55,21 @@ impl Hints {
     }
 
     /// How many slots the codes have.
+    #[inline(always)]
     pub fn slots(&self) -> u32
         ensures { result ≡ self.now.slots }
     {
         self.slots
+    }
+
+    /// The words as a thread has them.
+    #[inline(always)]
+    pub(crate) fn words(&self) -> HintWords<'_>
+        ensures { result ≡ self.now.methods }
+    {
+        HintWords {
+            words: self.words.as_slice(),
+        }
     }
 
     /// The code that was set last for the method, None without one, and where its slot isn't one of the board's. None without such a
@@ -69,15 +80,7 @@ impl Hints {
         ensures none { IfNone result (self.now.methods ≤ method) }
         ensures slot { IfSome result (λ h. IfSome h (λ c. c.slot < self.now.slots)) }
     {
-        let word = self.words.get(method as usize)?.load(Ordering::SeqCst);
-        let slot = word % SLOTS;
-        if slot >= self.slots as u64 {
-            return Some(None);
-        }
-        Some(Some(CodeId {
-            slot: slot as u32,
-            serial: word / SLOTS,
-        }))
+        self.words().of(method, self.slots)
     }
 
     /// The method's calls try this code first from now on.
@@ -90,5 +93,40 @@ impl Hints {
                 Ordering::SeqCst,
             );
         }
+    }
+}
+
+/// The words of the hints as a thread has them, by value: where they lie and how many they are can stand in registers while it calls.
+/// Contracts see how many they are.
+#[derive(Drop)]
+pub(crate) struct HintWords<'a> {
+    words: &'a [AtomicU64],
+}
+
+impl<'a> Model for HintWords<'a> {
+    ghost use Rattle.std.specs.Prelude.{ℕ, length};
+
+    ghost Value = { ℕ };
+
+    ghost view = { λ h. length h.words.now };
+}
+
+impl<'a> HintWords<'a> {
+    /// The code that was set last for the method, None without one, and where its slot isn't one of so many. None without such a method.
+    #[inline(always)]
+    pub(crate) fn of(&self, method: u32, slots: u32) -> Option<Option<CodeId>>
+        ensures there { OnSome result (method < self.now) }
+        ensures none { IfNone result (self.now ≤ method) }
+        ensures slot { IfSome result (λ h. IfSome h (λ c. c.slot < slots)) }
+    {
+        let word = self.words.get(method as usize)?.load(Ordering::SeqCst);
+        let slot = word % SLOTS;
+        if slot >= slots as u64 {
+            return Some(None);
+        }
+        Some(Some(CodeId {
+            slot: slot as u32,
+            serial: word / SLOTS,
+        }))
     }
 }

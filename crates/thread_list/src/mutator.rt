@@ -5,6 +5,7 @@ ghost use Rattle.bodies.specs.Bodies.{BodyView, IsPublished};
 ghost use Rattle.thread_list.specs.Moves.{SameThread, Calls, CallsByHint, Polls, Leaves, is_running};
 ghost use Rattle.thread_list.specs.Refused.{call_accepted, call_refused, return_refused};
 
+use crate::hints::HintWords;
 use crate::own_part::OwnPart;
 use crate::polls::Poll;
 use crate::shared::Shared;
@@ -19,6 +20,8 @@ use thread_state::State;
 #[derive(Drop)]
 pub struct Mutator<'a, N: Name, J: Errand> {
     pub(crate) shared: &'a Shared<N, J>,
+    /// Its own words of what is shared, so that a call by a hint doesn't look there where they lie.
+    pub(crate) hints: HintWords<'a>,
     pub(crate) own_part: OwnPart<N>,
 }
 
@@ -30,7 +33,8 @@ impl<'a, N: Name, J: Errand> Model for Mutator<'a, N, J> {
 
     ghost view = { λ m. m.own_part };
 
-    ghost invariant = { λ m. m.own_part.methods ≡ m.shared.now.methods };
+    ghost invariant = { λ m. (m.own_part.methods ≡ m.shared.now.methods)
+        × (m.hints ≡ m.shared.now.methods) };
 }
 
 /// Why a thread doesn't enter a method, in the order of the tests.
@@ -99,8 +103,9 @@ impl<'a, N: Name, J: Errand> Mutator<'a, N, J> {
         ensures same { SameThread self.old self.new }
         ensures err { IfErr result (λ e. (self.new ≡ self.old) × call_refused self.old method e) }
     {
+        let (board, slots) = (self.shared.board(), self.shared.slots());
         self.own_part
-            .call_by_hint(self.shared.board(), self.shared.hints(), method)
+            .call_by_hint(board, &self.hints, slots, method)
     }
 
     /// Returns from the method of the top frame, and polls: one load.

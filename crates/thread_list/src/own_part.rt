@@ -6,8 +6,8 @@ ghost use Rattle.bodies.specs.Bodies.{BodyView, IsPublished};
 ghost use Rattle.thread_list.specs.Moves.{SameThread, Calls, CallsByHint, Polls, Leaves, is_running};
 ghost use Rattle.thread_list.specs.Refused.{call_accepted, call_refused, return_refused};
 
-use crate::body_state::BodyState;
-use crate::hints::Hints;
+use crate::body_state::{BodyState, at_poll};
+use crate::hints::HintWords;
 use crate::mutator::{CallFault, ReturnFault};
 use crate::polls::{Poll, poll_of};
 use berths::{BodyReceipt, SeatReceipt};
@@ -17,7 +17,7 @@ use frames::CodeId;
 use frames::image::DEPTH;
 use poll::PollRow;
 use std::marker::Model;
-use thread_state::{Back, State};
+use thread_state::State;
 
 /// A running thread without what it shares with others: its name, its state and, while it owns itself, its body. One that is dropped
 /// leaves its place taken.
@@ -112,15 +112,16 @@ impl<N: Name> OwnPart<N> {
 
     /// Enters a method by its hint, as `call` does.
     #[inline(always)]
-    pub fn call_by_hint(
+    pub(crate) fn call_by_hint(
         &mut self,
         board: &Board,
-        hints: &Hints,
+        hints: &HintWords<'_>,
+        slots: u32,
         method: u32,
     ) -> Result<Called, CallFault>
         requires board { board.now ≡ N.board }
-        requires slots { hints.now.slots ≡ N.board.slots }
-        requires methods { hints.now.methods ≡ self.old.methods }
+        requires methods { hints.now ≡ self.old.methods }
+        requires slots { slots ≡ N.board.slots }
 
         ensures accepted { OnOk result (call_accepted self.old method) }
         ensures step { IfOk result (CallsByHint N.board.slots self.old self.new method) }
@@ -132,7 +133,7 @@ impl<N: Name> OwnPart<N> {
             return Err(CallFault::Illegal(self.body_state.state()));
         };
         // The hint's word is there for each method: so that it is looked for is the test of the method too.
-        match hints.of(method) {
+        match hints.of(method, slots) {
             Some(hint) => {
                 if body.depth() < DEPTH {
                     // By a code and without one apart, so that the hint isn't looked at twice.
@@ -166,7 +167,7 @@ impl<N: Name> OwnPart<N> {
         body.ret();
         let found = body.poll(row);
         if found != 0 {
-            self.go_on(true);
+            self.stop_at_poll();
         }
         Ok(poll_of(found))
     }
@@ -186,7 +187,7 @@ impl<N: Name> OwnPart<N> {
         };
         let found = body.poll(row);
         if found != 0 {
-            self.go_on(true);
+            self.stop_at_poll();
         }
         Ok(poll_of(found))
     }
@@ -245,25 +246,33 @@ impl<N: Name> OwnPart<N> {
             return Err(self.state());
         };
         let found = body.poll(row);
-        self.go_on(found != 0);
+        if found == 0 {
+            self.go_on();
+        } else {
+            self.stop_at_poll();
+        }
         Ok(poll_of(found))
     }
 
-    // A thread that has polled on its way into Java goes on there, or stops. It is in line, since a call would be given the thread's
-    // address: what a loop has by value would then lie in memory, and each call test its state anew. A poll in Java that goes on doesn't
-    // come here: the next back edge would wait for that store.
+    // A thread that has polled on its way into Java stops there. It is in line, since a call would be given the thread's address: what a
+    // loop has by value would then lie in memory, and each call test its state anew.
     #[inline(always)]
-    fn go_on(&mut self, stops: bool)
+    fn stop_at_poll(&mut self)
         requires running { is_running self.old.state ≡ true }
-        ensures { self.new
-            ≡ record self.old { state = if stops then IsAtPoll OfJava else IsInJava } }
+        ensures { self.new ≡ record self.old { state = IsAtPoll OfJava } }
     {
         let body = self.body_state.take_body();
-        self.body_state = if stops {
-            BodyState::AtPoll(Back::Java, body)
-        } else {
-            BodyState::InJava(body)
-        };
+        self.body_state = at_poll(body);
+    }
+
+    // A thread that has polled in the VM goes on in Java.
+    #[inline(always)]
+    fn go_on(&mut self)
+        requires running { is_running self.old.state ≡ true }
+        ensures { self.new ≡ record self.old { state = IsInJava } }
+    {
+        let body = self.body_state.take_body();
+        self.body_state = BodyState::InJava(body);
     }
 }
 

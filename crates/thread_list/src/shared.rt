@@ -14,7 +14,7 @@ ghost use Rattle.thread_list.specs.Sharing.{AreLive, AreRepliesOf, AreAllReplies
 ghost use Rattle.desk.specs.Refusals.{ask_refused, install_refused};
 
 use crate::forgotten::Forgotten;
-use crate::hints::Hints;
+use crate::hints::{HintWords, Hints};
 use crate::turns::Turn;
 use berths::{Berth, BodyAct, BodyReceipt, Guarded, Laid, Unwoken, locked};
 use board::Board;
@@ -131,13 +131,20 @@ impl<N: Name, J: Errand> Shared<N, J> {
         self.hints.of(method)?
     }
 
-    // Which code a call of each method tries first.
+    // How many slots the board has.
     #[inline(always)]
-    pub(crate) fn hints(&self) -> &Hints
-        ensures slots { result.now.slots ≡ N.board.slots }
-        ensures methods { result.now.methods ≡ self.now.methods }
+    pub(crate) fn slots(&self) -> u32
+        ensures { result ≡ N.board.slots }
     {
-        &self.hints
+        self.hints.slots()
+    }
+
+    // The words of the hints, as a thread has them.
+    #[inline(always)]
+    pub(crate) fn hint_words(&self) -> HintWords<'_>
+        ensures { result ≡ self.now.methods }
+    {
+        self.hints.words()
     }
 
     // The first place from this one on where something is armed, or past the last. What is armed there by then isn't promised.

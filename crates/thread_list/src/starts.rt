@@ -57,6 +57,7 @@ impl<N: Name, J: Errand> Shared<N, J> {
         };
         let mutator = Mutator {
             shared: self,
+            hints: self.hint_words(),
             own_part,
         };
         Ok((mutator, receipt))

@@ -207,7 +207,11 @@ impl<'a, N: Name, J: Errand> Mutator<'a, N, J> {
         if self.depth() != 0 {
             return Err((ExitFault::StackNotEmpty, self));
         }
-        let Mutator { shared, own_part } = self;
+        let Mutator {
+            shared,
+            hints,
+            own_part,
+        } = self;
         let OwnPart {
             name,
             place,
@@ -230,7 +234,11 @@ impl<'a, N: Name, J: Errand> Mutator<'a, N, J> {
                     moved_in,
                     crossed,
                 };
-                let back = Mutator { shared, own_part };
+                let back = Mutator {
+                    shared,
+                    hints,
+                    own_part,
+                };
                 Err((ExitFault::StackNotEmpty, back))
             }
         }
