@@ -1,4 +1,4 @@
--- Which requests wait, and why others don't. (overview: operations wait in a queue)
+-- Which requests wait, and why others don't. (HotSpot's runtime overview: VM operations wait in a queue)
 use Rattle.std.specs.Prelude.{◌≡◌, ℕ, true, false, nat_lt}
 use Rattle.operations.specs.declared.Request.{Request}
 use Rattle.operations.specs.declared.queue.QueueFault.{QueueFault}

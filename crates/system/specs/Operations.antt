@@ -1,5 +1,5 @@
 -- The operations: requests that wait, those that are open, and what was told, done and cleared.
--- (overview: operations wait in a queue; JEP 312: a handshake runs a callback once for each chosen thread)
+-- (HotSpot's runtime overview: VM operations wait in a queue; JEP 312: a handshake runs a callback once for each chosen thread)
 use Rattle.std.specs.Prelude.{ℕ, max, Bool, not, ◌&&◌, ◌==◌, List, [], ◌∷◌, map, filter, Option, Some, None}
 use Rattle.std.specs.List.{list_any}
 use Rattle.operations.specs.declared.Request.{Request}
@@ -65,11 +65,11 @@ pending requests name =
 abbrev pub poll_of : Requests → ℕ → Option ℕ
 poll_of requests name = greatest (pending requests name)
 
--- A census is open. (overview: at a safepoint)
+-- A census is open.
 abbrev pub is_safepoint : Requests → Bool
 is_safepoint requests = list_any (λ opened. is_census opened.request) requests.opened
 
--- A census is open that was told to the thread and isn't operated. (overview: threads are kept while it lasts)
+-- A census is open that was told to the thread and isn't operated. (A thread that stopped is held until the census is operated.)
 abbrev pub awaits_census : Requests → ℕ → Bool
 awaits_census requests name =
     list_any (λ opened. is_census opened.request && not opened.operated && is_marked requests.told opened.number name) requests.opened

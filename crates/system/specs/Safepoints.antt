@@ -68,7 +68,7 @@ pub record StandsStill (t : Thread) : Type 0 where
   pub safe : is_safe t.state ≡ true
 
 -- An Operate, answered so: each thread is held in a safe state and settled, so the index counts the stacks as they are, and the
--- answer is the census of these stacks, which misses no code. (overview: at a safepoint)
+-- answer is the census of these stacks, which misses no code.
 pub record OperatesSafely (w : World) (said : Answer) : Type 0 where
   pub opened : Opened
   pub opened_is : w.requests.opened ≡ opened ∷ []

@@ -117,7 +117,7 @@ free w code =
     unless is_zombie code.state refuse NotZombie then
     accepted (record w { codes = with_state w.codes code.serial Freed }) answer.Done
 
--- Operations wait in a queue, first in, first out. (overview)
+-- Operations wait in a queue, first in, first out. (HotSpot's runtime overview: VM operations wait in a queue)
 abbrev pub ask : World → Request → Verdict World
 ask w request =
     unless nat_lt (operations_given w.log) last_number refuse Spent then
@@ -189,7 +189,7 @@ all_threads test w = list_all test (threads w.places)
 abbrev pub operated_if : ℕ → Opened → Opened
 operated_if number opened = if opened.number == number then record opened { operated = true } else opened
 
--- A census of the stacks of all threads, which are all held. (overview: at a safepoint stacks don't change)
+-- A census of the stacks of all threads, which are all held. (HotSpot's runtime overview: at a safepoint stacks don't change)
 abbrev pub operate : World → Opened → Verdict World
 operate w opened =
     unless is_census opened.request refuse NotOf then

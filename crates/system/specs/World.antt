@@ -62,7 +62,8 @@ walk w code = sum_by (part_at code) w.places
 abbrev pub frames_of : World → CodeId → ℕ
 frames_of w code = sum_by (λ t. act code t.stack) (threads w.places)
 
--- The frames of each code over the stacks as they are, rising, zeros left out. (overview: at a safepoint stacks can be examined)
+-- The frames of each code over the stacks as they are, rising, zeros left out. (HotSpot's runtime overview: at a safepoint
+-- stacks can be examined)
 abbrev pub census : World → List CodeCount
 census w = filter (λ counted. not (counted.count == 0)) (map (λ code. record { serial = code.serial; count = frames_of w (id_of code) }) w.codes)
 

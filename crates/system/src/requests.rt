@@ -137,7 +137,7 @@ impl Requests {
             && !(self.is_census_next() && !operations.is_empty())
     }
 
-    /// Whether a census is open. (overview: at a safepoint)
+    /// Whether a census is open.
     pub fn is_safepoint(&self) -> bool
         ensures { result ≡ has_census self.now.opens }
     {

@@ -1,4 +1,4 @@
-// What a census asks of the threads. (overview: at a safepoint stacks don't change)
+// What a census asks of the threads. (HotSpot's runtime overview: at a safepoint stacks don't change)
 ghost use Rattle.std.specs.Prelude.{◌≡◌};
 ghost use Rattle.std.specs.List.{list_all};
 ghost use Rattle.system.specs.Kept.Censuses.{holds_at, is_held_kept, is_quiet_kept, is_settled_kept, census_refusal};

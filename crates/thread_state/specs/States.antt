@@ -7,7 +7,8 @@ use Rattle.thread_state.specs.declared.State.TheVariants.{Vacant, New, InJava, I
 use Rattle.thread_state.specs.declared.Move.{Move}
 use Rattle.thread_state.specs.declared.Move.TheVariants as move
 
--- Where a move leads. Every other pair is illegal. (overview: a thread in native or blocked wakes into a transition state)
+-- Where a move leads. Every other pair is illegal. (HotSpot's runtime overview: a thread in native or blocked wakes into a
+-- transition state)
 abbrev pub step : State → Move → Option State
 step Vacant move.Start = Some New
 step New move.Wake = Some NewTrans
@@ -32,8 +33,8 @@ abbrev pub either : Bool → State → Back → Option State
 either true state back = Some state
 either false state back = Some (AtPoll back)
 
--- Where a poll leads: on, or to a stop. Every other state doesn't poll. (overview: polls at returns, in loops and at
--- transitions; a thread that comes back from native stops there if it is armed)
+-- Where a poll leads: on, or to a stop. Every other state doesn't poll. (HotSpot's runtime overview: polls at returns, in loops
+-- and at transitions; a thread that comes back from native stops there if it is armed)
 abbrev pub cross : State → Bool → Option State
 cross InJava go = either go InJava Java
 cross InVm go = either go InJava Java
@@ -43,7 +44,8 @@ cross BlockedTrans go = either go InVm Vm
 cross (Serving back) go = either go (state_of back) back
 cross state go = None
 
--- A thread in a safe state does nothing to its stack. (JEP 312: a safepoint-safe state; overview: native and blocked are)
+-- A thread in a safe state does nothing to its stack. (JEP 312: a safepoint-safe state. HotSpot's runtime
+-- overview: native and blocked are safe)
 abbrev pub is_safe : State → Bool
 is_safe New = true
 is_safe (InNative back) = true

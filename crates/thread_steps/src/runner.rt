@@ -1,5 +1,5 @@
-//! A thread's own part, without what threads share: what it calls, over words and rooms that are lent to it. Beside a `Runner` of the
-//! running layer it has the states of a thread that stops in steps.
+//! A thread's own part, without what threads share: what it calls, over words and rooms that are lent to it. Beside an `OwnPart` of
+//! `thread_list` it has the states of a thread that stops in steps.
 ghost use Rattle.std.specs.Prelude.{◌≡◌, ◌≢◌, ◌<◌, ◌==◌, ◌++◌, ◌∷◌, ◌⊎◌, [], ℕ, true, false, Some, None, IfOk, OnOk, OnErr, IfErr, IfSome, IfNone, length, if◌then◌else◌};
 ghost use Rattle.thread_state.specs.declared.State.TheVariants.{InJava as IsInJava, InVm as IsInVm, AtPoll as IsAtPoll, InNative as IsInNative, Blocked as IsBlocked, NativeTrans as IsNativeTrans, BlockedTrans as IsBlockedTrans};
 ghost use Rattle.thread_state.specs.declared.Back.TheVariants.{Java as OfJava};
