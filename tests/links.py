@@ -63,7 +63,7 @@ def wrong_link(page, link):
 
 
 def links():
-    """Each link of a page, and each path `docs/..` of a script, with what is wrong with it."""
+    """Each link of a page, and each path `docs/..` of a script, with its fault."""
     for page in tracked("*.md"):
         for link in LINK.findall(CODE.sub("", (ROOT / page).read_text())):
             if "://" not in link and not link.startswith("mailto:"):
@@ -87,14 +87,14 @@ def texts(files, code):
 
 
 def seen(file, first, text, code, places):
-    """Each path and name in backticks of a page or a comment, with its line and what is wrong with it."""
+    """Each path and name in backticks of a page or a comment, with its line and its fault."""
     written = paths.written_by(text) if file.suffix == ".md" else ()
     for unit in paths.units(file, first, text):
         yield from [*places.checked(unit, written), *code.checked(unit), *code.items(unit, places)]
 
 
 def backticks():
-    """Each path and name in backticks, and each name of other projects, with what is wrong with it."""
+    """Each path and name in backticks, and each name of other projects, with its fault."""
     files = tracked()
     code, places = named.Code(files), paths.Paths(files)
     for file, first, text in texts(files, code):
@@ -116,7 +116,7 @@ PLANTS = {
 
 
 def plants():
-    """Each kind of file, and whether just what is wrong in it is seen."""
+    """Each kind of file, and its fault where the check sees anything but the wrong path and the wrong type."""
     files = tracked("crates.txt")
     code, places = named.Code(files), paths.Paths(files)
     for suffix, text in PLANTS.items():

@@ -67,7 +67,7 @@ class Code:
         return self.below.get(group_of(file), self.words) if file.suffix != ".md" else self.words
 
     def checked(self, unit):
-        """Each name of a unit, with its line and what is wrong with it."""
+        """Each name of a unit, with its line and its fault."""
         groups = self.groups(unit.file)
         for line, text, _ in unit.spans:
             for name in NAME.findall(text):
@@ -99,13 +99,13 @@ class Code:
         return None if any(name in had.get(it, ()) for it in owners or groups) else "the type has no such name"
 
     def items(self, unit, paths):
-        """Each name in parentheses behind a file, with its line and what is wrong with it. It may also be a crate's."""
+        """Each name in parentheses behind a file, with its line and its fault. It may also be a crate's."""
         for line, name, file in paths.items(unit):
             if WORD.fullmatch(name) and name not in self.below:
                 yield line, name, wrong_item(name, file)
 
     def idle(self):
-        """Each name of other projects, and what is wrong with it once all units were looked at."""
+        """Each name of other projects, and its fault, once all units were looked at."""
         for name in self.foreign:
             yield name, "it is in the code" if name in self.all else None if name in self.cited else "nothing names it"
 

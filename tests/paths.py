@@ -28,8 +28,8 @@ OUTSIDE = {
     "a library of the toolchain": re.compile(r"c/liblibc_c\.a"),
     "any name": re.compile(r"NAME\.\w+"),
 }
-# A header is named as a host includes it.
-HEADERS = [pathlib.Path("crates/safepoint/include"), pathlib.Path("crates/model/include")]
+# A file that a host in C or C++ includes or compiles is named without its folder.
+HOST = [pathlib.Path(it) for it in ("crates/safepoint/include", "crates/safepoint/waits", "crates/model/include")]
 
 
 class Span(typing.NamedTuple):
@@ -97,8 +97,8 @@ class Paths:
             yield before.parent if before in self.files else before
         if before and crate_of(before):
             yield from [crate_of(before), crate_of(before) / "specs"]
-        if re.fullmatch(r"\w+\.h(?:pp)?", path):
-            yield from HEADERS
+        if re.fullmatch(r"\w+\.(?:h|hpp|c)", path):
+            yield from HOST
 
     def find(self, unit, before, path):
         """Where a path leads, or None."""
@@ -118,7 +118,7 @@ class Paths:
                 before = to or before
 
     def checked(self, unit, written=()):
-        """Each path of a unit, its line and what is wrong with it. `written` has what commands of the page write."""
+        """Each path of a unit, its line and its fault. `written` has what commands of the page write."""
         for span, path, to in self.found(unit):
             is_there = to or path in written or self.leads_out(path)
             yield span.line, path, None if is_there else "no such file"
