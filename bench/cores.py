@@ -5,7 +5,10 @@ import os
 
 @contextlib.contextmanager
 def one_core():
-    """What is started within takes turns on one core: those of a shared machine differ, and change from minute to minute."""
+    """Programs that start within it take turns on one core.
+
+    The cores of a shared machine differ, and they change from minute to minute.
+    """
     all_of_them = os.sched_getaffinity(0)
     os.sched_setaffinity(0, {max(all_of_them)})
     try:

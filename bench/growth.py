@@ -1,9 +1,11 @@
 #!/usr/bin/env python3
 """Counts how the instructions of a line of `monitor replay` grow: growth.py [PROGRAM] [ROUNDS]
 
-PROGRAM is crates/monitor/out/monitor by default, ROUNDS 500. One thread works, in rounds of the same lines, while there are more and more places
-with started threads, operations that are open and aren't told to it, or codes that it doesn't call. For each it prints the instructions of one more
-line of the program and of the plain Rust program, as instructions.py counts them: what neither touches costs it nothing. It needs valgrind and cargo.
+PROGRAM is crates/monitor/out/monitor by default, ROUNDS is 500. One thread works, in rounds of the same lines. Beside
+it there are more and more places with started threads, open operations that aren't told to it, or codes that it doesn't
+call. For each of these the script prints the instructions of one more line, of the program and of the plain Rust
+program, as instructions.py counts them: a line costs nothing for what neither program touches. The script needs
+valgrind and cargo.
 """
 import os
 import sys
@@ -14,7 +16,8 @@ from instructions import a_line
 from plain import plain
 from replay import MONITOR
 
-# What the thread at place 0 does in a round. Its code is the first that was installed, and it begins and ends with an empty stack.
+# The lines of the thread at place 0 in a round. The thread's code is the first that was installed. The thread begins a
+# round with an empty stack, and ends the round with one.
 WORK = {
     "calls": ["enter 0 0 1", "enter 0 1", "leave 0", "leave 0"],
     "publishes": ["enter 0 0 1", *inputs.published(0, 1), "leave 0", *inputs.published(0, 1)],
@@ -36,7 +39,11 @@ def with_codes(count):
     return ["size 1 1024 256", *inputs.started(1), *(f"install {method}" for method in range(count))]
 
 
-GROWN = {"places": (with_places, (1, 8, 64)), "operations": (with_operations, (1, 2, 3, 4)), "codes": (with_codes, (2, 16, 64, 256))}
+GROWN = {
+    "places": (with_places, (1, 8, 64)),
+    "operations": (with_operations, (1, 2, 3, 4)),
+    "codes": (with_codes, (2, 16, 64, 256)),
+}
 
 
 def written(before, work, rounds, path):
@@ -55,7 +62,8 @@ def main():
         for grown, (before, counts) in GROWN.items():
             print(f"{grown:12}" + "".join(f"{count:>14}" for count in counts), flush=True)
             for kind, work in WORK.items():
-                files = [[written(before(count), work, many, os.path.join(folder, f"{count}.{many}")) for many in (rounds, 2 * rounds)] for count in counts]
+                files = [[written(before(count), work, many, os.path.join(folder, f"{count}.{many}"))
+                          for many in (rounds, 2 * rounds)] for count in counts]
                 rows = [(a_line([program, "replay"], file), a_line([twin], file)) for file in files]
                 print(f"{kind:12}" + "".join(f"{ours:7.0f} {theirs:6.0f}" for ours, theirs in rows), flush=True)
 

@@ -11,8 +11,8 @@ handshake  64 threads and a full queue of handshakes of 64 targets each, worked 
 four       the same, four of them open at once, and closed in any order
 census     64 threads with stacks and a full queue of censuses
 reclaim    64 threads: code is installed, entered, published, invalidated, looked at everywhere, weighed, freed
-replace    64 threads: code in use that stands on stacks is replaced by an install, looked at everywhere, weighed while it stands and
-           once it is left, and freed
+replace    64 threads: code in use that stands on stacks is replaced by an install, looked at everywhere, weighed while
+           it stands and once it is left, and freed
 """
 import random
 import sys
@@ -101,7 +101,10 @@ def told_all():
 
 
 def served(place, held, times=1):
-    """The thread stops and is served so many times, by the coordinator while it is held, or by itself, with a poll each time."""
+    """The lines of a thread that stops and is served `times` times, with a poll each time.
+
+    The coordinator serves the thread while it is held, or the thread serves itself.
+    """
     if held:
         steps = ("edge", "hold", *("finish", "clear") * times, "release", "take", "cross")
     else:
@@ -201,7 +204,8 @@ def replace(rng):
         yield lines + [f"{event} {serial}" for serial in old for event in ("weigh", "free")]
 
 
-BAD = ("", " start", "enter", "enter 0 0 x", "leave 00", "look 1", "count 99999999999999", "ask", "unknown 1 2 3", "size 1 1 1")
+BAD = ("", " start", "enter", "enter 0 0 x", "leave 00", "look 1", "count 99999999999999", "ask", "unknown 1 2 3",
+       "size 1 1 1")
 
 
 class Mixed:

@@ -1,10 +1,13 @@
 #!/usr/bin/env python3
-"""Counts the instructions of `monitor replay` and of the plain Rust program: instructions.py [PROGRAM] [LINES] [KIND ..]
+"""Counts the instructions of `monitor replay` and of the plain Rust program.
 
-PROGRAM is crates/monitor/out/monitor by default, LINES 20,000, the kinds all of inputs.py. For each it prints instructions a line of both, as
-callgrind counts them, and the ratio. What a run takes at its start isn't among them: a line costs the difference of an input of twice so many
-lines, divided by the lines that it has more. It needs valgrind and cargo. A count is the same whatever else the machine does, but says nothing
-of memory and of jumps that were foreseen wrongly.
+Usage: instructions.py [PROGRAM] [LINES] [KIND ..]
+
+PROGRAM is crates/monitor/out/monitor by default, LINES is 20,000, and the kinds are all of inputs.py. For each kind the
+script prints the instructions of both programs a line, as callgrind counts them, and the ratio. The instructions at the
+start of a run don't count: the script also runs an input of twice as many lines, and divides the difference of the two
+counts by the number of further lines. The script needs valgrind and cargo. A count is the same whatever else the
+machine does, but it says nothing of memory and of mispredicted jumps.
 """
 import os
 import re

@@ -2,7 +2,9 @@
 import re
 
 SHAPE = re.compile(r"<(rect|text|path|polyline|polygon|ellipse)( [^>]*?)(/?)>")
-LOOK = re.compile(r' (fill|stroke|stroke-width|stroke-dasharray|stroke-linecap|marker-end|paint-order|font-size|font-weight|font-style|text-anchor)="([^"]*)"')
+LOOK = re.compile(
+    r' (fill|stroke|stroke-width|stroke-dasharray|stroke-linecap|marker-end|paint-order|'
+    r'font-size|font-weight|font-style|text-anchor)="([^"]*)"')
 
 
 def said_once(svg):
@@ -11,7 +13,8 @@ def said_once(svg):
 
     def shape(match):
         tag, words, close = match.groups()
-        look = ";".join(f"{name}:{value}px" if name == "font-size" else f"{name}:{value}" for name, value in LOOK.findall(words))
+        look = ";".join(f"{name}:{value}px" if name == "font-size" else f"{name}:{value}"
+                        for name, value in LOOK.findall(words))
         name = classes.setdefault(look, f"c{len(classes)}")
         return f'<{tag}{LOOK.sub("", words)} class="{name}"{close}>'
 

@@ -1,11 +1,14 @@
 #!/usr/bin/env python3
-"""Times pictures of parts of long runs beside `monitor replay`: pictures.py [MONITOR] [TIMELINE] [LINES] [SEED] [KIND ..]
+"""Times pictures of parts of long runs beside `monitor replay`.
 
-MONITOR and TIMELINE are the built programs by default, LINES 10,000,000, SEED 1, the kinds all of inputs.py. Of each run the first 500 lines, 500
-of its middle and its last 500 are drawn. For each row it prints seconds by the clock, the least of three runs in turn, how much longer than
-`monitor replay` that is, and peak memory. It needs a C compiler (CC, or cc) for measure.c.
+Usage: pictures.py [MONITOR] [TIMELINE] [LINES] [SEED] [KIND ..]
 
-The aim is a second more than `monitor replay` at most, in at most 64 MB. The status is 0 where all rows meet it.
+MONITOR and TIMELINE are the built programs by default, LINES is 10,000,000, SEED is 1, and the kinds are all of
+inputs.py. The script draws the first 500 lines of each run, 500 of its middle and its last 500. A row has seconds by
+the clock (the least of three runs in turn), the seconds beyond those of `monitor replay`, and peak memory. The script
+needs a C compiler (CC, or cc) for measure.c.
+
+The aim is at most a second more than `monitor replay`, in at most 64 MB. The status is 0 where all rows meet it.
 """
 import os
 import pathlib
@@ -34,14 +37,16 @@ def table(kind, lines, measure, monitor, timeline, path):
     clock = {name: min(turn[name][0] for turn in turns) for name in programs}
     peak = {name: max(turn[name][2] for turn in turns) / 1024 for name in programs}
     for name in programs:
-        print(f"{kind:10} {name:7} {clock[name]:8.2f} {clock[name] - clock['replay']:+8.2f} {peak[name]:8.1f}", flush=True)
+        print(f"{kind:10} {name:7} {clock[name]:8.2f} {clock[name] - clock['replay']:+8.2f} {peak[name]:8.1f}",
+              flush=True)
     drawn = [name for name in programs if name != "replay"]
     return all(clock[name] <= clock["replay"] + MORE_SECONDS and peak[name] <= MEGABYTES for name in drawn)
 
 
 def main():
     words = sys.argv[1:]
-    monitor, timeline = (os.path.abspath(words[i] if len(words) > i else it) for i, it in enumerate((MONITOR, TIMELINE)))
+    monitor, timeline = (
+        os.path.abspath(words[i] if len(words) > i else it) for i, it in enumerate((MONITOR, TIMELINE)))
     lines = int(words[2]) if len(words) > 2 else 10_000_000
     seed = int(words[3]) if len(words) > 3 else 1
     met = True

@@ -11,6 +11,7 @@ def plain(name, folder):
     """The built program of the name, in the folder, or nothing where there is no cargo."""
     if shutil.which("cargo") is None:
         return None
-    words = ["cargo", "build", "-q", "--release", "--bin", name, "--manifest-path", str(TWIN / "Cargo.toml"), "--target-dir", folder]
+    words = ["cargo", "build", "-q", "--release", "--bin", name,
+             "--manifest-path", str(TWIN / "Cargo.toml"), "--target-dir", folder]
     subprocess.run(words, check=True)
     return os.path.join(folder, "release", name)

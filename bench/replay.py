@@ -1,13 +1,15 @@
 #!/usr/bin/env python3
 """Times `monitor replay` on generated inputs: replay.py [PROGRAM] [LINES] [SEED] [KIND ..]
 
-PROGRAM is crates/monitor/out/monitor by default, LINES 2,000,000, SEED 1, the kinds all of inputs.py. For each it prints lines a
-second (by the clock), nanoseconds of processor time a line, the least and the median of seven runs, and peak memory, beside `wc -l` and echo.c, a
-plain program that reads and writes the same lines. Where cargo is there the plain Rust program in twin/ gives the same answers in turn with it, and
-the row of the program ends in the ratios of the two. All of them take turns on one core. It needs a C compiler (CC, or cc) for echo.c, and for
-measure.c, which measures.
+PROGRAM is crates/monitor/out/monitor by default, LINES is 2,000,000, SEED is 1, and the kinds are all of inputs.py. For
+each kind the script prints lines a second (by the clock), nanoseconds of processor time a line (the least and the
+median of seven runs), and peak memory. Beside them are the figures of `wc -l` and of echo.c, a plain program that reads
+and writes the same lines. Where cargo is there, the plain Rust program in twin/ gives the same answers in turn with
+PROGRAM, and PROGRAM's row ends in the ratios of the two. All of the programs take turns on one core. The script needs a
+C compiler (CC, or cc) for echo.c, and for measure.c, which measures.
 
-The aim is 8 million lines a second on a quiet core for frames, handshake, census and reclaim, and at most 8 MB whatever the length.
+The aim is 8 million lines a second on a quiet core for frames, handshake, census and reclaim, and at most 8 MB whatever
+the length.
 """
 import os
 import pathlib
@@ -42,7 +44,10 @@ def measured(measure, words, path):
 
 
 def runs(measure, programs, path):
-    """What each program of words measured in its runs, in turn. The first turn brings the file into memory, and doesn't count."""
+    """The measurements of each program, given by its words, in runs that the programs make in turn.
+
+    The first turn brings the file into memory, and doesn't count.
+    """
     turns = [[measured(measure, words, path) for words in programs] for _ in range(RUNS + 1)]
     return list(zip(*turns[1:]))
 
@@ -91,7 +96,8 @@ def main():
     lines = int(words[1]) if len(words) > 1 else 2_000_000
     seed = int(words[2]) if len(words) > 2 else 1
     kinds = words[3:] or list(inputs.KINDS)
-    print(f"{'input':10} {'program':8} {'million/s':>10} {'ns/line':>10} {'median':>8} {'peak MB':>8} {'ratio':>8} {'median':>6}")
+    print(f"{'input':10} {'program':8} {'million/s':>10} {'ns/line':>10} {'median':>8} {'peak MB':>8} "
+          f"{'ratio':>8} {'median':>6}")
     with tempfile.TemporaryDirectory() as folder:
         measure, echo, twin = built("measure", folder), built("echo", folder), plain("replay_twin", folder)
         path = os.path.join(folder, "input")

@@ -1,16 +1,19 @@
 #!/usr/bin/env python3
 """Times the calls and the stops of running threads: running.py [PROGRAM] [calls|stops ..]
 
-PROGRAM is crates/running_bench/out/running_bench by default; it and the kinds that it measures are told in its source. Where cargo is there the
-plain Rust program in twin/ runs the same loops in turn with it, and each row has the ratio of the two. A row of calls has nanoseconds a turn,
-the least and the median of seven runs. One of stops has microseconds, the median and the 99th percentile of the stops of thirty-one runs, and
-of three where threads are busy. Where one thread runs at a time, as where all others are in native code, both programs take turns on one core.
-Where a `javac` of a JDK 17 is there, HotSpot makes its own such stops behind them (hotspot/), in three runs, and the row ends in the ratio to it.
+PROGRAM is crates/running_bench/out/running_bench by default; its source says what it measures, kind by kind. Where
+cargo is there, the plain Rust program in twin/ runs the same loops in turn with PROGRAM, and each row has the ratio of
+the two. A row of calls has nanoseconds a turn, the least and the median of seven runs. A row of stops has microseconds,
+the median and the 99th percentile of the stops of thirty-one runs, and of three runs where threads are busy. Where one
+thread runs at a time, as where all others are in native code, both programs take turns on one core. Where the `javac`
+of a JDK 17 is there, HotSpot makes its own such stops behind them (hotspot/), in three runs, and the row ends in the
+ratio to HotSpot.
 
-Both programs ask by queries, which take no memory, and in the rows of boxed callbacks by a closure in a box for each thread. Jobs are made before
-the time of their stop begins, and a box is freed within it. HotSpot makes no such stops.
+Both programs ask by queries, which take no memory. In the rows of boxed callbacks they ask by a closure in a box for
+each thread. The programs make jobs before the time of their stop begins, and free a box within that time. HotSpot makes
+no such stops.
 
-Only ratios of one run carry: the same machine differs by two from minute to minute.
+Compare only ratios of one run: the same machine differs by a factor of two from minute to minute.
 """
 import contextlib
 import os
@@ -29,7 +32,8 @@ HERE = pathlib.Path(__file__).resolve().parent
 PROGRAM = HERE.parent / "crates/running_bench/out/running_bench"
 
 # What HotSpot's calls for tests and its handshake of all threads take.
-JAVA_FLAGS = ["--add-modules", "jdk.incubator.foreign", "-XX:+UnlockDiagnosticVMOptions", "-XX:+WhiteBoxAPI", "-XX:-DisplayVMOutput", "-Xmx256m"]
+JAVA_FLAGS = ["--add-modules", "jdk.incubator.foreign", "-XX:+UnlockDiagnosticVMOptions", "-XX:+WhiteBoxAPI",
+              "-XX:-DisplayVMOutput", "-Xmx256m"]
 
 # What, the kind, threads, turns, the argument, how the twin is built, and which ratio is wanted at most.
 CALLS = [
@@ -60,7 +64,8 @@ LONGEST = 60
 # How many stops of threads that make back edges a run has, by their number.
 BUSY = {1: 300, 4: 60, 16: 15, 64: 15}
 
-# How many runs a row has. One of native threads lasts a millisecond, and takes a fourth more or less than the one before.
+# The number of runs of a row. A run of native threads lasts a millisecond, and takes a fourth more or less than the run
+# before.
 CALL_RUNS = 7
 NATIVE_RUNS = 31
 BUSY_RUNS = 3
@@ -70,11 +75,13 @@ def hotspot(folder):
     """The words that run HotSpot's stops, or nothing, and a line that says so, where there is no JDK 17."""
     said = subprocess.run(["javac", "-version"], capture_output=True, text=True).stdout if shutil.which("javac") else ""
     if not re.match(r"javac 17\b", said):
-        print(f"HotSpot isn't measured: {said.strip() or 'no javac'} is here, and it takes that of a JDK 17", flush=True)
+        print(f"HotSpot isn't measured: {said.strip() or 'no javac'} is here, and it takes that of a JDK 17",
+              flush=True)
         return None
     boot, main = os.path.join(folder, "boot"), os.path.join(folder, "main")
     subprocess.run(["javac", "-nowarn", "-d", boot, HERE / "hotspot/sun/hotspot/WhiteBox.java"], check=True)
-    words = ["javac", "-nowarn", "--add-modules", "jdk.incubator.foreign", "-cp", boot, "-d", main, HERE / "hotspot/Stops.java"]
+    words = ["javac", "-nowarn", "--add-modules", "jdk.incubator.foreign", "-cp", boot, "-d", main,
+             HERE / "hotspot/Stops.java"]
     subprocess.run(words, check=True, stderr=subprocess.DEVNULL)
     return ["java", f"-Xbootclasspath/a:{boot}", *JAVA_FLAGS, "-cp", main, "Stops"]
 
@@ -82,7 +89,8 @@ def hotspot(folder):
 def times(words):
     """The times that a run prints, or none where it comes to no end."""
     try:
-        said = subprocess.run([str(word) for word in words], check=True, capture_output=True, text=True, timeout=LONGEST).stdout
+        said = subprocess.run(
+            [str(word) for word in words], check=True, capture_output=True, text=True, timeout=LONGEST).stdout
     except subprocess.TimeoutExpired:
         return []
     return [int(word) for word in said.split()]
@@ -129,7 +137,10 @@ def two(values):
 
 
 def stop_row(program, twin, java, what, kind, threads, native):
-    """A row of stops: of the program and the plain one, in turn, and behind them of HotSpot; of either only if it is there."""
+    """A row of stops: of the program and the plain program, in turn, and behind them of HotSpot.
+
+    The row has the plain program and HotSpot only where they are there.
+    """
     words = [kind, threads, 300 if native else BUSY[threads], 1 if native else 0]
     ours, plains, hotspots = [], [], []
     runners = [(ours, [program, *words])]
@@ -146,7 +157,8 @@ def stop_row(program, twin, java, what, kind, threads, native):
     line = f"{name:45} {two(ours)}"
     for values in ([plains] if twin else []) + ([hotspots] if java else []):
         # HotSpot may make none in its time
-        line += f" {two(values)} {percentile(ours, 50) / percentile(values, 50):8.3g}" if values else f" {'-':>9} {'-':>9} {'-':>8}"
+        line += (f" {two(values)} {percentile(ours, 50) / percentile(values, 50):8.3g}" if values else
+                 f" {'-':>9} {'-':>9} {'-':>8}")
     print(line, flush=True)
 
 

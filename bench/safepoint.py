@@ -1,12 +1,13 @@
 #!/usr/bin/env python3
 """Times the calls and the stops of threads of C: safepoint.py [LIBSAFEPOINT [PROGRAM]] [calls|stops ..]
 
-LIBSAFEPOINT is crates/safepoint/out/libsafepoint.a by default, PROGRAM crates/running_bench/out/running_bench. Where PROGRAM is there it runs
-the same loops in turn, inside Rattle, and each row has the ratio of the two. A row of calls has nanoseconds a turn, the least and the median of
-seven runs on one core, and how much more the least of C is; one of stops microseconds, the median and the 99th percentile of the stops of three runs.
-safepoint/measure.c is built by the C compiler with -O2, without link-time optimization, so that each call of C is a call.
+LIBSAFEPOINT is crates/safepoint/out/libsafepoint.a by default, PROGRAM is crates/running_bench/out/running_bench. Where
+PROGRAM is there, it runs the same loops in turn, inside Rattle, and each row has the ratio of the two. A row of calls
+has nanoseconds a turn, the least and the median of seven runs on one core, and how much the least of C exceeds the
+least of PROGRAM. A row of stops has microseconds, the median and the 99th percentile of the stops of three runs. The C
+compiler builds safepoint/measure.c with -O2, without link-time optimization, so that each call of C is a call.
 
-Only ratios of one run carry: the same machine differs by two from minute to minute.
+Compare only ratios of one run: the same machine differs by a factor of two from minute to minute.
 """
 import os
 import pathlib
@@ -55,7 +56,8 @@ def kit():
 def built(library, folder):
     program = pathlib.Path(folder) / "measure"
     sources = [HERE / "safepoint/measure.c", *sorted((CRATE / "waits").glob("*.c")), library, kit() / "c/liblibc_c.a"]
-    words = [os.environ.get("CC", "cc"), "-std=gnu11", "-O2", "-Wall", "-Wextra", "-I", CRATE / "include", "-o", program, *sources, "-lpthread"]
+    words = [os.environ.get("CC", "cc"), "-std=gnu11", "-O2", "-Wall", "-Wextra", "-I", CRATE / "include",
+             "-o", program, *sources, "-lpthread"]
     subprocess.run(words, check=True)
     return program
 
@@ -90,7 +92,8 @@ def stop_row(programs, what, kind, threads, native):
         for program, values in zip(programs, found):
             values += times([program, kind, threads, 300 if native else BUSY[threads], 1 if native else 0])
     name = f"{what}, {threads} {'in native code' if native else 'busy'}"
-    line = f"{name:34}" + "".join(f" {percentile(values, 50) / 1e3:9.1f} {percentile(values, 99) / 1e3:9.1f}" for values in found)
+    line = f"{name:34}" + "".join(
+        f" {percentile(values, 50) / 1e3:9.1f} {percentile(values, 99) / 1e3:9.1f}" for values in found)
     if len(found) > 1:
         line += f" {percentile(found[0], 50) / percentile(found[1], 50):15.2f}   {WANTED}"
     print(line, flush=True)

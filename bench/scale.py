@@ -1,14 +1,20 @@
 #!/usr/bin/env python3
 """Shows that what a stop costs doesn't grow with what it doesn't touch: scale.py [PROGRAM] [--of PAGE] [--plot FILE]
 
-PROGRAM is crates/running_bench/out/running_bench by default; its kinds are told in its source. For stops of threads in native code it prints
-microseconds for each thread, from 1 to 64 threads; for the replies of a handshake, an install and a reclaiming (with the handshake of one thread)
-nanoseconds behind histories of up to a million entries, and for the last two among up to 1024 codes; so for handshakes and censuses of one thread
-among up to 1024 codes, and over up to 256 codes on its stack. Each is the least of the medians of fifteen runs.
+PROGRAM is crates/running_bench/out/running_bench by default; its source describes its kinds. The script prints
 
-With --plot the same goes into an SVG file of 800 pixels: a panel for each, all from 0, with what its lines are below it. With --of nothing is
-measured: the figures are read from the tables that an earlier run printed, as scale.txt keeps them. Only the shapes carry: the same machine differs by
-two from minute to minute.
+- for stops of threads in native code, microseconds for each thread, from 1 to 64 threads;
+- for the replies of a handshake, an install and a reclaiming (with the handshake of one thread), nanoseconds behind
+  histories of up to a million entries, and for the last two also among up to 1024 codes;
+- for handshakes and censuses of one thread, nanoseconds among up to 1024 codes, and over up to 256 codes on the
+  thread's stack.
+
+Each figure is the least of the medians of fifteen runs.
+
+With --plot the script writes the same figures into an SVG file of 800 pixels: a panel for each, all from 0, with the
+names of its lines below it. With --of the script measures nothing, and reads the figures from the tables that an
+earlier run printed, as scale.txt keeps them. Compare only the shapes: the same machine differs by a factor of two from
+minute to minute.
 """
 import os
 import pathlib
@@ -42,7 +48,8 @@ COLORS = {"handshake": "#1b6ca8", "census": "#c0504d", "reclaim": "#4f8a3d", "re
 
 def median(program, *words):
     """The median of the turns that a run prints."""
-    said = subprocess.run([str(program), *map(str, words)], check=True, capture_output=True, text=True, timeout=600).stdout
+    said = subprocess.run(
+        [str(program), *map(str, words)], check=True, capture_output=True, text=True, timeout=600).stdout
     return statistics.median(map(int, said.split()))
 
 
@@ -55,7 +62,10 @@ def once(program, panel):
 
 
 def measured(program, panel):
-    """For each line of a panel its name and its values: the least of some rounds, as a machine's speed changes from second to second."""
+    """The name and the values of each line of a panel.
+
+    A value is the least of some rounds, because a machine's speed changes from second to second.
+    """
     rounds = [once(program, panel) for _ in range(ROUNDS)]
     return [(name, list(map(min, zip(*line)))) for (name, _), line in zip(panel[3], zip(*rounds))]
 
@@ -98,7 +108,8 @@ def drawn(panel, lines, left, top, wide, high):
     most = round_up(max(max(values) for _, values in lines) * 1.1)
     across = lambda at: left + 14 + at * (wide - 28) / (len(places) - 1)
     up = lambda value: top + high - value / most * high
-    said = [f'<rect x="{left:.0f}" y="{top}" width="{wide:.0f}" height="{high}" fill="#fafafa" stroke="#ccc"/>', text(left + wide / 2, top - 24, title, size=13)]
+    said = [f'<rect x="{left:.0f}" y="{top}" width="{wide:.0f}" height="{high}" fill="#fafafa" stroke="#ccc"/>',
+            text(left + wide / 2, top - 24, title, size=13)]
     marks = [most * part / 4 for part in range(5)]
     grid = "".join(f"M{left:.0f},{up(value):.1f}h{wide:.0f}" for value in marks)
     said.append(f'<path d="{grid}" stroke="#e4e4e4"/>')
@@ -125,7 +136,8 @@ def plot(file, found):
     wide = (whole - 10 - across * (gap + 10)) / across
     row = high + 112
     tall = row * -(-len(found) // across)
-    said = [f'<svg xmlns="http://www.w3.org/2000/svg" width="{whole}" height="{tall}" viewBox="0 0 {whole} {tall}" font-family="sans-serif">']
+    said = [f'<svg xmlns="http://www.w3.org/2000/svg" width="{whole}" height="{tall}" '
+            f'viewBox="0 0 {whole} {tall}" font-family="sans-serif">']
     said.append(f'<rect width="{whole}" height="{tall}" fill="white"/>')
     for at, (panel, lines) in enumerate(found):
         said += drawn(panel, lines, gap + at % across * (wide + gap + 10), 44 + at // across * row, wide, high)

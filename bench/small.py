@@ -1,8 +1,9 @@
 #!/usr/bin/env python3
 """Makes a small form of a picture that `timeline` drew, for a page of 800 pixels: small.py PICTURE > SMALL
 
-The picture is one panel. What is behind its last line is cut off, its letters are made so large that they are at least 11 pixels high at 800, and
-the legend has those items alone that the picture shows. A name on a lane stands behind the lines that would cross it.
+The picture is one panel. The script cuts off everything behind the picture's last line. It makes the letters so large
+that they are at least 11 pixels high at 800, and keeps only those items of the legend that the picture shows. It puts a
+name on a lane behind the lines that would cross the name.
 """
 import re
 import sys
@@ -32,7 +33,8 @@ def legend(svg, width):
     said = ["<symbol id='legend' overflow='visible'>"]
     for at, (kind, name, label) in enumerate(shown):
         x, y = 8 + at % COLUMNS * (width - 16) / COLUMNS, 38 + at // COLUMNS * ROW
-        place = f"x='{x:.0f}' y='{y}' width='14' height='12'" if kind == "rect class" else f"x='{x + 7:.0f}' y='{y + 6}'"
+        place = (f"x='{x:.0f}' y='{y}' width='14' height='12'" if kind == "rect class" else
+                 f"x='{x + 7:.0f}' y='{y + 6}'")
         mark = f"<rect class='{name}' {place}/>" if kind == "rect class" else f"<use href='#{name}' {place}/>"
         said.append(f"{mark}<text x='{x + 20:.0f}' y='{y + 11}'>{label}</text>")
     return svg.replace(old, "\n".join([*said, "</symbol>\n"]))
@@ -58,7 +60,9 @@ def small(svg):
     width = max(x / (1 - (LEANS * letters + ENDS) * LEAST / WIDE) for x, _, letters in texts)
     top, size = min(y for _, y, _ in texts), LEAST * width / WIDE
     high = top + (high - top) * size / 11
-    svg = re.sub(r"(font(?:-size)?: )([\d.]+)px", lambda it: f"{it[1]}{max(float(it[2]), size):.1f}px", beside_ties(legend(svg, width), size))
+    svg = re.sub(
+        r"(font(?:-size)?: )([\d.]+)px", lambda it: f"{it[1]}{max(float(it[2]), size):.1f}px",
+        beside_ties(legend(svg, width), size))
     shape = f"width='{WIDE}' height='{high * WIDE / width:.0f}' viewBox='0 0 {width:.0f} {high:.0f}'"
     return re.sub(r"width='\d+' height='\d+' viewBox='[^']*'", shape, svg, count=1)
 
