@@ -20,7 +20,7 @@ class BadLog(Exception):
 
 
 class Job:
-    """A callback that ran in a call: of which operation, for which name, what it replied, and a ticket that was drawn in it."""
+    """A callback that ran in a call: its operation, the name that it ran for, its reply, and a ticket drawn in it."""
     __slots__ = ("op", "name", "reply", "ticket")
 
     def __init__(self, op, name, reply, ticket):
@@ -33,8 +33,9 @@ class Call:
     A call that hadn't returned has `word` None, and no call comes after it: `after` is above all tickets.
     What the windows say of it is put beside (windows.py).
     """
-    __slots__ = ("number", "text", "stream", "index", "before", "after", "call", "args", "word", "values", "jobs", "life", "at", "span", "spans",
-                 "drive_spans", "is_refused", "is_sayable", "is_watched", "is_held", "is_told", "is_queue_seen", "is_list_seen", "next_poll", "may_rest")
+    __slots__ = ("number", "text", "stream", "index", "before", "after", "call", "args", "word", "values", "jobs",
+                 "life", "at", "span", "spans", "drive_spans", "is_refused", "is_sayable", "is_watched", "is_held",
+                 "is_told", "is_queue_seen", "is_list_seen", "next_poll", "may_rest")
 
     def __init__(self, number, text):
         self.number, self.text = number, text
@@ -72,9 +73,13 @@ def fault_of(text):
     head, answer = front.split(" "), said.partition(" ;")[0].split(" ")
     tokens = [*head, "", "", ""]
     numbers, values = [number_of(token) for token in head[4:]], [number_of(token) for token in answer[1:]]
-    tests = (("too long", len(text) <= LONGEST), ("stream", number_of(tokens[0]) is not None), ("before", number_of(tokens[1]) is not None),
-             ("after", tokens[2] == "-" or number_of(tokens[2]) is not None), ("call", tokens[3] in CALLS),
-             ("arguments", None not in numbers and is_within(numbers, CALLS.get(tokens[3]))), ("colon", colon),
+    tests = (("too long", len(text) <= LONGEST),
+             ("stream", number_of(tokens[0]) is not None),
+             ("before", number_of(tokens[1]) is not None),
+             ("after", tokens[2] == "-" or number_of(tokens[2]) is not None),
+             ("call", tokens[3] in CALLS),
+             ("arguments", None not in numbers and is_within(numbers, CALLS.get(tokens[3]))),
+             ("colon", colon),
              ("answer", answer[0] in ANSWERS and (answer[0] == "?") == (tokens[2] == "-")),
              ("values", None not in values and is_within(values, ANSWERS.get(answer[0]))))
     return next((what for what, is_right in tests if not is_right), "jobs")
@@ -92,7 +97,8 @@ def call_of(number, text):
     call.word, call.is_refused = None if word == "?" else word, word in REFUSALS
     call.is_sayable = word == "?" or word in SAID.get(called, ()) or call.is_refused and called not in LOOKS
     call.jobs = jobs_of(list(map(int, jobs.split()))) if jobs else ()
-    if not is_within(call.args, CALLS.get(called)) or not is_within(call.values, ANSWERS.get(word)) or (after == "-") != (word == "?"):
+    if (not is_within(call.args, CALLS.get(called)) or not is_within(call.values, ANSWERS.get(word)) or
+            (after == "-") != (word == "?")):
         raise BadLog(f"line {number + 3}: {fault_of(text)}")
     return call
 
@@ -112,7 +118,10 @@ def jobs_rise(call):
 
 
 def put_in_stream(streams, call):
-    """Streams rise: each call begins behind the one before it, and ends behind its own beginning; its jobs ran in between."""
+    """Puts the call behind its stream's last one, where the tickets of the stream rise.
+
+    Each call begins behind the call before it, and ends behind its own beginning. Its jobs run in between.
+    """
     stream = streams.setdefault(call.stream, [])
     last = stream[-1].after if stream else -1
     if call.stream >= STREAMS or call.before <= last or call.after <= call.before or not jobs_rise(call):

@@ -1,7 +1,7 @@
 """The core: what each event does and answers, as docs/model/MODEL.md says.
 
-Events are methods. Each answers what `monitor replay` answers to its line, and changes nothing where that is a refusal. A thread is given as the
-`Thread` at its place.
+Each event is a method. It gives the answer of `monitor replay` to the event's line, and changes nothing where that
+answer is a refusal. It takes a thread as the `Thread` at the thread's place.
 """
 from thread_events import ThreadEvents
 from world import FREED, IN_USE, NOT_ENTRANT, ZOMBIE, Code, Request, Thread, World

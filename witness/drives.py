@@ -149,7 +149,8 @@ class Drives:
             return NEVER
         return EAGER, ((self.done,),)
 
-    # --- a reclaiming: with jobs it asks for a handshake, makes the moment, works the handshake to its end, looks, weighs and frees
+    # --- a reclaiming: with jobs it asks for a handshake, makes the moment, and works the handshake to its end; then it
+    # looks, weighs and frees
 
     def reclaim(self, stream, call):
         world, serial, stage = self.world, call.args[0], self.states[stream][STAGE]
@@ -182,7 +183,8 @@ class Drives:
         code = world.codes[serial]
         if code.state != NOT_ENTRANT:
             return WAIT
-        late = next((place for place in range(len(world.places)) if not code.looked >> place & 1 and not world.is_covered(place, code)), None)
+        late = next((place for place in range(len(world.places))
+                     if not code.looked >> place & 1 and not world.is_covered(place, code)), None)
         counted = world.counted.get(serial) or 0
         said = f"late {late}" if late is not None else f"used {counted}" if counted else "freed"
         if call.word and said != " ".join([call.word, *map(str, call.values)]):

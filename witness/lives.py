@@ -4,7 +4,8 @@ from bisect import bisect_left, bisect_right
 from calls import LATEST
 
 # Calls of a thread, which name its place first.
-OF_THREAD = frozenset(("call", "ret", "edge", "tovm", "fromvm", "tonative", "fromnative", "block", "unblock", "publish", "stop", "exit"))
+OF_THREAD = frozenset((
+    "call", "ret", "edge", "tovm", "fromvm", "tonative", "fromnative", "block", "unblock", "publish", "stop", "exit"))
 POLLS = frozenset(("ret", "edge", "fromvm", "fromnative", "unblock"))
 # After these the thread is where a coordinator may hold it, where they answered so.
 GIVES = frozenset(("tonative", "block"))
@@ -14,8 +15,11 @@ TURNS = frozenset(("stop", "start", "exit"))
 
 
 class Life:
-    """A thread's calls in the order of its program; `at` counts those that are over, `jobs` tells in which call of them an operation's job ran, and
-    `rests` are the times in which it may be held (safe_ends)."""
+    """A thread's calls in the order of its program.
+
+    `at` is the number of these calls that are over. `jobs` says in which of the calls an operation's job ran. `rests`
+    are the times in which the thread may be held (safe_ends).
+    """
     __slots__ = ("name", "place", "calls", "at", "jobs", "spans", "rests")
 
     def __init__(self, name, place):
@@ -24,9 +28,13 @@ class Life:
 
 
 class Span:
-    """A hold that was accepted, up to its release: of the stream, up to its call `last`, or to the end of a job of a drive, the `ran`-th of that
-    call. It begins `before` one ticket, and ends `after` another. `ops` are the operations that were done meanwhile, `name` is the thread's where a
-    job tells it. `ends` are the calls of the thread's life, rising, that may end the time in which it was held."""
+    """A hold that was accepted, up to its release.
+
+    The hold is of the stream. It lasts up to the stream's call `last`, or up to the end of a job of a drive, the
+    `ran`-th job of that call. The hold begins `before` one ticket, and ends `after` another. `ops` are the operations
+    that were done meanwhile. `name` is the thread's name where a job shows it. `ends` are the calls of the thread's
+    life, rising, that may end the time in which the thread was held.
+    """
     __slots__ = ("stream", "last", "ran", "place", "before", "after", "ops", "name", "life", "ends")
 
     def __init__(self, stream, index, before, place):
@@ -86,8 +94,10 @@ def least_poll(call):
 
 
 def safe_ends(life):
-    """Each call at which a time ends in which the thread may be held, with the earliest ticket of its beginning and the latest of its end, which both
-    rise."""
+    """Each call that ends a time in which the thread may be held, with two tickets.
+
+    They are the earliest ticket of the time's beginning and the latest ticket of its end. Both rise.
+    """
     begins = None
     for at, call in enumerate(life.calls):
         if call.is_refused:
@@ -100,7 +110,10 @@ def safe_ends(life):
 
 
 def may_end(span, life, at):
-    """Jobs of a thread run by rising number, and a poll behind a job doesn't answer its number: whether this span may end at the call."""
+    """Whether this span may end at the call.
+
+    Jobs of a thread run by rising number, and a poll behind a job doesn't answer the job's number.
+    """
     if not span.ops:
         return True
     least, most = min(span.ops), max(span.ops)

@@ -6,7 +6,9 @@ from run import CLOSED, RAN, STAGE
 from thread_calls import AT_POLL, AWAKE, ENDED, ENDED_AGAIN, FRESH, LEGAL, STARTED, TAKEN
 
 # Events that are of a thread's place, and those that take one number or none.
-OF_PLACE = frozenset("begin change end wake cross enter leave edge tovm fromvm tonative block exit take finish clear hold release".split())
+OF_PLACE = frozenset(
+    "begin change end wake cross enter leave edge tovm fromvm tonative block exit take finish clear "
+    "hold release".split())
 
 
 class Report:

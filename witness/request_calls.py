@@ -1,4 +1,7 @@
-"""What is asked for, told, held and closed, and what becomes of codes: calls that are no thread's, but for drives and reclaimings."""
+"""Calls that are no thread's, but for drives and reclaimings.
+
+They look, ask, tell, hold and close, and they install codes and take them out of use.
+"""
 from asks import ask_line, request_of
 from core import OPEN
 from run import CHOICE, EAGER, NEVER, WAIT
@@ -9,7 +12,8 @@ class RequestCalls:
     # --- looks
 
     def live(self, stream, call):
-        return self.when(sorted(thread.name for thread in self.world.live()) == call.values or call.word is None, "resolve 0")
+        return self.when(
+            sorted(thread.name for thread in self.world.live()) == call.values or call.word is None, "resolve 0")
 
     def replies(self, stream, call):
         listed = tuple(zip(call.values[::2], call.values[1::2]))
@@ -23,7 +27,8 @@ class RequestCalls:
             return self.refused(call, f"install {method}", world.install, method)
         if call.word and world.serials >= call.values[0]:
             return NEVER
-        if world.unfreed >= world.slots or call.word and world.serials + 1 != call.values[0] or self.is_used_yet(world.in_use.get(method)):
+        if (world.unfreed >= world.slots or call.word and world.serials + 1 != call.values[0] or
+                self.is_used_yet(world.in_use.get(method))):
             return WAIT
         return (CHOICE if call.is_watched else EAGER), ((self.do_install, method),)
 
@@ -109,7 +114,10 @@ class RequestCalls:
         return self.when(said == "gone", f"tell {name}")
 
     def may_tell(self, name):
-        """EAGER where the thread has made all polls that weren't told it, CHOICE where nobody knows which these are; else None: not yet."""
+        """EAGER where the thread has made all polls that come before it is told, CHOICE where these polls aren't known.
+
+        Else None: not yet.
+        """
         request = self.world.untold(name)
         if request is None or not self.world.is_live(name):
             return None
@@ -250,14 +258,16 @@ class RequestCalls:
 
     def may_clear(self, request, name):
         """What was refused because the name, or the last of all, wasn't cleared has been so."""
-        if any(not self.is_past(stream, index) for stream, index in self.known.refused_before.get((request.number, name), ())):
+        if any(not self.is_past(stream, index)
+               for stream, index in self.known.refused_before.get((request.number, name), ())):
             return False
         close = self.known.not_done.get(request.number)
         return close is None or self.is_past(close.stream, close.index) or self.has_other(request, name, close)
 
     def has_other(self, request, name, close):
         """Beside the name another one still keeps the operation from being over at that Close."""
-        return any(other != name and other not in request.cleared and self.world.is_live(other) and not self.is_before(request.number, other, close)
+        return any(other != name and other not in request.cleared and self.world.is_live(other) and
+                   not self.is_before(request.number, other, close)
                    for other in request.live)
 
     def is_before(self, number, name, close):
@@ -265,4 +275,5 @@ class RequestCalls:
         call = self.known.jobs.get((number, name))
         if call is None:
             return False
-        return call.stream == close.stream and call.index < close.index or self.known.ends_before[number, name] < close.before
+        return (call.stream == close.stream and call.index < close.index or
+                self.known.ends_before[number, name] < close.before)

@@ -1,8 +1,12 @@
-"""How far a search is: the world, where each stream is in its calls, and the events that were made. `known` is what is known before it.
+"""The state of a search: the world, the position of each stream in its calls, and the events that were made.
 
-What a stream may do next is a verdict and steps. A step is a method and its arguments, which `make` calls with the stream and its call.
-EAGER: the one step can come before all that others may do first, so it is made at once. CHOICE: each of the steps may be next, or none yet.
-DEAD: the call can't go on, whatever others do.
+`known` has what the log shows before the search.
+
+What a stream may do next is a verdict and steps. A step is a method and its arguments. `Search.apply` calls the method
+with the stream and the stream's call.
+EAGER: the one step can come before all that other streams may do first, so the search makes it at once.
+CHOICE: each of the steps may be next, or none yet.
+DEAD: the call can't go on, whatever other streams do.
 """
 from core import Core
 from windows import Windows
@@ -10,8 +14,9 @@ from windows import Windows
 EAGER, CHOICE, DEAD = 2, 1, 0
 WAIT, NEVER = (CHOICE, ()), (DEAD, ())
 
-# Of a stream: how many of its calls are over; where it is in its call, 0 before the first event; how many jobs of the call ran; whether the
-# thread's turn had one; how many operations the call closed.
+# The state of a stream: the number of its calls that are over; its position in its call, 0 before the first event; the
+# number of jobs of the call that ran; whether the thread's turn had a job; the number of operations that the call
+# closed.
 POS, STAGE, RAN, SERVED, CLOSED = range(5)
 
 
@@ -125,7 +130,10 @@ class Run:
         self.put(stream, RAN, state[RAN] + 1)
 
     def unfit(self, stream, call, request, thread):
-        """None where the thread's next job is the call's next, with its reply; else WAIT, or NEVER where the reply is another."""
+        """None where the thread's next job is the call's next job, with its reply.
+
+        Else WAIT, or NEVER where the reply is another.
+        """
         if self.log.has_jobs:
             ran = self.states[stream][RAN]
             job = call.jobs[ran] if ran < len(call.jobs) else None

@@ -1,7 +1,8 @@
 """Looks for an order of events in which each call answers what it is recorded to answer.
 
-It makes at once what can come before all else, and chooses among the rest: first what has to be over first. Where nothing is left it goes back to
-its last choice. Some short tries, each with other choices, come before the whole search.
+The search makes each step at once that can come before all else. It chooses among the other steps: what has to be over
+first comes first. Where no step is left, the search goes back to its last choice. Some short tries, each with other
+choices, come before the whole search.
 """
 import random
 import time
@@ -16,7 +17,10 @@ MOST_SEEN = 1 << 20
 
 
 class Beginning:
-    """The longest beginning that was found: how many of its calls are over, its events, and where the streams are behind it."""
+    """The longest beginning that was found.
+
+    It has the number of calls that are over, the events, and the states of the streams behind these events.
+    """
 
     def __init__(self):
         self.over, self.made, self.states = -1, [], []
@@ -97,8 +101,11 @@ class Search(Programs):
         return [(stream, step) for _, stream, _, step in found]
 
     def rank(self, call):
-        """What has to be over first comes first. A call that hadn't returned comes as early as it may, and so does a reclaiming, which makes its
-        moment when it begins."""
+        """The rank of a call: the call that has to be over first comes first.
+
+        A call that hadn't returned comes as early as it may. So does a reclaiming, which makes its moment when it
+        begins.
+        """
         if self.is_varied and self.random.random() < 0.2:
             return self.random.randrange(LATEST)
         return call.before if call.after == LATEST or self.is_reclaim_begun(call) else call.after
@@ -111,11 +118,14 @@ class Search(Programs):
     def key(self):
         """What tells one point of the search from another."""
         world = self.world
-        threads = tuple((t.name, t.state, t.held, t.moment, t.begun, t.left, tuple(sorted(t.shown.items()))) if t else None for t in world.places)
+        threads = tuple(
+            (t.name, t.state, t.held, t.moment, t.begun, t.left, tuple(sorted(t.shown.items()))) if t else None
+            for t in world.places)
         codes = tuple((code.state, code.moment, code.looked) for code in world.codes.values() if code)
         asked = tuple((it.number, it.live, it.told, it.done, it.cleared, it.operated) for it in world.opened)
         replied = tuple(sorted((number, replies) for number, replies in self.replied.items() if replies))
-        return hash((tuple(map(tuple, self.states)), threads, codes, asked, world.moment, world.names, world.asked, world.serials, replied))
+        return hash((tuple(map(tuple, self.states)), threads, codes, asked,
+                     world.moment, world.names, world.asked, world.serials, replied))
 
     def try_for(self, most):
         """One try, which goes back at most so often, or as often as it may."""
@@ -161,7 +171,8 @@ class Search(Programs):
 
     def over(self):
         """How many calls are over, of those that returned: one that didn't is the last of its stream."""
-        return sum(state[POS] - (state[POS] == len(calls) and calls[-1].word is None) for state, calls in zip(self.states, self.streams))
+        return sum(state[POS] - (state[POS] == len(calls) and calls[-1].word is None)
+                   for state, calls in zip(self.states, self.streams))
 
     def note_beginning(self):
         over, longest = self.over(), self.longest

@@ -9,8 +9,9 @@ FRESH, STARTED, ENDED, ENDED_AGAIN, AWAKE, AT_POLL, TAKEN, TURN_ENDED = range(8)
 
 IN_JAVA, IN_VM, OWNS = (JAVA,), (VM,), (JAVA, VM)
 # The states in which a call of a thread isn't illegal.
-LEGAL = {"call": IN_JAVA, "ret": IN_JAVA, "edge": IN_JAVA, "tovm": IN_JAVA, "fromvm": IN_VM, "publish": OWNS, "tonative": OWNS, "block": IN_VM,
-         "fromnative": (NATIVE_JAVA, NATIVE_VM), "unblock": ("Blocked",), "stop": (POLL_JAVA, POLL_VM), "exit": OWNS}
+LEGAL = {"call": IN_JAVA, "ret": IN_JAVA, "edge": IN_JAVA, "tovm": IN_JAVA, "fromvm": IN_VM, "publish": OWNS,
+         "tonative": OWNS, "block": IN_VM, "fromnative": (NATIVE_JAVA, NATIVE_VM), "unblock": ("Blocked",),
+         "stop": (POLL_JAVA, POLL_VM), "exit": OWNS}
 
 
 class ThreadCalls:
@@ -27,15 +28,17 @@ class ThreadCalls:
 
     def first_line(self, call):
         """The first event of a thread's call."""
-        words = {"ret": "leave", "call": "enter", "fromnative": "wake", "unblock": "wake", "publish": "begin", "stop": "take"}
+        words = {"ret": "leave", "call": "enter", "fromnative": "wake", "unblock": "wake", "publish": "begin",
+                 "stop": "take"}
         numbers = " ".join(map(str, call.args))
         return f"{words.get(call.call, call.call)} {numbers}"
 
     def refused_call(self, call, thread):
         """A refused call of a thread is its first event."""
         world = self.world
-        events = {"ret": world.leave, "fromnative": world.wake, "unblock": world.wake, "publish": world.begin, "stop": world.take, "edge": world.edge,
-                  "tovm": world.tovm, "fromvm": world.fromvm, "tonative": world.tonative, "block": world.block, "exit": world.exit}
+        events = {"ret": world.leave, "fromnative": world.wake, "unblock": world.wake, "publish": world.begin,
+                  "stop": world.take, "edge": world.edge, "tovm": world.tovm, "fromvm": world.fromvm,
+                  "tonative": world.tonative, "block": world.block, "exit": world.exit}
         if call.call == "call":
             return self.refused(call, self.first_line(call), world.enter, thread, *call.args[1:])
         return self.refused(call, self.first_line(call), events[call.call], thread)
@@ -103,8 +106,10 @@ class ThreadCalls:
     # --- a publication
 
     def publication(self, call, thread, then):
-        """A publication, behind which the call is at that stage, or over. Where a reclaiming may come in between, it is one event after the
-        other."""
+        """A publication. Behind it the call is at the stage `then`, or over where that is None.
+
+        Where a reclaiming may come in between, the publication is made one event after the other.
+        """
         if not call.is_watched:
             return EAGER, ((self.do_publish, thread, then),)
         if thread.left is None:
@@ -140,7 +145,10 @@ class ThreadCalls:
     # --- back into its own hands
 
     def spans_left(self, call, ticket=LATEST):
-        """The holds that may have to come before the call goes on, of those that began before the ticket: whether one must, and whether one may."""
+        """Whether a hold must come before the call goes on, and whether one may.
+
+        Only the holds that began before the ticket count.
+        """
         must, may = False, False
         for span in call.spans:
             if span.before < ticket and not self.is_span_over(span):

@@ -9,8 +9,8 @@ NATIVE_JAVA, NATIVE_VM = "InNative(Java)", "InNative(Vm)"
 SERVING_JAVA, SERVING_VM = "Serving(Java)", "Serving(Vm)"
 
 # Where a poll that goes on leads, and one that stops.
-GOES = {JAVA: JAVA, VM: JAVA, "NewTrans": JAVA, "NativeTrans(Java)": JAVA, "NativeTrans(Vm)": VM, "BlockedTrans": VM, SERVING_JAVA: JAVA,
-        SERVING_VM: VM}
+GOES = {JAVA: JAVA, VM: JAVA, "NewTrans": JAVA, "NativeTrans(Java)": JAVA, "NativeTrans(Vm)": VM,
+        "BlockedTrans": VM, SERVING_JAVA: JAVA, SERVING_VM: VM}
 STOPS = {state: POLL_VM if after == VM else POLL_JAVA for state, after in GOES.items()}
 WAKES = {"New": "NewTrans", NATIVE_JAVA: "NativeTrans(Java)", NATIVE_VM: "NativeTrans(Vm)", "Blocked": "BlockedTrans"}
 TO_NATIVE = {JAVA: NATIVE_JAVA, VM: NATIVE_VM}
@@ -49,7 +49,8 @@ class ThreadEvents:
         if counts == shown:
             self.set(thread, "left", ())
         else:
-            self.set(thread, "left", tuple(sorted(serial for serial in counts.keys() | shown.keys() if counts.get(serial) != shown.get(serial))))
+            self.set(thread, "left", tuple(sorted(
+                serial for serial in counts.keys() | shown.keys() if counts.get(serial) != shown.get(serial))))
         return "ok"
 
     def change(self, thread):
@@ -194,7 +195,8 @@ class ThreadEvents:
 
     def finish(self, thread):
         name = thread.name
-        why = self.served(thread) or self.of_told(thread, lambda request: request.ask is not None and name in request.names)
+        why = self.served(thread) or self.of_told(
+            thread, lambda request: request.ask is not None and name in request.names)
         if why:
             return why
         request = self.undone(name)

@@ -18,7 +18,10 @@ class Turns:
         return self.ends_turn(stream, call, thread)
 
     def takes(self, stream, call, thread):
-        """A Take for the call's next job comes once that is told, behind the holds before it; one without a job behind all that the call has."""
+        """A Take for the call's next job comes once that job is told, behind the holds before it.
+
+        A Take without a job comes behind all jobs and holds of the call.
+        """
         world, request = self.world, self.world.undone(thread.name)
         if thread.held or world.awaits_census(thread.name):
             return WAIT
@@ -142,8 +145,12 @@ class Turns:
         return WAIT
 
     def may_leave(self, thread):
-        """Whoever listed the thread as live, or found it at its place, has done so, those that started at greater places before this one was
-        taken again have started, and what it is recorded to have replied it has."""
+        """Whether the thread may leave its place.
+
+        Each call that listed the thread as live, or found it at its place, is over. Each thread that started at a
+        greater place before this place was taken again has started. The thread has given each reply that the log has of
+        it.
+        """
         seen = (*self.known.live_lists.get(thread.name, ()), *self.known.seen_at.get(thread.name, ()))
         if any(not self.is_past(stream, index) for stream, index in seen):
             return False

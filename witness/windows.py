@@ -21,8 +21,10 @@ class Windows:
     `listed`          by operation, the replies as they were listed last; `owed`: by name, the operations of these
     `starts_to_come`  the names and places of all starts
     `requests`        by operation, its ask and names
-    `invalidations`   by code, the call that took it out of use (stream and index); `seen_at`: by name, calls that found the thread at its place
-    `jobs`            by operation and name, the call in which the job ran; `ends_before`: the ticket before which it was done
+    `invalidations`   by code, the call that took it out of use (stream and index)
+    `seen_at`         by name, calls that found the thread at its place
+    `jobs`            by operation and name, the call in which the job ran
+    `ends_before`     by operation and name, the ticket before which the job was done
     """
 
     def __init__(self, log):
@@ -30,7 +32,8 @@ class Windows:
         self.by_place = lives_of(log)
         self.lives = {life.name: life for lives in self.by_place.values() for life in lives}
         self.last_entries, self.live_lists, self.listed, self.owed = {}, {}, {}, {}
-        self.starts_to_come = sorted(tuple(call.values) for call in log.calls if call.call == "start" and call.word == "thread")
+        self.starts_to_come = sorted(
+            tuple(call.values) for call in log.calls if call.call == "start" and call.word == "thread")
         self.told_behind, self.refused_before, self.not_done, self.newest = {}, {}, {}, {}
         self.invalidations, self.seen_at = {}, {}
         self.note_calls()
@@ -82,10 +85,12 @@ class Windows:
             holds = [call for call in calls if call.call in HOLDS and not call.is_refused] + reclaims
             tells = [call for call in calls if call.call in TELLS and not call.is_refused] + reclaims
         # A refusal may see that a code isn't installed yet, or still in use.
-        self.mark("is_watched", reclaims + [call for call in calls if call.word in ("Unknown", "NotInUse", "NotNotEntrant")])
+        self.mark("is_watched",
+                  reclaims + [call for call in calls if call.word in ("Unknown", "NotInUse", "NotNotEntrant")])
         self.mark("is_held", holds)
         self.mark("is_told", tells)
-        self.mark("is_queue_seen", [call for call in calls if call.call == "open" and call.is_refused or call.call.startswith(("drive", "reclaim"))])
+        self.mark("is_queue_seen", [call for call in calls if call.call == "open" and call.is_refused or
+                                    call.call.startswith(("drive", "reclaim"))])
         self.mark("is_list_seen", [call for call in calls if call.call in ("start", "exit", "drive", "drivefour")
                                    or call.call.startswith(("submit", "reclaim")) and call.is_refused])
 
@@ -103,7 +108,11 @@ class Windows:
     # --- polls of a thread
 
     def note_polls(self):
-        """From each call of a thread on, what its next poll answers, and whether it rests before, so that others may clear what it is told."""
+        """Notes for each call of a thread what the thread's next poll from there answers, and whether the thread rests
+        before that poll.
+
+        Where the thread rests, others may clear what it is told.
+        """
         for life in self.lives.values():
             poll, rests = None, False
             for call in reversed(life.calls):
@@ -116,7 +125,9 @@ class Windows:
     # --- requests, as each stream that works them has them
 
     def note_requests(self):
-        """What is asked for by each number; by operation and name, in which call the job ran, and the ticket before which it was done."""
+        """Notes the request of each number; by operation and name, the call in which the job ran, and the ticket before
+        which the job was done.
+        """
         self.requests, self.jobs, self.ends_before = {}, {}, {}
         for call in self.log.calls:
             if call.call.startswith("submit") and call.word == "asked":
@@ -165,13 +176,15 @@ class Windows:
             lives = self.lives_at(call)
             for life in lives:
                 if told.get(life.name) and call.word != "AlreadyDone":
-                    self.refused_before.setdefault((told[life.name][-1], life.name), []).append((call.stream, call.index))
+                    self.refused_before.setdefault((told[life.name][-1], life.name), []).append(
+                        (call.stream, call.index))
             if call.word == "AlreadyDone" and len(lives) == 1:
                 self.note_done(told.get(lives[0].name, ()), lives[0].name, call.after)
 
     def lives_at(self, call):
         """The lives at the call's place that it may have met."""
-        return [life for life in self.by_place.get(call.args[0], ()) if life.calls[0].before < call.after and call.before < life.calls[-1].after]
+        return [life for life in self.by_place.get(call.args[0], ())
+                if life.calls[0].before < call.after and call.before < life.calls[-1].after]
 
     def note_seen(self, call):
         """The call found a thread at its place: the only one that may have been there."""
@@ -230,7 +243,11 @@ class Windows:
     # --- when a thread is told
 
     def note_told(self):
-        """A job runs in a call of the thread, or where it is held: the polls before that which answer less come before it is told."""
+        """Notes the last call of the thread before it is told.
+
+        A job runs in a call of the thread, or where the thread is held. The polls before the job that answer less than
+        its number come before the thread is told.
+        """
         if not self.log.has_jobs:
             return
         for (number, name), call in self.jobs.items():

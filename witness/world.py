@@ -4,9 +4,13 @@ IN_USE, NOT_ENTRANT, ZOMBIE, FREED = "in use", "not entrant", "zombie", "freed"
 
 
 class Thread:
-    """A live thread. `stack` is (method, serial or None, stack below) or None; `counts` and `shown` say how often it has each code, now and as
-    shown last; `moment` is that of its last publication, 0 before one; `left` are the codes that an open publication has still to change, None
-    where none is open, and `begun` its moment."""
+    """A live thread.
+
+    `stack` is (method, serial or None, stack below) or None. `counts` says how often the thread has each code, `shown`
+    how often it had the code as shown last. `moment` is the moment of the thread's last publication, 0 before one.
+    `left` are the codes that an open publication has still to change, None where none is open. `begun` is the moment of
+    the open publication.
+    """
     __slots__ = ("name", "place", "state", "held", "stack", "depth", "counts", "shown", "moment", "left", "begun")
 
     def __init__(self, name, place):
