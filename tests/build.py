@@ -1,10 +1,11 @@
 #!/usr/bin/env python3
 """Proves and builds programs and libraries, and says how far it is: build.py CRATE ..
 
-The crates below each are proved first, the lowest first, each by `rt lib`; a program is built by `rt run`, on the input that the gate runs it
-on. What an earlier run has proved of the present state isn't proved again. A line for each step says of how many crates it is, how many
-functions of that crate are checked, and how many minutes are left, reckoned from bench/MINUTES.md and from how long the crates before took.
-The status is 0 where all is proved and built; else the log of the crate that failed is shown.
+`rt lib` proves the crates below each crate first, the lowest first. `rt run` builds a program, on the input that the
+gate runs it on. A check that an earlier run has made of the present state isn't made again. A line for each step has
+the place of the crate among all crates, the number of functions of that crate that are checked, and the minutes that
+are left, estimated from bench/MINUTES.md and from the time of the crates before. The status is 0 where all is proved
+and built. Else the script shows the log of the crate that failed.
 """
 import os
 import pathlib
@@ -23,7 +24,11 @@ LEAST = 0.2
 
 
 class Progress:
-    """Says how far a build is. A crate's minutes are those of a processor, which the clock's follow by what the crates so far took."""
+    """Says how far a build is.
+
+    A crate's minutes are those of a processor. The minutes by the clock follow from them and from the time that the
+    crates so far took.
+    """
 
     def __init__(self, crates):
         self.minutes = {it.name: max(LEAST, minutes_of(it.name)) for it in crates}
@@ -40,7 +45,8 @@ class Progress:
     def say(self, name, checked=0, functions=0):
         of_crate = f"{checked} of {functions} functions, " if functions else ""
         left = self.left(name, checked / functions if functions else 0)
-        print(f"crate {self.names.index(name) + 1} of {len(self.names)}: {name}, {of_crate}some {left:.0f} minutes left", flush=True)
+        print(f"crate {self.names.index(name) + 1} of {len(self.names)}: {name}, "
+              f"{of_crate}some {left:.0f} minutes left", flush=True)
 
 
 def command_of(crate):
@@ -53,11 +59,15 @@ def command_of(crate):
 
 
 def build(rtlib, crate, progress):
-    """Proves and builds one crate, and notes of a library for C that it is proved. What it says is kept, and shown where it fails."""
+    """Proves and builds one crate, and notes that a library for C is proved.
+
+    The output of the build is kept, and shown where the build fails.
+    """
     command, given = command_of(crate)
     progress.say(crate.name)
     with tempfile.TemporaryFile("w+", errors="replace") as log:
-        how = {"stdin": given, "stdout": subprocess.DEVNULL, "stderr": subprocess.PIPE, "text": True, "errors": "replace"}
+        how = {"stdin": given, "stdout": subprocess.DEVNULL, "stderr": subprocess.PIPE,
+               "text": True, "errors": "replace"}
         if not crate.is_program:
             how["stdout"], how["stderr"] = subprocess.PIPE, subprocess.STDOUT
         running = subprocess.Popen(command, cwd=crate.folder, **how)

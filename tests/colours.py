@@ -3,9 +3,10 @@
 
 It prints a table of them; tests/pictures.py fails where two meanings are nearer than the bounds below.
 
-A colour is that of the rectangle which fills a bar; the bars of operations and codes are striped too. Lightness is CIE L*, from 0, black, to 100,
-which is what a grey print keeps. Sight without red (protanopia) and without green (deuteranopia) is simulated by the matrices of Machado, Oliveira
-and Fernandes (2009), and how far two colours are apart is their distance in CIE L*a*b*.
+The colour of a bar is that of the rectangle which fills the bar. The bars of operations and codes are striped too.
+Lightness is CIE L*, from 0, black, to 100; a grey print keeps the lightness. The script simulates sight without red
+(protanopia) and without green (deuteranopia) by the matrices of Machado, Oliveira and Fernandes (2009). The distance of
+two colours is their distance in CIE L*a*b*.
 """
 import itertools
 import re
@@ -21,8 +22,8 @@ ROWS = {
     "codes": "inuse notentrant zombie".split(),
 }
 
-# The least difference of lightness of two colours of one row, and the least distance of two colours in every sight. A striped bar and a plain
-# one are told apart by the stripes.
+# The least difference of lightness between two colours of one row, and the least distance between two colours in every
+# sight. The stripes distinguish a striped bar from a plain one.
 LEAST_LIGHTNESS = 8.0
 LEAST_DISTANCE = 10.0
 
@@ -38,7 +39,8 @@ def colours_of(picture):
     root = xml.fromstring(picture)
     fills = dict(re.findall(r"rect\.(\w+) \{ fill: (#[0-9a-f]+|url\(#[\w-]+\))", root.findtext(f"{SVG}style")))
     patterns = {it.get("id"): it.find(f"{SVG}rect").get("fill") for it in root.iter(f"{SVG}pattern")}
-    return {name: (patterns[fill[5:-1]] if fill.startswith("url") else whole(fill), fill.startswith("url")) for name, fill in fills.items()}
+    return {name: (patterns[fill[5:-1]] if fill.startswith("url") else whole(fill), fill.startswith("url"))
+            for name, fill in fills.items()}
 
 
 def whole(colour):
@@ -55,7 +57,9 @@ def linear(colour):
 def lab(light):
     """L*, a* and b* of a light, by the white D65."""
     r, g, b = light
-    xyz = ((.4124 * r + .3576 * g + .1805 * b) / .9505, .2126 * r + .7152 * g + .0722 * b, (.0193 * r + .1192 * g + .9505 * b) / 1.089)
+    xyz = ((.4124 * r + .3576 * g + .1805 * b) / .9505,
+           .2126 * r + .7152 * g + .0722 * b,
+           (.0193 * r + .1192 * g + .9505 * b) / 1.089)
     x, y, z = (it ** (1 / 3) if it > 216 / 24389 else (it * 24389 / 27 + 16) / 116 for it in xyz)
     return 116 * y - 16, 500 * (x - y), 200 * (y - z)
 
@@ -96,12 +100,14 @@ def words_of(picture):
 
 def figures(colours, words):
     """A table: each colour's lightness, and what is nearest to it by lightness and by colour."""
-    lines = ["| bar | colour | lightness | nearest of its row by lightness | nearest of its kind by colour |", "|---|---|---|---|---|"]
+    lines = ["| bar | colour | lightness | nearest of its row by lightness | nearest of its kind by colour |",
+             "|---|---|---|---|---|"]
     for name, (colour, striped) in colours.items():
         row = next(it for it in ROWS.values() if name in it)
         grey = min((abs(lightness(colour) - lightness(colours[it][0])), it) for it in row if it != name)
         near = min((distance(colour, to), it) for it, (to, other) in colours.items() if it != name and other == striped)
-        lines.append(f"| {words[name]} | `{colour}` | {lightness(colour):.0f} | {words[grey[1]]}, {grey[0]:.1f} | {words[near[1]]}, {near[0]:.0f} |")
+        lines.append(f"| {words[name]} | `{colour}` | {lightness(colour):.0f} | {words[grey[1]]}, {grey[0]:.1f} | "
+                     f"{words[near[1]]}, {near[0]:.0f} |")
     return lines
 
 

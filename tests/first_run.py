@@ -1,8 +1,9 @@
 #!/usr/bin/env python3
 """Runs a program of the repository at once: first_run.py PROGRAM WORD ..
 
-Where a proved build of the present state stands, that is run. Else the program is run before any proof, by `rt try`, and a line on standard
-error says so, with the command that proves it. Standard input and output are the program's; the status is its own, or 1 where it can't be tried.
+Where there is a proved build of the present state, the script runs that build. Else it runs the program before any
+proof, by `rt try`, and a line on standard error says so, with the command that proves the program. Standard input and
+output are the program's. The status is the program's own, or 1 where the program can't be tried.
 """
 import re
 import subprocess
@@ -20,7 +21,8 @@ def main(name, *words):
     folder = ROOT / "crates" / name
     if proved.is_proved(rtlib, name):
         return subprocess.call([folder / "out" / name, *words])
-    print(f"{name}: this build isn't proved: `make build PROGRAMS={name}` proves and builds it", file=sys.stderr, flush=True)
+    print(f"{name}: this build isn't proved: `make build PROGRAMS={name}` proves and builds it",
+          file=sys.stderr, flush=True)
     ran = subprocess.run(["rt", "try", "--", *words], cwd=folder, stderr=subprocess.PIPE)
     sys.stderr.buffer.write(OF_THE_TRY.sub(b"", ran.stderr))
     return ran.returncode

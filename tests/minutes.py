@@ -1,9 +1,9 @@
 #!/usr/bin/env python3
 """Where the minutes of a processor go: minutes.py watch PID > LOG | minutes.py table LOG .. > bench/MINUTES.md
 
-`watch` looks each second at what the process and those that it started have running, until it is told to end, and then writes what each
-crate took, a line `CRATE KIND SECONDS` for each kind of check. `table` makes the page of such logs, of several the greatest figure of each
-kind, and `minutes_of` reads that page.
+`watch` looks each second at the processes below the process PID, until SIGTERM comes or that process is over. Then
+`watch` writes the time of each crate, a line `CRATE KIND SECONDS` for each kind of check. `table` makes the page of
+such logs, with the greatest figure of each kind where there are several logs. `minutes_of` reads that page.
 """
 import collections
 import os
@@ -24,12 +24,16 @@ REST = "all_else"
 # A crate whose checks take fewer minutes has no row.
 SHOWN = 4.0
 PAGE = pathlib.Path(__file__).resolve().parent.parent / "bench" / "MINUTES.md"
-HEAD = """# Where the minutes go
-
-This page says how long the checks of each crate take, in minutes of a processor. `tests/minutes.py table LOG .. > bench/MINUTES.md`
-makes it of logs that `make test` leaves in `out/minutes.log`. Each figure is the greatest of these: a run takes a check from an earlier one
-where it is kept. Crates below four minutes aren't shown. `make build` reads it to say how long it may still take.
-"""
+HEAD = (
+    "# Where the minutes go\n"
+    "\n"
+    "This page says how long the checks of each crate take, in minutes of a processor. "
+    "`tests/minutes.py table LOG .. > bench/MINUTES.md`\n"
+    "makes it of logs that `make test` leaves in `out/minutes.log`. Each figure is the greatest of these: "
+    "a run takes a check from an earlier one\n"
+    "where it is kept. Crates below four minutes aren't shown. "
+    "`make build` reads it to say how long it may still take.\n"
+)
 
 
 def words_of(pid):
@@ -77,7 +81,10 @@ def look(root, seen):
             continue
     for pid in below(root, {it: parent for it, (parent, _) in now.items()}) - {root, os.getpid()}:
         try:
-            seen[pid] = (*(seen[pid][:2] if pid in seen and seen[pid][0] != REST else kind_of(pid, words_of(pid))), now[pid][1])
+            seen[pid] = (
+                *(seen[pid][:2] if pid in seen and seen[pid][0] != REST else kind_of(pid, words_of(pid))),
+                now[pid][1],
+            )
         except (OSError, KeyError):
             continue
 
@@ -116,7 +123,8 @@ def table(logs):
     kinds = [it for it in KINDS if any(totals[crate][it] for crate in totals)]
     rows = sorted((it for it in totals.items() if it[1].total() >= SHOWN), key=lambda it: -it[1].total())
     yield HEAD
-    yield f"In all {sum(it.total() for it in totals.values()):.0f} minutes of a processor. The runs took {', '.join(f'{it:.0f}' for it in clocks)} by the clock.\n"
+    yield (f"In all {sum(it.total() for it in totals.values()):.0f} minutes of a processor. "
+           f"The runs took {', '.join(f'{it:.0f}' for it in clocks)} by the clock.\n")
     yield "| crate | " + " | ".join(KINDS[it] for it in kinds) + " | in all |"
     yield "|---|" + "---|" * (len(kinds) + 1)
     for crate, row in rows:

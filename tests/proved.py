@@ -1,9 +1,10 @@
 #!/usr/bin/env python3
 """Whether a built program or library is a proved one of the present state: proved.py note | proved.py CRATE
 
-`rt run` leaves a stamp beside a program that it proved and built, by all that the program is made from. `rt ci` and `rt lib` leave none, so
-`note`, after a gate that passed, puts one like it, PROGRAM.proved, beside each program in crates/*/out; whoever builds a library for C puts one
-beside that. With a crate's name the status is 0 where one of the two is of the present state, and else 1.
+`rt run` leaves a stamp beside a program that it proved and built. The stamp is made from all that the program is made
+from. `rt ci` and `rt lib` leave no stamp. So `note`, after a gate that passed, puts a stamp like it, PROGRAM.proved,
+beside each program in crates/*/out. Whoever builds a library for C puts one beside the library. With a crate's name the
+status is 0 where one of the two stamps is of the present state, and else 1.
 """
 import functools
 import sys
