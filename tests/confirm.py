@@ -1,17 +1,18 @@
 #!/usr/bin/env python3
 """Runs the built program that checks orders from outside: confirm.py CONFIRM MONITOR
 
-CONFIRM is run on logs with an order that explains them, on one with an order that doesn't, on changes of them, on texts that are no log or no
-order, with bad words, and with each fault that can be made from outside: what it writes on standard output and on standard error, and its
-status, must be just those that are stated here. MONITOR must take each line that it writes. The last line is `N passed, M failed`; the
-status is 0 where none failed.
+CONFIRM is run on logs with an order that explains them, on one with an order that doesn't, on changes of them, on texts
+that are no log or no order, with bad words, and with each fault that can be made from outside: what it writes on
+standard output and on standard error, and its status, must be just those that are stated here. MONITOR must take each
+line that it writes. The last line is `N passed, N failed, N skipped`; the status is 0 where none failed.
 """
 import os
 import pathlib
 import subprocess
 import sys
 
-from program import SECONDS, Tally, closing, with_memory
+from outside import SECONDS, Program, closing, with_memory
+from tally import Tally
 
 INPUTS = pathlib.Path(__file__).resolve().parent / "confirm"
 UNEXPLAINED = b"confirm: the order doesn't explain the log\n"
@@ -73,16 +74,16 @@ def lines_of(log, order):
     return "".join(f"{line}\n" for line in [log.splitlines()[1], *events]).encode()
 
 
-def orders(tally, monitor):
+def orders(confirm, monitor):
     log, order = parts("served.txt")
     lines = lines_of(log, order)
-    tally.run("an order", [], lines, given=both(log, order))
+    confirm.run("an order", [], lines, given=both(log, order))
     ran = subprocess.run([monitor, "replay"], input=lines, capture_output=True, timeout=SECONDS)
     answers = ran.stdout.splitlines()
     taken = [answer for answer in answers if answer != b"bad line" and not answer.startswith(b"refused")]
-    tally.judge("an order, replayed", (len(taken), ran.stderr, ran.returncode), (len(lines.splitlines()), b"", 0))
-    tally.run("a log without calls", [], b"size 1 1 1\n", given=both("witness 1\nsize 1 1 1\n", ""))
-    tally.run("a call that hasn't returned", [], lines_of(LOG, ORDER), given=both(LOG + "0 2 - edge 0 : ?\n", ORDER))
+    confirm.judge("an order, replayed", (len(taken), ran.stderr, ran.returncode), (len(lines.splitlines()), b"", 0))
+    confirm.run("a log without calls", [], b"size 1 1 1\n", given=both("witness 1\nsize 1 1 1\n", ""))
+    confirm.run("a call that hasn't returned", [], lines_of(LOG, ORDER), given=both(LOG + "0 2 - edge 0 : ?\n", ORDER))
 
 
 def changed(order):
@@ -100,7 +101,7 @@ def changed(order):
     yield "without lines", []
 
 
-def with_jobs(tally):
+def with_jobs(confirm):
     """Logs that list jobs: the order explains each, and none of its changes."""
     for file, changes in (
         ("jobs.txt", (
@@ -117,74 +118,76 @@ def with_jobs(tally):
         )),
     ):
         log, order = parts(file)
-        tally.run(f"an order of {file}", [], lines_of(log, order), given=both(log, order))
+        confirm.run(f"an order of {file}", [], lines_of(log, order), given=both(log, order))
         for name, old, new in changes:
-            tally.run(f"a log {name}", [], b"", UNEXPLAINED, 1, given=both(log.replace(old, new), order))
+            confirm.run(f"a log {name}", [], b"", UNEXPLAINED, 1, given=both(log.replace(old, new), order))
     log, order = parts("drives.txt")
-    bare = "".join(line.partition(" ;")[0].rstrip("\n") + "\n" for line in log.replace("witness 1 jobs", "witness 1").splitlines(keepends=True))
-    tally.run("the same without jobs", [], lines_of(bare, order), given=both(bare, order))
+    lines = log.replace("witness 1 jobs", "witness 1").splitlines()
+    bare = "".join(line.partition(" ;")[0] + "\n" for line in lines)
+    confirm.run("the same without jobs", [], lines_of(bare, order), given=both(bare, order))
     lied = bare.replace("replies 2 0 1 1", "replies 2 0 1 2")
-    tally.run("another reply without jobs", [], b"", UNEXPLAINED, 1, given=both(lied, order))
+    confirm.run("another reply without jobs", [], b"", UNEXPLAINED, 1, given=both(lied, order))
 
 
-def unexplained(tally):
+def unexplained(confirm):
     log, order = parts("served.txt")
     for name, lines in changed(order):
-        tally.run(f"an order {name}", [], b"", UNEXPLAINED, 1, given=both(log, "".join(lines)))
+        confirm.run(f"an order {name}", [], b"", UNEXPLAINED, 1, given=both(log, "".join(lines)))
     for name, old, new in (
         ("with another answer", "stop 1", "go"),
         ("whose tickets the order goes against", "0 12 13 tonative", "0 16 17 tonative"),
         ("without a place", "size 1 7 4", "size 0 7 4"),
     ):
-        tally.run(f"a log {name}", [], b"", UNEXPLAINED, 1, given=both(log.replace(old, new), order))
-    tally.run("a log that has no order", [], b"", UNEXPLAINED, 1, given=both(*parts("held.txt")))
+        confirm.run(f"a log {name}", [], b"", UNEXPLAINED, 1, given=both(log.replace(old, new), order))
+    confirm.run("a log that has no order", [], b"", UNEXPLAINED, 1, given=both(*parts("held.txt")))
 
 
-def bad_texts(tally):
+def bad_texts(confirm):
     for log, fault in BAD_LOGS:
-        tally.run(f"a bad log: {fault}", [], b"", f"confirm: bad log: {fault}\n".encode(), 2, given=both(log, ORDER))
+        confirm.run(f"a bad log: {fault}", [], b"", f"confirm: bad log: {fault}\n".encode(), 2, given=both(log, ORDER))
     for order, number in BAD_ORDERS:
-        tally.run(f"a bad order {order[:20]!r}", [], b"", f"confirm: bad order: line {number}\n".encode(), 2, given=both(LOG, order))
+        fault = f"confirm: bad order: line {number}\n".encode()
+        confirm.run(f"a bad order {order[:20]!r}", [], b"", fault, 2, given=both(LOG, order))
     for text in ("", LOG, LOG + "order", LOG + "order \n", LOG + "orders\n", LOG + "order\r\n" + ORDER):
-        tally.run(f"no line `order`: {text[-10:]!r}", [], b"", b"confirm: bad order: no line `order`\n", 2, given=text.encode())
-    tally.run("both bad", [], b"", b"confirm: bad log: header\n", 2, given=both("", "start\n"))
+        fault = b"confirm: bad order: no line `order`\n"
+        confirm.run(f"no line `order`: {text[-10:]!r}", [], b"", fault, 2, given=text.encode())
+    confirm.run("both bad", [], b"", b"confirm: bad log: header\n", 2, given=both("", "start\n"))
 
 
-def bad_words(tally):
+def bad_words(confirm):
     for words in ([""], ["order"], ["--help"], [b"\xff"], ["-", "-"]):
-        tally.run(f"words {words}", words, b"", b"confirm: bad words\n", 2, given=both(LOG, ORDER))
+        confirm.run(f"words {words}", words, b"", b"confirm: bad words\n", 2, given=both(LOG, ORDER))
 
 
-def devices(tally):
+def devices(confirm):
     given = both(LOG, ORDER)
     told = lambda fault: f"confirm: {fault}\n".encode()
-    tally.run("the input closed", [], b"", told("read failed"), 2, stdin=subprocess.DEVNULL, preexec_fn=closing(0))
-    tally.run("the output closed", [], b"", told("write failed"), 2, given=given, preexec_fn=closing(1))
-    tally.run("the output closed, and nothing to write", [], b"", UNEXPLAINED, 1, given=both(LOG, ""), preexec_fn=closing(1))
+    confirm.run("the input closed", [], b"", told("read failed"), 2, stdin=subprocess.DEVNULL, preexec_fn=closing(0))
+    confirm.run("the output closed", [], b"", told("write failed"), 2, given=given, preexec_fn=closing(1))
+    unsaid = {"given": both(LOG, ""), "preexec_fn": closing(1)}
+    confirm.run("the output closed, and nothing to write", [], b"", UNEXPLAINED, 1, **unsaid)
     with open("/dev/full", "wb") as full:
-        tally.run("a full output", [], b"", told("write failed"), 2, given=given, stdout=full)
-        tally.run("full errors", [], b"", b"", 1, given=both(LOG, ""), stderr=full)
+        confirm.run("a full output", [], b"", told("write failed"), 2, given=given, stdout=full)
+        confirm.run("full errors", [], b"", b"", 1, given=both(LOG, ""), stderr=full)
     with open("/dev/zero", "rb") as zero:
-        tally.run("an input without an end", [], b"", told("log too long"), 2, stdin=zero)
-        tally.run("little memory", [], b"", told("no memory"), 2, stdin=zero, preexec_fn=with_memory(64 << 20))
+        confirm.run("an input without an end", [], b"", told("log too long"), 2, stdin=zero)
+        confirm.run("little memory", [], b"", told("no memory"), 2, stdin=zero, preexec_fn=with_memory(64 << 20))
 
 
-def main():
-    if len(sys.argv) != 3:
+def main(words):
+    if len(words) != 2:
         sys.exit("confirm.py CONFIRM MONITOR")
-    tally = Tally(sys.argv[1])
-    if os.access(tally.program, os.X_OK):
-        orders(tally, os.path.abspath(sys.argv[2]))
-        unexplained(tally)
-        with_jobs(tally)
-        bad_texts(tally)
-        bad_words(tally)
-        devices(tally)
-    else:
-        tally.judge("the program", ("missing", b"", None), (b"", b"", 0))
-    print(f"{tally.passed} passed, {tally.failed} failed")
-    return 1 if tally.failed or not tally.passed else 0
+    tally = Tally()
+    confirm = Program(words[0], tally)
+    if confirm.is_there():
+        orders(confirm, os.path.abspath(words[1]))
+        unexplained(confirm)
+        with_jobs(confirm)
+        bad_texts(confirm)
+        bad_words(confirm)
+        devices(confirm)
+    return tally.end()
 
 
 if __name__ == "__main__":
-    sys.exit(main())
+    sys.exit(main(sys.argv[1:]))
