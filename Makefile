@@ -36,7 +36,7 @@ install uninstall:
 	@PREFIX='$(PREFIX)' DESTDIR='$(DESTDIR)' install/install.py $@
 
 test:
-	@tests/all.sh
+	@tests/all.py
 
 examples: embed
 	@tests/build.py monitor
