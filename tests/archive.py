@@ -1,16 +1,18 @@
 #!/usr/bin/env python3
 """Builds the static libraries for C over what the gate left: archive.py CRATE ..
 
-`rt ci` checks such a crate and builds nothing of it, and `rt lib` proves all libraries below it once more, since it doesn't take those that
-`rt ci` built. Where `rt ci` has just left all of them, the crate alone is proved here, and compiled over them, with the words by which rt does
-it; elsewhere `rt lib` does it all. The crates are built beside one another. A library that was built here of the present state stays as it is.
-The last line is `N passed, M failed`; the status is 0 where none failed.
+`rt ci` checks such a crate and builds nothing of it, and `rt lib` proves all libraries below it once more, since it
+doesn't take those that `rt ci` built. Where `rt ci` has just left all of them, the crate alone is proved here, and
+compiled over them, with the words by which rt does it; elsewhere `rt lib` does it all. The crates are built beside one
+another. A library that was built here of the present state stays as it is.
+The last line is `N passed, N failed, N skipped`; the status is 0 where none failed.
 """
 import subprocess
 import sys
 import tempfile
 
 import proved
+from tally import Tally
 from toolchain import ROOT, is_of_the_gate, toolchain
 
 
@@ -19,7 +21,8 @@ def command_of(rtlib, kit, crate):
     if not all(map(is_of_the_gate, crate.below())):
         return ["rt", "lib"]
     words = crate.words(["--jobs", "1"], keeps=False)
-    return [rtlib.RATTLE, "build", *words, "--toolchain", f"{kit}/toolchain", "--backend", "llvm", "-o", f"out/lib{crate.name}.a"]
+    compiles = ["--toolchain", f"{kit}/toolchain", "--backend", "llvm", "-o", f"out/lib{crate.name}.a"]
+    return [rtlib.RATTLE, "build", *words, *compiles]
 
 
 def begun(rtlib, kit, name):
@@ -32,28 +35,25 @@ def begun(rtlib, kit, name):
     return subprocess.Popen(command_of(rtlib, kit, crate), **how), log
 
 
-def ended(rtlib, name, running, log):
-    """Whether the build went well; where it didn't, all that it said is shown."""
+def ended(tally, rtlib, name, running, log):
+    """Counts the build, and notes that the library is proved. Where the build failed, all that it said is shown."""
     status = running.wait()
     log.seek(0)
-    said = log.read()
     if status == 0:
         proved.note(rtlib, name)
-        print(f"lib{name}.a: proved and built", flush=True)
-    else:
-        print(f"{said}\nFAILED: lib{name}.a isn't built: status {status}: {said.strip().splitlines()[-1:]}", flush=True)
-    return status == 0
+    tally.judge(f"lib{name}.a", [f"status {status}", log.read()] if status else (), "proved and built")
 
 
 def main(names):
+    tally = Tally()
     rtlib, kit = toolchain()
     stand = [it for it in names if proved.is_proved(rtlib, it)]
     for name in stand:
-        print(f"lib{name}.a: it is built of the present state", flush=True)
+        tally.judge(f"lib{name}.a", shows="it is built of the present state")
     running = {it: begun(rtlib, kit, it) for it in names if it not in stand}
-    well = [ended(rtlib, name, *it) for name, it in running.items()]
-    print(f"{len(stand) + sum(well)} passed, {len(well) - sum(well)} failed")
-    return 0 if all(well) else 1
+    for name, it in running.items():
+        ended(tally, rtlib, name, *it)
+    return tally.end()
 
 
 if __name__ == "__main__":

@@ -1,38 +1,37 @@
 #!/usr/bin/env python3
 """Builds and runs the examples that embed the model: embed.py LIBMODEL
 
-In `examples/embed` a toy runtime in C and one in Rust are stepped beside the model, each once as it is, where all answers are the same, and
-once `careless`, where the first that differs must be the one that is stated in its folder. The one in C, which gives a line again where memory
-was refused, is also run with each of its first growths of memory refused in turn, and must print the same. So is `tests/model.c`, which makes
-each call with each of its faults. The programs in C are built by $CC or cc, the one in Rust by cargo; what can't be built for want of its
-compiler is told and left out.
-The last line is `N passed, M failed`; the status is 0 where none failed.
+In `examples/embed` a toy runtime in C and one in Rust are stepped beside the model, each once as it is, where all
+answers are the same, and once `careless`, where the first that differs must be the one that is stated in its folder.
+The one in C, which gives a line again where memory was refused, is also run with each of its first growths of memory
+refused in turn, and must print the same. So is `tests/model.c`, which makes each call with each of its faults. The
+programs in C are built by $CC or cc, the one in Rust by cargo; without one of them its tests are skipped.
+The last line is `N passed, N failed, N skipped`; the status is 0 where none failed.
 """
 import os
 import pathlib
-import shutil
 import subprocess
 import sys
 import tempfile
 
 import refusing
+from tally import Tally, c_compiler
+from toolchain import allocator
 
 TESTS = pathlib.Path(__file__).resolve().parent
 EXAMPLES = TESTS.parent / "examples" / "embed"
 SECONDS = 120
 BUILD_SECONDS = 600
 GROWTHS = 100
-
-
-def kit():
-    """The toolchain's folder, which has the archive by which the model takes memory of the C library."""
-    page = subprocess.run(["rt", "doc"], capture_output=True, text=True, check=True).stdout.strip()
-    return pathlib.Path(page).parent
+# How a toy runs, with the status that it ends with and the page that has what it prints.
+RUNS = {"as it is": ([], 0, "toy.out"), "careless": (["careless"], 1, "careless.out")}
+NAMES = {it: [f"examples/embed/{it}, {run}" for run in RUNS] for it in ("c", "rust")}
+REFUSED = [f"{it}, with growths refused" for it in ("examples/embed/c", "tests/model.c")]
 
 
 def built_c(source, archives, folder):
     program = folder / source.stem
-    words = [os.environ.get("CC", "cc"), "-std=c11", "-O2", "-Wall", "-Wextra", "-Werror", "-o", program, source, *archives]
+    words = [c_compiler(), "-std=c11", "-O2", "-Wall", "-Wextra", "-Werror", "-o", program, source, *archives]
     subprocess.run(words, check=True, timeout=BUILD_SECONDS)
     return program
 
@@ -48,55 +47,59 @@ def build_rust(archives, folder):
     return folder / "target" / "release" / "toy"
 
 
-def judge(language, program):
-    passed = 0
-    for words, status, name in (([], 0, "toy.out"), (["careless"], 1, "careless.out")):
+def outcome(ran):
+    return ran.stdout, ran.stderr, ran.returncode
+
+
+def judge(tally, language, program):
+    for name, (words, status, page) in zip(NAMES[language], RUNS.values()):
         ran = subprocess.run([program, *words], capture_output=True, timeout=SECONDS)
-        found, wanted = (ran.stdout, ran.stderr, ran.returncode), ((EXAMPLES / language / name).read_bytes(), b"", status)
-        if found == wanted:
-            passed += 1
-        else:
-            print(f"FAILED: examples/embed/{language}, {' '.join(words) or 'as it is'}: {found}, and not {wanted}")
-    return passed, 2 - passed
+        wanted = (EXAMPLES / language / page).read_bytes(), b"", status
+        tally.judge(name, () if outcome(ran) == wanted else f"{outcome(ran)}, and not {wanted}")
 
 
 def refused(program, wanted, library):
-    """A program with no growth refused, and then with one after the other: it prints the same."""
-    for growth in range(GROWTHS + 1):
-        ran = subprocess.run([program], capture_output=True, timeout=SECONDS, env=refusing.asking(library, "REFUSE_GROWTH", growth))
-        if (ran.stdout, ran.stderr, ran.returncode) != (wanted, b"", 0):
-            print(f"FAILED: {program.name} in C, with growth {growth} refused: {ran.stdout}, {ran.stderr}, {ran.returncode}")
-            return 0, 1
-    return 1, 0
+    """What is wrong where one growth after the other is refused: the program must print the same."""
+    growths = refusing.growths_of(library, [str(program)], program.parent)
+    if not growths:
+        return ["it has no growth that could be refused"]
+    for growth in range(1, min(growths, GROWTHS) + 1):
+        env = refusing.asking(library, "REFUSE_GROWTH", growth)
+        ran = subprocess.run([program], capture_output=True, timeout=SECONDS, env=env)
+        if outcome(ran) != (wanted, b"", 0):
+            return [f"growth {growth}: {outcome(ran)}"]
+    return []
 
 
-def refusals(toy, archives, folder):
+def in_c(tally, archives, folder):
+    toy, calls = build_c(archives, folder), built_c(TESTS / "model.c", archives, folder)
+    judge(tally, "c", toy)
     library = refusing.built_in(folder)
-    calls = built_c(TESTS / "model.c", archives, folder)
-    each = refused(toy, (EXAMPLES / "c" / "toy.out").read_bytes(), library), refused(calls, b"ok\n", library)
-    return tuple(map(sum, zip(*each)))
+    tally.judge(REFUSED[0], refused(toy, (EXAMPLES / "c" / "toy.out").read_bytes(), library))
+    tally.judge(REFUSED[1], refused(calls, b"ok\n", library))
 
 
-def main():
-    library = pathlib.Path(sys.argv[1]).resolve()
-    archives = [library, kit() / "c" / "liblibc_c.a"]
-    passed = failed = 0
-    for language, compiler, build in (("c", os.environ.get("CC", "cc"), build_c), ("rust", "cargo", build_rust)):
-        if shutil.which(compiler) is None:
-            print(f"left out: examples/embed/{language}, since there is no {compiler}")
+def in_rust(tally, archives, folder):
+    judge(tally, "rust", build_rust(archives, folder))
+
+
+def main(words):
+    if len(words) != 1:
+        sys.exit("embed.py LIBMODEL")
+    archives, tally = [pathlib.Path(words[0]).resolve(), allocator()], Tally()
+    for language, compiler, part, names in (
+        ("c", c_compiler(), in_c, NAMES["c"] + REFUSED),
+        ("rust", "cargo", in_rust, NAMES["rust"]),
+    ):
+        if not tally.has(compiler, *names):
             continue
         with tempfile.TemporaryDirectory() as folder:
             try:
-                program = build(archives, pathlib.Path(folder))
-                more = judge(language, program)
-                if language == "c":
-                    more = tuple(map(sum, zip(more, refusals(program, archives, pathlib.Path(folder)))))
+                part(tally, archives, pathlib.Path(folder))
             except (OSError, subprocess.SubprocessError) as why:
-                print(f"FAILED: examples/embed/{language}: {why}")
-                more = 0, 1
-        passed, failed = passed + more[0], failed + more[1]
-    print(f"{passed} passed, {failed} failed")
-    return 1 if failed else 0
+                tally.judge(f"examples/embed/{language}", str(why))
+    return tally.end()
 
 
-sys.exit(main())
+if __name__ == "__main__":
+    sys.exit(main(sys.argv[1:]))

@@ -1,9 +1,9 @@
 #!/usr/bin/env python3
 """Tries the pages of `timeline --html` in a browser without a window: pages.py TIMELINE ..
 
-Headless Chromium shows the page of a shipped run, with no network. The list, the search, the picking of lines by pointer and by keyboard, and the
-zooming and dragging of the picture are tried there. Where no Chromium is found, a line says so, and nothing is tried. The last line is
-`N passed, M failed`; the status is 0 where none failed.
+Headless Chromium shows the page of a shipped run, with no network. The list, the search, the picking of lines by
+pointer and by keyboard, and the zooming and dragging of the picture are tried there. Without Chromium they are skipped.
+The last line is `N passed, N failed, N skipped`; the status is 0 where none failed.
 """
 import json
 import os
@@ -15,13 +15,16 @@ import sys
 import tempfile
 import time
 
+from tally import Tally
+
 EXAMPLES = pathlib.Path(__file__).resolve().parent.parent / "examples"
 RUN = "four_handshakes"
 SECONDS = 60
 PATIENCE = 10
 NAMES = ("chromium", "chromium-browser", "google-chrome")
-FLAGS = ["--headless=new", "--no-sandbox", "--disable-gpu", "--disable-dev-shm-usage", "--no-first-run", "--host-resolver-rules=MAP * ~NOTFOUND",
-         "--remote-debugging-pipe", "--window-size=1300,800"]
+FLAGS = ["--headless=new", "--no-sandbox", "--disable-gpu", "--disable-dev-shm-usage", "--no-first-run"]
+FLAGS += ["--host-resolver-rules=MAP * ~NOTFOUND", "--remote-debugging-pipe", "--window-size=1300,800"]
+KEYS = {"ArrowDown": 40, "ArrowUp": 38, "ArrowLeft": 37, "ArrowRight": 39, "Home": 36, "End": 35, "Enter": 13, "Tab": 9}
 
 
 class Browser:
@@ -37,8 +40,9 @@ class Browser:
             os.dup2(kept[1], 3)
             os.dup2(kept[0], 4)
 
-        self.process = subprocess.Popen([name, *FLAGS, f"--user-data-dir={folder}", "about:blank"], stdin=subprocess.DEVNULL,
-                                        stdout=subprocess.DEVNULL, stderr=subprocess.DEVNULL, close_fds=False, preexec_fn=handed)
+        words = [name, *FLAGS, f"--user-data-dir={folder}", "about:blank"]
+        devices = dict.fromkeys(("stdin", "stdout", "stderr"), subprocess.DEVNULL)
+        self.process = subprocess.Popen(words, close_fds=False, preexec_fn=handed, **devices)
         os.close(to_read)
         os.close(to_write)
         self.number, self.rest, self.session, self.asked, self.is_loaded = 0, b"", None, [], False
@@ -87,7 +91,7 @@ class Browser:
         return said["result"].get("value")
 
     def until(self, is_wanted, code):
-        """The value of the code once it is as wanted, or as it is after some seconds: a busy browser draws and moves late."""
+        """The value of the code once it is as wanted, or as it is after some seconds: a busy browser draws late."""
         end = time.monotonic() + PATIENCE
         while True:
             found = self.value(code)
@@ -96,8 +100,7 @@ class Browser:
             time.sleep(0.05)
 
     def key(self, key, text=None, shift=False):
-        codes = {"ArrowDown": 40, "ArrowUp": 38, "ArrowLeft": 37, "ArrowRight": 39, "Home": 36, "End": 35, "Enter": 13, "Tab": 9}
-        known = {"key": key, "code": key, "windowsVirtualKeyCode": codes.get(key, ord(key[0]))}
+        known = {"key": key, "code": key, "windowsVirtualKeyCode": KEYS.get(key, ord(key[0]))}
         if text:
             known["text"] = text
         if shift:
@@ -131,15 +134,13 @@ class Browser:
 
 
 class Tried:
-    def __init__(self):
-        self.passed = self.failed = 0
+    """What is tried on a page, with the tally that counts it."""
+
+    def __init__(self, tally):
+        self.tally = tally
 
     def judge(self, name, found, wanted):
-        if found == wanted:
-            self.passed += 1
-        else:
-            self.failed += 1
-            print(f"FAILED: {name}: {found!r}, and not {wanted!r}")
+        self.tally.judge(name, () if found == wanted else f"{found!r}, and not {wanted!r}")
 
     def sees(self, name, browser, code, wanted):
         """Judges the value that the code comes to."""
@@ -164,7 +165,8 @@ def stands_at(x):
 
 def middle(browser, what):
     """The middle of an element on the screen."""
-    return browser.value(f"(e => {{ const r = e.getBoundingClientRect(); return [r.x + r.width / 2, r.y + r.height / 2] }})(document.querySelector({what!r}))")
+    of_box = "(e => { const r = e.getBoundingClientRect(); return [r.x + r.width / 2, r.y + r.height / 2] })"
+    return browser.value(f"{of_box}(document.querySelector({what!r}))")
 
 
 def list_and_search(browser, tried, lines, answers):
@@ -175,7 +177,8 @@ def list_and_search(browser, tried, lines, answers):
     browser.typed("refused")
     refused = [n for n, answer in enumerate(answers, 1) if answer.startswith("refused")]
     tried.sees("a search leaves what has the word", browser, SHOWN, len(refused))
-    tried.sees("and says how many", browser, "document.getElementById('found').textContent", f"{len(refused)} of {len(lines)} lines")
+    count = f"{len(refused)} of {len(lines)} lines"
+    tried.sees("and says how many", browser, "document.getElementById('found').textContent", count)
     browser.key("Enter", "\r")
     tried.sees("enter picks the first", browser, PICKED, f"item{refused[0]}")
     browser.key("ArrowDown")
@@ -204,7 +207,7 @@ FOCUSED = "document.activeElement.id"
 
 
 def keyboard(browser, tried, lines, answers):
-    """All of it without a pointer, from the page as it comes: tab leads from the search to the list and to the picture."""
+    """All of it without a pointer, from the page as it comes: tab leads from the search to list and picture."""
     browser.key("Tab")
     tried.sees("tab leads to the search", browser, FOCUSED, "search")
     for letter in "told":
@@ -217,18 +220,21 @@ def keyboard(browser, tried, lines, answers):
     tried.sees("down picks the first that is found", browser, PICKED, f"item{told[0]}")
     browser.key("ArrowDown")
     x = browser.value(f"Number(document.querySelector('#line{told[1]} use').getAttribute('x'))")
-    tried.sees("down again the second, which the picture shows", browser, f"[{PICKED}, {CURSOR}]", [f"item{told[1]}", x])
+    both = [f"item{told[1]}", x]
+    tried.sees("down again the second, which the picture shows", browser, f"[{PICKED}, {CURSOR}]", both)
     tried.finds("in its middle", browser, BOX, stands_at(x))
-    seen = (f"(e => {{ const r = e.getBoundingClientRect(), l = e.parentNode.getBoundingClientRect(); "
-                         f"return r.top >= l.top - 1 && r.bottom <= l.bottom + 1 }})(document.getElementById('item{told[1]}'))")
-    tried.sees("and the list shows its row", browser, seen, True)
+    boxes = "const r = e.getBoundingClientRect(), l = e.parentNode.getBoundingClientRect()"
+    is_inside = f"(e => {{ {boxes}; return r.top >= l.top - 1 && r.bottom <= l.bottom + 1 }})"
+    row = f"document.getElementById('item{told[1]}')"
+    tried.sees("and the list shows its row", browser, f"{is_inside}({row})", True)
     browser.key("End")
     tried.sees("end picks the last that is found", browser, PICKED, f"item{told[-1]}")
     browser.key("Tab")
     tried.sees("tab leads to the picture", browser, FOCUSED, "view")
     browser.key("1", "1")
-    tried.sees("1 shows a pixel as a pixel", browser, "Math.round(document.querySelector('#view svg').viewBox.baseVal.width)",
-               browser.value("document.getElementById('view').clientWidth"))
+    width = browser.value("document.getElementById('view').clientWidth")
+    shown = "Math.round(document.querySelector('#view svg').viewBox.baseVal.width)"
+    tried.sees("1 shows a pixel as a pixel", browser, shown, width)
     for key, axis, sign in (("ArrowRight", 0, 1), ("ArrowLeft", 0, -1), ("ArrowDown", 1, 1), ("ArrowUp", 1, -1)):
         before = browser.value(BOX)
         browser.key(key)
@@ -237,7 +243,8 @@ def keyboard(browser, tried, lines, answers):
     for key, is_nearer in (("+", True), ("-", False)):
         before = browser.value(BOX)
         browser.key(key, key)
-        tried.finds(f"{key} zooms, from {before}", browser, BOX, lambda now: now[2] != before[2] and (now[2] < before[2]) == is_nearer)
+        is_so = lambda now: now[2] != before[2] and (now[2] < before[2]) == is_nearer
+        tried.finds(f"{key} zooms, from {before}", browser, BOX, is_so)
     browser.key("Tab", shift=True)
     tried.sees("shift and tab lead back to the list", browser, FOCUSED, "lines")
 
@@ -264,15 +271,29 @@ def moving(browser, tried):
     tried.finds(f"the pointer drags, from {before}", browser, BOX, lambda now: now[0] > before[0])
 
 
-def tested(timeline, name):
-    tried = Tried()
+def page_of(timeline, folder):
+    """The page of the run, in the folder."""
+    page = pathlib.Path(folder) / "run.html"
+    with open(EXAMPLES / f"{RUN}.lines", "rb") as given:
+        drawn = subprocess.run([timeline, "--html"], stdin=given, capture_output=True, check=True, timeout=SECONDS)
+    page.write_bytes(drawn.stdout)
+    return page
+
+
+def by_name(browser, tried, page):
+    browser.show("about:blank")
+    browser.show(page.as_uri() + "#line12")
+    tried.sees("a line behind the page's name is picked", browser, PICKED, "item12")
+    asked = {url.split("#")[0] for url in browser.asked}
+    tried.judge("nothing was asked for but the page", asked, {page.as_uri()})
+
+
+def tested(timeline, name, tried):
     lines = (EXAMPLES / f"{RUN}.lines").read_text().splitlines()
     answers = (EXAMPLES / f"{RUN}.out").read_text().splitlines()
     # (a process of the browser may still write into its profile while the folder is removed)
     with tempfile.TemporaryDirectory(ignore_cleanup_errors=True) as folder:
-        page = pathlib.Path(folder) / "run.html"
-        with open(EXAMPLES / f"{RUN}.lines", "rb") as given:
-            page.write_bytes(subprocess.run([timeline, "--html"], stdin=given, capture_output=True, check=True, timeout=60).stdout)
+        page = page_of(timeline, folder)
         browser = Browser(name, f"{folder}/profile")
         try:
             browser.show(page.as_uri())
@@ -282,28 +303,27 @@ def tested(timeline, name):
             browser.show("about:blank")
             browser.show(page.as_uri())
             keyboard(browser, tried, lines, answers)
-            browser.show("about:blank")
-            browser.show(page.as_uri() + "#line12")
-            tried.sees("a line behind the page's name is picked", browser, PICKED, "item12")
-            tried.judge("nothing was asked for but the page", {url.split("#")[0] for url in browser.asked}, {page.as_uri()})
+            by_name(browser, tried, page)
         finally:
             browser.end()
-    return tried
 
 
-def main():
-    if len(sys.argv) < 2:
+PARTS = ("the list and the search", "picking", "moving", "the keyboard alone", "a line behind the page's name")
+
+
+def main(paths):
+    if not paths:
         sys.exit("pages.py TIMELINE ..")
+    tally = Tally()
     name = next(filter(None, map(shutil.which, NAMES)), None)
-    if name is None:
-        print("no Chromium here: pages are not tried in a browser")
-        print("0 passed, 0 failed")
-        return
-    tries = [tested(os.path.abspath(it), name) for it in sys.argv[1:]]
-    failed = sum(it.failed for it in tries)
-    print(f"{sum(it.passed for it in tries)} passed, {failed} failed")
-    sys.exit(1 if failed else 0)
+    for path in map(os.path.abspath, paths):
+        if name:
+            tested(path, name, Tried(tally))
+            continue
+        for part in PARTS:
+            tally.skip(f"the page of {os.path.basename(path)} in a browser: {part}", "there is no Chromium")
+    return tally.end()
 
 
 if __name__ == "__main__":
-    main()
+    sys.exit(main(sys.argv[1:]))

@@ -1,29 +1,34 @@
 #!/usr/bin/env python3
-"""Builds and runs what C does with the library of safe points: safepoint.py LIBSAFEPOINT [--quick | --long] [LIBMODEL]
+"""Builds and runs what C does with the library of safe points: safepoint.py LIBSAFEPOINT [--long] [LIBMODEL]
 
-LIBMODEL is crates/model/out/libmodel.a by default. It takes a minute on a quiet machine, with --long some ten, and with --quick, which leaves the sanitizers and the soak out, less.
+LIBMODEL is crates/model/out/libmodel.a by default. It takes a minute on a quiet machine, with --long some ten.
 
 | what | how |
 |---|---|
-| `safepoint_calls.c` makes each call with its refusals | as it is; under valgrind; with each growth of memory refused in turn |
-| `safepoint_beside.c` makes random schedules of calls, each beside the model | as it is; under AddressSanitizer; with growths refused in turn |
-| `safepoint_threads.c` has threads at random beside a coordinator, with few threads and many | with the futex and with the pthread condition; under ThreadSanitizer and AddressSanitizer of the C side |
-| `safepoint_threads.c` notes its calls as a whole log | with -DSP_RECORD, with the futex and with the pthread condition |
-| `safepoint_soak.c` has threads that start, ask and exit at random | the same |
+| `safepoint_calls.c`: each call with its refusals | as it is; under valgrind; with each growth of memory refused |
+| `safepoint_beside.c`: random schedules beside the model | as it is; under AddressSanitizer; growths refused in turn |
+| `safepoint_threads.c`: threads at random beside a coordinator | futex, pthread condition, and two sanitizers |
+| `safepoint_threads.c` with -DSP_RECORD: whole logs of calls | with the futex and with the pthread condition |
+| `safepoint_soak.c`: threads start, ask and exit at random | futex, pthread condition, and two sanitizers |
 | `examples/jit` unmaps codes under its threads | with 1, 4 and 16 threads; with --careless it dies of SIGSEGV |
 | `safepoint_scopes.cpp`, `bindings/rust` | from C++ and Rust |
 
-What can't be built or run for want of a tool is told and left out. The last line is `N passed, M failed`; the status is 0 where none failed.
+The sanitizers are ThreadSanitizer and AddressSanitizer, of the C side alone.
+
+What can't run for want of a tool, or of a sanitizer, is skipped by name. The last line is `N passed, N failed,
+N skipped`; the status is 0 where none failed.
 """
+import functools
 import os
 import pathlib
-import shutil
 import signal
 import subprocess
 import sys
 import tempfile
 
 import refusing
+from tally import Tally, c_compiler, cpp_compiler
+from toolchain import allocator
 
 TESTS = pathlib.Path(__file__).resolve().parent
 ROOT = TESTS.parent
@@ -34,67 +39,67 @@ BINDINGS = ROOT / "bindings"
 SECONDS = 600
 FLAGS = ("-O2", "-g", "-Wall", "-Wextra", "-Werror")
 CONDITION, RACES, MEMORY = "-DSP_PTHREAD", "-fsanitize=thread", "-fsanitize=address,undefined"
+VALGRIND = ("valgrind", "-q", "--leak-check=full", "--error-exitcode=9")
 # What takes memory, and so is refused it.
-GROWING = {"sp_make", "sp_fork", "sp_start", "sp_target", "sp_submit", "sp_census", "sp_install", "sp_reclaim_begin", "sp_reply", "sp_operate"}
+GROWING = set("sp_make sp_fork sp_start sp_target sp_submit sp_census sp_install sp_reclaim_begin".split())
+GROWING |= {"sp_reply", "sp_operate"}
 # Threads, requests and the seed of each run of safepoint_threads.
 RUNS = ((1, 4000, 1), (4, 1000, 3), (16, 200, 5), (64, 20, 6))
 SLOW_RUNS = ((4, 200, 7), (16, 40, 8))
 # The same of runs that are recorded.
 RECORDED_RUNS = ((2, 60, 9), (3, 60, 10), (4, 40, 11), (8, 20, 12))
-# ThreadSanitizer doesn't see the library's locks: its blocks go from thread to thread under them. Its functions alone have `::` in their names.
+# ThreadSanitizer doesn't see the library's locks: its blocks go from thread to thread under them. Its functions alone
+# have `::` in their names.
 KNOWN = "race:rattle_alloc\nrace:rattle_realloc\nrace:rattle_dealloc\nrace:*::*\n"
 
 
-def kit():
-    """The toolchain's folder, which has the archive by which the library takes memory of the C library."""
-    page = subprocess.run(["rt", "doc"], capture_output=True, text=True, check=True).stdout.strip()
-    return pathlib.Path(page).parent
-
-
-class Tests:
+class Tests(Tally):
     def __init__(self, library, model, is_long, folder):
-        self.allocator = kit() / "c" / "liblibc_c.a"
-        self.archives, self.model, self.is_long, self.folder = [library, self.allocator], model, is_long, folder
-        self.passed, self.failed, self.is_quick = 0, 0, False
+        super().__init__()
+        self.archives, self.model, self.is_long, self.folder = [library, allocator()], model, is_long, folder
         (folder / "known").write_text(KNOWN)
         self.refuse = refusing.built_in(folder)
 
-    def judge(self, what, ran, wanted=None, shows=False):
-        """Passed where the status is 0, nothing went to standard error, and (where it is given) what was printed is this."""
-        if ran.returncode == 0 and not ran.stderr and wanted in (None, ran.stdout):
-            self.passed += 1
-            if shows:
-                print(f"{what}: {ran.stdout.decode().strip()}", flush=True)
-            return True
-        self.failed += 1
-        print(f"FAILED: {what}: status {ran.returncode}, {ran.stdout!r}, {ran.stderr!r}", flush=True)
-        return False
+    def judge_run(self, what, ran, wanted=None, shows=False):
+        """Passed where the status is 0, nothing went to standard error, and what was printed is as wanted, if given."""
+        is_right = ran.returncode == 0 and not ran.stderr and wanted in (None, ran.stdout)
+        fault = () if is_right else f"status {ran.returncode}, {ran.stdout!r}, {ran.stderr!r}"
+        return self.judge(what, fault, ran.stdout.decode(errors="replace").strip() if shows else None)
 
-    def holds(self, what, is_so):
-        self.passed, self.failed = self.passed + is_so, self.failed + (not is_so)
-        if not is_so:
-            print(f"FAILED: {what}", flush=True)
+    def holds(self, what, is_so, fault="it isn't so"):
+        return self.judge(what, () if is_so else fault)
 
-    def built(self, source, *words, archives=()):
-        """The program of a source in C, or None where the compiler lacks what the words ask for, or they are left out."""
-        if self.is_quick and any(word in (RACES, MEMORY) for word in words):
+    @functools.cache
+    def lack_of(self, sanitizer):
+        """Why no program can be built or run here with this sanitizer; nothing where one can."""
+        source, program = self.folder / "nothing.c", self.folder / "nothing"
+        source.write_text("int main(void) { return 0; }\n")
+        for command in ([c_compiler(), sanitizer, "-o", program, source, "-lpthread"], [program]):
+            ran = subprocess.run(command, capture_output=True, timeout=SECONDS)
+            if ran.returncode:
+                said = ran.stderr.decode(errors="replace").strip().splitlines()
+                return f"no program runs with {sanitizer}: {said[-1][:200] if said else ran.returncode}"
+        return None
+
+    def built(self, source, *words, names=(), archives=()):
+        """The program of a source in C, or None. For want of a sanitizer the tests of these names are skipped."""
+        lacks = [lack for lack in map(self.lack_of, {RACES, MEMORY} & {*words}) if lack]
+        for name in names if lacks else ():
+            self.skip(name, lacks[0])
+        if lacks:
             return None
         program = self.folder / f"{source.stem}{''.join(words)}".replace(",", "_")
-        command = [os.environ.get("CC", "cc"), "-std=gnu11", *FLAGS, "-I", CRATE / "include", *words]
-        made = subprocess.run([*command, "-o", program, source, *WAITS, *archives, *self.archives, "-lpthread"], capture_output=True, timeout=SECONDS)
+        command = [c_compiler(), "-std=gnu11", *FLAGS, "-I", CRATE / "include", *words, "-o", program]
+        libraries = [*archives, *self.archives, "-lpthread"]
+        made = subprocess.run([*command, source, *WAITS, *libraries], capture_output=True, timeout=SECONDS)
         if made.returncode == 0:
             return program
-        said = made.stderr.decode(errors="replace")
-        if not any(word in (RACES, MEMORY) for word in words):
-            self.failed += 1
-            print(f"FAILED: {source.name} isn't built: {said}")
-        else:
-            print(f"left out: {source.name} {' '.join(words)}, which can't be built: {said[-300:]}")
+        self.judge(f"{' '.join((source.name, *words))} is built", made.stderr.decode(errors="replace"))
         return None
 
     def run(self, program, *words, under=(), env=None):
-        known = {"TSAN_OPTIONS": f"suppressions={self.folder / 'known'}"}
-        return subprocess.run([*under, program, *map(str, words)], capture_output=True, timeout=SECONDS, env={**(env or os.environ), **known})
+        env = {**(env or os.environ), "TSAN_OPTIONS": f"suppressions={self.folder / 'known'}"}
+        return subprocess.run([*under, program, *map(str, words)], capture_output=True, timeout=SECONDS, env=env)
 
     def refused(self, program, *words, step=1):
         """What the program prints with one growth refused, for each of them, or for one of so many."""
@@ -107,68 +112,65 @@ def calls(tests):
     program = tests.built(TESTS / "safepoint_calls.c")
     if program is None:
         return
-    tests.judge("each call", tests.run(program), b"ok\n")
-    if shutil.which("valgrind"):
-        tests.judge("each call, under valgrind", tests.run(program, under=("valgrind", "-q", "--leak-check=full", "--error-exitcode=9")), b"ok\n")
-    else:
-        print("left out: valgrind, which isn't there")
+    tests.judge_run("each call", tests.run(program), b"ok\n")
+    if tests.has("valgrind", "each call, under valgrind"):
+        tests.judge_run("each call, under valgrind", tests.run(program, under=VALGRIND), b"ok\n")
     met = set()
     for growth, ran in tests.refused(program):
         name = ran.stdout.decode().removeprefix("ok, and ").removesuffix(" was refused\n")
         met.add(name)
         if ran.returncode or ran.stderr or name not in {"ok\n", *GROWING}:
-            tests.judge(f"each call, growth {growth} refused", ran, b"ok\n")
+            tests.judge_run(f"each call, growth {growth} refused", ran, b"ok\n")
             return
-    if met >= GROWING:
-        tests.passed += 1
-    else:
-        tests.failed += 1
-        print(f"FAILED: never refused memory: {' '.join(GROWING - met)}")
+    unmet = " ".join(sorted(GROWING - met))
+    tests.holds("each call, each growth refused in turn", not unmet, f"never refused memory: {unmet}")
+
+
+BESIDE, CHECKED, REFUSED = (f"beside the model{it}" for it in ("", ", with AddressSanitizer", ", with growths refused"))
 
 
 def beside(tests):
     """Random schedules beside the model."""
-    if not tests.model.is_file():
-        print(f"left out: the schedules beside the model, since there is no {tests.model}")
-        return
     source = TESTS / "safepoint_beside.c"
+    if not tests.model.is_file():
+        for name in (BESIDE, CHECKED, REFUSED):
+            tests.skip(name, f"there is no {tests.model}")
+        return
     program = tests.built(source, archives=[tests.model])
     if program is None:
         return
-    tests.judge("beside the model", tests.run(program, 20000 if tests.is_long else 400, 1, 1000), shows=True)
-    checked = tests.built(source, MEMORY, archives=[tests.model])
+    tests.judge_run(BESIDE, tests.run(program, 20000 if tests.is_long else 400, 1, 1000), shows=True)
+    checked = tests.built(source, MEMORY, names=[CHECKED], archives=[tests.model])
     if checked:
-        tests.judge("beside the model, with AddressSanitizer", tests.run(checked, 400 if tests.is_long else 40, 50_000, 1000))
-    whole = tests.run(program, 3, 7, 300).stdout
-    for growth, ran in tests.refused(program, 3, 7, 300, step=1 if tests.is_long else 31):
-        if (ran.returncode, ran.stdout, ran.stderr) != (0, whole, b""):
-            tests.judge(f"beside the model, growth {growth} refused", ran, whole)
-            return
-    tests.passed += 1
+        tests.judge_run(CHECKED, tests.run(checked, 400 if tests.is_long else 40, 50_000, 1000))
+    whole, step = tests.run(program, 3, 7, 300).stdout, 1 if tests.is_long else 31
+    runs = list(tests.refused(program, 3, 7, 300, step=step))
+    others = (it for it in runs if (it[1].returncode, it[1].stdout, it[1].stderr) != (0, whole, b""))
+    bad = [f"growth {growth}: status {ran.returncode}, {ran.stdout!r}, {ran.stderr!r}" for growth, ran in others]
+    tests.judge(REFUSED, bad[:1] if runs else "it takes no memory")
 
 
 def threads(tests):
-    source = TESTS / "safepoint_threads.c"
+    source, factor = TESTS / "safepoint_threads.c", 10 if tests.is_long else 1
     for words, runs in (((), RUNS), ((CONDITION,), RUNS[:3]), ((RACES,), SLOW_RUNS), ((MEMORY,), SLOW_RUNS)):
-        program = tests.built(source, *words)
-        for count, requests, seed in runs if program else ():
-            requests *= 10 if tests.is_long else 1
-            tests.judge(" ".join((f"{count} threads, {requests} requests, seed {seed}", *words)), tests.run(program, count, requests, seed), shows=True)
+        runs = [(count, factor * requests, seed) for count, requests, seed in runs]
+        names = [" ".join(("{} threads, {} requests, seed {}".format(*run), *words)) for run in runs]
+        program = tests.built(source, *words, names=names)
+        for name, run in zip(names, runs) if program else ():
+            tests.judge_run(name, tests.run(program, *run), shows=True)
 
 
 def soak(tests):
-    if tests.is_quick:
-        return
-    source = TESTS / "safepoint_soak.c"
+    source, factor = TESTS / "safepoint_soak.c", 30 if tests.is_long else 1
     for words, count, seconds in (((), 16, 4), ((CONDITION,), 8, 2), ((RACES,), 8, 2), ((MEMORY,), 16, 2)):
-        program = tests.built(source, *words)
+        name = " ".join(("a soak of", str(factor * seconds), "s", *words))
+        program = tests.built(source, *words, names=[name])
         if program:
-            seconds *= 30 if tests.is_long else 1
-            tests.judge(" ".join(("a soak of", str(seconds), "s", *words)), tests.run(program, count, seconds, count), shows=True)
+            tests.judge_run(name, tests.run(program, count, factor * seconds, count), shows=True)
 
 
 def is_whole(log, count):
-    """The log is of this form, each stream's tickets rise, each thread started and exited, and no operation was closed twice."""
+    """The log is of this form, each stream's tickets rise, each thread started and exited, and none is closed twice."""
     lines = log.decode().splitlines()
     last, called = {}, []
     for line in lines[2:]:
@@ -179,7 +181,8 @@ def is_whole(log, count):
         called.append((call, line.partition(" : ")[2]))
     closed = [said for call, said in called if call == "close" and said.startswith("closed")]
     starts, exits = (sum(call == what for call, _ in called) for what in ("start", "exit"))
-    return lines[0] == "witness 1 jobs" and lines[1].startswith("size ") and starts == exits == count and len(closed) == len(set(closed)) > 0
+    is_headed = lines[0] == "witness 1 jobs" and lines[1].startswith("size ")
+    return is_headed and starts == exits == count and len(closed) == len(set(closed)) > 0
 
 
 def recorded(tests):
@@ -189,9 +192,8 @@ def recorded(tests):
         for count, requests, seed in RECORDED_RUNS if program else ():
             what = " ".join((f"recorded: {count} threads, {requests} requests, seed {seed}", *words[1:]))
             ran = tests.run(program, count, requests, seed)
-            if not tests.judge(what, ran):
-                continue
-            tests.holds(f"{what}: the log is whole", is_whole(ran.stdout, count))
+            if tests.judge_run(what, ran):
+                tests.holds(f"{what}: the log is whole", is_whole(ran.stdout, count))
 
 
 def jit(tests):
@@ -201,58 +203,65 @@ def jit(tests):
         return
     for count in (1, 4, 16):
         ran = tests.run(program, count, 60 if tests.is_long else 2)
-        if tests.judge(f"jit, {count} threads", ran, shows=True) and tests.is_long:
+        if tests.judge_run(f"jit, {count} threads", ran, shows=True) and tests.is_long:
             unmapped = int(ran.stdout.split(b" compilations, ")[1].split()[0])
-            tests.passed, tests.failed = tests.passed + (unmapped >= 1000), tests.failed + (unmapped < 1000)
+            tests.holds(f"jit, {count} threads, unmaps 1000 codes", unmapped >= 1000, f"{unmapped}")
     ran = tests.run(program, "--careless", 4, 60)
-    if ran.returncode == -signal.SIGSEGV:
-        tests.passed += 1
-    else:
-        tests.judge("jit --careless, which is to die of SIGSEGV", ran, b"")
+    has_died = ran.returncode == -signal.SIGSEGV
+    tests.holds("jit --careless dies of SIGSEGV", has_died, f"status {ran.returncode}, {ran.stdout!r}, {ran.stderr!r}")
 
 
 def rust(tests):
-    if shutil.which("cargo") is None:
-        print("left out: bindings/rust, since there is no cargo")
+    if not tests.has("cargo", "bindings/rust"):
         return
     names = {"SAFEPOINT_ARCHIVES": " ".join(map(str, tests.archives))}
     words = ["cargo", "test", "--quiet", "--offline", "--target-dir", tests.folder / "target"]
-    ran = subprocess.run(words, capture_output=True, timeout=SECONDS, cwd=BINDINGS / "rust", env={**os.environ, **names})
-    tests.passed, tests.failed = tests.passed + (ran.returncode == 0), tests.failed + (ran.returncode != 0)
-    if ran.returncode != 0:
-        print(f"FAILED: bindings/rust: {ran.stdout.decode(errors='replace')[-2000:]}{ran.stderr.decode(errors='replace')[-2000:]}")
+    how = {"capture_output": True, "timeout": SECONDS, "cwd": BINDINGS / "rust", "env": {**os.environ, **names}}
+    ran = subprocess.run(words, **how)
+    said = [it.decode(errors="replace")[-2000:] for it in (ran.stdout, ran.stderr)]
+    tests.judge("bindings/rust", said if ran.returncode else ())
 
 
 def cpp(tests):
-    compiler = os.environ.get("CXX", "c++")
-    if shutil.which(compiler) is None:
-        print("left out: safepoint.hpp, since there is no C++ compiler")
+    if not tests.has(cpp_compiler(), "scopes of C++"):
         return
     objects = [tests.folder / f"{source.stem}.o" for source in WAITS]
     for source, made in zip(WAITS, objects):
-        subprocess.run([os.environ.get("CC", "cc"), "-std=gnu11", *FLAGS, "-I", CRATE / "include", "-c", source, "-o", made], check=True)
+        command = [c_compiler(), "-std=gnu11", *FLAGS, "-I", CRATE / "include"]
+        subprocess.run([*command, "-c", source, "-o", made], check=True)
     program = tests.folder / "scopes"
     sources = [TESTS / "safepoint_scopes.cpp", *objects, *tests.archives]
-    subprocess.run([compiler, "-std=c++17", *FLAGS, "-I", CRATE / "include", "-o", program, *sources, "-lpthread"], check=True)
-    tests.judge("scopes of C++", tests.run(program), b"ok\n")
+    command = [cpp_compiler(), "-std=c++17", *FLAGS, "-I", CRATE / "include", "-o", program]
+    subprocess.run([*command, *sources, "-lpthread"], check=True)
+    tests.judge_run("scopes of C++", tests.run(program), b"ok\n")
 
 
-def main():
-    words = [word for word in sys.argv[1:] if word not in ("--long", "--quick")]
+PARTS = {
+    "each call": calls,
+    "schedules beside the model": beside,
+    "threads at random": threads,
+    "logs of calls": recorded,
+    "a soak": soak,
+    "jit": jit,
+    "scopes of C++": cpp,
+    "bindings/rust": rust,
+}
+
+
+def main(given):
+    words = [word for word in given if word != "--long"]
     if not 1 <= len(words) <= 2:
-        sys.exit("safepoint.py LIBSAFEPOINT [--quick | --long] [LIBMODEL]")
-    library, model = pathlib.Path(words[0]).resolve(), pathlib.Path(*words[1:] or [ROOT / "crates/model/out/libmodel.a"]).resolve()
-    if shutil.which(os.environ.get("CC", "cc")) is None:
-        print("left out: all, since there is no C compiler\n0 passed, 0 failed")
-        return 0
+        sys.exit("safepoint.py LIBSAFEPOINT [--long] [LIBMODEL]")
+    library, model = (pathlib.Path(it).resolve() for it in [*words, ROOT / "crates/model/out/libmodel.a"][:2])
+    without = Tally()
+    if not without.has(c_compiler(), *PARTS):
+        return without.end()
     with tempfile.TemporaryDirectory() as folder:
-        tests = Tests(library, model, "--long" in sys.argv, pathlib.Path(folder))
-        tests.is_quick = "--quick" in sys.argv
-        for part in (calls, beside, threads, recorded, soak, jit, cpp, rust):
+        tests = Tests(library, model, "--long" in given, pathlib.Path(folder))
+        for part in PARTS.values():
             part(tests)
-    print(f"{tests.passed} passed, {tests.failed} failed")
-    return 1 if tests.failed else 0
+        return tests.end()
 
 
 if __name__ == "__main__":
-    sys.exit(main())
+    sys.exit(main(sys.argv[1:]))

@@ -1,10 +1,12 @@
 #!/usr/bin/env python3
-"""Runs the commands of docs/start/TUTORIAL.md, in a copy of the checkout, and compares its programs and README's with their files: tutorial.py
+"""Runs the commands of docs/start/TUTORIAL.md, in a copy of the checkout, and compares its programs and README's with
+their files: tutorial.py
 
-A fenced block whose first line names a file, as `rust FILE`, is written into that file where the repository has none; else the file must have
-those lines, behind those of the page's block before. In a block `console` each line that begins with `$ ` is a command, and the lines behind it are what it must print on standard output; `..`
-stands for any lines. Programs that are built and proved are copied too, so what the tutorial runs of them is at once. The last line counts what
-was tried; the status is 0 where nothing failed.
+A fenced block whose first line names a file, as `rust FILE`, is written into that file where the repository has none;
+else the file must have those lines, behind those of the page's block before. In a block `console` each line that begins
+with `$ ` is a command, and the lines behind it are what it must print on standard output; `..` stands for any lines.
+Programs that are built and proved are copied too, so what the tutorial runs of them is at once.
+The last line is `N passed, N failed, N skipped`; the status is 0 where none failed.
 """
 import os
 import pathlib
@@ -13,6 +15,8 @@ import shutil
 import subprocess
 import sys
 import tempfile
+
+from tally import Tally
 
 ROOT = pathlib.Path(__file__).resolve().parent.parent
 PAGES = (ROOT / "docs" / "start" / "TUTORIAL.md", ROOT / "README.md")
@@ -49,17 +53,17 @@ class Files:
     def __init__(self, room):
         self.room, self.read = room, {}
 
-    def has(self, name, text):
-        """Whether the file has the block's lines, behind those of the block before. One that the repository doesn't have gets them."""
+    def fault_of(self, name, text):
+        """What is wrong of a block: the file must have its lines, behind those of the block before.
+
+        One that the repository doesn't have gets them.
+        """
         if not (ROOT / name).exists():
             (self.room / name).write_text(text)
-            return True
+            return []
         at = (ROOT / name).read_text().find(text, self.read.get(name, 0))
         self.read[name] = at + len(text)
-        if at < 0:
-            lines = "".join(f"\n  {line}" for line in text.splitlines())
-            print(f"FAILED: {name} doesn't have these lines of the page:{lines}", flush=True)
-        return at >= 0
+        return ["it doesn't have these lines of the page:", *text.splitlines()] if at < 0 else []
 
 
 def commands(text):
@@ -82,39 +86,37 @@ def is_said(wanted, said):
     return bool(said) and said[0] == wanted[0] and is_said(wanted[1:], said[1:])
 
 
-def run(room, command, wanted):
-    """Whether the command prints just this, with status 0. What differs is shown."""
+def fault_of(room, command, wanted):
+    """What is wrong of a command, which must print just this, with status 0."""
     # (a reader's shell has none of what a make tells those that it runs)
     env = {name: value for name, value in os.environ.items() if name not in ("MAKEFLAGS", "MAKELEVEL", "MFLAGS")}
-    ran = subprocess.run(["bash", "-c", command], cwd=room, env=env, capture_output=True, text=True, errors="replace")
+    how = {"cwd": room, "env": env, "capture_output": True, "text": True, "errors": "replace"}
+    ran = subprocess.run(["bash", "-c", command], **how)
     said = ran.stdout.splitlines()
     if ran.returncode == 0 and is_said(wanted, said):
-        print(f"ok: {command}", flush=True)
-        return True
-    more = "".join(f"\n  {line}" for line in ran.stderr[-2000:].splitlines())
-    print(f"FAILED: {command}: status {ran.returncode}, wanted {wanted}, said {said}{more}", flush=True)
-    return False
+        return []
+    return [f"status {ran.returncode}, wanted {wanted}, said {said}", ran.stderr[-2000:]]
 
 
-def tried(files, room, kind, name, text):
-    """Whether the file of a block has its lines, or each command of a block prints what it must."""
+def judge(tally, files, kind, name, text):
+    """A block's file has its lines, or each command of a block prints what it must."""
     if name:
-        return [files.has(name, text)]
-    return [run(room, command, wanted) for command, wanted in commands(text)] if kind == "console" else []
+        tally.judge(name, files.fault_of(name, text))
+    elif kind == "console":
+        for command, wanted in commands(text):
+            tally.judge(command, fault_of(files.room, command, wanted), "ok")
 
 
 def main():
-    passed = failed = 0
+    tally = Tally()
     with tempfile.TemporaryDirectory() as folder:
         room = pathlib.Path(folder)
         copy_to(room)
         for page in PAGES:
             files = Files(room)
-            for kind, name, text in BLOCK.findall(page.read_text()):
-                went = tried(files, room, kind, name, text)
-                passed, failed = passed + sum(went), failed + len(went) - sum(went)
-    print(f"{passed} passed, {failed} failed")
-    return 1 if failed or not passed else 0
+            for block in BLOCK.findall(page.read_text()):
+                judge(tally, files, *block)
+    return tally.end()
 
 
 if __name__ == "__main__":
