@@ -1,11 +1,12 @@
 #!/usr/bin/env python3
 """Compares pictures of random runs with a model of what they show: random_pictures.py MONITOR TIMELINE [LINES [SEED]]
 
-`MONITOR replay` answers random lines one by one, over all events with their refusals and bad lines; the model here follows lines and answers alone.
-Each run is drawn whole, and in parts. Of each picture the marks with their classes and titles, the bars, the ties and the depths of stacks are
-compared, with the places where they stand, and no label may lie over another. Each event must have been accepted and, where it can be, refused, and
-each kind of answer given. LINES is 100,000 where it isn't told. The last line is `N passed, M failed`; the status is 0
-where none failed.
+`MONITOR replay` answers random lines one by one, over all events with their refusals and bad lines; the model here
+follows lines and answers alone. Each run is drawn whole, and in parts. Of each picture the marks with their classes and
+titles, the bars, the ties and the depths of stacks are compared, with the places where they stand, and no label may lie
+over another. Over 20,000 lines and more each event must have been accepted and, where it can be, refused, and each kind
+of answer given. LINES is 100,000 by default.
+The last line is `N passed, N failed, N skipped`; the status is 0 where none failed.
 """
 import collections
 import random
@@ -13,15 +14,22 @@ import subprocess
 import sys
 import xml.etree.ElementTree as xml
 
+from tally import Tally
+
 SVG = "{http://www.w3.org/2000/svg}"
 PANEL, TOP, LEFT, RIGHT = 1200, 156, 104, 8
 PITCH = {"lines": 26, "operations": 28, "places": 52, "codes": 28}
 MIDDLE = {"lines": 12, "operations": 18, "places": 22, "codes": 18}
 LINES = ("lines", 0)
-PAINTS = "new java vm native blocked transition atpoll serving publishing held waiting handshake census inuse notentrant zombie".split()
-ACTS = "begin change end wake cross enter leave edge tovm fromvm tonative block exit take finish clear hold release stack".split()
-EVENTS = ACTS + "size start install invalidate round look weigh free ask open tell operate close count state resolve".split()
+PAINTS = "new java vm native blocked transition atpoll serving publishing held".split()
+PAINTS += "waiting handshake census inuse notentrant zombie".split()
+ACTS = "begin change end wake cross enter leave edge tovm fromvm tonative block exit take".split()
+ACTS += "finish clear hold release stack".split()
+EVENTS = ACTS + "size start install invalidate round look weigh free ask open tell operate".split()
+EVENTS += "close count state resolve".split()
 NEVER_REFUSED = {"round"}
+# Over so many lines each kind of answer comes about.
+ENOUGH = 20_000
 
 
 class Row:
@@ -61,8 +69,9 @@ class Shown:
 def state_paint(state):
     word = state.split("(")[0]
     return {
-        "New": "new", "InJava": "java", "InVm": "vm", "InNative": "native", "Blocked": "blocked", "NewTrans": "transition",
-        "NativeTrans": "transition", "BlockedTrans": "transition", "AtPoll": "atpoll", "Serving": "serving",
+        "New": "new", "InJava": "java", "InVm": "vm", "InNative": "native", "Blocked": "blocked",
+        "NewTrans": "transition", "NativeTrans": "transition", "BlockedTrans": "transition",
+        "AtPoll": "atpoll", "Serving": "serving",
     }[word]
 
 
@@ -74,7 +83,8 @@ def moved(state, word):
     """The state after an accepted move that doesn't poll."""
     if word == "wake":
         return {"New": "NewTrans", "Blocked": "BlockedTrans"}.get(state, f"NativeTrans({back_of(state)})")
-    return {"tovm": "InVm", "tonative": f"InNative({back_of(state)})", "block": "Blocked", "take": f"Serving({back_of(state)})"}[word]
+    back = back_of(state)
+    return {"tovm": "InVm", "tonative": f"InNative({back})", "block": "Blocked", "take": f"Serving({back})"}[word]
 
 
 def polled(state, goes):
@@ -143,7 +153,10 @@ class Model:
         return self.place_lane(numbers[0]) or LINES
 
     def follow(self, line, answer, at):
-        """The lane of the line's mark, and that to which a tie leads. `depth` is that of the thread, where the line changes it."""
+        """The lane of the line's mark, and that to which a tie leads.
+
+        `depth` is that of the thread, where the line changes it.
+        """
         words = line.split(" ")
         self.depth = None
         if answer == "bad line" or answer == "refused BadSize":
@@ -296,10 +309,11 @@ class Model:
 
 
 SHAPES = {
-    "thread": "started", "exited": "exited", "stop": "stop", "entered": "entered", "wrong": "wrongmethod", "reply": "callback",
-    "stack": "stack", "code": "code", "none": "nocode", "clear": "covered", "late": "late", "used": "used", "retired": "retired",
-    "asked": "asked", "open": "opened", "closed": "closed", "told": "told", "gone": "gone", "census": "counted", "count": "count",
-    "in": "state", "zombie": "state", "freed": "state",
+    "thread": "started", "exited": "exited", "stop": "stop", "entered": "entered",
+    "wrong": "wrongmethod", "reply": "callback", "stack": "stack", "code": "code", "none": "nocode",
+    "clear": "covered", "late": "late", "used": "used", "retired": "retired", "asked": "asked",
+    "open": "opened", "closed": "closed", "told": "told", "gone": "gone", "census": "counted",
+    "count": "count", "in": "state", "zombie": "state", "freed": "state",
 }
 
 
@@ -322,6 +336,9 @@ def shape(line, answer):
     return SHAPES[first]
 
 
+KINDS_OF_CODES = "install install invalidate round look look weigh free count state resolve".split()
+
+
 class Player:
     """Plays random lines on `monitor replay`, one by one."""
 
@@ -342,15 +359,18 @@ class Player:
 
     def place(self):
         live = list(self.model.threads)
-        return self.random.choice(live) if live and self.random.random() < .97 else self.random.randrange(self.places + 1)
+        is_live = live and self.random.random() < .97
+        return self.random.choice(live) if is_live else self.random.randrange(self.places + 1)
 
     def name(self):
         live = [name for name, _ in self.model.threads.values()]
-        return self.random.choice(live) if live and self.random.random() < .9 else self.random.randint(1, self.model.newest + 1)
+        is_live = live and self.random.random() < .9
+        return self.random.choice(live) if is_live else self.random.randint(1, self.model.newest + 1)
 
     def serial(self):
         codes = list(self.model.codes)
-        return self.random.choice(codes) if codes and self.random.random() < .95 else self.random.randrange(self.model.serials + 2)
+        is_known = codes and self.random.random() < .95
+        return self.random.choice(codes) if is_known else self.random.randrange(self.model.serials + 2)
 
     def likely(self, place):
         """A word that the thread at the place may mostly do."""
@@ -367,9 +387,13 @@ class Player:
         if told and state in ("New", "InNative", "Blocked", "AtPoll") and self.random.random() < .5:
             return "hold"
         may = {
-            "New": ("begin", "wake", "wake", "stack"), "InJava": ("enter", "enter", "enter", "enter", "leave", "edge", "tovm", "tonative", "begin", "begin", "exit"),
-            "InVm": ("fromvm", "fromvm", "block", "tonative", "begin", "exit"), "InNative": ("wake",), "Blocked": ("wake",),
-            "AtPoll": ("take",), "Serving": ("begin", "finish", "clear", "cross"),
+            "New": ("begin", "wake", "wake", "stack"),
+            "InJava": (*["enter"] * 4, "leave", "edge", "tovm", "tonative", "begin", "begin", "exit"),
+            "InVm": ("fromvm", "fromvm", "block", "tonative", "begin", "exit"),
+            "InNative": ("wake",),
+            "Blocked": ("wake",),
+            "AtPoll": ("take",),
+            "Serving": ("begin", "finish", "clear", "cross"),
         }
         return self.random.choice(may.get(state, ("cross",)))
 
@@ -379,7 +403,8 @@ class Player:
         if word == "enter":
             code = f" {self.serial()}" if self.random.random() < .8 else ""
             serial = int(code) if code else None
-            method = self.model.codes[serial][0] if serial in self.model.codes and self.random.random() < .9 else self.random.randrange(self.methods)
+            is_its = serial in self.model.codes and self.random.random() < .9
+            method = self.model.codes[serial][0] if is_its else self.random.randrange(self.methods)
             return f"enter {place} {method}{code}"
         return f"{word} {place}"
 
@@ -395,7 +420,8 @@ class Player:
     def of_operations(self):
         opened, kind = self.model.open(), self.random.random()
         if kind < .1 or not opened and len(self.model.operations) < 2:
-            what = self.random.choice((f"depth {self.names()}", f"top {self.names()}", f"count {self.serial()} {self.names()}", "census"))
+            asked = f"depth {self.names()}", f"top {self.names()}", f"count {self.serial()} {self.names()}", "census"
+            what = self.random.choice(asked)
             return f"ask {what}"
         if kind < .25 or not opened:
             return "open"
@@ -406,7 +432,7 @@ class Player:
         return f"close {self.random.choice(opened).number}" if kind < .9 else "close"
 
     def of_codes(self):
-        kind = self.random.choice(("install", "install", "invalidate", "round", "look", "look", "weigh", "free", "count", "state", "resolve"))
+        kind = self.random.choice(KINDS_OF_CODES)
         if kind in ("install", "resolve"):
             return f"{kind} {self.random.randrange(self.methods + (self.random.random() < .1))}"
         if kind == "round":
@@ -416,7 +442,8 @@ class Player:
     def next(self):
         kind = self.random.random()
         if kind < .015:
-            return self.random.choice(("", "start 1", "begin", "<&>", "size 1 1 1", "tell 01", "ask depth x", "z" * self.random.choice((3, 1200))))
+            long = "z" * self.random.choice((3, 1200))
+            return self.random.choice(("", "start 1", "begin", "<&>", "size 1 1 1", "tell 01", "ask depth x", long))
         is_census = any(it.names is None for it in self.model.open())
         if kind < .03 or not self.model.threads and not is_census:
             return "start"
@@ -496,7 +523,8 @@ def wanted(played, first, last):
         if to > since:
             down, height = band(lane, paint)
             x = layout.x(since)
-            drawn.append((paint, str(x), str(layout.y(lane) + down), str(layout.x(to - 1) + layout.step - x), str(height)))
+            width = layout.x(to - 1) + layout.step - x
+            drawn.append((paint, str(x), str(layout.y(lane) + down), str(width), str(height)))
     return marks, sorted(drawn), ties, numbers
 
 
@@ -505,7 +533,8 @@ def found(picture):
     marks, bars = [], []
     for it in root.iter(f"{SVG}g"):
         use = it.find(f"{SVG}use")
-        marks.append((it.get("id"), it.get("class"), it.findtext(f"{SVG}title"), use.get("href"), use.get("x"), use.get("y")))
+        title = it.findtext(f"{SVG}title")
+        marks.append((it.get("id"), it.get("class"), title, use.get("href"), use.get("x"), use.get("y")))
     for it in root.findall(f"{SVG}rect"):
         if it.get("class") in PAINTS:
             bars.append((it.get("class"), it.get("x"), it.get("y"), it.get("width"), it.get("height")))
@@ -547,40 +576,54 @@ def compared(timeline, played, first, last):
 
 def lacking(kinds, came):
     """What didn't come about: kinds of answers, and events that were accepted or refused."""
-    wanted_kinds = set(SHAPES.values()) | {"badline", "refusal", "cleared", "step", "left", "go", "change", "nochange", "notlooked"}
-    wanted = {(event, refused) for event in EVENTS for refused in (False, True) if not (refused and event in NEVER_REFUSED)}
+    wanted_kinds = set(SHAPES.values()) | set("badline refusal cleared step left go change nochange notlooked".split())
+    wanted = {(event, refused) for event in EVENTS for refused in (False, True)} - {(it, True) for it in NEVER_REFUSED}
     return ([f"no line was answered as {kind}" for kind in sorted(wanted_kinds - set(kinds))]
             + [f"no {event} was {'refused' if refused else 'accepted'}" for event, refused in sorted(wanted - came)])
 
 
-def main():
-    if len(sys.argv) not in (3, 4, 5):
+class Seen:
+    """What came about: kinds of answers, and events that were accepted or refused."""
+
+    def __init__(self):
+        self.kinds, self.came = collections.Counter(), set()
+
+    def add(self, played):
+        for line, answer in zip(played.lines, played.answers):
+            self.kinds[shape(line, answer)] += 1
+            if answer != "bad line":
+                self.came.add((line.split(" ")[0], answer.startswith("refused ")))
+
+
+def judge(tally, timeline, played, seed, chance):
+    """A picture of all lines, and one of some."""
+    n = len(played.lines)
+    first = chance.randint(1, n)
+    for a, b in ((1, n), (first, chance.randint(first, n))):
+        tally.judge(f"seed {seed}, lines {a} to {b}", compared(timeline, played, a, b)[:3])
+
+
+def main(words):
+    if len(words) not in (2, 3, 4):
         sys.exit("random_pictures.py MONITOR TIMELINE [LINES [SEED]]")
-    monitor, timeline = sys.argv[1:3]
-    lines = int(sys.argv[3]) if len(sys.argv) > 3 else 100_000
-    seed = int(sys.argv[4]) if len(sys.argv) > 4 else 1
-    passed = failed = drawn = 0
-    kinds, came = collections.Counter(), set()
+    monitor, timeline = words[:2]
+    lines = int(words[2]) if len(words) > 2 else 100_000
+    seed = int(words[3]) if len(words) > 3 else 1
+    tally, seen, drawn = Tally(), Seen(), 0
     while drawn < lines:
         chance = random.Random(seed)
         played = Player(monitor, seed).run(chance.choice((40, 150, 200, 400, 900)))
-        n = len(played.lines)
-        drawn += n
-        kinds.update(shape(line, answer) for line, answer in zip(played.lines, played.answers))
-        came |= {(line.split(" ")[0], answer.startswith("refused ")) for line, answer in zip(played.lines, played.answers) if answer != "bad line"}
-        first = chance.randint(1, n)
-        for a, b in ((1, n), (first, chance.randint(first, n))):
-            faults = compared(timeline, played, a, b)
-            passed, failed = passed + (not faults), failed + bool(faults)
-            for fault in faults[:3]:
-                print(f"FAILED: seed {seed}, lines {a} to {b}: {fault}")
+        seen.add(played)
+        drawn += len(played.lines)
+        judge(tally, timeline, played, seed, chance)
         seed += 1
-    for lack in lacking(kinds, came) if lines >= 20_000 else ():
-        failed += 1
-        print(f"FAILED: {lack}")
-    print(f"{passed} passed, {failed} failed")
-    sys.exit(1 if failed else 0)
+    all_came = "each event and each kind of answer came about"
+    if lines < ENOUGH:
+        tally.skip(all_came, f"{lines} lines are too few")
+    else:
+        tally.judge(all_came, lacking(seen.kinds, seen.came))
+    return tally.end()
 
 
 if __name__ == "__main__":
-    main()
+    sys.exit(main(sys.argv[1:]))

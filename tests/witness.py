@@ -1,28 +1,31 @@
 #!/usr/bin/env python3
-"""Looks for an order of recorded runs of real threads: witness.py LIBSAFEPOINT MONITOR [SEEDS] [--liars] [--many N [FIRST]]
+"""Looks for an order of recorded runs of real threads.
+
+witness.py LIBSAFEPOINT MONITOR [SEEDS] [--liars] [--many N [FIRST]]
 
 | what | how |
 |---|---|
-| `witness_threads.c` runs with SEEDS seeds (3 without a number) for each of some counts of threads | recorded, with the futex and with the pthread condition |
-| `crates/recorded` runs with SEEDS seeds for each of some counts of threads, where it is built | recorded by `recorder` |
-| `examples/jit` runs for a moment, and is drawn where `timeline` is built | recorded |
-| each log has an order | `witness --order`; MONITOR answers its lines as the log says, and `confirm`, where it is built, writes them |
-| logs by hand in `calls`, texts that are no logs, and bad words | each is told as it is to be |
-| --liars: the recorder hears lies | each kind is told within ten runs |
-| --many N FIRST: N runs of 2 to 16 threads, from number FIRST (0) on | each has an order that MONITOR answers alike, and that `confirm` takes where it is built; calls a second, and the slowest |
+| `witness_threads.c`, SEEDS seeds (3 without a number) for some counts of threads | with futex and condition |
+| `crates/recorded` with SEEDS seeds for some counts of threads | recorded by `recorder` |
+| `examples/jit` runs for a moment, and `timeline` draws it | recorded |
+| each log has an order | `witness --order`; MONITOR answers its lines as the log says, and `confirm` writes them |
+| logs by hand in `calls`, texts that are no logs, and bad words | what `witness` says of each is what it must say |
+| --liars: the recorder hears lies | each kind is found out within ten runs |
+| --many N FIRST: N runs of 2 to 16 threads, from number FIRST (0) on | each has an order; calls a second, the slowest |
 
-What can't be built for want of a tool is told and left out. The last line is `N passed, M failed`; the status is 0 where none failed.
+What can't run for want of a C compiler, or since `recorded`, `timeline` or `confirm` isn't built, is skipped by name.
+The last line is `N passed, N failed, N skipped`; the status is 0 where none failed.
 """
-import os
 import pathlib
 import re
-import shutil
 import subprocess
 import sys
 import tempfile
 import time
 
-from safepoint import CRATE, FLAGS, JIT, WAITS, kit
+from safepoint import CRATE, FLAGS, JIT, WAITS
+from tally import Tally, c_compiler
+from toolchain import allocator
 
 TESTS = pathlib.Path(__file__).resolve().parent
 ROOT = TESTS.parent
@@ -47,57 +50,71 @@ STEPS = 710
 SECONDS = 600
 RECORD, CONDITION = "-DSP_RECORD", "-DSP_PTHREAD"
 # What each liar stands before.
-LIARS = {"hold": ("hold", "release"), "call": ("call", "install"), "publish": ("publish",), "stop": ("stop_next", "stop_serve")}
+LIARS = {
+    "hold": ("hold", "release"),
+    "call": ("call", "install"),
+    "publish": ("publish",),
+    "stop": ("stop_next", "stop_serve"),
+}
 LIED_RUNS, LIED_STEPS = 10, 6000
 # Of the search for one of many runs.
 MOST_STEPS, MOST_SECONDS = 20_000_000, 60
-# A text that is no log, and what is told of it.
+HEAD = "witness 1\nsize 1 1 1\n"
+# A text that is no log, and what is said of it.
 BAD_LOGS = (
-    ("", "header"), ("witness 2\nsize 1 1 1\n", "header"), ("witness 1\nsize 1 1\n", "header"), ("witness 1\nsize 65 1 1\n", "header"),
-    ("witness 1\nsize 1 1 1\n0 0 1 start : thread 1 0", "line 3: no newline"),
-    ("witness 1\nsize 1 1 1\n0 0 1 start : thread 1 0\n0 2 3 jump 0 : ok\n", "line 4: call"),
-    ("witness 1\nsize 1 1 1\nx 0 1 start : thread 1 0\n", "line 3: stream"), ("witness 1\nsize 1 1 1\n0 00 1 start : thread 1 0\n", "line 3: before"),
-    ("witness 1\nsize 1 1 1\n0 0 x start : thread 1 0\n", "line 3: after"), ("witness 1\nsize 1 1 1\n0 0 1099511627776 start : thread 1 0\n", "line 3: after"),
-    ("witness 1\nsize 1 1 1\n0 0 1 start 5 : thread 1 0\n", "line 3: arguments"),
-    ("witness 1\nsize 1 1 1\n0 0 1 start thread 1 0\n", "line 3: arguments"), ("witness 1\nsize 1 1 1\n0 0 1 start : thread 1\n", "line 3: values"),
-    ("witness 1\nsize 1 1 1\n0 0 1 start : ?\n", "line 3: answer"), ("witness 1 jobs\nsize 1 1 1\n0 0 1 stop 0 : ok ; 1 2 3\n", "line 3: jobs"),
-    ("witness 1\nsize 1 1 1\n0 5 4 start : thread 1 0\n", "tickets of a stream don't rise"),
+    ("", "header"),
+    ("witness 2\nsize 1 1 1\n", "header"),
+    ("witness 1\nsize 1 1\n", "header"),
+    ("witness 1\nsize 65 1 1\n", "header"),
+    (HEAD + "0 0 1 start : thread 1 0", "line 3: no newline"),
+    (HEAD + "0 0 1 start : thread 1 0\n0 2 3 jump 0 : ok\n", "line 4: call"),
+    (HEAD + "x 0 1 start : thread 1 0\n", "line 3: stream"),
+    (HEAD + "0 00 1 start : thread 1 0\n", "line 3: before"),
+    (HEAD + "0 0 x start : thread 1 0\n", "line 3: after"),
+    (HEAD + "0 0 1099511627776 start : thread 1 0\n", "line 3: after"),
+    (HEAD + "0 0 1 start 5 : thread 1 0\n", "line 3: arguments"),
+    (HEAD + "0 0 1 start thread 1 0\n", "line 3: arguments"),
+    (HEAD + "0 0 1 start : thread 1\n", "line 3: values"),
+    (HEAD + "0 0 1 start : ?\n", "line 3: answer"),
+    ("witness 1 jobs\nsize 1 1 1\n0 0 1 stop 0 : ok ; 1 2 3\n", "line 3: jobs"),
+    (HEAD + "0 5 4 start : thread 1 0\n", "tickets of a stream don't rise"),
     ("witness 1 jobs\nsize 1 1 1\n0 0 2 start : thread 1 0 ; 1 1 0 3\n", "tickets of a stream don't rise"),
 )
+NO_ORDER = "witness: no order: all was tried\ncalls in order: "
+NOT_FOUND = "witness: no order found within the budget\ncalls in order: "
 BAD_WORDS = (["--budget"], ["--budget", "x"], ["one"], ["--seconds", "-1"])
 
 
-class Tests:
+class Tests(Tally):
     def __init__(self, library, monitor, folder):
-        self.archives, self.monitor, self.folder = [library, kit() / "c" / "liblibc_c.a"], monitor, folder
-        self.passed = self.failed = 0
+        super().__init__()
+        self.archives, self.monitor, self.folder = [library, allocator()], monitor, folder
 
-    def judge(self, what, why):
-        """Passed where there is nothing to tell."""
-        if why:
-            self.failed += 1
-            print(f"FAILED: {what}: {why}", flush=True)
-        else:
-            self.passed += 1
-        return not why
+    def is_built(self, program, *names):
+        """Whether the program is built. Else the tests of these names are skipped."""
+        for name in () if program.is_file() else names:
+            self.skip(name, f"{program.name} isn't built")
+        return program.is_file()
 
     # --- programs of C
 
     def compiled(self, name, source, *words):
         made = self.folder / f"{name}.o"
-        command = [os.environ.get("CC", "cc"), "-std=gnu11", *FLAGS, "-I", CRATE / "include", *words]
+        command = [c_compiler(), "-std=gnu11", *FLAGS, "-I", CRATE / "include", *words]
         subprocess.run([*command, "-c", source, "-o", made], check=True, timeout=SECONDS)
         return made
 
     def linked(self, name, objects):
         program = self.folder / name
-        subprocess.run([os.environ.get("CC", "cc"), "-o", program, *objects, *self.archives, "-lpthread"], check=True, timeout=SECONDS)
+        command = [c_compiler(), "-o", program, *objects, *self.archives, "-lpthread"]
+        subprocess.run(command, check=True, timeout=SECONDS)
         return program
 
     def built(self, name, source, *words, liar=None):
         """A program whose calls are recorded; the recorder hears a liar where one is named."""
         lies = [f"-Dsp_{call}=lying_{call}" for call in LIARS.get(liar, ())]
-        objects = [self.compiled(f"{name}_{page.stem}", page, RECORD, *words, *(lies if page.stem == "safepoint_record" else ())) for page in WAITS]
+        words_of = {page: (RECORD, *words, *(lies if page.stem == "safepoint_record" else ())) for page in WAITS}
+        objects = [self.compiled(f"{name}_{page.stem}", page, *words_of[page]) for page in WAITS]
         objects.append(self.compiled(name, source, RECORD, *words, *(["-DLIES"] if liar else ())))
         if liar:
             objects.append(self.compiled(f"{name}_liar", TESTS / "witness_liars.c"))
@@ -127,7 +144,7 @@ class Tests:
         return self.fault_of_order(log, found.stdout)
 
     def fault_of_order(self, log, order):
-        """Why the core doesn't answer in this order as the log says, or `confirm`, where it is built, doesn't take it; or None."""
+        """Why the core doesn't answer in this order as the log says, or `confirm` doesn't take it; or None."""
         made = made_in(order[len(log):])
         lines = lines_of(log, made)
         return disagreement(log, made, self.replayed(lines)[1:]) or self.unconfirmed(order, lines)
@@ -182,7 +199,8 @@ def answer_of(call, words, made):
     if said in ("exited", "servedexited"):
         return last == f"exited {numbers[0]}"
     if said == "census":
-        return "census" + "".join(f" {serial}:{count}" for serial, count in zip(numbers[1::2], numbers[2::2])) in answers
+        counts = "".join(f" {serial}:{count}" for serial, count in zip(numbers[1::2], numbers[2::2]))
+        return f"census{counts}" in answers
     if said in ("ok", "served"):
         return not any(answer.startswith("refused") for answer in answers)
     return last.startswith("refused") or said == "NotSafe"
@@ -200,59 +218,36 @@ def disagreement(log, made, answers):
         front, _, said = text.partition(" : ")
         said, _, jobs = said.partition(" ; ")
         replies = [answer for _, answer in events if answer.startswith("reply")]
-        if not answer_of(front.split()[3], said.split(), events) or jobs and replies != [f"reply {reply}" for reply in jobs.split()[2::4]]:
+        is_answered = answer_of(front.split()[3], said.split(), events)
+        if not is_answered or jobs and replies != [f"reply {reply}" for reply in jobs.split()[2::4]]:
             return f"{text}: {events}"
     return None
 
 
 # --- what is tried
 
-def recorded(tests, seeds):
-    for words in ((), (CONDITION,)):
-        program = tests.built("threads" + "".join(words), TESTS / "witness_threads.c", *words)
-        for seed in range(1, seeds + 1):
-            for count in THREADS:
-                tests.judge(f"{count} threads, seed {seed} {' '.join(words)}", tests.fault_of(tests.log(program, count, STEPS, seed)))
-
-
-def recorded_in_rattle(tests, seeds):
-    if not RECORDED.is_file():
-        print("left out: crates/recorded, since it isn't built")
-        return
-    for seed in range(1, seeds + 1):
-        for count, rounds in RECORDED_RUNS:
-            tests.judge(f"recorded, {count} threads, seed {seed}", tests.fault_of(tests.log(RECORDED, count, rounds, seed)))
-
-
-def jit(tests):
-    program = tests.built("jit", JIT)
-    for count, seconds in JIT_RUNS:
-        log = tests.log(program, count, seconds)
-        why = tests.fault_of(log)
-        if tests.judge(f"jit, {count} threads", why) and TIMELINE.is_file():
-            lines = lines_of(log, made_in(tests.witness(log, "--order").stdout[len(log):]))
-            ran = subprocess.run([TIMELINE, "--to", "2000"], input=lines, capture_output=True, text=True, timeout=SECONDS)
-            tests.judge(f"jit, {count} threads, drawn", None if ran.returncode == 0 and ran.stdout.startswith("<svg ") else ran.stderr)
-
-
 def by_hand(tests):
+    """Logs of `calls`."""
     for page in sorted((TESTS / "calls").glob("*.log")):
         log = page.read_text()
         if page.stem.startswith("no_order"):
             ran = tests.witness(log, "--order")
-            is_told = ran.returncode == 1 and ran.stderr.startswith("witness: no order: all was tried\ncalls in order: ") and not ran.stdout
+            is_told = ran.returncode == 1 and ran.stderr.startswith(NO_ORDER) and not ran.stdout
             tests.judge(page.name, None if is_told else f"status {ran.returncode}, {ran.stderr[:500]}")
         else:
             tests.judge(page.name, tests.fault_of(log) or tests.unwritten(log))
+    tests.is_built(CONFIRM, "each order, taken by confirm", "witness by itself, of each log by hand")
 
 
 def faults(tests):
     for text, what in BAD_LOGS:
         ran = tests.witness(text)
-        tests.judge(what, None if (ran.returncode, ran.stdout, ran.stderr) == (2, "", f"witness: bad log: {what}\n") else f"{text!r}: {ran.stderr}")
+        is_told = (ran.returncode, ran.stdout, ran.stderr) == (2, "", f"witness: bad log: {what}\n")
+        tests.judge(what, None if is_told else f"{text!r}: {ran.stderr}")
     for words in BAD_WORDS:
         ran = tests.witness("", *words)
-        tests.judge(f"words {words}", None if (ran.returncode, ran.stdout, ran.stderr) == (2, "", "witness: bad words\n") else ran.stderr)
+        is_told = (ran.returncode, ran.stdout, ran.stderr) == (2, "", "witness: bad words\n")
+        tests.judge(f"words {words}", None if is_told else ran.stderr)
 
 
 def budgets(tests):
@@ -260,26 +255,70 @@ def budgets(tests):
     log = (TESTS / "calls" / "drives.log").read_text()
     for words in (("--budget", "3"), ("--seconds", "0")):
         ran = tests.witness(log, *words)
-        is_told = ran.returncode == 1 and ran.stderr.startswith("witness: no order found within the budget\ncalls in order: ")
+        is_told = ran.returncode == 1 and ran.stderr.startswith(NOT_FOUND)
         tests.judge(f"words {words}", None if is_told else f"status {ran.returncode}, {ran.stderr[:500]}")
 
 
+def recorded(tests, seeds):
+    kinds = [(words, seed, count) for words in ((), (CONDITION,)) for seed in range(1, seeds + 1) for count in THREADS]
+    names = {it: f"{it[2]} threads, seed {it[1]} {' '.join(it[0])}" for it in kinds}
+    if not tests.has(c_compiler(), *names.values()):
+        return
+    programs = {}
+    for (words, seed, count), name in names.items():
+        if words not in programs:
+            programs[words] = tests.built("threads" + "".join(words), TESTS / "witness_threads.c", *words)
+        tests.judge(name, tests.fault_of(tests.log(programs[words], count, STEPS, seed)))
+
+
+def recorded_in_rattle(tests, seeds):
+    runs = [(*run, seed) for seed in range(1, seeds + 1) for run in RECORDED_RUNS]
+    names = [f"recorded, {count} threads, seed {seed}" for count, _, seed in runs]
+    if tests.is_built(RECORDED, *names):
+        for name, run in zip(names, runs):
+            tests.judge(name, tests.fault_of(tests.log(RECORDED, *run)))
+
+
+def jit(tests):
+    names = [f"jit, {count} threads" for count, _ in JIT_RUNS]
+    if not tests.has(c_compiler(), *names, *(f"{name}, drawn" for name in names)):
+        return
+    program = tests.built("jit", JIT)
+    is_drawn = tests.is_built(TIMELINE, *(f"{name}, drawn" for name in names))
+    for name, run in zip(names, JIT_RUNS):
+        log = tests.log(program, *run)
+        if tests.judge(name, tests.fault_of(log)) and is_drawn:
+            tests.judge(f"{name}, drawn", undrawn(tests, log))
+
+
+def undrawn(tests, log):
+    """Why `timeline` doesn't draw the order of a log, or None."""
+    lines = lines_of(log, made_in(tests.witness(log, "--order").stdout[len(log):]))
+    how = {"input": lines, "capture_output": True, "text": True, "timeout": SECONDS}
+    ran = subprocess.run([TIMELINE, "--to", "2000"], **how)
+    return None if ran.returncode == 0 and ran.stdout.startswith("<svg ") else f"status {ran.returncode}: {ran.stderr}"
+
+
 def liars(tests):
+    if not tests.has(c_compiler(), *(f"a lie about {liar}" for liar in LIARS)):
+        return
     for liar in LIARS:
         program = tests.built(f"lies_{liar}", TESTS / "witness_threads.c", liar=liar)
-        told = None
-        for seed in range(1, LIED_RUNS + 1):
-            log = tests.log(program, 4, LIED_STEPS, seed)
-            ran = tests.witness(log, "--order", "--seconds", "20") if log else None
-            if ran and ran.returncode == 1:
-                told = seed
-                print(f"a lie about {liar}: told in run {seed}: {ran.stderr.splitlines()[0]}, {ran.stderr.splitlines()[1]}", flush=True)
-                break
-        tests.judge(f"a lie about {liar}", None if told else f"not told in {LIED_RUNS} runs")
+        found = next(filter(None, (found_out(tests, program, seed) for seed in range(1, LIED_RUNS + 1))), None)
+        tests.judge(f"a lie about {liar}", None if found else f"not found out in {LIED_RUNS} runs", found)
+
+
+def found_out(tests, program, seed):
+    """What is said of a run that has no order; None where there is one."""
+    log = tests.log(program, 4, LIED_STEPS, seed)
+    ran = tests.witness(log, "--order", "--seconds", "20") if log else None
+    return f"run {seed}: {', '.join(ran.stderr.splitlines()[:2])}" if ran and ran.returncode == 1 else None
 
 
 def many(tests, runs, first):
     """Prints how many runs have an order, and how long a processor read and searched their logs."""
+    if not tests.has(c_compiler(), f"{runs} runs, from number {first} on"):
+        return
     program = tests.built("many", TESTS / "witness_threads.c")
     OUT.mkdir(exist_ok=True)
     found = calls = taken = slowest = 0
@@ -298,8 +337,9 @@ def many(tests, runs, first):
         found += tests.judge(f"{count} threads, run {run}: an order", why)
         calls, taken, slowest = calls + search.total, taken + lasted, max(slowest, lasted)
         if run % 100 == 99 or run == first + runs - 1:
-            done = run + 1 - first
-            print(f"{found} of {done} runs have an order; {calls} calls, {calls / taken:.0f} a second, {slowest:.2f} s the slowest", flush=True)
+            done, rate = run + 1 - first, calls / taken
+            told = f"{calls} calls, {rate:.0f} a second, {slowest:.2f} s the slowest"
+            print(f"{found} of {done} runs have an order; {told}", flush=True)
 
 
 def main():
@@ -313,9 +353,6 @@ def main():
     words = [word for word in words if word != "--liars"]
     if not 2 <= len(words) <= 3 or len(words) == 3 and not re.fullmatch("[0-9]+", words[2]):
         sys.exit("witness.py LIBSAFEPOINT MONITOR [SEEDS] [--liars] [--many N [FIRST]]")
-    if shutil.which(os.environ.get("CC", "cc")) is None:
-        print("left out: all, since there is no C compiler\n0 passed, 0 failed")
-        return 0
     with tempfile.TemporaryDirectory() as folder:
         tests = Tests(pathlib.Path(words[0]).resolve(), pathlib.Path(words[1]).resolve(), pathlib.Path(folder))
         by_hand(tests)
@@ -329,8 +366,7 @@ def main():
             liars(tests)
         if runs:
             many(tests, runs, first)
-    print(f"{tests.passed} passed, {tests.failed} failed")
-    return 1 if tests.failed else 0
+        return tests.end()
 
 
 if __name__ == "__main__":
