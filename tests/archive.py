@@ -39,9 +39,13 @@ def ended(tally, rtlib, name, running, log):
     """Counts the build, and notes that the library is proved. Where the build failed, all that it said is shown."""
     status = running.wait()
     log.seek(0)
+    said = log.read()
     if status == 0:
         proved.note(rtlib, name)
-    tally.judge(f"lib{name}.a", [f"status {status}", log.read()] if status else (), "proved and built")
+    else:
+        print(said)
+    fault = f"status {status}: {''.join(said.strip().splitlines()[-1:])}"
+    tally.judge(f"lib{name}.a is built", fault if status else (), "proved")
 
 
 def main(names):
@@ -49,7 +53,7 @@ def main(names):
     rtlib, kit = toolchain()
     stand = [it for it in names if proved.is_proved(rtlib, it)]
     for name in stand:
-        tally.judge(f"lib{name}.a", shows="it is built of the present state")
+        tally.judge(f"lib{name}.a is built", shows="of the present state")
     running = {it: begun(rtlib, kit, it) for it in names if it not in stand}
     for name, it in running.items():
         ended(tally, rtlib, name, *it)
