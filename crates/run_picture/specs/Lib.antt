@@ -5,3 +5,4 @@ pub mod Runs
 pub mod Reading
 pub mod Faults
 pub mod Outcome
+pub mod Words

@@ -313,6 +313,7 @@ fn words_ask_for_a_form_and_a_part(rt: HostRuntime) -> Result<(), Fail> {
         asked_by(alloc, &["--html", "--from", "3", "--to", "1099511627775"])?
             == Some((true, 3, Some(1_099_511_627_776)))
     );
+    assert!(rt; asked_by(alloc, &["--from", "5", "--to", "5"])? == Some((false, 5, Some(6))));
     Ok(())
 }
 
@@ -321,6 +322,8 @@ fn other_words_are_bad(rt: HostRuntime) -> Result<(), Fail> {
     let alloc = rt.alloc();
     assert!(rt; asked_by(alloc, &["run"])?.is_none());
     assert!(rt; asked_by(alloc, &["--from"])?.is_none());
+    assert!(rt; asked_by(alloc, &["--from", "9", "--to", "2"])?.is_none());
+    assert!(rt; asked_by(alloc, &["--html", "--from", "6", "--to", "5"])?.is_none());
     for number in ["", "0", "01", "+1", "-1", "1 ", "1099511627776", "x"] {
         assert!(rt; asked_by(alloc, &["--from", number])?.is_none());
         assert!(rt; asked_by(alloc, &["--to", number])?.is_none());
