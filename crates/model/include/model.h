@@ -28,6 +28,12 @@
 extern "C" {
 #endif
 
+/* The version of this page: "MAJOR.MINOR.PATCH", and each part as a number for #if. */
+#define MODEL_VERSION "0.2.0"
+#define MODEL_VERSION_MAJOR 0
+#define MODEL_VERSION_MINOR 2
+#define MODEL_VERSION_PATCH 0
+
 /* A model's place. `struct model m = {0};` has no model. */
 struct model {
     bool made;

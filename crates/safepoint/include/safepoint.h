@@ -44,6 +44,12 @@
 extern "C" {
 #endif
 
+/* The version of this page: "MAJOR.MINOR.PATCH", and each part as a number for #if. */
+#define SP_VERSION "0.2.0"
+#define SP_VERSION_MAJOR 0
+#define SP_VERSION_MINOR 2
+#define SP_VERSION_PATCH 0
+
 struct sp_party {
     bool made;
     void *at;
