@@ -91,7 +91,8 @@ def parted(program, path, whole):
 def faults(program):
     numbers = [[flag, number] for flag in ("--from", "--to") for number in ("", "0", "01", "+1", "x", "1099511627776")]
     others = [[""], ["replay"], ["--help"], [b"\xff"], ["a", "b"], ["--from"], ["--html", "--html"]]
-    for words in (*others, ["--to", "2", "--from", "1"], *numbers):
+    ordered = [["--to", "2", "--from", "1"], ["--from", "9", "--to", "2"], ["--html", "--from", "2", "--to", "1"]]
+    for words in (*others, *ordered, *numbers):
         program.run(f"words {words}", words, b"", b"timeline: bad words\n", 2, given=ONE_LINE)
     folder = os.open(EXAMPLES, os.O_RDONLY)
     try:

@@ -22,6 +22,9 @@
    fit, the first in the order of the call's list. But SP_BAD_ASK comes before all others, and
    SP_NO_MEMORY may come before any.
 
+   STACK. A call takes at most 12 KB of the stack of the thread that makes it, and nothing checks
+   that there are so many.
+
    STATES of a thread, as sp_state tells them: in Java it runs code and polls; in the VM it runs the
    runtime's own code and doesn't poll; in native code and blocked it doesn't own itself, and a
    coordinator may hold it; at a poll it has stopped; serving, a callback of the runtime's runs

@@ -3,7 +3,8 @@
    are safepoint_wait.c, which stands on nothing but safepoint.h.
 
    Each answers what the call in it answers, and never SP_AGAIN. With -DSP_PTHREAD it sleeps on a
-   pthread condition, else on a futex. With -DSP_RECORD the calls are noted (safepoint_record.h). */
+   pthread condition, else on a futex. With -DSP_RECORD the calls are noted (safepoint_record.h).
+   Each takes at most 12 KB of its thread's stack, and what its callback takes. */
 #ifndef SAFEPOINT_WAIT_H
 #define SAFEPOINT_WAIT_H
 
