@@ -1,4 +1,4 @@
-/* The model of a safepoint and handshake coordinator, stepped line by line (libmodel.a).
+/* The model of Meqzhuly, a safepoint and handshake coordinator, stepped line by line (libmodel.a).
 
    A line is an event, as docs/start/LINES.md spells it, without its newline. Its answer is the one
    that `monitor replay` gives after the same `size` and the same lines, without its newline: proved

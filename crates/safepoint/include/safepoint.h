@@ -1,5 +1,5 @@
-/* Stops the threads of a runtime at safe points, runs what was asked of them there, and says when
-   machine code can be freed.
+/* Meqzhuly: stops the threads of a runtime at safe points, runs what was asked of them there, and
+   says when machine code can be freed.
 
    This page is the whole contract of libsafepoint.a, whose calls never wait and never call back;
    safepoint_wait.h has the loops that do.
