@@ -37,7 +37,9 @@ BESIDE_OTHERS = (
     (("random_pictures.py", MONITOR, TIMELINE, "20000"), ()),
     (("pages.py", TIMELINE), ()),
     (("links.py",), ()),
+    (("version.py",), ()),
     (("tutorial.py",), ()),
+    (("stacks.py", MONITOR, TIMELINE, CONFIRM), ()),
 )
 # Threads, which have the machine for themselves.
 ALONE = (
@@ -46,6 +48,7 @@ ALONE = (
     (("runs.py", MONITOR), ()),
     (("embed.py", MODEL), ("model",)),
     (("safepoint.py", SAFEPOINT, MODEL), ("safepoint", "model")),
+    (("stacks.py", SAFEPOINT), ("safepoint",)),
     (("install.py",), ("safepoint", "model")),
     (("witness.py", SAFEPOINT, MONITOR, "1"), ("safepoint",)),
 )
