@@ -1,5 +1,6 @@
 # make run       answers at once: runs the program on a shipped example, proved where it is built, else before any proof
 # make build     proves and builds the programs and the libraries for C, and says how far it is; PROGRAMS names others
+# make try       builds the libraries for C before any proof, in crates/safepoint/out/unproved and crates/model/out/unproved
 # make install   puts what is built below PREFIX (/usr/local), with DESTDIR before it; make uninstall takes it away
 # make test      the gate, then further wrong bodies (begun within EDITS_MINUTES, if that is set), the built programs and the libraries for C from outside
 # make examples  the built program on all examples, on bad words and with each fault; then make embed
@@ -16,7 +17,7 @@
 # make side      random schedules on the running layer and on the core beside it: SEEDS of them (1000), from seed FIRST on
 # make witness   records runs of real threads, SEEDS (3) for each of some counts of threads, and finds an order of events for each
 # make safepoint  builds the library by which C, C++ and Rust stop threads, and tries it from each
-.PHONY: run build install uninstall test examples embed safepoint pictures random parts edits bench scale hostile runs soak side witness
+.PHONY: run build try install uninstall test examples embed safepoint pictures random parts edits bench scale hostile runs soak side witness
 
 PROGRAMS ?= monitor timeline confirm model safepoint
 PREFIX ?= /usr/local
@@ -31,6 +32,9 @@ run:
 
 build:
 	@tests/build.py $(PROGRAMS)
+
+try:
+	@tests/unproved.py
 
 install uninstall:
 	@PREFIX='$(PREFIX)' DESTDIR='$(DESTDIR)' install/install.py $@
