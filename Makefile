@@ -1,23 +1,28 @@
-# make run       answers at once: runs the program on a shipped example, proved where it is built, else before any proof
-# make build     proves and builds the programs and the libraries for C, and says how far it is; PROGRAMS names others
-# make try       builds the libraries for C before any proof, in crates/safepoint/out/unproved and crates/model/out/unproved
-# make install   puts what is built below PREFIX (/usr/local), with DESTDIR before it; make uninstall takes it away
-# make test      the gate, then further wrong bodies (begun within EDITS_MINUTES, if that is set), the built programs and the libraries for C from outside
-# make examples  the built program on all examples, on bad words and with each fault; then make embed
-# make embed     the toy runtimes in C and in Rust that step the model beside them, over the static library
-# make pictures  draws the pictures of PICTURES, which are in examples, again, and the small one of the README
-# make random    compares pictures of 100,000 random lines, over all events, with what the core answers
-# make parts     times pictures of 500 lines of runs of ten million, beside `monitor replay`
-# make edits     the wrong bodies alone, all or those of CRATES, over what the gate keeps of its last run on this machine
-# make bench     times the program, and the calls and stops of running threads
-# make scale     times how the stops grow, prints it to bench/scale.txt, and draws bench/scale.svg
-# make hostile   tests of threads twenty times, tests of refused memory with each growth refused in turn
-# make runs      scripts on threads a hundred times each, then with each thread and each growth of memory refused in turn
-# make soak      threads at random over what they share, with one seed after the other, for MINUTES
-# make side      random schedules on the running layer and on the core beside it: SEEDS of them (1000), from seed FIRST on
-# make witness   records runs of real threads, SEEDS (3) for each of some counts of threads, and finds an order of events for each
-# make safepoint  builds the library by which C, C++ and Rust stop threads, and tries it from each
-.PHONY: run build try install uninstall test examples embed safepoint pictures random parts edits bench scale hostile runs soak side witness
+# Each line has a target, how long it takes on two cores, and what it does. In brackets: the proof before it, where
+# nothing is built, by bench/MINUTES.md.
+# make help      at once; prints these lines
+# make run       a minute; runs the program on a shipped example, proved where it is built, else before any proof
+# make try       2 minutes; builds the libraries for C before any proof, in out/unproved of crates/safepoint and crates/model
+# make quick     3 to 8 minutes, seconds for a page; checks what changed since the last state that passed, or CRATES
+# make build     seconds (40 minutes); proves and builds the programs and the libraries for C, and says how far it is; PROGRAMS names others
+# make install   seconds; puts what is built below PREFIX (/usr/local), with DESTDIR before it
+# make uninstall  seconds; takes that away
+# make test      30 minutes (2 hours and more); the gate, then further wrong bodies (begun within EDITS_MINUTES, if that is set), the built programs and the libraries for C from outside
+# make examples  2 minutes (20 minutes); the built program on all examples, on bad words and with each fault; then make embed
+# make embed     seconds (10 minutes); the toy runtimes in C and in Rust that step the model beside them, over the static library
+# make safepoint  2 minutes (20 minutes); builds the library by which C, C++ and Rust stop threads, and tries it from each
+# make pictures  seconds (10 minutes); draws the pictures of PICTURES, which are in examples, again, and the small one of the README
+# make random    minutes (30 minutes); compares pictures of 100,000 random lines, over all events, with what the core answers
+# make parts     minutes (30 minutes); times pictures of 500 lines of runs of ten million, beside `monitor replay`
+# make edits     minutes a crate (80 minutes); the wrong bodies alone, all or those of CRATES, over what the gate keeps of its last run
+# make bench     minutes (30 minutes); times the program, and the calls and stops of running threads
+# make scale     minutes (20 minutes); times how the stops grow, prints it to bench/scale.txt, and draws bench/scale.svg
+# make hostile   seconds (30 minutes); tests of threads twenty times, tests of refused memory with each growth refused in turn
+# make runs      seconds (20 minutes); scripts on threads a hundred times each, then with each thread and each growth of memory refused in turn
+# make soak      MINUTES, 10 (20 minutes); threads at random over what they share, with one seed after the other
+# make side      a minute (20 minutes); random schedules on the running layer and on the core beside it: SEEDS of them (1000), from seed FIRST on
+# make witness   2 minutes for each of SEEDS, 3 (30 minutes); records runs of real threads, and finds an order of events for each
+.PHONY: help run build try quick install uninstall test examples embed safepoint pictures random parts edits bench scale hostile runs soak side witness
 
 PROGRAMS ?= monitor timeline confirm model safepoint
 PREFIX ?= /usr/local
@@ -27,6 +32,9 @@ CRATES ?=
 MINUTES ?= 10
 FIRST ?= 22
 
+help:
+	@sed -n 's/^# make/make/p' Makefile
+
 run:
 	@tests/first_run.py monitor replay < examples/one_publication.lines
 
@@ -35,6 +43,9 @@ build:
 
 try:
 	@tests/unproved.py
+
+quick:
+	@tests/quick.py $(CRATES)
 
 install uninstall:
 	@PREFIX='$(PREFIX)' DESTDIR='$(DESTDIR)' install/install.py $@

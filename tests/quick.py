@@ -50,7 +50,7 @@ OF_C = re.compile(
 )
 ENDED = re.compile(r"^run=ended status=0 .*proved=no$", re.MULTILINE)
 TESTS = re.compile(r"^test result: ok\. (\d+) passed; 0 failed", re.MULTILINE)
-# Where libraries below a crate are neither built nor kept, they are proved here if this takes fewer minutes of a processor.
+# Libraries that are neither built nor kept are proved here if that takes fewer minutes of a processor.
 MINUTES = 5
 SHOWN = 3000
 
@@ -128,10 +128,12 @@ class Mirror:
         self.rt.rtlib.Crate = self.rt.Crate
         self.root = pathlib.Path(git("rev-parse", "--absolute-git-dir")) / "quick"
         self.root.mkdir(exist_ok=True)
-        for it in ("crates.txt", "HANDLES"):
-            shutil.copyfile(ROOT / it, self.root / it)
+        shutil.copyfile(ROOT / "HANDLES", self.root / "HANDLES")
 
-    def copied(self, names):
+    def copy(self, names):
+        """Copies these crates, and lists them alone."""
+        lines = lines_of_crates((ROOT / "crates.txt").read_text())
+        (self.root / "crates.txt").write_text("".join(f"{lines[it]}\n" for it in names))
         for name in names:
             for part in self.rt.rtlib.PARTS:
                 to = self.root / "crates" / name / part
@@ -143,7 +145,7 @@ class Mirror:
     def crate(self, name):
         """The crate's copy where the gate keeps all libraries below it, or None."""
         below = [it.name for it in self.rt.rtlib.Crate(str(ROOT / "crates" / name), str(ROOT), {}).below()]
-        self.copied([name, *below])
+        self.copy([name, *below])
         crate = self.rt.rtlib.Crate(str(self.root / "crates" / name), str(self.root), {})
         kept = self.rt.Kept([crate, *crate.below()])
         for it in crate.below():
