@@ -278,7 +278,7 @@ class Quick:
         self.beside()
         if self.c_names():
             libraries = {it: unproved.library_of(it) for it in unproved.NAMES}
-            self.script("tests/safepoint.py", libraries["safepoint"], "--quick", libraries["model"])
+            self.script("tests/safepoint.py", libraries["safepoint"], libraries["model"])
             self.script("tests/embed.py", libraries["model"])
         return self.tally.end()
 

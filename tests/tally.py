@@ -15,7 +15,10 @@ class Tally:
         self.is_strict = os.environ.get("STRICT") == "1"
 
     def judge(self, name, faults=(), shows=None):
-        """Counts one test, and returns whether it passed: it did where there is no fault, a text or some lines. What failed is printed."""
+        """Counts one test, and returns whether it passed: it did where there is no fault, a text or some lines.
+
+        What failed is printed.
+        """
         faults = [faults] if isinstance(faults, str) else list(faults or ())
         if faults:
             self.failed += 1
