@@ -1,10 +1,11 @@
-//! Why a call isn't done.
+//! Why a call isn't done. The numbers are those of `safepoint.h`, and the texts those of `sp_text`:
+//! tests/codes.py checks both.
 use std::error::Error;
 use std::fmt;
 
 macro_rules! refusals {
     ($($name:ident = $number:literal, $text:literal;)*) => {
-        /// Why a call isn't done. It has changed nothing then.
+        /// Why a call isn't done. The call has changed nothing then, except where `safepoint.h` says so.
         #[derive(Clone, Copy, Debug, PartialEq, Eq)]
         #[non_exhaustive]
         pub enum Refusal {
@@ -34,7 +35,7 @@ macro_rules! refusals {
 }
 
 refusals! {
-    Again = -1, "what the call needs isn't there yet";
+    Again = -1, "a lock is taken, or what the call needs isn't there yet: make it again";
     NoMemory = -2, "there is no memory";
     NotThis = -3, "the party isn't in this part";
     Illegal = -4, "the thread isn't in a state for this";

@@ -1,5 +1,6 @@
-//! What libsafepoint.a exports: `crates/safepoint/include/safepoint.h` says what each call does and answers.
-use std::os::raw::c_void;
+//! What libsafepoint.a and libsafepoint_wait.a export. `safepoint.h` and `safepoint_wait.h`, in
+//! `crates/safepoint/include`, say what each call does and answers.
+use std::os::raw::{c_uint, c_void};
 
 #[repr(C)]
 #[derive(Debug)]
@@ -8,24 +9,34 @@ pub struct Party {
     pub at: *mut c_void,
 }
 
+#[repr(C)]
+pub struct Served {
+    pub operation: u64,
+    pub place: usize,
+    pub thread: *mut Party,
+}
+
+/// How long a loop has waited: all zeros at first.
+#[repr(C)]
+#[derive(Default)]
+pub struct Pause {
+    turns: c_uint,
+    seen: c_uint,
+}
+
+pub type Callback = unsafe extern "C" fn(with: *mut c_void, served: *const Served);
+
 extern "C" {
     pub fn sp_make(coordinator: *mut Party, places: usize, slots: usize, methods: usize) -> i64;
     pub fn sp_fork(party: *mut Party, other: *mut Party) -> i64;
     pub fn sp_free(party: *mut Party);
-    pub fn sp_start(thread: *mut Party) -> i64;
-    pub fn sp_exit(thread: *mut Party) -> i64;
-    pub fn sp_place(thread: *mut Party) -> i64;
-    pub fn sp_state(thread: *mut Party) -> i64;
+    pub fn sp_name(thread: *mut Party) -> i64;
     pub fn sp_call(thread: *mut Party, method: u32) -> i64;
     pub fn sp_ret(thread: *mut Party) -> i64;
     pub fn sp_back_edge(thread: *mut Party) -> i64;
     pub fn sp_publish(thread: *mut Party) -> i64;
     pub fn sp_to_vm(thread: *mut Party) -> i64;
     pub fn sp_from_vm(thread: *mut Party) -> i64;
-    pub fn sp_to_native(thread: *mut Party) -> i64;
-    pub fn sp_from_native(thread: *mut Party) -> i64;
-    pub fn sp_stop_next(thread: *mut Party) -> i64;
-    pub fn sp_stop_serve(thread: *mut Party) -> i64;
     pub fn sp_target(party: *mut Party, name: u64) -> i64;
     pub fn sp_submit(party: *mut Party, asks: u32, serial: u64) -> i64;
     pub fn sp_census(party: *mut Party) -> i64;
@@ -34,14 +45,25 @@ extern "C" {
     pub fn sp_reply(party: *mut Party, operation: u64, name: u64) -> i64;
     pub fn sp_live_after(party: *mut Party, name: u64) -> i64;
     pub fn sp_forget(party: *mut Party) -> i64;
-    pub fn sp_open(coordinator: *mut Party) -> i64;
-    pub fn sp_tell(coordinator: *mut Party, name: u64) -> i64;
-    pub fn sp_hold(coordinator: *mut Party, place: usize) -> i64;
-    pub fn sp_serve(coordinator: *mut Party, place: usize) -> i64;
-    pub fn sp_release(coordinator: *mut Party, place: usize) -> i64;
-    pub fn sp_operate(coordinator: *mut Party) -> i64;
     pub fn sp_counted(coordinator: *mut Party, serial: u64) -> i64;
-    pub fn sp_close(coordinator: *mut Party) -> i64;
-    pub fn sp_reclaim_begin(party: *mut Party, serial: u64) -> i64;
-    pub fn sp_reclaim_end(coordinator: *mut Party, serial: u64) -> i64;
+}
+
+// Of libsafepoint_wait.a.
+extern "C" {
+    pub fn sp_again(answer: i64, pause: *mut Pause) -> bool;
+    pub fn sp_stop(thread: *mut Party, call: Callback, with: *mut c_void) -> i64;
+    pub fn sp_start_thread(thread: *mut Party, call: Callback, with: *mut c_void) -> i64;
+    pub fn sp_exit_thread(thread: *mut Party, call: Callback, with: *mut c_void) -> i64;
+    pub fn sp_enter_native(thread: *mut Party) -> i64;
+    pub fn sp_leave_native(thread: *mut Party, call: Callback, with: *mut c_void) -> i64;
+    pub fn sp_enter_blocked(thread: *mut Party) -> i64;
+    pub fn sp_leave_blocked(thread: *mut Party, call: Callback, with: *mut c_void) -> i64;
+    pub fn sp_drive(coordinator: *mut Party, call: Callback, with: *mut c_void) -> i64;
+    pub fn sp_drive_four(coordinator: *mut Party, call: Callback, with: *mut c_void) -> i64;
+    pub fn sp_reclaim(
+        coordinator: *mut Party,
+        serial: u64,
+        call: Callback,
+        with: *mut c_void,
+    ) -> i64;
 }

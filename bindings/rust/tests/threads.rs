@@ -1,16 +1,25 @@
 //! Threads with callbacks, beside a coordinator.
-use safepoint::{Ask, Reclaimed, Refusal, Safepoints};
+use safepoint::{Ask, Reclaimed, Refusal, Safepoints, Served, Thread};
+use std::panic::{catch_unwind, resume_unwind, AssertUnwindSafe};
 use std::sync::atomic::{AtomicBool, AtomicU64, Ordering};
-use std::sync::mpsc;
+use std::sync::{mpsc, Barrier};
 use std::thread;
 
 #[test]
 fn refusals_have_texts() {
     assert_eq!(Safepoints::new(0, 1, 1).unwrap_err(), Refusal::BadSize);
-    assert_eq!(Refusal::BadSize.to_string(), "a size is 0, or above its limit");
+    assert_eq!(
+        Refusal::BadSize.to_string(),
+        "a size is 0, or above its limit"
+    );
     let mut system = Safepoints::new(1, 1, 1).unwrap();
-    assert_eq!(system.submit(&[], Ask::Depth).unwrap_err(), Refusal::NoTargets);
+    assert_eq!(
+        system.submit(&[], Ask::Depth).unwrap_err(),
+        Refusal::NoTargets
+    );
     assert_eq!(system.drive(|_| {}).unwrap_err(), Refusal::QueueEmpty);
+    assert_eq!(system.drive_four(|_| {}).unwrap(), 0);
+    assert_eq!(system.reclaim(1, |_| {}).unwrap_err(), Refusal::Unknown);
 }
 
 #[test]
@@ -28,15 +37,18 @@ fn each_callback_runs_once() {
             let (ready, own, ends) = (ready.clone(), &own, &ends);
             scope.spawn(move || {
                 let mut thread = client
-                    .start(|_| {
+                    .start(|served| {
+                        assert!(!served.is_held);
                         own.fetch_add(1, Ordering::SeqCst);
                     })
                     .unwrap();
                 ready.send(thread.name()).unwrap();
                 while !ends.load(Ordering::SeqCst) {
                     thread.call(0, |thread| thread.poll()).unwrap();
-                    if index == 0 {
-                        thread.in_native(thread::yield_now).unwrap();
+                    match index {
+                        0 => thread.in_native(thread::yield_now).unwrap(),
+                        1 => thread.blocked(thread::yield_now).unwrap(),
+                        _ => {}
                     }
                 }
             });
@@ -45,10 +57,19 @@ fn each_callback_runs_once() {
         for _ in 0..ROUNDS {
             let operation = system.submit(&names, Ask::CountOf(code)).unwrap();
             assert_eq!(system.drive(|_| held += 1).unwrap(), operation);
-            for name in &names {
-                assert!(system.reply(operation, *name).unwrap() <= 1);
+            assert_replies(&mut system, operation, &names);
+        }
+        for _ in 0..ROUNDS {
+            let operations = [(); 4].map(|()| system.submit(&names, Ask::CountOf(code)).unwrap());
+            assert_eq!(system.drive_four(|_| held += 1).unwrap(), 4);
+            for operation in operations {
+                assert_replies(&mut system, operation, &names);
             }
         }
+        assert_eq!(
+            own.load(Ordering::SeqCst) + held,
+            5 * ROUNDS * THREADS as u64
+        );
         let counted = system.census().unwrap();
         assert_eq!(system.drive(|_| {}).unwrap(), counted);
         assert!(system.counted(code).unwrap() <= THREADS as u64);
@@ -56,6 +77,138 @@ fn each_callback_runs_once() {
         while system.reclaim(code, |_| held += 1).unwrap() != Reclaimed::Freed {}
         ends.store(true, Ordering::SeqCst);
     });
-    assert!(own.load(Ordering::SeqCst) + held >= ROUNDS * THREADS as u64);
+    assert_eq!(system.live().unwrap(), []);
+}
+
+fn assert_replies(system: &mut Safepoints, operation: u64, names: &[u64]) {
+    for name in names {
+        assert!(system.reply(operation, *name).unwrap() <= 1);
+    }
+}
+
+/// What a panic says that comes out of the body.
+fn panic_of<T>(body: impl FnOnce() -> T) -> Option<&'static str> {
+    let panic = catch_unwind(AssertUnwindSafe(body)).err()?;
+    Some(
+        *panic
+            .downcast::<&str>()
+            .unwrap_or_else(|other| resume_unwind(other)),
+    )
+}
+
+#[test]
+fn a_panic_for_a_held_thread_comes_after_the_close() {
+    const THREADS: usize = 3;
+    let mut system = Safepoints::new(4, 1, 1).unwrap();
+    let clients: Vec<_> = (0..THREADS).map(|_| system.client().unwrap()).collect();
+    let (inside, ends) = (Barrier::new(THREADS + 1), Barrier::new(THREADS + 1));
+    let mut ran = 0;
+    thread::scope(|scope| {
+        for client in clients {
+            let (inside, ends) = (&inside, &ends);
+            scope.spawn(move || {
+                let mut thread = client.start(|_| {}).unwrap();
+                let waits = || {
+                    inside.wait();
+                    ends.wait();
+                };
+                thread.call(0, |thread| thread.in_native(waits)).unwrap();
+            });
+        }
+        inside.wait();
+        let names = system.live().unwrap();
+        assert_eq!(names.len(), THREADS);
+        let operation = system.submit(&names, Ask::Depth).unwrap();
+        let said = panic_of(|| {
+            system.drive(|served| {
+                assert!(served.is_held);
+                ran += 1;
+                match ran {
+                    1 => panic!("the first"),
+                    2 => panic!("the second"),
+                    _ => {}
+                }
+            })
+        });
+        assert_eq!((said, ran), (Some("the first"), THREADS));
+        for name in names {
+            assert_eq!(system.reply(operation, name).unwrap(), 1);
+        }
+        assert_eq!(system.drive(|_| {}).unwrap_err(), Refusal::QueueEmpty);
+        ends.wait();
+    });
+    assert_eq!(system.live().unwrap(), []);
+}
+
+#[test]
+fn a_panic_of_a_thread_comes_after_the_stop() {
+    let mut system = Safepoints::new(2, 1, 1).unwrap();
+    let client = system.client().unwrap();
+    let (ready, started) = mpsc::channel();
+    let running = thread::spawn(move || {
+        let mut thread = client.start(|_| panic!("in a callback")).unwrap();
+        ready.send(thread.name()).unwrap();
+        let polls = |thread: &mut Thread| loop {
+            thread.poll()?;
+        };
+        let said = panic_of(|| thread.call::<()>(0, polls));
+        assert_eq!(said, Some("in a callback"));
+        thread.call(0, Thread::poll)
+    });
+    let name = started.recv().unwrap();
+    let operation = system.submit(&[name], Ask::Depth).unwrap();
+    assert_eq!(system.drive(|_: Served| {}).unwrap(), operation);
+    assert_eq!(system.reply(operation, name).unwrap(), 1);
+    running.join().unwrap().unwrap();
+    assert_eq!(system.live().unwrap(), []);
+}
+
+#[test]
+fn a_panic_of_a_body_leaves_all_that_it_ran_in() {
+    let mut system = Safepoints::new(2, 1, 1).unwrap();
+    let mut thread = system.client().unwrap().start(|_| {}).unwrap();
+    let panics = || -> () { panic!("in a body") };
+    assert_eq!(
+        panic_of(|| thread.call(0, |thread| thread.in_native(panics))),
+        Some("in a body")
+    );
+    assert_eq!(
+        panic_of(|| thread.call(0, |thread| thread.blocked(panics))),
+        Some("in a body")
+    );
+    assert_eq!(
+        panic_of(|| thread.call(0, |thread| thread.in_vm(panics))),
+        Some("in a body")
+    );
+    thread.exit().unwrap();
+    assert_eq!(system.live().unwrap(), []);
+}
+
+#[test]
+fn refusals_of_a_thread_are_answered() {
+    let mut system = Safepoints::new(2, 1, 1).unwrap();
+    let mut thread = system.client().unwrap().start(|_| {}).unwrap();
+    assert_eq!(
+        thread.call(1, |_| Ok(())).unwrap_err(),
+        Refusal::NoSuchMethod
+    );
+    let both = thread.call(0, |thread| thread.call(1, |_| Ok(())));
+    assert_eq!(both.unwrap_err(), Refusal::NoSuchMethod);
+    assert_eq!(
+        thread.call(0, Thread::exit).unwrap_err(),
+        Refusal::StackNotEmpty
+    );
+    thread.exit().unwrap();
+    assert_eq!(thread.poll().unwrap_err(), Refusal::NotThis);
+    assert_eq!(thread.exit().unwrap_err(), Refusal::NotThis);
+    drop(thread);
+    let places: Vec<_> = (0..2)
+        .map(|_| system.client().unwrap().start(|_| {}).unwrap())
+        .collect();
+    assert_eq!(
+        system.client().unwrap().start(|_| {}).unwrap_err(),
+        Refusal::PlacesFull
+    );
+    drop(places);
     assert_eq!(system.live().unwrap(), []);
 }

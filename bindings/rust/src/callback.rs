@@ -1,0 +1,83 @@
+//! Closures as callbacks of C.
+use crate::refusal::Refusal;
+use crate::sys;
+use crate::waiting::answer;
+use std::any::Any;
+use std::os::raw::c_void;
+use std::panic::{catch_unwind, resume_unwind, AssertUnwindSafe};
+use std::ptr;
+
+/// An operation that is served at a safe point: the thread doesn't run, and its stack is published.
+#[derive(Clone, Copy, Debug, PartialEq, Eq)]
+pub struct Served {
+    /// The number of the operation.
+    pub operation: u64,
+    /// The place of the thread.
+    pub place: usize,
+    /// Whether the thread is held, and the coordinator runs the callback for it.
+    pub is_held: bool,
+}
+
+type Panic = Box<dyn Any + Send>;
+
+/// What C passes on as `with`.
+struct Running<F> {
+    callback: F,
+    panic: Option<Panic>,
+}
+
+/// What a call that ran callbacks answered, and the first panic of a callback.
+#[must_use]
+pub struct Ran {
+    said: i64,
+    panic: Option<Panic>,
+}
+
+impl Ran {
+    /// The answer, or the panic goes on.
+    pub fn resume(self) -> Result<u64, Refusal> {
+        match self.panic {
+            Some(panic) => resume_unwind(panic),
+            None => answer(self.said),
+        }
+    }
+
+    /// The answer alone, where another panic goes on already.
+    pub fn answer(self) -> Result<u64, Refusal> {
+        answer(self.said)
+    }
+}
+
+/// No panic unwinds into C: the first is kept, and the callback runs for the further targets too.
+unsafe extern "C" fn at_safe_point<F: FnMut(Served)>(
+    with: *mut c_void,
+    served: *const sys::Served,
+) {
+    let (running, served) = unsafe { (&mut *with.cast::<Running<F>>(), &*served) };
+    let served = Served {
+        operation: served.operation,
+        place: served.place,
+        is_held: served.thread.is_null(),
+    };
+    // (a closure that panicked is run again, as one behind `&mut` may be)
+    let ran = catch_unwind(AssertUnwindSafe(|| (running.callback)(served)));
+    if let Err(panic) = ran {
+        running.panic.get_or_insert(panic);
+    }
+}
+
+/// Makes a call of C that runs the callback.
+pub fn with_callback<F: FnMut(Served)>(
+    callback: F,
+    call: impl FnOnce(sys::Callback, *mut c_void) -> i64,
+) -> Ran {
+    let mut running = Running {
+        callback,
+        panic: None,
+    };
+    let said = call(at_safe_point::<F>, ptr::from_mut(&mut running).cast());
+    Ran {
+        said,
+        panic: running.panic,
+    }
+}

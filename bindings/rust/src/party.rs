@@ -1,0 +1,37 @@
+//! A party to a system.
+use crate::refusal::Refusal;
+use crate::sys;
+use crate::waiting::answer;
+use std::ptr;
+
+/// A party to a system. Its memory is freed with it.
+#[derive(Debug)]
+pub struct Party(sys::Party);
+
+// A party may pass from one thread to another. Each call takes `&mut`, so only one thread at a time calls with it.
+unsafe impl Send for Party {}
+
+impl Party {
+    pub fn none() -> Party {
+        Party(sys::Party {
+            made: false,
+            at: ptr::null_mut(),
+        })
+    }
+
+    pub fn fork(&mut self) -> Result<Party, Refusal> {
+        let mut other = Party::none();
+        answer(unsafe { sys::sp_fork(&mut self.0, &mut other.0) })?;
+        Ok(other)
+    }
+
+    pub fn at(&mut self) -> *mut sys::Party {
+        &mut self.0
+    }
+}
+
+impl Drop for Party {
+    fn drop(&mut self) {
+        unsafe { sys::sp_free(&mut self.0) }
+    }
+}
