@@ -214,7 +214,10 @@ def jit(tests):
 def rust(tests):
     if not tests.has("cargo", "bindings/rust"):
         return
-    names = {"SAFEPOINT_ARCHIVES": " ".join(map(str, tests.archives))}
+    sys.path.insert(0, str(ROOT / "install"))
+    from install import waits_archive
+    archives = [waits_archive(tests.folder), *tests.archives]
+    names = {"SAFEPOINT_ARCHIVES": " ".join(map(str, archives))}
     words = ["cargo", "test", "--quiet", "--offline", "--target-dir", tests.folder / "target"]
     how = {"capture_output": True, "timeout": SECONDS, "cwd": BINDINGS / "rust", "env": {**os.environ, **names}}
     ran = subprocess.run(words, **how)
