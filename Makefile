@@ -12,6 +12,7 @@
 # make embed     seconds (10 minutes); the toy runtimes in C and in Rust that step the model beside them, over the static library
 # make safepoint  2 minutes (20 minutes); builds the library by which C, C++ and Rust stop threads, and tries it from each
 # make pictures  seconds (10 minutes); draws the pictures of PICTURES, which are in examples, again, and the small one of the README
+# make picture   seconds (some 4 minutes before any proof); draws a log of calls, LOG, into OUT, once it has an order that is checked
 # make random    minutes (30 minutes); compares pictures of 100,000 random lines, over all events, with what the core answers
 # make parts     minutes (30 minutes); times pictures of 500 lines of runs of ten million, beside `monitor replay`
 # make edits     minutes a crate (80 minutes); the wrong bodies alone, all or those of CRATES, over what the gate keeps of its last run
@@ -22,7 +23,7 @@
 # make soak      MINUTES, 10 (20 minutes); threads at random over what they share, with one seed after the other
 # make side      a minute (20 minutes); random schedules on the running layer and on the core beside it: SEEDS of them (1000), from seed FIRST on
 # make witness   2 minutes for each of SEEDS, 3 (30 minutes); records runs of real threads, and finds an order of events for each
-.PHONY: help run build try quick install uninstall test examples embed safepoint pictures random parts edits bench scale hostile runs soak side witness
+.PHONY: help run build try quick install uninstall test examples embed safepoint picture pictures random parts edits bench scale hostile runs soak side witness
 
 PROGRAMS ?= monitor timeline confirm model safepoint
 PREFIX ?= /usr/local
@@ -64,6 +65,9 @@ safepoint:
 embed:
 	@tests/build.py model
 	@tests/embed.py crates/model/out/libmodel.a
+
+picture:
+	@tests/draw.py '$(LOG)' $(if $(OUT),'$(OUT)')
 
 pictures:
 	@tests/build.py timeline

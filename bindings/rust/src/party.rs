@@ -4,7 +4,7 @@ use crate::sys;
 use crate::waiting::answer;
 use std::ptr;
 
-/// A party to a system. Its memory is freed with it.
+/// A party to a system, which is freed with it. It may move: no call keeps where its two words are.
 #[derive(Debug)]
 pub struct Party(sys::Party);
 
