@@ -2,8 +2,30 @@
 use safepoint::{Ask, Reclaimed, Refusal, Safepoints, Served, Thread};
 use std::panic::{catch_unwind, resume_unwind, AssertUnwindSafe};
 use std::sync::atomic::{AtomicBool, AtomicU64, Ordering};
-use std::sync::{mpsc, Barrier};
+use std::sync::mpsc;
 use std::thread;
+
+/// What the threads of a test end by, also where the test panics.
+#[derive(Default)]
+struct Ends(AtomicBool);
+
+impl Ends {
+    fn has_come(&self) -> bool {
+        self.0.load(Ordering::SeqCst)
+    }
+
+    fn at_the_end(&self) -> EndsHere<'_> {
+        EndsHere(self)
+    }
+}
+
+struct EndsHere<'a>(&'a Ends);
+
+impl Drop for EndsHere<'_> {
+    fn drop(&mut self) {
+        self.0 .0.store(true, Ordering::SeqCst);
+    }
+}
 
 #[test]
 fn refusals_have_texts() {
@@ -26,12 +48,13 @@ fn refusals_have_texts() {
 fn each_callback_runs_once() {
     const THREADS: usize = 4;
     const ROUNDS: u64 = 200;
-    let (own, ends) = (AtomicU64::new(0), AtomicBool::new(false));
+    let (own, ends) = (AtomicU64::new(0), Ends::default());
     let mut held = 0;
     let mut system = Safepoints::new(8, 8, 2).unwrap();
     let code = system.install(0).unwrap();
     let clients: Vec<_> = (0..THREADS).map(|_| system.client().unwrap()).collect();
     thread::scope(|scope| {
+        let _ends_here = ends.at_the_end();
         let (ready, started) = mpsc::channel();
         for (index, client) in clients.into_iter().enumerate() {
             let (ready, own, ends) = (ready.clone(), &own, &ends);
@@ -43,7 +66,7 @@ fn each_callback_runs_once() {
                     })
                     .unwrap();
                 ready.send(thread.name()).unwrap();
-                while !ends.load(Ordering::SeqCst) {
+                while !ends.has_come() {
                     thread.call(0, |thread| thread.poll()).unwrap();
                     match index {
                         0 => thread.in_native(thread::yield_now).unwrap(),
@@ -75,7 +98,6 @@ fn each_callback_runs_once() {
         assert!(system.counted(code).unwrap() <= THREADS as u64);
         system.invalidate(code).unwrap();
         while system.reclaim(code, |_| held += 1).unwrap() != Reclaimed::Freed {}
-        ends.store(true, Ordering::SeqCst);
     });
     assert_eq!(system.live().unwrap(), []);
 }
@@ -101,21 +123,24 @@ fn a_panic_for_a_held_thread_comes_after_the_close() {
     const THREADS: usize = 3;
     let mut system = Safepoints::new(4, 1, 1).unwrap();
     let clients: Vec<_> = (0..THREADS).map(|_| system.client().unwrap()).collect();
-    let (inside, ends) = (Barrier::new(THREADS + 1), Barrier::new(THREADS + 1));
-    let mut ran = 0;
+    let (ends, mut ran) = (Ends::default(), 0);
+    let (inside, are_inside) = mpsc::channel();
     thread::scope(|scope| {
+        let _ends_here = ends.at_the_end();
         for client in clients {
-            let (inside, ends) = (&inside, &ends);
+            let (inside, ends) = (inside.clone(), &ends);
             scope.spawn(move || {
                 let mut thread = client.start(|_| {}).unwrap();
                 let waits = || {
-                    inside.wait();
-                    ends.wait();
+                    inside.send(()).unwrap();
+                    while !ends.has_come() {
+                        thread::yield_now();
+                    }
                 };
                 thread.call(0, |thread| thread.in_native(waits)).unwrap();
             });
         }
-        inside.wait();
+        (0..THREADS).for_each(|_| are_inside.recv().unwrap());
         let names = system.live().unwrap();
         assert_eq!(names.len(), THREADS);
         let operation = system.submit(&names, Ask::Depth).unwrap();
@@ -135,7 +160,6 @@ fn a_panic_for_a_held_thread_comes_after_the_close() {
             assert_eq!(system.reply(operation, name).unwrap(), 1);
         }
         assert_eq!(system.drive(|_| {}).unwrap_err(), Refusal::QueueEmpty);
-        ends.wait();
     });
     assert_eq!(system.live().unwrap(), []);
 }
@@ -210,5 +234,48 @@ fn refusals_of_a_thread_are_answered() {
         Refusal::PlacesFull
     );
     drop(places);
+    assert_eq!(system.live().unwrap(), []);
+}
+
+#[test]
+fn a_thread_that_can_not_exit_panics() {
+    let mut system = Safepoints::new(2, 1, 1).unwrap();
+    let mut thread = system.client().unwrap().start(|_| {}).unwrap();
+    let mut other = system.client().unwrap().start(|_| {}).unwrap();
+    let name = thread.name();
+    // Each returns in the place of the other: one from no method, and one keeps its frame.
+    let said = thread.call(0, |thread| {
+        std::mem::swap(thread, &mut other);
+        Ok(())
+    });
+    assert_eq!(said.unwrap_err(), Refusal::EmptyStack);
+    drop(thread);
+    let panic = catch_unwind(AssertUnwindSafe(|| drop(other))).unwrap_err();
+    let text = format!("thread {name} doesn't exit: {}", Refusal::StackNotEmpty);
+    assert_eq!(*panic.downcast::<String>().unwrap(), text);
+    assert_eq!(system.live().unwrap(), [name]);
+}
+
+#[test]
+fn calls_are_made_again_until_a_lock_is_free() {
+    const THREADS: usize = 4;
+    const LIVES: usize = 300;
+    let mut system = Safepoints::new(THREADS, 1, 1).unwrap();
+    let mut clients: Vec<_> = (0..THREADS * LIVES)
+        .map(|_| system.client().unwrap())
+        .collect();
+    thread::scope(|scope| {
+        while !clients.is_empty() {
+            let its = clients.split_off(clients.len() - LIVES);
+            scope.spawn(|| {
+                its.into_iter()
+                    .for_each(|client| drop(client.start(|_| {}).unwrap()))
+            });
+        }
+        for _ in 0..10 * LIVES {
+            assert!(system.live().unwrap().len() <= THREADS);
+            system.forget().unwrap();
+        }
+    });
     assert_eq!(system.live().unwrap(), []);
 }
