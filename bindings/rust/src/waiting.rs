@@ -17,3 +17,16 @@ pub fn wait(mut call: impl FnMut() -> i64) -> Result<u64, Refusal> {
         }
     }
 }
+
+#[cfg(test)]
+mod tests {
+    use super::*;
+
+    #[test]
+    fn a_call_is_made_again_until_it_answers() {
+        let mut answers = [-1, -1, -1, 7].into_iter();
+        assert_eq!(wait(|| answers.next().unwrap()), Ok(7));
+        let mut answers = [-1, -27].into_iter();
+        assert_eq!(wait(|| answers.next().unwrap()), Err(Refusal::NotDone));
+    }
+}

@@ -1,5 +1,6 @@
 //! Threads with callbacks, beside a coordinator.
-use safepoint::{Ask, Reclaimed, Refusal, Safepoints, Served, Thread};
+use safepoint::{Ask, Client, Reclaimed, Refusal, Safepoints, Served, Thread};
+use std::cell::Cell;
 use std::panic::{catch_unwind, resume_unwind, AssertUnwindSafe};
 use std::sync::atomic::{AtomicBool, AtomicU64, Ordering};
 use std::sync::mpsc;
@@ -170,12 +171,20 @@ fn a_panic_of_a_thread_comes_after_the_stop() {
     let client = system.client().unwrap();
     let (ready, started) = mpsc::channel();
     let running = thread::spawn(move || {
-        let mut thread = client.start(|_| panic!("in a callback")).unwrap();
-        ready.send(thread.name()).unwrap();
-        let polls = |thread: &mut Thread| loop {
-            thread.poll()?;
+        let has_run = Cell::new(false);
+        let callback = |_| {
+            has_run.set(true);
+            panic!("in a callback");
         };
-        let said = panic_of(|| thread.call::<()>(0, polls));
+        let mut thread = client.start(callback).unwrap();
+        ready.send(thread.name()).unwrap();
+        let polls = |thread: &mut Thread| {
+            while !has_run.get() {
+                thread.poll()?;
+            }
+            Ok(())
+        };
+        let said = panic_of(|| thread.call(0, polls));
         assert_eq!(said, Some("in a callback"));
         thread.call(0, Thread::poll)
     });
@@ -257,25 +266,30 @@ fn a_thread_that_can_not_exit_panics() {
 }
 
 #[test]
-fn calls_are_made_again_until_a_lock_is_free() {
+fn threads_start_and_exit_beside_a_coordinator() {
     const THREADS: usize = 4;
-    const LIVES: usize = 300;
+    const LIVES: usize = 1000;
     let mut system = Safepoints::new(THREADS, 1, 1).unwrap();
     let mut clients: Vec<_> = (0..THREADS * LIVES)
         .map(|_| system.client().unwrap())
         .collect();
+    let done = AtomicU64::new(0);
     thread::scope(|scope| {
         while !clients.is_empty() {
             let its = clients.split_off(clients.len() - LIVES);
             scope.spawn(|| {
-                its.into_iter()
-                    .for_each(|client| drop(client.start(|_| {}).unwrap()))
+                its.into_iter().for_each(live);
+                done.fetch_add(1, Ordering::SeqCst);
             });
         }
-        for _ in 0..10 * LIVES {
+        while done.load(Ordering::SeqCst) < THREADS as u64 {
             assert!(system.live().unwrap().len() <= THREADS);
             system.forget().unwrap();
         }
     });
     assert_eq!(system.live().unwrap(), []);
+}
+
+fn live(client: Client) {
+    drop(client.start(|_| {}).unwrap());
 }
