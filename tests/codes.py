@@ -36,7 +36,7 @@ NOT_COUNTED = "fault_code_of_step"
 OF_CODE = re.compile(r"=> -\d|=> NO_MEMORY|= -\d"), re.compile(r"\s+(?:\w+::)+(\w+)(?:\(_\))? => (?:-(\d+)|NO_MEMORY),")
 OF_CONST = re.compile(r"(?:pub\(crate\) )?const (\w+): i64 = -(\d+);")
 OF_FUNCTION = re.compile(r"(?:pub\(crate\) )?fn (\w+)\(")
-OF_SPEC = re.compile(r"= negsuc "), re.compile(r"(?:(\w+) \(?\w+\.(\w+)(?: \w+\))?|(\w+)_code) = negsuc (\d+)")
+OF_SPEC = re.compile(r"= negsuc "), re.compile(r"(?:(\w+) \(?\w+\.(\w+)(?: \w+\))?|(\w+)_[a-z]+) = negsuc (\d+)")
 OF_RUST = re.compile(r"^    \w+ = -"), re.compile(r'    (\w+) = -(\d+), "(.+)";')
 OF_TEXTS = re.compile(r"^ +\{SP_"), re.compile(r' +\{SP_(\w+), "(.+)"\},')
 OF_HEADER = re.compile(r"\bSP_(\w+) = -(\d+)\b")
@@ -66,7 +66,7 @@ PLANTS = (
 
 
 def words_of(name):
-    """`NO_SUCH_METHOD` or `made` as `NoSuchMethod` or `Made`; a name that has this form already stays."""
+    """A name of C or of the contracts as the code writes it, as NotHeld for NOT_HELD."""
     return "".join(it.capitalize() for it in name.split("_")) if name.isupper() or name.islower() else name
 
 
