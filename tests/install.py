@@ -5,9 +5,10 @@
 docs/start/EMBEDDING.md, one that steps the model, and the C++ of that page are built by what pkg-config says of the
 installed `.pc` files, and run; so are the installed programs. That C is built once more with the installed sources of
 the waits, so that its calls are noted. The C of the README is linked with tests/stop_one.c, which says what `stop_one`
-answers for a thread that runs, for names that no thread has, and behind an older request. The pages for man are read by
-groff. `make uninstall` must leave no file and none of the project's own folders, and must leave a file that is
-another's. Where there is no pkg-config, this script reads the `.pc` files itself.
+answers for a thread that runs, for names that no thread has, and behind an older request. The Rust crate runs its tests
+over what pkg-config finds. The pages for man are read by groff. `make uninstall` must leave no file and none of the
+project's own folders, and must leave a file that is another's. Where there is no pkg-config, this script reads the
+`.pc` files itself.
 The last line is `N passed, N failed, N skipped`; the status is 0 where none failed.
 """
 import os
@@ -94,9 +95,14 @@ class Installed:
         pages = self.top / "lib" / "pkgconfig"
         if shutil.which("pkg-config") is None:
             return self.read(pages / f"{package}.pc")
-        names = {**os.environ, "PKG_CONFIG_LIBDIR": str(pages), "PKG_CONFIG_SYSROOT_DIR": self.destdir}
         words = ["pkg-config", "--cflags", "--libs", package]
-        return shlex.split(subprocess.run(words, capture_output=True, text=True, check=True, env=names).stdout)
+        how = {"capture_output": True, "text": True, "check": True, "env": self.found()}
+        return shlex.split(subprocess.run(words, **how).stdout)
+
+    def found(self):
+        """The environment in which pkg-config finds what is installed, and nothing else."""
+        pages = self.top / "lib" / "pkgconfig"
+        return {**os.environ, "PKG_CONFIG_LIBDIR": str(pages), "PKG_CONFIG_SYSROOT_DIR": self.destdir}
 
     def read(self, page):
         """The same as pkg-config says, for a page whose lines name variables and the two lists."""
@@ -143,6 +149,15 @@ class Uses:
         if self.tests.has(cpp_compiler(), f"{self.installed.name}: scopes.cpp"):
             self.build("scopes.cpp", SCOPES % block("cpp"), "safepoint", b"", cpp_compiler(), "-std=c++17")
 
+    def of_rust(self):
+        """The tests of the Rust crate, which links what pkg-config finds."""
+        name = f"{self.installed.name}: bindings/rust"
+        if self.tests.has("cargo", name) and self.tests.has("pkg-config", name):
+            words = ["cargo", "test", "--quiet", "--offline", "--target-dir", self.folder / "target"]
+            names = self.installed.found()
+            names.pop("SAFEPOINT_ARCHIVES", None)
+            self.tests.run(name, words, cwd=ROOT / "bindings" / "rust", env=names)
+
     def program(self, name, words, given, wanted=None):
         program = self.installed.top / "bin" / words[0]
         self.tests.run(f"{self.installed.name}: {name}", [program, *words[1:]], wanted, input=given)
@@ -179,7 +194,7 @@ def whole(tests, installed, folder):
     named = [it for it in installed.files() if it.suffix == ".pc" and installed.is_named_in(it)]
     tests.holds(f"{installed.name}: no file names DESTDIR", not named, f"{named}")
     uses = Uses(tests, installed, folder)
-    for part in (uses.of_c, uses.of_cpp, uses.programs, uses.pages):
+    for part in (uses.of_c, uses.of_cpp, uses.of_rust, uses.programs, uses.pages):
         part()
     uninstalled(tests, installed)
 
