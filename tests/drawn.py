@@ -22,8 +22,8 @@ LOGS = TESTS / "calls"
 DRAW, WITNESS = TESTS / "draw.py", ROOT / "witness" / "witness"
 PROGRAMS = "confirm", "monitor", "timeline"
 STEPS = (
-    r"order: 32 calls, T\ncheck: 123 events explain the log, T\n"
-    r"replay: 123 events, 3 of them refused, T\ndraw: .*OUT, \d+ bytes, T\n"
+    r"order: 32 calls, {time}\ncheck: 123 events explain the log, {time}\n"
+    r"replay: 123 events, 3 of them refused, {time}\ndraw: {out}, \d+ bytes, {time}\n"
 )
 NO_ORDER, BAD_LOG = "witness: no order: all was tried\n", "witness: bad log: header\n"
 WORDS = "draw: LOG [OUT], or make picture LOG=.. [OUT=..]\n"
@@ -46,7 +46,7 @@ def drawn_alone(log, *words):
 def faults_of_drawing(log, out, words, *options):
     """What is wrong with a picture of a log that has an order."""
     ran = run(DRAW, log, *words, text=True)
-    form = STEPS.replace("T", r"\d+\.\d\d s").replace("OUT", re.escape(out.name))
+    form = STEPS.format(time=r"\d+\.\d\d s", out=re.escape(str(out)))
     if ran.returncode or ran.stdout or not re.fullmatch(form, ran.stderr):
         return [f"status {ran.returncode}, {ran.stdout!r}, {ran.stderr!r}"]
     return [] if out.read_bytes() == drawn_alone(log, *options) else [f"{out} isn't what timeline draws"]
