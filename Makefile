@@ -12,7 +12,7 @@
 # make embed     seconds (10 minutes); the toy runtimes in C and in Rust that step the model beside them, over the static library
 # make safepoint  2 minutes (20 minutes); builds the library by which C, C++ and Rust stop threads, and tries it from each
 # make pictures  seconds (10 minutes); draws the pictures of PICTURES, which are in examples, again, and the small one of the README
-# make picture   seconds (some 4 minutes before any proof); draws a log of calls, LOG, into OUT, once it has an order that is checked
+# make picture   seconds (or 3 minutes, before any proof); finds an order of the log of calls LOG, checks it, and draws it into OUT
 # make random    minutes (30 minutes); compares pictures of 100,000 random lines, over all events, with what the core answers
 # make parts     minutes (30 minutes); times pictures of 500 lines of runs of ten million, beside `monitor replay`
 # make edits     minutes a crate (80 minutes); the wrong bodies alone, all or those of CRATES, over what the gate keeps of its last run
