@@ -89,7 +89,8 @@ impl Safepoints {
         answer(unsafe { sys::sp_counted(self.party.at(), serial) })
     }
 
-    /// The names of the live threads.
+    /// The names of the live threads, each above the one before. They are found one by one: a thread that starts or
+    /// exits meanwhile may be missing or still listed.
     pub fn live(&mut self) -> Result<Vec<u64>, Refusal> {
         let mut names = Vec::new();
         let mut last = 0;

@@ -283,7 +283,7 @@ fn threads_start_and_exit_beside_a_coordinator() {
             });
         }
         while done.load(Ordering::SeqCst) < THREADS as u64 {
-            assert!(system.live().unwrap().len() <= THREADS);
+            assert!(system.live().unwrap().is_sorted_by(|one, next| one < next));
             system.forget().unwrap();
         }
     });
