@@ -37,6 +37,8 @@ BESIDE_OTHERS = (
     (("random_pictures.py", MONITOR, TIMELINE, "20000"), ()),
     (("pages.py", TIMELINE), ()),
     (("links.py",), ()),
+    (("codes.py",), ()),
+    (("drawn.py",), ()),
     (("version.py",), ()),
     (("tutorial.py",), ()),
     (("stacks.py", MONITOR, TIMELINE, CONFIRM), ()),
