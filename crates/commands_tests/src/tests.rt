@@ -389,7 +389,7 @@ fn a_file_without_an_end_is_too_long(rt: HostRuntime) -> Result<(), Fail> {
     Ok(())
 }
 
-// With each allocation failing in turn, this shows that the whole line is written, or nothing.
+// It passes whichever growth of memory is refused: the whole line is written, or nothing.
 #[test]
 fn refused_memory_writes_nothing(rt: HostRuntime) -> Result<(), Fail> {
     let mut drip = Drip {
@@ -400,11 +400,18 @@ fn refused_memory_writes_nothing(rt: HostRuntime) -> Result<(), Fail> {
     };
     let mut basin = new_basin(rt.alloc(), 100, 0, false);
     if basin.got.reserve(10).is_err() {
+        println!(rt; "refused before the check")?;
         return Ok(());
     }
     match run(rt.alloc(), &mut drip, &mut basin) {
-        Ok(()) => assert!(rt; basin.got.as_slice() == b"ok 2\n".as_slice()),
-        Err(Fault::NoMemory) => assert!(rt; basin.got.is_empty()),
+        Ok(()) => {
+            assert!(rt; basin.got.as_slice() == b"ok 2\n".as_slice());
+            println!(rt; "no growth was refused")?;
+        }
+        Err(Fault::NoMemory) => {
+            assert!(rt; basin.got.is_empty());
+            println!(rt; "refused in the check")?;
+        }
         Err(_) => return Err(Fail::from("another fault")),
     }
     Ok(())

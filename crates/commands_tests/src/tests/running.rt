@@ -116,21 +116,42 @@ fn two_ticks_meet(rt: HostRuntime) -> Result<(), Fail> {
     Ok(())
 }
 
-// With each allocation failing in turn, this shows that the whole text is written, or nothing.
+// The code of the loop of calls, and room for what a run of it prints; None where memory was refused.
+fn made_before_the_run(alloc: Global) -> Result<Option<(Code, Vec<u8>)>, Fail> {
+    let code = match check_text(alloc, LOOP_OF_CALLS) {
+        Ok(code) => code,
+        Err(Fault::NoMemory) => return Ok(None),
+        Err(_) => return Err(Fail::from("the script is wrong")),
+    };
+    let Ok(out) = Vec::with_capacity(alloc, 1000) else {
+        return Ok(None);
+    };
+    Ok(Some((code, out)))
+}
+
+// It passes whichever growth of memory is refused: the whole text is written, or nothing.
 #[test]
 fn refused_memory_prints_nothing(rt: HostRuntime) -> Result<(), Fail> {
     let alloc = rt.alloc();
-    let Ok(code) = check_text(alloc, LOOP_OF_CALLS) else {
-        return Ok(());
-    };
-    let Ok(mut out) = Vec::with_capacity(alloc, 1000) else {
+    let Some((code, mut out)) = made_before_the_run(alloc)? else {
+        println!(rt; "refused before the run")?;
         return Ok(());
     };
     let mut sink = IntoWriter::new(&mut out);
     let found = run_with(&rt, alloc, &code, 3, &OpenGate, &mut sink);
     match found {
-        Ok(()) => assert!(rt; out.len() == 111),
-        Err(Fault::NoMemory | Fault::NoThread) => assert!(rt; out.is_empty()),
+        Ok(()) => {
+            assert!(rt; out.len() == 111);
+            println!(rt; "no growth was refused")?;
+        }
+        Err(Fault::NoMemory) => {
+            assert!(rt; out.is_empty());
+            println!(rt; "refused in the run")?;
+        }
+        Err(Fault::NoThread) => {
+            assert!(rt; out.is_empty());
+            println!(rt; "refused while threads were started")?;
+        }
         Err(_) => return Err(Fail::from("another fault")),
     }
     Ok(())

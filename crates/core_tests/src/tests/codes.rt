@@ -1,8 +1,9 @@
 // Of `method_table`.
 use super::{Player, number_at, play, told};
-use method_table::table::MethodTable;
+use method_table::table::{InstallFault, MethodTable};
 use std::alloc::Global;
 use std::process::Abort;
+use std::test::Fail;
 
 impl Player for MethodTable {
     fn answer<R: Abort>(&mut self, rt: &R, alloc: Global, call: &str, numbers: &[u64]) -> String {
@@ -200,17 +201,32 @@ current 255 => Some(CodeId { slot: 299, serial: 1025 })",
     );
 }
 
-// Passes whichever allocation fails: an install that lacked memory changed nothing, and is made again.
-#[test]
-fn want_of_memory_changes_nothing(rt: HostRuntime) {
-    let Ok(mut table) = MethodTable::new(rt.alloc(), 2, 1) else {
-        return;
-    };
-    for serial in [1, 2] {
-        if table.install(0).is_err() {
-            assert!(rt; table.state(serial).is_none());
-            assert!(rt; table.install(0).is_ok());
-        }
-        assert!(rt; table.state(serial).is_some());
+// Installs the code of this serial. Answers whether the install lacked memory: then it changed nothing, and is made again.
+fn lacked_memory(rt: &impl Abort, table: &mut MethodTable, serial: u64) -> bool {
+    let found = table.install(0);
+    let is_refused = found.is_err();
+    if is_refused {
+        assert!(rt; matches!(found, Err(InstallFault::NoMemory)));
+        assert!(rt; table.state(serial).is_none());
+        assert!(rt; table.install(0).is_ok());
     }
+    assert!(rt; table.state(serial).is_some());
+    is_refused
+}
+
+// It passes whichever growth of memory is refused.
+#[test]
+fn want_of_memory_changes_nothing(rt: HostRuntime) -> Result<(), Fail> {
+    let Ok(mut table) = MethodTable::new(rt.alloc(), 2, 1) else {
+        println!(rt; "the table was refused")?;
+        return Ok(());
+    };
+    let first = lacked_memory(&rt, &mut table, 1);
+    let second = lacked_memory(&rt, &mut table, 2);
+    match (first, second) {
+        (false, false) => println!(rt; "no growth was refused")?,
+        (true, _) => println!(rt; "install 1 was refused")?,
+        (false, true) => println!(rt; "install 2 was refused")?,
+    }
+    Ok(())
 }

@@ -4,6 +4,7 @@ use operations::queue::{Queue, QueueFault, Unqueued, Waiting};
 use operations::{Ask, Kind, Request, Targets};
 use std::alloc::Global;
 use std::process::Abort;
+use std::test::Fail;
 
 // A queue, and the names of the handshake that comes next.
 #[derive(Drop)]
@@ -186,10 +187,11 @@ name 65 => (); are_targets => false; refusal => Some(BadTargets); len => 1",
     );
 }
 
-// Passes whichever allocation fails: what isn't queued comes back, and can be queued again.
+// It passes whichever growth of memory is refused: what isn't queued comes back, and can be queued again.
 #[test]
-fn want_of_memory_hands_back(rt: HostRuntime) {
+fn want_of_memory_hands_back(rt: HostRuntime) -> Result<(), Fail> {
     let mut queue: Queue<u64> = Queue::new(rt.alloc());
+    let mut refused = None;
     for number in 1..20u64 {
         let before = queue.len();
         if let Err(back) = queue.push(number, Request::Census, number) {
@@ -197,7 +199,13 @@ fn want_of_memory_hands_back(rt: HostRuntime) {
             assert!(rt; back.load == number);
             assert!(rt; queue.len() == before);
             assert!(rt; queue.push(number, back.request, back.load).is_ok());
+            refused = Some(number);
         }
     }
     assert!(rt; queue.len() == 19);
+    match refused {
+        None => println!(rt; "no growth was refused")?,
+        Some(number) => println!(rt; "request {number} was refused")?,
+    }
+    Ok(())
 }
