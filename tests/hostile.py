@@ -1,23 +1,29 @@
 #!/usr/bin/env python3
 """Tests that one run of the gate doesn't show: hostile.py [threads|memory] [--crate NAME] [--built]
 
-threads  Each test that runs several threads, twenty times: it passes each time, within its seconds, and prints the same.
-memory   Each test of refused memory with its first growth refused, with its second, and so on until none is. It passes each time, says
-         what was refused, and the growths come to an end where nothing was. Of some crates also tests that were not made for this: they
-         pass, or end with the error of refused memory. Needs a C compiler, for the library that refuses the growths. Not run are tests
-         that pass whatever is refused and say nothing, as `commands_tests` and `core_tests` have them: it couldn't be
-         seen that anything was refused, nor where the growths end.
+threads  Each test that runs several threads, twenty times. It passes each time, within its seconds, and prints the
+         same.
+memory   Each test that is made for refused memory, with its first growth refused, with its second, and so on until none
+         is. It passes each time, says what was refused, and the growths come to an end where nothing was. Each test of
+         `desk_tests` too, though those aren't made for it: each passes, or ends with the error of refused memory. All
+         of these need a C compiler, for the library that refuses the growths: without one each is skipped.
 
-Without a word it does both. `rt test` proves the tests of each crate first, and builds them; with `--built` those are run that the
-gate left behind. The last line is `N passed, M failed`; the status is 0 where none failed.
+No test that is made for refused memory is left out: each says `no growth was refused` where it runs without refusals,
+and each test with that text must be in the list (`MEMORY`).
+
+Without a word it does both. `rt test` proves the tests of each crate first, and builds them. With `--built` those run
+that the gate left behind; a test whose crate isn't built fails. The last line is `N passed, N failed, N skipped`; the
+status is 0 where none failed.
 """
 import argparse
 import pathlib
+import re
 import subprocess
 import sys
 import tempfile
 
 import refusing
+from tally import Tally, c_compiler
 
 CRATES = pathlib.Path(__file__).resolve().parent.parent / "crates"
 RUNS = 20
@@ -25,7 +31,8 @@ SECONDS = 60
 BUILD_SECONDS = 3600
 MOST_GROWTHS = 2000
 
-# So many growths one after the other that the test didn't meet end a sweep: one may be refused without harm, where what asked for it has another way.
+# So many growths in a row that the test didn't meet end a sweep: one may be refused without harm, where what asked for
+# it has another way.
 QUIET_GROWTHS = 20
 
 THREADS = {
@@ -44,11 +51,19 @@ THREADS = {
         "tests::leaving::a_thread_that_exits_is_gone_or_has_answered",
     ],
     "workers_tests": ["tests::runs::four_ticks_meet", "tests::runs::codes_are_replaced_while_threads_run"],
-    "commands_tests": ["tests::running::four_threads_run_a_loop_of_calls", "tests::running::two_ticks_meet"],
+    "commands_tests": [
+        "tests::running::four_threads_run_a_loop_of_calls",
+        "tests::running::two_ticks_meet",
+        "tests::running::refused_memory_prints_nothing",
+    ],
 }
 
 # Those of a list meet the same at each growth.
 MEMORY = {
+    "core_tests": [
+        ["tests::codes::want_of_memory_changes_nothing"],
+        ["tests::requests::want_of_memory_hands_back"],
+    ],
     "replay_tests": [
         [
             "tests::refused_memory::refused_memory_leaves_the_answers_before_a_line",
@@ -56,14 +71,26 @@ MEMORY = {
         ],
         ["tests::run_of_events::refused_memory_stops_a_run_before_its_event"],
     ],
-    "script_tests": [["tests::refused_memory::refused_memory_is_told"], ["tests::refused_memory::refused_memory_leaves_a_beginning"]],
-    "words_tests": [["tests::poll_rows::a_row_is_made_whole_or_not_at_all"], ["tests::boards::a_board_is_made_whole_or_not_at_all"]],
+    "script_tests": [
+        ["tests::refused_memory::refused_memory_is_told"],
+        ["tests::refused_memory::refused_memory_leaves_a_beginning"],
+    ],
+    "words_tests": [
+        ["tests::poll_rows::a_row_is_made_whole_or_not_at_all"],
+        ["tests::boards::a_board_is_made_whole_or_not_at_all"],
+    ],
     "run_tests": [["tests::counted::what_lacks_memory_is_tried_again"]],
+    "commands_tests": [
+        ["tests::refused_memory_writes_nothing"],
+        ["tests::running::refused_memory_prints_nothing"],
+    ],
 }
 NONE_REFUSED = "no growth was refused"
-# What runs of these must have met, each in some of them.
+# What a sweep of these tests must meet.
 TO_MEET = {
-    "run_tests": [
+    "tests::codes::want_of_memory_changes_nothing": ["the table was refused"],
+    "tests::requests::want_of_memory_hands_back": ["request 1 was refused", "request 17 was refused"],
+    "tests::counted::what_lacks_memory_is_tried_again": [
         "a coordinator was refused",
         "install 0 was refused",
         "start was refused",
@@ -71,7 +98,13 @@ TO_MEET = {
         "drive was refused",
         "submit count_of 1 of 1 2 was refused",
         "reclaim 1 depth of 1 2 was refused",
-    ]
+    ],
+    "tests::refused_memory_writes_nothing": ["refused before the check", "refused in the check"],
+    "tests::running::refused_memory_prints_nothing": [
+        "refused before the run",
+        "refused in the run",
+        "refused while threads were started",
+    ],
 }
 PASSED = "test result: ok"
 
@@ -84,78 +117,114 @@ ENDING = {
         "tests::a_code_is_reclaimed",
         "tests::a_code_is_installed_over_another",
         "tests::a_full_history_takes_no_entry",
+        "tests::what_is_forgotten_has_no_replies",
+        "tests::a_full_history_that_is_forgotten_goes_on",
     ],
 }
 # What std answers where a block, or the block of a box, isn't given.
 ERRORS = ("error: AllocError\n", "error: AllocFailed { .. }\n")
 
-
-class Tally:
-    """Counts what passed, and tells what failed."""
-
-    def __init__(self):
-        self.passed = self.failed = 0
-
-    def judge(self, name, faults):
-        if not faults:
-            self.passed += 1
-            print(f"{name}: ok", flush=True)
-            return
-        self.failed += 1
-        print(f"FAILED: {name}", *faults, sep="\n  ", flush=True)
+# A test of a Rattle file: its name, and its body.
+TEST = re.compile(r"(?ms)^#\[test\]\nfn (\w+)\(.*?^\}")
 
 
 def ran(words, seconds, **devices):
     """The status of a run, and all that it printed."""
+    how = {"stdin": subprocess.DEVNULL, "stdout": subprocess.PIPE, "stderr": subprocess.STDOUT}
     try:
-        it = subprocess.run(words, stdin=subprocess.DEVNULL, stdout=subprocess.PIPE, stderr=subprocess.STDOUT, timeout=seconds, **devices)
+        it = subprocess.run(words, timeout=seconds, **how, **devices)
     except (OSError, subprocess.TimeoutExpired) as why:
         return None, str(why)
     return it.returncode, it.stdout.decode(errors="replace")
 
 
+def tests_of(crate):
+    """The tests of a crate, as the gate or `rt test` built them."""
+    return CRATES / crate / "out" / f"{crate}_tests"
+
+
 def test_of(crate, test, **devices):
-    """A run of one test of a crate, as `rt test` built it."""
-    return ran([CRATES / crate / "out" / f"{crate}_tests", test], SECONDS, **devices)
+    """A run of one test of a crate."""
+    return ran([tests_of(crate), test], SECONDS, **devices)
+
+
+def refusing_growth(crate, test, library, growth):
+    """A run of one test of a crate, with this growth refused."""
+    return test_of(crate, test, env=refusing.asking(library, "REFUSE_GROWTH", growth))
 
 
 def build(tally, crates):
     for crate in crates:
         status, said = ran(["rt", "test"], BUILD_SECONDS, cwd=CRATES / crate)
-        tally.judge(f"{crate}, rt test", [] if status == 0 else said.splitlines()[-20:])
+        tally.judge(f"{crate}, rt test", said.splitlines()[-20:] if status != 0 else "", shows="ok")
 
 
-def threads(tally, tests_of):
-    for crate, tests in tests_of.items():
+def unbuilt(crate):
+    """That the tests of a crate aren't built, where they aren't."""
+    return [] if tests_of(crate).is_file() else [f"its tests aren't built: there is no {tests_of(crate)}"]
+
+
+def unlike(crate, test):
+    """What is wrong of a test that runs twenty times."""
+    runs = [test_of(crate, test) for _ in range(RUNS)]
+    printed = sorted({said for _, said in runs})
+    bad = sorted({f"status {status}: {said}" for status, said in runs if status != 0})
+    return bad or (["it printed not the same each time:", *printed] if len(printed) > 1 else [])
+
+
+def threads(tally, lists):
+    for crate, tests in lists.items():
         for test in tests:
-            runs = [test_of(crate, test) for _ in range(RUNS)]
-            bad = sorted({f"status {status}: {said}" for status, said in runs if status != 0})
-            printed = {said for _, said in runs}
-            tally.judge(f"{crate}, {test}, {RUNS} times", bad or ([] if len(printed) == 1 else sorted(printed)))
+            tally.judge(f"{crate}, {test}", unbuilt(crate) or unlike(crate, test), shows=f"{RUNS} times")
 
 
 def swept(crate, test, library):
-    """What a test printed at each growth that was refused in turn, until it met none; and what else it came to."""
-    notes, faults = [], []
-    while not faults and notes[-QUIET_GROWTHS:] != [NONE_REFUSED] * QUIET_GROWTHS:
+    """What a test printed at each growth that was refused in turn, until it met none; and what was wrong."""
+    notes = []
+    if unbuilt(crate):
+        return notes, unbuilt(crate)
+    while notes[-QUIET_GROWTHS:] != [NONE_REFUSED] * QUIET_GROWTHS:
         growth = len(notes) + 1
-        status, said = test_of(crate, test, env=refusing.asking(library, "REFUSE_GROWTH", growth))
+        status, said = refusing_growth(crate, test, library, growth)
         lines = [line for line in said.splitlines() if line]
         if status != 0 or len(lines) != 2 or lines[1] != PASSED:
-            faults.append(f"growth {growth}: status {status}: {said}")
-        elif growth > MOST_GROWTHS:
-            faults.append(f"a growth is refused past {MOST_GROWTHS}")
-        else:
-            notes.append(lines[0])
-    return notes, faults
+            return notes, [f"growth {growth}: status {status}: {said}"]
+        if growth > MOST_GROWTHS:
+            return notes, [f"a growth is refused past {MOST_GROWTHS}"]
+        notes.append(lines[0])
+    return notes, []
+
+
+def met_by(notes):
+    """What was refused in a sweep."""
+    return [note for note in notes if note != NONE_REFUSED]
+
+
+def faults_of(test, notes):
+    """What is wrong of a sweep that came to its end."""
+    unmet = [f"never met: {note}" for note in TO_MEET.get(test, []) if note not in notes]
+    return unmet or ([] if met_by(notes) else ["nothing was refused"])
+
+
+def memory(tally, lists, library):
+    for crate, group in ((crate, group) for crate, groups in lists.items() for group in groups):
+        sweeps = {test: swept(crate, test, library) for test in group}
+        are_alike = len({tuple(notes) for notes, _ in sweeps.values()}) == 1
+        for test, (notes, faults) in sweeps.items():
+            faults = faults or faults_of(test, notes) or ([] if are_alike else ["the tests of its list meet others"])
+            met = met_by(notes)
+            shows = f"{len(met)} growths refused: {', '.join(dict.fromkeys(met))}"
+            tally.judge(f"{crate}, {test}", faults, shows=shows)
 
 
 def ended(crate, test, library):
-    """How often a test ended with an error of refused memory, each growth refused in turn, until it passed often enough; and how else it ended."""
+    """How often a test ended with an error of refused memory until it passed often enough; and what was wrong."""
     growth = passes = errors = 0
+    if unbuilt(crate):
+        return errors, unbuilt(crate)
     while passes < QUIET_GROWTHS:
         growth += 1
-        status, said = test_of(crate, test, env=refusing.asking(library, "REFUSE_GROWTH", growth))
+        status, said = refusing_growth(crate, test, library, growth)
         passes = passes + 1 if status == 0 else 0
         errors += status == 101
         if growth > MOST_GROWTHS or status not in (0, 101) or status == 101 and not said.startswith(ERRORS):
@@ -163,23 +232,38 @@ def ended(crate, test, library):
     return errors, [] if errors else ["nothing was refused"]
 
 
-def endings(tally, tests_of, library):
-    for crate, tests in tests_of.items():
+def endings(tally, lists, library):
+    for crate, tests in lists.items():
         for test in tests:
             errors, faults = ended(crate, test, library)
-            tally.judge(f"{crate}, {test}, {errors} times ended for want of memory", faults)
+            tally.judge(f"{crate}, {test}", faults, shows=f"{errors} times ended for want of memory")
 
 
-def memory(tally, groups_of, library):
-    for crate, groups in groups_of.items():
-        for group in groups:
-            sweeps = {test: swept(crate, test, library) for test in group}
-            unlike = [] if len({tuple(notes) for notes, _ in sweeps.values()}) == 1 else ["the tests of a list don't meet the same"]
-            for test, (notes, faults) in sweeps.items():
-                met = [note for note in notes if note != NONE_REFUSED]
-                name = f"{crate}, {test}, {len(met)} growths refused: {', '.join(dict.fromkeys(met))}"
-                unmet = [f"never met: {note}" for note in TO_MEET.get(crate, []) if note not in met]
-                tally.judge(name, faults or unlike or unmet or ([] if met else ["nothing was refused"]))
+def written(crate, text):
+    """The tests of a crate whose text has these words."""
+    for file in sorted((CRATES / crate / "src").glob("**/*.rt")):
+        path = "::".join(file.relative_to(CRATES / crate / "src").with_suffix("").parts)
+        for found in TEST.finditer(file.read_text()):
+            if text in found[0]:
+                yield f"{path}::{found[1]}"
+
+
+def left_out():
+    """The tests that are made for refused memory and are in no list."""
+    for crate in sorted(it.name for it in CRATES.iterdir() if (it / "src").is_dir()):
+        listed = [test for group in MEMORY.get(crate, []) for test in group]
+        yield from (f"{crate}, {test}" for test in written(crate, NONE_REFUSED) if test not in listed)
+
+
+def sweeps(tally, of_memory, of_ending):
+    """The sweeps of growths, or that they are skipped."""
+    listed = [(crate, test) for crate, groups in of_memory.items() for group in groups for test in group]
+    listed += [(crate, test) for crate, tests in of_ending.items() for test in tests]
+    if listed and tally.has(c_compiler(), *(f"{crate}, {test}, growths refused" for crate, test in listed)):
+        with tempfile.TemporaryDirectory() as folder:
+            library = refusing.built_in(folder)
+            memory(tally, of_memory, library)
+            endings(tally, of_ending, library)
 
 
 def main():
@@ -187,21 +271,20 @@ def main():
     words.add_argument("what", nargs="?", choices=["threads", "memory"])
     words.add_argument("--crate", choices=sorted({*THREADS, *MEMORY, *ENDING}), help="this crate alone")
     words.add_argument("--built", action="store_true", help="the tests as they were built last, without a proof")
-    asked = words.parse_args()
-    chosen = lambda tests, what: {crate: it for crate, it in tests.items() if asked.crate in (None, crate) and asked.what in (None, what)}
+    asked, tally = words.parse_args(), Tally()
+
+    def chosen(lists, what):
+        is_asked = asked.what in (None, what)
+        return {crate: it for crate, it in lists.items() if is_asked and asked.crate in (None, crate)}
+
     of_threads, of_memory, of_ending = chosen(THREADS, "threads"), chosen(MEMORY, "memory"), chosen(ENDING, "memory")
-    tally = Tally()
     if not asked.built:
         build(tally, sorted({*of_threads, *of_memory, *of_ending}))
+    tally.judge("each test that is made for refused memory is in a list", [*left_out()], shows="ok")
     threads(tally, of_threads)
-    if of_memory or of_ending:
-        with tempfile.TemporaryDirectory() as folder:
-            library = refusing.built_in(folder)
-            memory(tally, of_memory, library)
-            endings(tally, of_ending, library)
-    print(f"{tally.passed} passed, {tally.failed} failed")
-    sys.exit(1 if tally.failed else 0)
+    sweeps(tally, of_memory, of_ending)
+    return tally.end()
 
 
 if __name__ == "__main__":
-    main()
+    sys.exit(main())

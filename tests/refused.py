@@ -1,11 +1,14 @@
 #!/usr/bin/env python3
 """Runs a script on threads with each thread, and each growth of memory, refused in turn: refused.py PROGRAM
 
-Needs a C compiler. Where something is refused the program must say so, print nothing and end with status 1; where all was given, or
-the run didn't need it, it prints the whole. A refused thread is told as `monitor: no thread`. So is a growth that is refused while the
-threads are started, since the system names no cause there: these growths are one block, each next to the other, and what is refused
-before it and behind it is told as `monitor: no memory`. Each sweep ends after so many runs in a row that met no refusal. The last line
-is `N passed, M failed`; the status is 0 where none failed.
+Where something is refused the program must say so, print nothing and end with status 1. Where all was given, or the run
+didn't need it, the program prints the whole. A refused thread is told as `monitor: no thread`. So is a growth that is
+refused while the threads are started, since the system names no cause there: these growths are one block, each next to
+the other, and a growth before or behind that block is told as `monitor: no memory`. Each sweep ends after so many runs
+in a row that met no refusal.
+
+It needs a C compiler: without one both sweeps are skipped. The last line is `N passed, N failed, N skipped`; the status
+is 0 where none failed.
 """
 import os
 import pathlib
@@ -14,6 +17,7 @@ import sys
 import tempfile
 
 import refusing
+from tally import Tally, c_compiler
 
 EXAMPLES = pathlib.Path(__file__).resolve().parent.parent / "examples"
 SECONDS = 60
@@ -24,62 +28,67 @@ MOST = 2000
 WHOLE = ((EXAMPLES / "loop.run").read_bytes(), b"", 0)
 NO_MEMORY = (b"", b"monitor: no memory\n", 1)
 NO_THREAD = (b"", b"monitor: no thread\n", 1)
+NAMES = {WHOLE: "whole", NO_MEMORY: "no memory", NO_THREAD: "no thread"}
+
+
+def ran(program, environment):
+    """How a run of the script ended: what it printed, what it said, and its status."""
+    command = [program, "run", EXAMPLES / "loop.json"]
+    try:
+        it = subprocess.run(command, capture_output=True, timeout=SECONDS, env=environment)
+    except (OSError, subprocess.TimeoutExpired) as why:
+        return b"", str(why).encode(), None
+    return it.stdout, it.stderr, it.returncode
 
 
 def swept(program, library, kind):
-    """How each run ended, the first with the first growth or thread refused, and so on until nothing is refused any more."""
+    """How each run ended, the first with the first growth or thread refused, and so on until nothing is refused."""
     ends = []
     while ends[-QUIET:] != [WHOLE] * QUIET and len(ends) < MOST:
-        ran = subprocess.run(
-            [program, "run", EXAMPLES / "loop.json"],
-            capture_output=True,
-            timeout=SECONDS,
-            env=refusing.asking(library, kind, len(ends) + 1),
-        )
-        ends.append((ran.stdout, ran.stderr, ran.returncode))
+        ends.append(ran(program, refusing.asking(library, kind, len(ends) + 1)))
+        if ends[-1][2] is None:
+            break
     return ends
 
 
-def only(ends, known):
-    """What is wrong where a run ended in none of these ways, or none was refused anything, which would show nothing, or there was no end."""
-    wrong = [f"{number}: {end}" for number, end in enumerate(ends, 1) if end not in (WHOLE, *known)]
-    wrong += [f"never: {end}" for end in known if end not in ends]
-    return wrong + [f"{MOST}: no end"] * (len(ends) == MOST)
-
-
-def of_threads(ends):
-    """What is wrong of a sweep of threads."""
-    return only(ends, (NO_THREAD,))
-
-
-def of_growths(ends):
-    """What is wrong of a sweep of growths."""
-    wrong = only(ends, (NO_MEMORY, NO_THREAD))
-    if wrong:
-        return wrong
+def apart(ends):
+    """What is wrong of a sweep of growths: those that are told as no thread are one block amid those of no memory."""
     first, behind = ends.index(NO_THREAD), len(ends) - ends[::-1].index(NO_THREAD)
-    apart = [f"{number}: amid those told as no thread: {end}" for number, end in enumerate(ends[first:behind], first + 1) if end != NO_THREAD]
-    sides = (("before", ends[:first]), ("behind", ends[behind:]))
-    return apart + [f"never {where} those told as no thread: {NO_MEMORY}" for where, part in sides if NO_MEMORY not in part]
+    for number, end in enumerate(ends[first:behind], first + 1):
+        if end != NO_THREAD:
+            yield f"growth {number}, amid those told as no thread: {end}"
+    for where, part in (("before", ends[:first]), ("behind", ends[behind:])):
+        if NO_MEMORY not in part:
+            yield f"no growth {where} those told as no thread is told as no memory"
+
+
+def faults_of(ends, known):
+    """What is wrong of a whole sweep whose runs end in known ways."""
+    unmet = [f"no run ended with {NAMES[end]}" for end in known if end not in ends]
+    endless = [f"it has no end after {MOST} runs"] if len(ends) == MOST else []
+    return unmet + endless or (list(apart(ends)) if NO_MEMORY in known else [])
+
+
+def judge(tally, kind, known, ends):
+    """Judges each run of a sweep, and the whole sweep."""
+    for number, end in enumerate(ends, 1):
+        tally.judge(f"{kind}={number}", "" if end in (WHOLE, *known) else f"it ended with {end}")
+    counts = ", ".join(f"{ends.count(end)} {name}" for end, name in NAMES.items())
+    tally.judge(kind, faults_of(ends, known), shows=counts)
 
 
 def main():
     if len(sys.argv) != 2:
         sys.exit("refused.py PROGRAM")
-    passed = failed = 0
-    with tempfile.TemporaryDirectory() as folder:
-        library = refusing.built_in(folder)
-        for kind, wrong_of in (("REFUSE_THREAD", of_threads), ("REFUSE_GROWTH", of_growths)):
-            ends = swept(os.path.abspath(sys.argv[1]), library, kind)
-            wrong = wrong_of(ends)
-            for fault in wrong:
-                print(f"FAILED: {kind}={fault}")
-            passed, failed = passed + max(len(ends) - len(wrong), 0), failed + len(wrong)
-            told = {"no memory": ends.count(NO_MEMORY), "no thread": ends.count(NO_THREAD), "whole": ends.count(WHOLE)}
-            print(f"{kind}: {', '.join(f'{count} {name}' for name, count in told.items())}")
-    print(f"{passed} passed, {failed} failed")
-    sys.exit(1 if failed else 0)
+    tally, program = Tally(), os.path.abspath(sys.argv[1])
+    sweeps = {"REFUSE_THREAD": (NO_THREAD,), "REFUSE_GROWTH": (NO_MEMORY, NO_THREAD)}
+    if tally.has(c_compiler(), *(f"{kind}, a sweep of {program}" for kind in sweeps)):
+        with tempfile.TemporaryDirectory() as folder:
+            library = refusing.built_in(folder)
+            for kind, known in sweeps.items():
+                judge(tally, kind, known, swept(program, library, kind))
+    return tally.end()
 
 
 if __name__ == "__main__":
-    main()
+    sys.exit(main())
