@@ -1,7 +1,9 @@
 #!/usr/bin/env bash
-# Tries wrong bodies alone, in a copy of the repository, over what the gate keeps on this machine of its last run: edits.sh [--further | NAME ..]
+# Tries wrong bodies alone, in a copy of the repository, over what the gate keeps on this machine of its last run:
+# edits.sh [--further | NAME ..]
 # All are tried, or those of the crates named, or with --further those alone that the gate doesn't try by itself.
-# Where nothing is kept all is proved first. The status is 0 where each was refused.
+# Where nothing is kept all is proved first. The last line is `N passed, N failed, N skipped`; the status is 0 where
+# each was refused.
 set -euo pipefail
 cd "$(dirname "$0")/.."
 copy=$(mktemp -d)

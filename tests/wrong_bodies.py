@@ -10,8 +10,11 @@ TYPE = re.compile(r"(?m)^(?:pub(?:\([a-z]+\))? )?(?:struct|enum|trait) (\w+)")
 IMPL = re.compile(r"impl(?:<.*?>)? (?:(?P<trait>[\w:]+)(?:<.*>)? for )?(?P<type>[&\w:]+)")
 CYCLE = re.compile(r"\s*#\[cycle\((\w+)\)\]")
 
-# A function by its path in the crate, as a check prints it, with its file, its first and last line there, the cycle of calls that it is in, and
-# whether it is a trait's.
+# An edit that tests of the gate catch has such a line.
+CAUGHT = re.compile(r"(?m)^caught by: ")
+
+# A function by its path in the crate, as a check prints it, with its file, its first and last line there, the cycle of
+# calls that it is in, and whether it is a trait's.
 Function = collections.namedtuple("Function", "path file first last cycle is_trait")
 
 
@@ -30,7 +33,8 @@ def types_of(crate):
 
 
 def functions_of(file, text, types):
-    """The functions of a source file. A method of a type's own stands where the type is declared, and a trait's where its impl stands."""
+    """The functions of a source file. A method of a type's own stands where the type is declared, and a trait's where
+    its impl stands."""
     here, found = module_of(file), []
     lines, block, is_trait = text.split("\n"), here, False
     for at, line in enumerate(lines):
@@ -58,17 +62,19 @@ def is_end(line, indent, is_head):
 
 
 class Edit:
-    """One edit. `functions` must be refused with it: those that it changes, and the one that its line `of:` names where it changes what stands
-    in none, which is what `reaches_far` says. `added` are the words that it adds. Where it has a line `caught by:`, tests of the gate fail with
-    it, which that line names (`is_caught`)."""
+    """One edit. `functions` must be refused with it: those that it changes, and the one that its line `of:` names where
+    it changes what stands in none, which is what `reaches_far` says. `added` are the words that it adds. Where it has a
+    line `caught by:`, tests of the gate fail with it, which that line names (`is_caught`)."""
 
     def __init__(self, path, crate, types):
         self.name, self.is_control = path.name, path.parent.name == "must-pass"
         self.changes, self.functions, self.reaches_far = [], set(), False
         self.added = set()
-        self.said, self.is_proved, self.is_caught = None, False, False
+        self.said, self.is_proved = None, False
+        text_of_edit = path.read_text()
+        self.is_caught = CAUGHT.search(text_of_edit) is not None
         file = old = None
-        for line in path.read_text().split("\n"):
+        for line in text_of_edit.split("\n"):
             word, _, rest = line.partition(": ") if line != "new:" else ("new", "", "")
             if word == "file":
                 file, text = rest, (crate / rest).read_text()
@@ -77,17 +83,17 @@ class Edit:
                 old = rest
             elif word == "new":
                 text = self.note(file, text, known, old, rest)
-            elif word == "caught by":
-                self.is_caught = True
             elif word == "of":
                 self.functions |= {it for it in known if it.path == rest}
         if not self.functions:
             raise Bad("it changes no function, and no line 'of:' names one of its file")
 
     def note(self, file, text, known, old, new):
-        """Notes one change, and the function in which it is; what is only imported is in none. Returns the changed text."""
+        """Notes one change, and the function in which it is; what is only imported is in none. Returns the changed
+        text."""
         if text.count(old) != 1 or old == new:
-            raise Bad(f"an 'old:' text is in {file} {text.count(old)} times, and not once, or nothing else stands for it")
+            times = text.count(old)
+            raise Bad(f"an 'old:' text is in {file} {times} times, and not once, or nothing else stands for it")
         line = text.count("\n", 0, text.index(old)) + 1
         self.changes.append((file, line, old, new))
         self.added |= {*re.findall(r"\w+", new)} - {*re.findall(r"\w+", old)}
@@ -104,7 +110,8 @@ def cycle_mates(paths, functions):
 
 
 class Trial:
-    """An edit as it is tried: in place of what it changes, or, with an ending, in a copy of its one function, whose name ends so."""
+    """An edit as it is tried: in place of what it changes, or, with an ending, in a copy of its one function, whose
+    name ends so."""
 
     def __init__(self, edit, ending=""):
         self.edit, self.ending = edit, ending
@@ -123,8 +130,8 @@ class Copies:
         self.crate, self.proofs = crate, {it: it.read_text() for it in crate.glob("proofs/**/*.antt")}
 
     def can_be(self, edit):
-        """Whether all that the edit changes is one function, and that one is neither a trait's nor in a cycle of calls, has no closure with a
-        proof of its own, and has no lemma made for it: no other file speaks of its modules."""
+        """Whether all that the edit changes is one function, and that one is neither a trait's nor in a cycle of calls,
+        has no closure with a proof of its own, and has no lemma made for it: no other file speaks of its modules."""
         if len(edit.functions) != 1 or edit.reaches_far:
             return False
         (function,) = edit.functions
@@ -133,13 +140,15 @@ class Copies:
         named = re.compile(rf"\bproofs\.{re.escape(function.path.replace('::', '.'))}\b")
         is_told = any(named.search(text) for file, text in self.proofs.items() if own not in file.parents)
         has_closures = any(proofs.joinpath(*parts[:at], "fn", *parts[at:]).exists() for at in range(len(parts)))
-        is_whole = all(file == function.file and function.first <= line <= function.last for file, line, _, _ in edit.changes)
+        is_inside = lambda file, line: file == function.file and function.first <= line <= function.last
+        is_whole = all(is_inside(file, line) for file, line, _, _ in edit.changes)
         return is_whole and not (function.is_trait or function.cycle or has_closures or is_told)
 
 
 def grouped(edits, crate):
-    """The edits as trials, in groups of those that can be tried at once: one edit of a function stands in its place, others in copies of it. In
-    a copy stands one, too, that calls what another changes, lest they call one another. What can't be copied is in a group of its own."""
+    """The edits as trials, in groups of those that can be tried at once: one edit of a function stands in its place,
+    others in copies of it. In a copy stands one, too, that calls what another changes, lest they call one another. What
+    can't be copied is in a group of its own."""
     copies, groups = Copies(crate), []
     names = {it.path.rpartition("::")[2] for edit in edits for it in edit.functions}
     for edit in sorted(edits, key=lambda it: it.reaches_far):
@@ -155,7 +164,8 @@ def grouped(edits, crate):
 
 
 def write(folder, trials, types):
-    """Writes wrong bodies into a copy of the crate; returns the functions of the changed files, by their paths, as they stand there then."""
+    """Writes wrong bodies into a copy of the crate. Returns the functions of the changed files, by their paths, as they
+    stand there then."""
     found = {}
     for file in sorted({file for trial in trials for file, *_ in trial.edit.changes}):
         path = folder / file
