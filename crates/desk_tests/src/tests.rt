@@ -7,7 +7,7 @@
 //! requests as can wait, and as many entries as a history may have.
 //!
 //! A call that is refused for want of memory is made again. So with any one growth refused, as `tests/hostile.py` refuses them, a test
-//! passes or ends with the error of what it was given, and no answer is another.
+//! passes or ends with the error of what it was given, and no answer is another. One that passes says which row had a call refused.
 ghost use Rattle.std.specs.Prelude.{◌≡◌};
 ghost use Rattle.board.specs.Boards.{first_keeper, first_seat};
 ghost use Rattle.poll.specs.Rows.{first_poller};
@@ -261,7 +261,7 @@ fn row_of(line: &str) -> Row<'_> {
     }
 }
 
-// Makes the calls of a table. Where a call is refused for want of memory it is made again.
+// Makes the calls of a table. Where a call is refused for want of memory it is made again. Answers the last row with such a call.
 fn play<N: Name, J: Errand, R: Abort>(
     rt: &R,
     alloc: Global,
@@ -269,28 +269,53 @@ fn play<N: Name, J: Errand, R: Abort>(
     desk: &mut Desk<N, J>,
     body: &Body<N>,
     lists: &mut Vec<Vec<J>>,
-    table: &str,
-)
+    table: &'static str,
+) -> Option<&'static str>
     requires board { board.now ≡ N.board }
     requires places { N.board.places ≡ 1 }
     requires name { body.now.name ≡ 1 }
     requires settled { IsSettled body.now.image }
 {
+    let mut refused = None;
     for line in table.lines() {
         let Row {
             call,
             argument,
             answer,
         } = row_of(line);
-        let mut given = called(alloc, board, desk, body, lists, call, argument);
+        let mut is_again = false;
+        let mut given = called(
+            alloc,
+            board,
+            desk,
+            body,
+            lists,
+            call,
+            argument,
+            &mut is_again,
+        );
         if given == NO_MEMORY {
-            given = called(alloc, board, desk, body, lists, call, argument);
+            is_again = true;
+            given = called(
+                alloc,
+                board,
+                desk,
+                body,
+                lists,
+                call,
+                argument,
+                &mut is_again,
+            );
         }
         assert!(rt; given == answer, "{line}: {given}");
+        if is_again {
+            refused = Some(line);
+        }
     }
+    refused
 }
 
-// A desk with the body of thread 1, and the table that is played on it.
+// A desk with the body of thread 1, and the table that is played on it. Answers what was refused for want of memory, and done again.
 fn play_on_desk<N: Name, J: Errand, R: Abort>(
     rt: &R,
     alloc: Global,
@@ -301,7 +326,7 @@ fn play_on_desk<N: Name, J: Errand, R: Abort>(
     poller: Poller,
     lists: Vec<Vec<J>>,
     table: Table,
-) -> Result<(), AllocError>
+) -> Result<Option<&'static str>, AllocError>
     requires names { (board ≡ N.board) × (row ≡ N.poll_row) }
     requires seats { (keeper ≡ first_keeper board) × (seat ≡ first_seat board 0) }
     requires poller { poller ≡ first_poller row 0 }
@@ -309,9 +334,9 @@ fn play_on_desk<N: Name, J: Errand, R: Abort>(
 {
     let _row = row;
     let mut lists = lists;
-    let mut desk = small_desk::<N, J>(alloc, &board, keeper)?;
+    let (mut desk, is_second) = small_desk::<N, J>(alloc, &board, keeper)?;
     let body = first_body::<N>(alloc, seat, poller)?;
-    play(
+    let refused = play(
         rt,
         alloc,
         &board,
@@ -320,13 +345,18 @@ fn play_on_desk<N: Name, J: Errand, R: Abort>(
         &mut lists,
         table.rows(),
     );
-    Ok(())
+    Ok(if is_second { Some("the desk") } else { refused })
 }
 
 impl<R: Abort> Scenario<R> for Table {
-    type Out = ();
+    type Out = Option<&'static str>;
 
-    fn play(self, rt: &R, alloc: Global, lists: Vec<Vec<Job>>) -> Result<(), AllocError> {
+    fn play(
+        self,
+        rt: &R,
+        alloc: Global,
+        lists: Vec<Vec<Job>>,
+    ) -> Result<Option<&'static str>, AllocError> {
         let (board, keeper, seat) = small_board(alloc)?;
         let (row, poller) = small_row(alloc)?;
         play_on_desk::<Brand, Job, R>(rt, alloc, board, keeper, seat, row, poller, lists, self)
@@ -345,55 +375,52 @@ fn asked(alloc: Global) -> Result<Vec<Vec<Asked>>, AllocError> {
     Ok(lists)
 }
 
-fn check<R: Abort>(rt: &R, alloc: Global, table: Table) -> Result<(), AllocError> {
-    let lists = asked(alloc)?;
-    with_jobs(rt, alloc, lists.as_slice(), table)
+// Plays a table, and says what was refused.
+fn check<R: Abort>(out: &HostRuntime, rt: &R, table: Table) -> Result<(), Fail> {
+    let lists = asked(out.alloc())?;
+    match with_jobs(rt, out.alloc(), lists.as_slice(), table)? {
+        None => println!(out; "no growth was refused")?,
+        Some(what) => println!(out; "{what} was refused")?,
+    }
+    Ok(())
 }
 
 #[test]
 fn sixty_four_requests_wait(rt: HostRuntime) -> Result<(), Fail> {
-    check(&rt, rt.alloc(), Table::SixtyFour)?;
-    Ok(())
+    check(&rt, &rt, Table::SixtyFour)
 }
 
 #[test]
 fn a_handshake_is_answered_once(rt: HostRuntime) -> Result<(), Fail> {
-    check(&rt, rt.alloc(), Table::Answered)?;
-    Ok(())
+    check(&rt, &rt, Table::Answered)
 }
 
 #[test]
 fn four_handshakes_are_answered_in_order_and_closed_in_any(rt: HostRuntime) -> Result<(), Fail> {
-    check(&rt, rt.alloc(), Table::Four)?;
-    Ok(())
+    check(&rt, &rt, Table::Four)
 }
 
 #[test]
 fn a_code_is_reclaimed(rt: HostRuntime) -> Result<(), Fail> {
-    check(&rt, rt.alloc(), Table::Reclaimed)?;
-    Ok(())
+    check(&rt, &rt, Table::Reclaimed)
 }
 
 #[test]
 fn a_code_is_installed_over_another(rt: HostRuntime) -> Result<(), Fail> {
-    check(&rt, rt.alloc(), Table::Over)?;
-    Ok(())
+    check(&rt, &rt, Table::Over)
 }
 
 #[test]
 fn a_full_history_takes_no_entry(rt: HostRuntime) -> Result<(), Fail> {
-    check(&rt, rt.alloc(), Table::Full)?;
-    Ok(())
+    check(&rt, &rt, Table::Full)
 }
 
 #[test]
 fn what_is_forgotten_has_no_replies(rt: HostRuntime) -> Result<(), Fail> {
-    check(&rt, rt.alloc(), Table::Forgotten)?;
-    Ok(())
+    check(&rt, &rt, Table::Forgotten)
 }
 
 #[test]
 fn a_full_history_that_is_forgotten_goes_on(rt: HostRuntime) -> Result<(), Fail> {
-    check(&rt, rt.alloc(), Table::GoesOn)?;
-    Ok(())
+    check(&rt, &rt, Table::GoesOn)
 }

@@ -22,7 +22,7 @@ const REFUSED: u64 = 0;
 // And one that succeeds and gives no number.
 const DONE: u64 = 1;
 
-// The call of this word.
+// The call of this word. Notes where one of several is made again, since it was refused for want of memory.
 pub fn called<N: Name, J: Errand>(
     alloc: Global,
     board: &Board,
@@ -31,6 +31,7 @@ pub fn called<N: Name, J: Errand>(
     lists: &mut Vec<Vec<J>>,
     call: &str,
     argument: u64,
+    is_again: &mut bool,
 ) -> u64
     requires board { board.now ≡ N.board }
     requires places { N.board.places ≡ 1 }
@@ -40,10 +41,10 @@ pub fn called<N: Name, J: Errand>(
     match call {
         "start" => start(desk),
         "exit" => exit(desk, argument),
-        "pass" => pass(desk, argument),
+        "pass" => pass(desk, argument, is_again),
         "live" => live(desk),
         "census" => census(alloc, desk),
-        "censuses" => censuses(alloc, desk, argument),
+        "censuses" => censuses(alloc, desk, argument, is_again),
         "handshake" => handshake(alloc, desk, lists),
         "open" => open(desk),
         "answer" => answer(desk, body, argument),
@@ -96,11 +97,12 @@ fn exit<N: Name, J: Errand>(desk: &mut Desk<N, J>, name: u64) -> u64 {
 }
 
 // So many threads start and exit, one after the other. Answers the name of the last.
-fn pass<N: Name, J: Errand>(desk: &mut Desk<N, J>, count: u64) -> u64 {
+fn pass<N: Name, J: Errand>(desk: &mut Desk<N, J>, count: u64, is_again: &mut bool) -> u64 {
     let mut name = REFUSED;
     for _ in 0..count {
         name = start(desk);
         if name == NO_MEMORY {
+            *is_again = true;
             name = start(desk);
         }
         if exit(desk, name) == REFUSED {
@@ -133,11 +135,17 @@ fn refused_to_ask(fault: AskFault) -> u64 {
 }
 
 // So many censuses, one after the other. Answers the last number.
-fn censuses<N: Name, J: Errand>(alloc: Global, desk: &mut Desk<N, J>, count: u64) -> u64 {
+fn censuses<N: Name, J: Errand>(
+    alloc: Global,
+    desk: &mut Desk<N, J>,
+    count: u64,
+    is_again: &mut bool,
+) -> u64 {
     let mut number = REFUSED;
     for _ in 0..count {
         number = census(alloc, desk);
         if number == NO_MEMORY {
+            *is_again = true;
             number = census(alloc, desk);
         }
     }

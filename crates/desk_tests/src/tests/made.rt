@@ -50,22 +50,22 @@ fn desk_or_keeper<N: Name, J: Errand>(
     }
 }
 
-// The desk, with memory at the second try.
+// The desk, and whether it was made at the second try.
 pub fn small_desk<N: Name, J: Errand>(
     alloc: Global,
     board: &Board,
     keeper: Keeper,
-) -> Result<Desk<N, J>, AllocError>
+) -> Result<(Desk<N, J>, bool), AllocError>
     requires board { board.now ≡ N.board }
     requires keeper { keeper ≡ first_keeper board.now }
     requires sizes { (N.board.slots ≡ 2) × (N.board.places ≡ 1) }
 {
     let keeper = match desk_or_keeper(alloc, board, keeper) {
-        Ok(desk) => return Ok(desk),
+        Ok(desk) => return Ok((desk, false)),
         Err(keeper) => keeper,
     };
     match desk_or_keeper(alloc, board, keeper) {
-        Ok(desk) => Ok(desk),
+        Ok(desk) => Ok((desk, true)),
         Err(_) => Err(AllocError),
     }
 }
