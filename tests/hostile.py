@@ -4,12 +4,12 @@
 threads  Each test that runs several threads, twenty times. It passes each time, within its seconds, and prints the
          same.
 memory   Each test that is made for refused memory, with its first growth refused, with its second, and so on until none
-         is. It passes each time, says what was refused, and the growths come to an end where nothing was. Each test of
-         `desk_tests` too, though those aren't made for it: each passes, or ends with the error of refused memory. All
-         of these need a C compiler, for the library that refuses the growths: without one each is skipped.
+         is. It passes each time, says what was refused, and the growths come to an end where nothing was. Those of
+         `desk_tests` may also end with the error of refused memory. All of these need a C compiler, for the library
+         that refuses the growths: without one each is skipped.
 
 No test that is made for refused memory is left out: each says `no growth was refused` where it runs without refusals,
-and each test with that text must be in the list (`MEMORY`).
+and each crate whose sources have that text must be in the list (`MEMORY`), with each test that has it.
 
 Without a word it does both. `rt test` proves the tests of each crate first, and builds them. With `--built` those run
 that the gate left behind; a test whose crate isn't built fails. The last line is `N passed, N failed, N skipped`; the
@@ -79,6 +79,16 @@ MEMORY = {
         ["tests::poll_rows::a_row_is_made_whole_or_not_at_all"],
         ["tests::boards::a_board_is_made_whole_or_not_at_all"],
     ],
+    "desk_tests": [
+        ["tests::sixty_four_requests_wait"],
+        ["tests::a_handshake_is_answered_once"],
+        ["tests::four_handshakes_are_answered_in_order_and_closed_in_any"],
+        ["tests::a_code_is_reclaimed"],
+        ["tests::a_code_is_installed_over_another"],
+        ["tests::a_full_history_takes_no_entry"],
+        ["tests::what_is_forgotten_has_no_replies"],
+        ["tests::a_full_history_that_is_forgotten_goes_on"],
+    ],
     "run_tests": [["tests::counted::what_lacks_memory_is_tried_again"]],
     "commands_tests": [
         ["tests::refused_memory_writes_nothing"],
@@ -88,8 +98,9 @@ MEMORY = {
 NONE_REFUSED = "no growth was refused"
 # What a sweep of these tests must meet.
 TO_MEET = {
-    "tests::codes::want_of_memory_changes_nothing": ["the table was refused"],
-    "tests::requests::want_of_memory_hands_back": ["request 1 was refused", "request 17 was refused"],
+    "tests::codes::want_of_memory_changes_nothing": ["the table was refused", "install 1 was refused"],
+    "tests::requests::want_of_memory_hands_back": [f"request {number} was refused" for number in (1, 5, 9, 17)],
+    "tests::a_full_history_takes_no_entry": ["the desk was refused", "pass 499999 = 499999 was refused"],
     "tests::counted::what_lacks_memory_is_tried_again": [
         "a coordinator was refused",
         "install 0 was refused",
@@ -108,24 +119,14 @@ TO_MEET = {
 }
 PASSED = "test result: ok"
 
-# These pass, or end with one of the errors.
-ENDING = {
-    "desk_tests": [
-        "tests::sixty_four_requests_wait",
-        "tests::a_handshake_is_answered_once",
-        "tests::four_handshakes_are_answered_in_order_and_closed_in_any",
-        "tests::a_code_is_reclaimed",
-        "tests::a_code_is_installed_over_another",
-        "tests::a_full_history_takes_no_entry",
-        "tests::what_is_forgotten_has_no_replies",
-        "tests::a_full_history_that_is_forgotten_goes_on",
-    ],
-}
-# What std answers where a block, or the block of a box, isn't given.
+# The tests of these crates pass, or end with one of the errors: what std answers where a block, or the block of a box,
+# isn't given.
+ENDING = {"desk_tests"}
 ERRORS = ("error: AllocError\n", "error: AllocFailed { .. }\n")
+ENDED = "ended with the error"
 
-# A test of a Rattle file: its name, and its body.
-TEST = re.compile(r"(?ms)^#\[test\]\nfn (\w+)\(.*?^\}")
+# A function of a Rattle file: whether it is a test, its name, and its text.
+FUNCTION = re.compile(r"(?ms)^(#\[test\]\n)?(?:pub(?:\(\w+\))? )?fn (\w+).*?^\}")
 
 
 def ran(words, seconds, **devices):
@@ -146,11 +147,6 @@ def tests_of(crate):
 def test_of(crate, test, **devices):
     """A run of one test of a crate."""
     return ran([tests_of(crate), test], SECONDS, **devices)
-
-
-def refusing_growth(crate, test, library, growth):
-    """A run of one test of a crate, with this growth refused."""
-    return test_of(crate, test, env=refusing.asking(library, "REFUSE_GROWTH", growth))
 
 
 def build(tally, crates):
@@ -178,20 +174,28 @@ def threads(tally, lists):
             tally.judge(f"{crate}, {test}", unbuilt(crate) or unlike(crate, test), shows=f"{RUNS} times")
 
 
+def note_of(crate, status, said):
+    """What a run says that was refused; None where the run went wrong."""
+    lines = [line for line in said.splitlines() if line]
+    if status == 0 and len(lines) == 2 and lines[1] == PASSED:
+        return lines[0]
+    return ENDED if crate in ENDING and status == 101 and said.startswith(ERRORS) else None
+
+
 def swept(crate, test, library):
-    """What a test printed at each growth that was refused in turn, until it met none; and what was wrong."""
+    """What a test said at each growth that was refused in turn, until it met none; and what was wrong."""
     notes = []
     if unbuilt(crate):
         return notes, unbuilt(crate)
     while notes[-QUIET_GROWTHS:] != [NONE_REFUSED] * QUIET_GROWTHS:
         growth = len(notes) + 1
-        status, said = refusing_growth(crate, test, library, growth)
-        lines = [line for line in said.splitlines() if line]
-        if status != 0 or len(lines) != 2 or lines[1] != PASSED:
+        status, said = test_of(crate, test, env=refusing.asking(library, "REFUSE_GROWTH", growth))
+        note = note_of(crate, status, said)
+        if note is None:
             return notes, [f"growth {growth}: status {status}: {said}"]
         if growth > MOST_GROWTHS:
             return notes, [f"a growth is refused past {MOST_GROWTHS}"]
-        notes.append(lines[0])
+        notes.append(note)
     return notes, []
 
 
@@ -217,59 +221,36 @@ def memory(tally, lists, library):
             tally.judge(f"{crate}, {test}", faults, shows=shows)
 
 
-def ended(crate, test, library):
-    """How often a test ended with an error of refused memory until it passed often enough; and what was wrong."""
-    growth = passes = errors = 0
-    if unbuilt(crate):
-        return errors, unbuilt(crate)
-    while passes < QUIET_GROWTHS:
-        growth += 1
-        status, said = refusing_growth(crate, test, library, growth)
-        passes = passes + 1 if status == 0 else 0
-        errors += status == 101
-        if growth > MOST_GROWTHS or status not in (0, 101) or status == 101 and not said.startswith(ERRORS):
-            return errors, [f"growth {growth}: status {status}: {said}"]
-    return errors, [] if errors else ["nothing was refused"]
-
-
-def endings(tally, lists, library):
-    for crate, tests in lists.items():
-        for test in tests:
-            errors, faults = ended(crate, test, library)
-            tally.judge(f"{crate}, {test}", faults, shows=f"{errors} times ended for want of memory")
-
-
-def written(crate, text):
-    """The tests of a crate whose text has these words."""
-    for file in sorted((CRATES / crate / "src").glob("**/*.rt")):
-        path = "::".join(file.relative_to(CRATES / crate / "src").with_suffix("").parts)
-        for found in TEST.finditer(file.read_text()):
-            if text in found[0]:
-                yield f"{path}::{found[1]}"
+def made_for_it(text):
+    """The tests of a file that say so where nothing was refused, each by itself or by a function of that file."""
+    functions = {found[2]: found for found in FUNCTION.finditer(text)}
+    words = [NONE_REFUSED, *(f"{name}(" for name, it in functions.items() if NONE_REFUSED in it[0])]
+    return [name for name, it in functions.items() if it[1] and any(word in it[0] for word in words)]
 
 
 def left_out():
     """The tests that are made for refused memory and are in no list."""
-    for crate in sorted(it.name for it in CRATES.iterdir() if (it / "src").is_dir()):
-        listed = [test for group in MEMORY.get(crate, []) for test in group]
-        yield from (f"{crate}, {test}" for test in written(crate, NONE_REFUSED) if test not in listed)
+    for file in sorted(CRATES.glob("*/src/**/*.rt")):
+        text = file.read_text()
+        if NONE_REFUSED in text:
+            crate, _, *modules = file.relative_to(CRATES).with_suffix("").parts
+            listed = [test for group in MEMORY.get(crate, []) for test in group]
+            tests = ["::".join([*modules, it]) for it in made_for_it(text)]
+            yield from (f"{crate}, {it}" for it in tests or [f"{file.name}: no test of it"] if it not in listed)
 
 
-def sweeps(tally, of_memory, of_ending):
+def sweeps(tally, lists):
     """The sweeps of growths, or that they are skipped."""
-    listed = [(crate, test) for crate, groups in of_memory.items() for group in groups for test in group]
-    listed += [(crate, test) for crate, tests in of_ending.items() for test in tests]
-    if listed and tally.has(c_compiler(), *(f"{crate}, {test}, growths refused" for crate, test in listed)):
+    names = [f"{crate}, {test}" for crate, groups in lists.items() for group in groups for test in group]
+    if names and tally.has(c_compiler(), *names):
         with tempfile.TemporaryDirectory() as folder:
-            library = refusing.built_in(folder)
-            memory(tally, of_memory, library)
-            endings(tally, of_ending, library)
+            memory(tally, lists, refusing.built_in(folder))
 
 
 def main():
     words = argparse.ArgumentParser(description=__doc__, formatter_class=argparse.RawDescriptionHelpFormatter)
     words.add_argument("what", nargs="?", choices=["threads", "memory"])
-    words.add_argument("--crate", choices=sorted({*THREADS, *MEMORY, *ENDING}), help="this crate alone")
+    words.add_argument("--crate", choices=sorted({*THREADS, *MEMORY}), help="this crate alone")
     words.add_argument("--built", action="store_true", help="the tests as they were built last, without a proof")
     asked, tally = words.parse_args(), Tally()
 
@@ -277,12 +258,12 @@ def main():
         is_asked = asked.what in (None, what)
         return {crate: it for crate, it in lists.items() if is_asked and asked.crate in (None, crate)}
 
-    of_threads, of_memory, of_ending = chosen(THREADS, "threads"), chosen(MEMORY, "memory"), chosen(ENDING, "memory")
+    of_threads, of_memory = chosen(THREADS, "threads"), chosen(MEMORY, "memory")
     if not asked.built:
-        build(tally, sorted({*of_threads, *of_memory, *of_ending}))
+        build(tally, sorted({*of_threads, *of_memory}))
     tally.judge("each test that is made for refused memory is in a list", [*left_out()], shows="ok")
     threads(tally, of_threads)
-    sweeps(tally, of_memory, of_ending)
+    sweeps(tally, of_memory)
     return tally.end()
 
 
