@@ -277,7 +277,7 @@ def main(words):
             results = tried(rtlib, crate, room, with_all=bool(words) and log is None)
         with counting:
             for name, is_well, text in results:
-                tally.judge(f"wrong body {crate.name}/{name}", "" if is_well else text, shows=text)
+                tally.judge(f"wrong body {crate.name}/{name}", None if is_well else text, shows=text)
 
     left = in_turn(crates_with_edits(rtlib, names), Gate(log), one, end)
     judge_left(tally, left, words[2] if math.isfinite(minutes) else "", time.monotonic() >= end)

@@ -152,7 +152,7 @@ def test_of(crate, test, **devices):
 def build(tally, crates):
     for crate in crates:
         status, said = ran(["rt", "test"], BUILD_SECONDS, cwd=CRATES / crate)
-        tally.judge(f"{crate}, rt test", said.splitlines()[-20:] if status != 0 else "", shows="ok")
+        tally.judge(f"{crate}, rt test", said.splitlines()[-20:] if status != 0 else None, shows="ok")
 
 
 def unbuilt(crate):

@@ -72,7 +72,7 @@ def faults_of(ends, known):
 def judge(tally, kind, known, ends):
     """Judges each run of a sweep, and the whole sweep."""
     for number, end in enumerate(ends, 1):
-        tally.judge(f"{kind}={number}", "" if end in (WHOLE, *known) else f"it ended with {end}")
+        tally.judge(f"{kind}={number}", None if end in (WHOLE, *known) else f"it ended with {end}")
     counts = ", ".join(f"{ends.count(end)} {name}" for end, name in NAMES.items())
     tally.judge(kind, faults_of(ends, known), shows=counts)
 

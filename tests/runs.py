@@ -31,14 +31,14 @@ def wanted(threads, ending, codes):
 
 
 def fault_of(program, script, threads, ending, codes):
-    """What is wrong of a run, or nothing."""
+    """What is wrong of a run; None where nothing is."""
     command = [program, "run", script, "--threads", str(threads)]
     try:
         ran = subprocess.run(command, capture_output=True, timeout=SECONDS)
     except (OSError, subprocess.TimeoutExpired) as why:
         return str(why)
     is_well = (ran.stdout, ran.stderr, ran.returncode) == (wanted(threads, ending, codes), b"", 0)
-    return "" if is_well else f"{ran.stdout!r} {ran.stderr!r} {ran.returncode}"
+    return None if is_well else f"{ran.stdout!r} {ran.stderr!r} {ran.returncode}"
 
 
 def main():
