@@ -25,12 +25,12 @@ part_of (flag ∷ []) = None
 part_of (flag ∷ line ∷ []) =
     if bytes_eq flag (codes "--from") then option_map since (line_of line) else
     if bytes_eq flag (codes "--to") then option_and_then (between 1) (line_of line) else None
-part_of (flag ∷ line ∷ then ∷ []) = None
-part_of (flag ∷ line ∷ then ∷ last ∷ []) =
-    if bytes_eq flag (codes "--from") && bytes_eq then (codes "--to")
+part_of (flag ∷ line ∷ second ∷ []) = None
+part_of (flag ∷ line ∷ second ∷ last ∷ []) =
+    if bytes_eq flag (codes "--from") && bytes_eq second (codes "--to")
     then option_and_then (λ from. option_and_then (between from) (line_of last)) (line_of line)
     else None
-part_of (flag ∷ line ∷ then ∷ last ∷ more ∷ words) = None
+part_of (flag ∷ line ∷ second ∷ last ∷ more ∷ words) = None
 
 abbrev pub asked_as : Form → Option Part → Option Asked
 asked_as form part = option_map (λ (lines : Part). record { form = form; part = lines }) part
