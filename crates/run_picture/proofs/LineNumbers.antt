@@ -1,5 +1,5 @@
 -- Which words spell the number of a line.
-use Rattle.std.proofs.Common.{◌≡◌, ℕ, ◌^◌, ◌<◌, ◌≤◌, sym, Bool, true, false, List, Option, Some, None, refl, ap, ◌∙◌, arith}
+use Rattle.std.proofs.Common.{◌≡◌, ℕ, ◌^◌, ◌<◌, ◌≤◌, Bool, true, false, List, Option, Some, None, refl, ap, ◌∙◌, arith}
 use Rattle.std.specs.Prelude.{nat_le, decimal, option_and_then, if◌then◌else◌}
 use Rattle.replay.specs.Words.{number}
 use Rattle.replay.proofs.Spellings.{number_of_decimal, decimal_of_number}

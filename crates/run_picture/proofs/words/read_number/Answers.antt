@@ -1,13 +1,14 @@
-use Rattle.std.proofs.Common.{◌≡◌, ◌<◌, ◌≤◌, ◌^◌, ℕ, sym, ◌∙◌, Ok, rules, arith}
-use Rattle.std.specs.Prelude.{decimal, Result}
+use Rattle.std.proofs.Common.{◌≡◌, ◌<◌, ◌≤◌, ◌^◌, sym, ap, ◌∙◌, rules, arith}
+use Rattle.std.specs.Prelude.{decimal}
 use Rattle.std.proofs.lemmas.Fmt.{parse-decimal}
+use Rattle.std.proofs.lemmas.Slice.Eq.{bytes_eq-Decides}
 use Rattle.run_picture.proofs.LineNumbers.{line_of_decimal, no_line_of}
 use Rattle.run_picture.proofs.words.read_number.Goals as goal
 use Rattle.run_picture.proofs.words.read_number.Goals.{else-eq-via-then-eq+then-number-ge1+else-number-le-GREATEST, else-eq-via-then-eq+else-number-ge1, else-eq-via-else-eq}
 
 pub returns-in_default-clause-value : goal.returns-in_default-clause-value
 returns-in_default-clause-value c = sym (no_line_of c.args.word.now (λ n is some few.
-    cc (parse-decimal 64 n _ _ (omega (arith, few)) (omega (arith, few)) is c.parse.ensures.value.0, c.in_default.is, c.in_default.not-Ok)))
+    cc (parse-decimal 64 n _ _ (omega (arith, few)) (omega (arith, few)) is c.parse.ensures.value.0, c.in_default.is)))
 
 pub returns-then-number-le-GREATEST-clause-value : goal.returns-then-number-le-GREATEST-clause-value
 returns-then-number-le-GREATEST-clause-value c =
@@ -23,4 +24,6 @@ returns-else-eq-clause-value c = sym (no_line_of c.args.word.now (λ n is some f
     elim c.else-eq.branch [
       else-eq-via-then-eq+then-number-ge1+else-number-le-GREATEST w ↦ grind (arith, same, few, w.if-number-le-GREATEST)
     | else-eq-via-then-eq+else-number-ge1 w ↦ grind (arith, same, some, w.if-number-ge1)
-    | else-eq-via-else-eq w ↦ grind (arith, same, is, w.if-eq, c.format.ensures.text) ]))
+    | else-eq-via-else-eq w ↦
+        let text : c.format.result.now ≡ c.args.word.now = c.format.ensures.text ∙ ap decimal (sym same) ∙ sym is in
+        grind (arith, text, w.if-eq, bytes_eq-Decides c.format.result.now c.args.word.now) ]))
