@@ -24,6 +24,7 @@ no_line_of word none = by_number (number word) refl
     by_least n true e spelled =
         let is = decimal_of_number word n spelled in
         absurd (none n is.0 (grind (arith, e)) is.1)
+
     by_number : (o : Option ℕ) → number word ≡ o → option_and_then from_one o ≡ None
     by_number None e = refl
     by_number (Some n) e = by_least n (nat_le 1 n) refl e

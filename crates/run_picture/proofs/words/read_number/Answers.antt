@@ -22,8 +22,9 @@ returns-else-eq-clause-value c = sym (no_line_of c.args.word.now (λ n is some f
     let read = parse-decimal 64 n _ _ (omega (arith, few)) (omega (arith, few)) is c.parse.ensures.value.0 in
     let same : n ≡ c.in-Ok.number = cc (read, c.in-Ok.is) in
     elim c.else-eq.branch [
-      else-eq-via-then-eq+then-number-ge1+else-number-le-GREATEST w ↦ grind (arith, same, few, w.if-number-le-GREATEST)
-    | else-eq-via-then-eq+else-number-ge1 w ↦ grind (arith, same, some, w.if-number-ge1)
-    | else-eq-via-else-eq w ↦
-        let text : c.format.result.now ≡ c.args.word.now = c.format.ensures.text ∙ ap decimal (sym same) ∙ sym is in
-        grind (arith, text, w.if-eq, bytes_eq-Decides c.format.result.now c.args.word.now) ]))
+      | else-eq-via-then-eq+then-number-ge1+else-number-le-GREATEST w ↦ grind (arith, same, few, w.if-number-le-GREATEST)
+      | else-eq-via-then-eq+else-number-ge1 w ↦ grind (arith, same, some, w.if-number-ge1)
+      | else-eq-via-else-eq w ↦
+          let text : c.format.result.now ≡ c.args.word.now = c.format.ensures.text ∙ ap decimal (sym same) ∙ sym is in
+          grind (arith, text, w.if-eq, bytes_eq-Decides c.format.result.now c.args.word.now)
+    ]))
