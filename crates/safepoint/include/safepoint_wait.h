@@ -1,8 +1,8 @@
-/* The loops that wait, over libsafepoint.a: they spin a little, let others run, then sleep until
-   something may have changed. An embedder with its own way to park threads writes these again: they
-   are safepoint_wait.c, which stands on nothing but safepoint.h.
+/* The loops that wait, over libsafepoint.a. They spin a little, yield, and then sleep until
+   something may have changed. They are safepoint_wait.c, which uses nothing but safepoint.h. A host
+   with its own way to park threads writes them again.
 
-   Each answers what the call in it answers, and never SP_AGAIN. With -DSP_PTHREAD it sleeps on a
+   Each call returns what the call in its loop returns, and never SP_AGAIN. With -DSP_PTHREAD it sleeps on a
    pthread condition, else on a futex. With -DSP_RECORD the calls are noted (safepoint_record.h).
    Each takes at most 12 KB of its thread's stack, and what its callback takes. */
 #ifndef SAFEPOINT_WAIT_H
@@ -14,10 +14,10 @@
 extern "C" {
 #endif
 
-/* An operation that is served at a safe point. `thread` is the thread that has stopped and runs
-   the callback itself, or NULL where the coordinator runs it for the held thread of the place.
-   The stack is published, and neither runs on meanwhile. The callback makes no call with that
-   thread, and none that waits. */
+/* An operation that is served at a safe point. `thread` is the thread that has stopped and runs the
+   callback itself, or NULL if the coordinator runs the callback for the held thread of the place.
+   The stack is published, and its thread doesn't run meanwhile. The callback makes no call with
+   that thread, and no call that waits. */
 struct sp_served {
     uint64_t operation;
     size_t place;
@@ -28,17 +28,17 @@ typedef void (*sp_callback)(void *with, const struct sp_served *served);
 /* Words for an answer. */
 const char *sp_text(int64_t answer);
 
-/* How long an asking loop has waited: all zeros at first. */
+/* How long a loop has waited so far: all zeros at first. */
 struct sp_pause {
     unsigned turns, seen;
 };
-/* Behind a try: true, after a rest, where it is to be made again. */
+/* After a try: if the answer is SP_AGAIN, rests a while and returns true, and the caller tries again. */
 bool sp_again(int64_t answer, struct sp_pause *pause);
-/* Behind a call that may let another go on. */
+/* After a call of safepoint.h that may let another thread continue: wakes all that sleep here. */
 void sp_ring(void);
 
-/* `answer` is what the call answers once it doesn't answer SP_AGAIN. The call may name it: it
-   keeps its value until then. */
+/* Repeats the call until it returns something else than SP_AGAIN, and stores that in `answer`. The
+   call may use `answer`, which keeps its value until then. */
 #define SP_WAIT(answer, call)                                                 \
     do {                                                                      \
         struct sp_pause pause_ = {0, 0};                                      \
@@ -49,8 +49,8 @@ void sp_ring(void);
         (answer) = found_;                                                    \
     } while (0)
 
-/* A thread. After a poll that answered a number: serves what is told until the thread goes on:
-   0. */
+/* A thread. sp_stop follows a poll that returned a number. It serves the thread's operations until
+   the thread continues, and returns 0. */
 int64_t sp_stop(struct sp_party *thread, sp_callback call, void *with);
 int64_t sp_start_thread(struct sp_party *thread, sp_callback call, void *with);
 int64_t sp_exit_thread(struct sp_party *thread, sp_callback call, void *with);
@@ -59,13 +59,13 @@ int64_t sp_leave_native(struct sp_party *thread, sp_callback call, void *with);
 int64_t sp_enter_blocked(struct sp_party *thread);
 int64_t sp_leave_blocked(struct sp_party *thread, sp_callback call, void *with);
 
-/* The coordinator. Works the oldest open request, or else the oldest that waits, to its Close:
-   its number; SP_QUEUE_EMPTY. */
+/* The coordinator. sp_drive works on the oldest open request, or else on the oldest waiting one,
+   until it is closed, and returns its number; SP_QUEUE_EMPTY. */
 int64_t sp_drive(struct sp_party *coordinator, sp_callback call, void *with);
-/* The same of up to four handshakes at once: how many were closed. */
+/* The same for up to four handshakes at once. Returns how many it closed. */
 int64_t sp_drive_four(struct sp_party *coordinator, sp_callback call, void *with);
-/* Reclaims a code that isn't entered any more, by a handshake of all that live: 0 where it is
-   freed, or how many frames stand; SP_LATE. */
+/* Reclaims a code that no thread enters any more, by a handshake of all live threads. Returns 0 if
+   the code is freed, else how many frames of it are on stacks; SP_LATE. */
 int64_t sp_reclaim(struct sp_party *coordinator, uint64_t serial, sp_callback call, void *with);
 
 #ifdef __cplusplus
