@@ -90,7 +90,8 @@ void sp_free(struct sp_party *party);
 /* A THREAD. sp_start returns the thread's name, which is above all names given out before. After
    SP_AGAIN the thread may be entered already, so repeat the call. SP_SAFEPOINT_OPEN,
    SP_PLACES_FULL, SP_SPENT, SP_HISTORY_FULL, SP_NO_MEMORY. It polls: if sp_state says that the
-   thread is at a poll, it stops as after any poll. */
+   thread is at a poll, it stops as after any poll. A party whose thread has exited can't start
+   again: SP_NOT_THIS. */
 int64_t sp_start(struct sp_party *thread);
 /* Returns 0, and the party is no longer a thread; or the number of an operation, if a poll stopped
    the thread, which stays one. SP_ILLEGAL, SP_STACK_NOT_EMPTY. After SP_AGAIN the thread may have
@@ -143,8 +144,8 @@ int64_t sp_invalidate(struct sp_party *party, uint64_t serial);
    sp_live_after returns the least live name above this one, or 0 for none. */
 int64_t sp_reply(struct sp_party *party, uint64_t operation, uint64_t name);
 int64_t sp_live_after(struct sp_party *party, uint64_t name);
-/* Forgets all entries so far, and the replies of the operations that are neither open nor waiting:
-   0. A history of a million entries is full. */
+/* Forgets all entries so far, and the replies of all operations before the first one that is open or
+   waits: 0. A history of a million entries is full. */
 int64_t sp_forget(struct sp_party *party);
 
 /* THE COORDINATOR. sp_open opens the oldest waiting request, and returns its number. Up to four
