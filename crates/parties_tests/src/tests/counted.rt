@@ -1,6 +1,6 @@
 //! Each act that takes memory, in one run: two threads are counted, shake hands, and a code is freed. An act that finds no memory changes
 //! nothing, and is done at the next try.
-use crate::tests::rows::play;
+use crate::tests::rows::play_noting;
 use std::alloc::AllocError;
 use std::test::*;
 
@@ -58,7 +58,7 @@ const COUNTED: &str = "
 // It passes whichever growth of memory is refused.
 #[test]
 fn what_lacks_memory_is_tried_again(rt: HostRuntime) -> Result<(), Fail> {
-    match play(&rt, rt.alloc(), 2, 4, 2, COUNTED) {
+    match play_noting(&rt, rt.alloc(), 2, 4, 2, COUNTED) {
         Ok(None) => println!(rt; "no growth was refused")?,
         Ok(Some(call)) => println!(rt; "{call} was refused")?,
         Err(AllocError) => println!(rt; "what a run or its rows take was refused")?,

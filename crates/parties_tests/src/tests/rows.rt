@@ -171,10 +171,18 @@ fn play_lines<N: Name, R: Abort>(
 fn made<N: Name>(alloc: Global, parts: Parts) -> Option<(Arc<SharedSystem<N>>, Party<N>)>
     requires tables { (parts.board ≡ N.board) × (parts.row ≡ N.poll_row) }
 {
-    let (system, armer) = SharedSystem::<N>::new(alloc, parts).ok()?;
-    let steps = Steps::new(alloc, armer, system.row()).ok()?;
-    let system = Arc::new(alloc, system).ok()?;
-    let shared = Arc::try_clone(&system).ok()?;
+    let Ok((system, armer)) = SharedSystem::<N>::new(alloc, parts) else {
+        return None;
+    };
+    let Ok(steps) = Steps::new(alloc, armer, system.row()) else {
+        return None;
+    };
+    let Ok(system) = Arc::new(alloc, system) else {
+        return None;
+    };
+    let Ok(shared) = Arc::try_clone(&system) else {
+        return None;
+    };
     Some((system, Party::coordinator(alloc, shared, steps)))
 }
 
@@ -217,7 +225,7 @@ fn play_once<R: Abort>(
 
 /// Plays the text over a new system of so many places, slots and methods. Answers what was refused for want of memory, if anything was. The
 /// error comes where what the playing itself takes was refused.
-pub fn play<R: Abort>(
+pub fn play_noting<R: Abort>(
     rt: &R,
     alloc: Global,
     places: usize,
@@ -237,5 +245,20 @@ pub fn play<R: Abort>(
     match play_once(rt, alloc, run)? {
         Some(_) => Ok(Some(String::from_str(alloc, "a system")?)),
         None => Err(AllocError),
+    }
+}
+
+/// Plays the text over a new system of so many places, slots and methods, where no memory is refused.
+pub fn play<R: Abort>(
+    rt: &R,
+    alloc: Global,
+    places: usize,
+    slots: usize,
+    methods: usize,
+    text: &str,
+) -> Result<(), AllocError> {
+    match play_noting(rt, alloc, places, slots, methods, text)? {
+        None => Ok(()),
+        Some(call) => panic!(rt; "{call} was refused for want of memory"),
     }
 }
