@@ -90,6 +90,7 @@ MEMORY = {
         ["tests::a_full_history_that_is_forgotten_goes_on"],
     ],
     "run_tests": [["tests::counted::what_lacks_memory_is_tried_again"]],
+    "parties_tests": [["tests::counted::what_lacks_memory_is_tried_again"]],
     "commands_tests": [
         ["tests::refused_memory_writes_nothing"],
         ["tests::running::refused_memory_prints_nothing"],
@@ -98,6 +99,18 @@ MEMORY = {
 NONE_REFUSED = "no growth was refused"
 # What a sweep of these tests must meet.
 TO_MEET = {
+    "parties_tests": [
+        "a system was refused",
+        "k install 0 was refused",
+        "a start was refused",
+        "b start was refused",
+        "k target 1 was refused",
+        "k submit depth was refused",
+        "k reply 1 1 was refused",
+        "k census was refused",
+        "c operate was refused",
+        "k reclaim 1 was refused",
+    ],
     "tests::codes::want_of_memory_changes_nothing": ["the table was refused", "install 1 was refused"],
     "tests::requests::want_of_memory_hands_back": [f"request {number} was refused" for number in (1, 5, 9, 17)],
     "tests::a_full_history_takes_no_entry": ["the desk was refused", "pass 499999 = 499999 was refused"],
