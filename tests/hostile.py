@@ -99,7 +99,7 @@ MEMORY = {
 NONE_REFUSED = "no growth was refused"
 # What a sweep of these tests must meet.
 TO_MEET = {
-    "parties_tests": [
+    ("parties_tests", "tests::counted::what_lacks_memory_is_tried_again"): [
         "a system was refused",
         "k install 0 was refused",
         "a start was refused",
@@ -111,10 +111,10 @@ TO_MEET = {
         "c operate was refused",
         "k reclaim 1 was refused",
     ],
-    "tests::codes::want_of_memory_changes_nothing": ["the table was refused", "install 1 was refused"],
-    "tests::requests::want_of_memory_hands_back": [f"request {number} was refused" for number in (1, 5, 9, 17)],
-    "tests::a_full_history_takes_no_entry": ["the desk was refused", "pass 499999 = 499999 was refused"],
-    "tests::counted::what_lacks_memory_is_tried_again": [
+    ("core_tests", "tests::codes::want_of_memory_changes_nothing"): ["the table was refused", "install 1 was refused"],
+    ("core_tests", "tests::requests::want_of_memory_hands_back"): [f"request {number} was refused" for number in (1, 5, 9, 17)],
+    ("desk_tests", "tests::a_full_history_takes_no_entry"): ["the desk was refused", "pass 499999 = 499999 was refused"],
+    ("run_tests", "tests::counted::what_lacks_memory_is_tried_again"): [
         "a coordinator was refused",
         "install 0 was refused",
         "start was refused",
@@ -123,8 +123,8 @@ TO_MEET = {
         "submit count_of 1 of 1 2 was refused",
         "reclaim 1 depth of 1 2 was refused",
     ],
-    "tests::refused_memory_writes_nothing": ["refused before the check", "refused in the check"],
-    "tests::running::refused_memory_prints_nothing": [
+    ("commands_tests", "tests::refused_memory_writes_nothing"): ["refused before the check", "refused in the check"],
+    ("commands_tests", "tests::running::refused_memory_prints_nothing"): [
         "refused before the run",
         "refused in the run",
         "refused while threads were started",
@@ -217,9 +217,9 @@ def met_by(notes):
     return [note for note in notes if note != NONE_REFUSED]
 
 
-def faults_of(test, notes):
+def faults_of(crate, test, notes):
     """What is wrong of a sweep that came to its end."""
-    unmet = [f"never met: {note}" for note in TO_MEET.get(test, []) if note not in notes]
+    unmet = [f"never met: {note}" for note in TO_MEET.get((crate, test), []) if note not in notes]
     return unmet or ([] if met_by(notes) else ["nothing was refused"])
 
 
@@ -228,7 +228,8 @@ def memory(tally, lists, library):
         sweeps = {test: swept(crate, test, library) for test in group}
         are_alike = len({tuple(notes) for notes, _ in sweeps.values()}) == 1
         for test, (notes, faults) in sweeps.items():
-            faults = faults or faults_of(test, notes) or ([] if are_alike else ["the tests of its list meet others"])
+            faults = faults or faults_of(crate, test, notes)
+            faults = faults or ([] if are_alike else ["the tests of its list meet others"])
             met = met_by(notes)
             shows = f"{len(met)} growths refused: {', '.join(dict.fromkeys(met))}"
             tally.judge(f"{crate}, {test}", faults, shows=shows)
