@@ -112,8 +112,13 @@ TO_MEET = {
         "k reclaim 1 was refused",
     ],
     ("core_tests", "tests::codes::want_of_memory_changes_nothing"): ["the table was refused", "install 1 was refused"],
-    ("core_tests", "tests::requests::want_of_memory_hands_back"): [f"request {number} was refused" for number in (1, 5, 9, 17)],
-    ("desk_tests", "tests::a_full_history_takes_no_entry"): ["the desk was refused", "pass 499999 = 499999 was refused"],
+    ("core_tests", "tests::requests::want_of_memory_hands_back"): [
+        f"request {number} was refused" for number in (1, 5, 9, 17)
+    ],
+    ("desk_tests", "tests::a_full_history_takes_no_entry"): [
+        "the desk was refused",
+        "pass 499999 = 499999 was refused",
+    ],
     ("run_tests", "tests::counted::what_lacks_memory_is_tried_again"): [
         "a coordinator was refused",
         "install 0 was refused",
