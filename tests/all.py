@@ -8,7 +8,7 @@ STRICT=1 a skip is a failure. Where the gate fails, the run ends with it. With E
 bodies are begun once so many minutes are over.
 
 out/gate.log has what the gate said, out/parts.log what the others did, out/minutes.log what each of its checks took
-(tests/minutes.py makes bench/MINUTES.md of it).
+(tests/minutes.py makes bench/MINUTES.md of it). Where nothing failed, the state is noted for `make quick`.
 """
 import contextlib
 import os
@@ -19,6 +19,7 @@ import sys
 import tempfile
 
 import proved
+import quick
 from tally import CLOSING, Tally
 from toolchain import ROOT, toolchain
 
@@ -202,7 +203,11 @@ def main():
     with contextlib.ExitStack() as stack:
         minutes = stack.enter_context(open(MINUTES_LOG, "w"))
         stack.enter_context(beside([TESTS / "minutes.py", "watch", os.getpid()], minutes))
-        return tested(stack)
+        state = quick.state()
+        status = tested(stack)
+        if status == 0:
+            quick.note(state)
+        return status
 
 
 if __name__ == "__main__":
