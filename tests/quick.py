@@ -206,7 +206,8 @@ class Quick:
 
     def tested(self, name, room):
         crate = self.all[name]
-        ran = unproved.tried(self.kit, crate, crate.folder, room, "--test", "src/lib.rt", seconds=300)
+        root = "src/main.rt" if crate.is_program else "src/lib.rt"
+        ran = unproved.tried(self.kit, crate, crate.folder, room, "--test", root, seconds=300)
         said = ran.stdout + ran.stderr
         is_well = ran.returncode == 0 and ENDED.search(said) and TESTS.search(said)
         return [] if is_well else [f"status {ran.returncode}", said[-SHOWN:]]
@@ -233,7 +234,7 @@ class Quick:
         for name in self.c_names():
             yield f"lib{name}.a, unproved", lambda it=name: self.library(it)
         for name, crate in self.all.items():
-            if not crate.is_program and self.stands_on(name, self.names) and crate.has_tests():
+            if self.stands_on(name, self.names) and crate.has_tests():
                 yield f"{name}: rt try --test", lambda it=name: self.tested(it, room)
         for name in self.names:
             yield f"{name}: layout", lambda it=name: self.layout(it)
