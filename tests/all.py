@@ -43,11 +43,12 @@ BESIDE_OTHERS = (
     (("version.py",), ()),
     (("tutorial.py",), ()),
     (("stacks.py", MONITOR, TIMELINE, CONFIRM), ()),
+    (("hostile.py", "memory", "--built"), ()),
+    (("refused.py", MONITOR), ()),
 )
 # Threads, which have the machine for themselves.
 ALONE = (
-    (("hostile.py", "--built"), ()),
-    (("refused.py", MONITOR), ()),
+    (("hostile.py", "threads", "--built"), ()),
     (("runs.py", MONITOR), ()),
     (("embed.py", MODEL), ("model",)),
     (("safepoint.py", SAFEPOINT, MODEL), ("safepoint", "model")),
