@@ -107,7 +107,6 @@ TO_MEET = {
         "k target 1 was refused",
         "k submit depth was refused",
         "k reply 1 1 was refused",
-        "k census was refused",
         "c operate was refused",
         "k reclaim 1 was refused",
     ],
