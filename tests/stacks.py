@@ -21,6 +21,8 @@ EXAMPLES, LOGS, CRATE = ROOT / "examples", TESTS / "confirm", ROOT / "crates" / 
 SECONDS = 120
 STACK_KB, LARGE_KB = 256, 8192
 CALL_BYTES = 12288
+# A script that nests so often nests deeper than the reader follows, and takes the most of a stack.
+NESTED = 5000
 
 
 def given_lines(*words):
@@ -30,7 +32,8 @@ def given_lines(*words):
 def of_monitor():
     scripts = sorted(EXAMPLES.glob("*.json"))
     runs = [(("run", path.with_suffix(".json")), b"") for path in sorted(EXAMPLES.glob("*.run"))]
-    return [*given_lines("replay"), *((("check", path), b"") for path in scripts), *runs, (("bad",), b"")]
+    nested = [(("check", "/dev/stdin"), it * NESTED) for it in (b"[", b'{"a":')]
+    return [*given_lines("replay"), *((("check", path), b"") for path in scripts), *runs, *nested, (("bad",), b"")]
 
 
 def of_timeline():
