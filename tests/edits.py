@@ -26,6 +26,7 @@ fails: such an edit must change a value and keep the names.
 The libraries are those that `rt ci` left here. With --beside a crate's edits are tried as soon as a gate that still
 runs says in LOG that the crate is proved, those of one crate at a time; once the gate has ended, of as many as there
 are cores. Once so many MINUTES are over no further crate's edits are begun: each edit that is left is skipped, by name.
+Where neither --all nor a CRATE is given, what the last run over the same text came to is kept (`kept.py`).
 The last line is `N passed, N failed, N skipped`. The status is 0 where each edit that was tried was refused, and each
 of must-pass proved.
 """
@@ -41,6 +42,7 @@ import tempfile
 import threading
 import time
 
+import kept
 from minutes import minutes_of
 from tally import Tally
 from toolchain import ROOT, is_of_the_gate, toolchain
@@ -187,6 +189,18 @@ def tried(rtlib, crate, room, with_all):
     return sorted([*results, *((it.name, *verdict(bench, it)) for it in edits)])
 
 
+def tried_or_kept(rtlib, crate, room):
+    """As `tried`, without the edits that the gate tries. Where the last run over the same text kept what they came to,
+    that is said again."""
+    text = kept.text_of(rtlib, crate, FURTHER)
+    results = kept.kept(crate, text)
+    if results is not None:
+        return [(name, is_well, f"{said} (kept)") for name, is_well, said in results]
+    results = tried(rtlib, crate, room, with_all=False)
+    kept.keep(crate, text, results)
+    return results
+
+
 def verdict(bench, edit):
     """Whether an edit came to what it must, and what to say."""
     if edit.is_control:
@@ -270,11 +284,11 @@ def main(words):
     names = [it for it in words if not it.startswith("--")] if log is None else []
     rtlib, _ = toolchain()
     rtlib.guarded()  # its first call sets a handler of signals, which the main thread alone may
-    tally, counting = Tally(), threading.Lock()
+    tally, counting, with_all = Tally(), threading.Lock(), bool(words) and log is None
 
     def one(crate):
         with tempfile.TemporaryDirectory(prefix="edits-") as room:
-            results = tried(rtlib, crate, room, with_all=bool(words) and log is None)
+            results = tried(rtlib, crate, room, True) if with_all else tried_or_kept(rtlib, crate, room)
         with counting:
             for name, is_well, text in results:
                 tally.judge(f"wrong body {crate.name}/{name}", None if is_well else text, shows=text)
