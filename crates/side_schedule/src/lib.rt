@@ -8,9 +8,7 @@
 
 pub mod calls;
 mod compare;
-mod draw;
 mod habits;
-mod lists;
 pub mod losses;
 mod oracle;
 pub mod play;

@@ -1,0 +1,86 @@
+//! What a thread calls that may wait.
+use berths::Hand;
+use bodies::Name;
+use operations::job::Errand;
+use std::alloc::Global;
+use std::fmt::Debug;
+use std::sync::Wait;
+use test_support::calls::Call;
+use test_support::said::{Said, called, done, polled, shown, word};
+use test_support::threads::NamedThreads;
+use thread_list::{Mutator, Shared, Turn};
+
+/// The hand of a test that looks at a body and brings it back.
+#[derive(Drop)]
+struct Looking;
+
+impl Hand for Looking {}
+
+// The body at a place is taken from its berth by this name, once and not twice, and comes back; it stays where nothing is told.
+fn take<N: Name, J: Errand, R: Wait>(
+    rt: &R,
+    alloc: Global,
+    shared: &Shared<N, J>,
+    thread: &Mutator<'_, N, J>,
+    name: u64,
+) -> Said {
+    let place = thread.place();
+    let berth = shared.berth(place);
+    let body = match berth.take(rt, name, place) {
+        Ok((body, _receipt)) => body.in_hand(&Looking),
+        Err(left) => return shown(alloc, left.act()),
+    };
+    let is_absent = match berth.take(rt, name, place) {
+        Ok((other, _receipt)) => {
+            let _receipt = berth.release(rt, other.in_hand(&Looking), false);
+            false
+        }
+        Err(_left) => true,
+    };
+    let _receipt = berth.release(rt, body, false);
+    word(alloc, if is_absent { "once" } else { "twice" })
+}
+
+// Whether a thread that stopped served a job.
+fn served<N: Name, F: Debug + Drop>(alloc: Global, answer: Result<Turn<N>, F>) -> Said {
+    match answer {
+        Ok(turn) => word(
+            alloc,
+            if turn.finish.is_some() {
+                "served"
+            } else {
+                "nothing"
+            },
+        ),
+        Err(fault) => shown(alloc, fault),
+    }
+}
+
+/// A call of the thread of the first number, where it is one that may wait.
+pub fn cross<N: Name, J: Errand, R: Wait>(
+    rt: &R,
+    alloc: Global,
+    threads: &mut NamedThreads<'_, N, J>,
+    call: Call<'_>,
+) -> Option<Said> {
+    let shared = threads.shared;
+    let thread = threads.get(call.first)?;
+    let said = match call.name {
+        "to_native" => done(alloc, thread.to_native(rt)),
+        "from_native" => polled(alloc, thread.from_native(rt)),
+        "block" => done(alloc, thread.block(rt)),
+        "unblock" => polled(alloc, thread.unblock(rt)),
+        "stop" => served(alloc, thread.stop(rt)),
+        // By the hint that was the method's own before another code is installed over it.
+        "call_over" => {
+            let old = shared.hint(call.second);
+            match shared.install(rt, call.second) {
+                Ok(_installed) => called(alloc, thread.call(call.second, old)),
+                Err(fault) => shown(alloc, fault),
+            }
+        }
+        "take" => take(rt, alloc, shared, thread, call.second as u64),
+        _ => return None,
+    };
+    Some(said)
+}
