@@ -86,14 +86,14 @@ edits:
 	@tests/edits.sh $(CRATES)
 
 bench:
-	@tests/build.py monitor bench_running
+	@tests/build.py monitor running_bench
 	@bench/replay.py crates/monitor/out/monitor
-	@bench/running.py crates/bench_running/out/bench_running
-	@bench/scale.py crates/bench_running/out/bench_running
+	@bench/running.py crates/running_bench/out/running_bench
+	@bench/scale.py crates/running_bench/out/running_bench
 
 scale:
-	@tests/build.py bench_running
-	@bench/scale.py crates/bench_running/out/bench_running --plot bench/scale.svg > bench/scale.txt && cat bench/scale.txt
+	@tests/build.py running_bench
+	@bench/scale.py crates/running_bench/out/running_bench --plot bench/scale.svg > bench/scale.txt && cat bench/scale.txt
 
 hostile:
 	@tests/hostile.py
@@ -104,8 +104,8 @@ runs:
 	@tests/refused.py crates/monitor/out/monitor
 
 soak:
-	@tests/build.py test_soak
-	@tests/soak.py crates/test_soak/out/test_soak $(MINUTES)
+	@tests/build.py soak
+	@tests/soak.py crates/soak/out/soak $(MINUTES)
 
 side:
 	@tests/build.py side_by_side

@@ -1,5 +1,5 @@
 //! The desk of a running system: who is live, what is asked of the threads, and which codes there are, in one history of entries.
-//! `thread_list` has it under a lock, and `coordinator` and `coordinator_steps` ask it.
+//! `thread_list` has it under a lock, and `coordinator`, `thread_steps` and `coordinator_steps` ask it.
 //! Read `src/desk.rt` and `src/entries.rt` first, then `specs/Machine.antt` and `specs/Refusals.antt`.
 //!
 //! Each call that changes the desk appends the one entry of its name, where that is lawful, and gives the receipt of it; or it is

@@ -1,5 +1,4 @@
 pub mod Fits
 pub mod Hands
 pub mod Roles
-pub mod LockSteps
 pub mod Sends

@@ -16,7 +16,7 @@ use Rattle.operations.proofs.queue.Queue.TheSendSync as queue
 use Rattle.desk.proofs.entries.Carried.TheSendSync as carried
 use Rattle.desk.proofs.entries.Opened.TheSendSync as opened
 use Rattle.desk.proofs.replies.Replies.TheSendSync as replies
-use Rattle.parties.proofs.tried_lock.TriedLock.TheSendSync as lock
+use Rattle.tried_lock.proofs.lock.TriedLock.TheSendSync as lock
 use Rattle.method_table.specs.contracts.history.History as History
 use Rattle.method_table.specs.contracts.table.MethodTable as MethodTable
 use Rattle.desk.specs.contracts.codes.Codes as Codes
@@ -27,9 +27,9 @@ use Rattle.berths.specs.contracts.room.Holder as Holder
 use Rattle.berths.specs.contracts.room.Room as Room
 use Rattle.berths.specs.contracts.room.BodyReceipt as BodyReceipt
 use Rattle.thread_list.specs.contracts.hints.Hints as Hints
-use Rattle.thread_list.specs.contracts.body_state.BodyState as BodyState
-use Rattle.thread_list.specs.contracts.running_thread.RunningThread as RunningThread
-use Rattle.thread_list.specs.contracts.ends.Entered as Entered
+use Rattle.thread_steps.specs.contracts.body_state.BodyState as BodyState
+use Rattle.thread_steps.specs.contracts.runner.Stepper as Stepper
+use Rattle.thread_steps.specs.contracts.ends.Entered as Entered
 use Rattle.held_threads.specs.contracts.held.Held as Held
 use Rattle.coordinator_steps.specs.contracts.steps.Steps as Steps
 use Rattle.parties.specs.contracts.system.LockedRoom as LockedRoom
@@ -87,7 +87,7 @@ module _ (N : RattleType) (n : name.Ghosts N.Denot) (sn : IsSend N) where
   body_state_send : IsSend (BodyState.the_field N n).row
   body_state_send = search (sendable, crosses, body.the_send, receipt_send) depth 40
 
-  stepper_send : IsSend (RunningThread.the_row N n)
+  stepper_send : IsSend (Stepper.the_row N n)
   stepper_send = search (sendable, crosses, body_state_send, receipt_send) depth 40
 
   entered_send : IsSend (Entered.the_row N n)

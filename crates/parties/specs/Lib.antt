@@ -1,4 +1,3 @@
-pub mod Locked
 pub mod Systems
 pub mod Asked
 pub mod Coordinated

@@ -38,8 +38,6 @@ pub enum Act {
     Reply(u64, u64),
     /// The least name above this one that is live.
     LiveAfter(u64),
-    /// Of which kind what is open is, as a number.
-    OpenKind,
     Forget,
     Open,
     Tell(u64),

@@ -3,9 +3,9 @@ ghost use Rattle.std.specs.Prelude.{◌≡◌, true, Err, IfOk, IfErr, IfSome};
 ghost use Rattle.desk.specs.declared.entries.Entry.{Entry};
 ghost use Rattle.desk.specs.Fields.{at};
 ghost use Rattle.desk.specs.JobsFit.{are_for, jobs_fit};
-ghost use Rattle.desk.specs.Targets.{live_after, open_kind};
+ghost use Rattle.desk.specs.Targets.{live_after};
 ghost use Rattle.operations.specs.declared.Request.{Request as RequestOf};
-ghost use Rattle.parties.specs.Asked.{request_for, reclaiming_for, names_behind, number_in, kind_number, IsEntry, IsInstall, IsBegun, Submits, Installs, Invalidates, Begins, ReplyAt, FindsReply, FindsNext, FindsKind, Forgets};
+ghost use Rattle.parties.specs.Asked.{request_for, reclaiming_for, names_behind, number_in, IsEntry, IsInstall, IsBegun, Submits, Installs, Invalidates, Begins, ReplyAt, FindsReply, FindsNext, Forgets};
 ghost use Rattle.parties.specs.Pairs.{or_zero};
 
 use crate::acts::Fault;
@@ -14,7 +14,7 @@ use crate::system::SharedSystem;
 use bodies::Name;
 use desk::{AskFault, Desk, NotReclaimed, Receipt, ReclaimFault, Refused};
 use operations::job::{Errand, Query};
-use operations::{Ask, Kind, Request, Targets};
+use operations::{Ask, Request, Targets};
 use std::alloc::{AllocError, Global};
 
 // A job for each name.
@@ -251,27 +251,6 @@ pub(crate) fn live_after<N: Name>(system: &SharedSystem<N>, name: u64) -> Result
     };
     desk.value.history_is_legal();
     Ok(next_at(&*desk.value, name))
-}
-
-// Of which kind what is open at the desk is, 0 where nothing is.
-fn kind_at<N: Name>(desk: &Desk<N, Query>) -> u64
-    ensures { result ≡ kind_number (open_kind (at desk.now)) }
-{
-    match desk.open_kind() {
-        None => 0,
-        Some(Kind::Handshake) => 1,
-        Some(Kind::Census) => 2,
-    }
-}
-
-pub(crate) fn open_kind<N: Name>(system: &SharedSystem<N>) -> Result<u64, Fault>
-    ensures { FindsKind result }
-{
-    let Some(desk) = system.try_desk() else {
-        return Err(Fault::Again);
-    };
-    desk.value.history_is_legal();
-    Ok(kind_at(&*desk.value))
 }
 
 pub(crate) fn forget<N: Name>(system: &SharedSystem<N>) -> Result<u64, Fault>

@@ -11,7 +11,7 @@ use operations::job::Query;
 use std::alloc::{AllocError, Global};
 use std::marker::Model;
 use std::sync::Arc;
-use thread_list::{Entered, RunningThread};
+use thread_steps::{Entered, Stepper};
 
 /// What a party is.
 #[derive(Drop)]
@@ -21,7 +21,7 @@ pub enum Role<N: Name> {
     /// A thread whose Start is entered.
     Starts(Entered<N>),
     /// A thread.
-    Runs(RunningThread<N>),
+    Runs(Stepper<N>),
     /// A thread that gave its place up, and whose Exit isn't entered.
     Leaves(BodyReceipt<N>),
     /// A thread that is gone.
@@ -132,7 +132,6 @@ impl<N: Name> Party<N> {
             Act::Invalidate(serial) => self.invalidate(serial),
             Act::Reply(op, name) => self.reply(op, name),
             Act::LiveAfter(name) => self.live_after(name),
-            Act::OpenKind => self.open_kind(),
             Act::Forget => self.forget(),
             Act::Open => self.open(),
             Act::Tell(name) => self.tell(name),

@@ -8,9 +8,9 @@ use Rattle.thread_list.specs.declared.polls.Poll.{Poll}
 use Rattle.thread_list.specs.declared.polls.Poll.TheVariants as poll
 use Rattle.thread_list.specs.declared.turns.Turn.{Turn}
 use Rattle.thread_list.specs.declared.shared.Exited.{Exited}
-use Rattle.thread_list.specs.declared.faults.CallFault.{CallFault}
-use Rattle.thread_list.specs.declared.faults.ReturnFault.{ReturnFault}
-use Rattle.thread_list.specs.declared.faults.ExitFault.{ExitFault}
+use Rattle.thread_list.specs.declared.mutator.CallFault.{CallFault}
+use Rattle.thread_list.specs.declared.mutator.ReturnFault.{ReturnFault}
+use Rattle.thread_list.specs.declared.waits.ExitFault.{ExitFault}
 use Rattle.method_table.specs.declared.table.InvalidateFault.{InvalidateFault}
 use Rattle.desk.specs.declared.faults.Refused.{Refused}
 use Rattle.desk.specs.declared.faults.NotReclaimed.{NotReclaimed}

@@ -2,12 +2,12 @@
 use Rattle.std.specs.Prelude.{Option, Some, None}
 use Rattle.call_log.specs.declared.word.Word.{Word}
 use Rattle.call_log.specs.declared.word.Word.TheVariants as word
-use Rattle.thread_list.specs.declared.faults.CallFault.{CallFault}
-use Rattle.thread_list.specs.declared.faults.CallFault.TheVariants as is_call
-use Rattle.thread_list.specs.declared.faults.ReturnFault.{ReturnFault}
-use Rattle.thread_list.specs.declared.faults.ReturnFault.TheVariants as is_return
-use Rattle.thread_list.specs.declared.faults.ExitFault.{ExitFault}
-use Rattle.thread_list.specs.declared.faults.ExitFault.TheVariants as is_exit
+use Rattle.thread_list.specs.declared.mutator.CallFault.{CallFault}
+use Rattle.thread_list.specs.declared.mutator.CallFault.TheVariants as is_call
+use Rattle.thread_list.specs.declared.mutator.ReturnFault.{ReturnFault}
+use Rattle.thread_list.specs.declared.mutator.ReturnFault.TheVariants as is_return
+use Rattle.thread_list.specs.declared.waits.ExitFault.{ExitFault}
+use Rattle.thread_list.specs.declared.waits.ExitFault.TheVariants as is_exit
 use Rattle.desk.specs.declared.faults.StartFault.{StartFault}
 use Rattle.desk.specs.declared.faults.StartFault.TheVariants as is_start
 use Rattle.desk.specs.declared.faults.AskFault.{AskFault}

@@ -4,8 +4,8 @@ ghost use Rattle.thread_state.specs.declared.Back.{Back as WayBack};
 ghost use Rattle.thread_state.specs.declared.State.TheVariants.{InJava as IsInJava, InVm as IsInVm, InNative as IsInNative, Blocked as IsBlocked, NativeTrans as IsNativeTrans, BlockedTrans as IsBlockedTrans};
 ghost use Rattle.thread_state.specs.declared.Move.TheVariants as movement;
 ghost use Rattle.thread_state.specs.States as table;
-ghost use Rattle.bodies.specs.Bodies.{BodyView, IsPublished};
-ghost use Rattle.thread_list.specs.Moves.{SameThread, Calls, Polls, Leaves, ComesBack, Gives, IsResumed, is_running};
+ghost use Rattle.bodies.specs.Bodies.{BodyView, IsCalled, IsPublished};
+ghost use Rattle.thread_list.specs.Moves.{SameThread, Polls, Leaves, ComesBack, Gives, IsResumed, is_running};
 ghost use Rattle.thread_list.specs.Refused.{call_accepted, call_refused, return_refused};
 ghost use Rattle.recorder.specs.Answers as answers;
 ghost use Rattle.recorder.specs.Calls.{called_with};
@@ -51,7 +51,10 @@ impl<'a> Stream<'a> {
         ensures noted { Notes self.old self.new Word.Call
             (called_with thread.old.place method hint) (Some (answers.enters result)) }
         ensures accepted { OnOk result (call_accepted thread.old method) }
-        ensures step { IfOk result (Calls thread.old thread.new method hint) }
+        ensures step { IfOk result (λ said. (old : BodyView) × (new : BodyView)
+            × (thread.old.body ≡ Some old) × (thread.new.body ≡ Some new)
+            × IsCalled old new method hint said × (new.name ≡ old.name)
+            × (new.poller ≡ old.poller)) }
         ensures state { thread.new.state ≡ thread.old.state }
         ensures same { SameThread thread.old thread.new }
 

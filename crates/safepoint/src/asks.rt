@@ -95,15 +95,6 @@ pub extern "C" fn sp_live_after(party: &mut Place, name: u64) -> i64
     code_of(party.obey(Act::LiveAfter(name)))
 }
 
-/// Of which kind what is open is: nothing (0), handshakes (1), or a census (2).
-#[unsafe(no_mangle)]
-pub extern "C" fn sp_open_kind(party: &mut Place) -> i64
-    ensures { Replies party.old.handle.board.places result Act.OpenKind party.old.handle.value
-        party.new.handle.value }
-{
-    code_of(party.obey(Act::OpenKind))
-}
-
 /// Forgets what was entered so far.
 #[unsafe(no_mangle)]
 pub extern "C" fn sp_forget(party: &mut Place) -> i64

@@ -1,10 +1,10 @@
 //! What is seen of both sides after a call.
+use crate::lists::keep;
 use crate::play::{Pair, Stopped};
 use crate::running::Running;
 use crate::said::Said;
 use std::alloc::AllocError;
 use std::fmt::{Debug, Write};
-use test_tools::keep;
 
 impl<R, S: Running<R>> Pair<'_, R, S> {
     // Both sides are to have the same, of what is told by a word and a number.

@@ -8,7 +8,9 @@
 
 pub mod calls;
 mod compare;
+mod draw;
 mod habits;
+mod lists;
 pub mod losses;
 mod oracle;
 pub mod play;

@@ -10,6 +10,7 @@ mod requests;
 mod threads;
 
 use crate::calls::Call;
+use crate::lists::keep;
 use crate::losses::{Loss, Lost};
 use crate::running::Sizes;
 use crate::said::Said;
@@ -18,7 +19,6 @@ use std::alloc::{AllocError, Global};
 use system::System;
 use system::answers::{Answer, CountList, FrameList, Refusal};
 use system::events::{Act, Event};
-use test_tools::keep;
 use thread_state::State;
 
 /// A publication has at most so many changes: each of 256 frames may be gone, and another in its place.

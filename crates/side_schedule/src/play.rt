@@ -1,6 +1,8 @@
 //! Both sides, call by call.
 use crate::calls::Call;
+use crate::draw::Draw;
 use crate::habits::{Habits, Phase};
+use crate::lists::keep;
 use crate::losses::Loss;
 use crate::oracle::Oracle;
 use crate::running::{Running, Sizes, Thread};
@@ -9,7 +11,6 @@ use crate::schedule::Scene;
 use crate::stock::Stock;
 use crate::tally::{Counted, Tally};
 use std::alloc::{AllocError, Global};
-use test_tools::{Choices, keep};
 
 /// How many calls a schedule has. It has fewer only where a census keeps threads for good.
 const CALLS: u64 = 1000;
@@ -182,7 +183,7 @@ impl<R, S: Running<R>> Pair<'_, R, S> {
     }
 
     fn play_by(&mut self, plan: Plan) -> Result<(), Stopped> {
-        let mut draw = Choices::new(plan.seed);
+        let mut draw = Draw::new(plan.seed);
         let habits = Habits::of(plan.seed, plan.sizes.places);
         for number in 0..CALLS {
             self.make_next(habits, habits.phase_at(number), &mut draw)?;
@@ -191,12 +192,7 @@ impl<R, S: Running<R>> Pair<'_, R, S> {
     }
 
     // Draws calls until one has nothing to wait for. None is made where that is never so.
-    fn make_next(
-        &mut self,
-        habits: Habits,
-        phase: Phase,
-        draw: &mut Choices,
-    ) -> Result<(), Stopped> {
+    fn make_next(&mut self, habits: Habits, phase: Phase, draw: &mut Draw) -> Result<(), Stopped> {
         for _drawn in 0..DRAWS {
             let call = self.pick(habits, phase, draw);
             match self.make(call)? {
@@ -207,7 +203,7 @@ impl<R, S: Running<R>> Pair<'_, R, S> {
         Ok(())
     }
 
-    fn pick(&self, habits: Habits, phase: Phase, draw: &mut Choices) -> Call {
+    fn pick(&self, habits: Habits, phase: Phase, draw: &mut Draw) -> Call {
         let scene = Scene {
             phase,
             habits,

@@ -2,13 +2,13 @@
 ghost use Rattle.std.specs.Prelude.{◌<◌};
 
 use crate::calls::{Call, CodeCall, Handshake, RequestCall, StepCall, ThreadCall};
+use crate::draw::Draw;
 use crate::habits::{Habits, Phase, Shares};
 use crate::oracle::{Live, Oracle};
 use crate::running::{Sizes, Thread};
 use crate::stock::Stock;
 use frames::CodeId;
 use operations::Ask;
-use test_tools::Choices;
 use thread_state::{Back, State};
 
 // Where more requests wait, few more are submitted.
@@ -52,7 +52,7 @@ const STATES: [State; 5] = [
 
 impl Scene<'_> {
     /// The next call. Most are lawful where they are made, some aren't.
-    pub fn pick(&self, draw: &mut Choices) -> Call {
+    pub fn pick(&self, draw: &mut Draw) -> Call {
         if self.starts(draw) {
             return Call::Start;
         }
@@ -68,7 +68,7 @@ impl Scene<'_> {
     }
 
     // While stacks grow vacant places are mostly taken; else one starts now and then, also where no place is vacant.
-    fn starts(&self, draw: &mut Choices) -> bool {
+    fn starts(&self, draw: &mut Draw) -> bool {
         if self.threads.is_empty() {
             return draw.one_in(2);
         }
@@ -78,7 +78,7 @@ impl Scene<'_> {
         draw.one_in(40)
     }
 
-    fn of_thread(&self, draw: &mut Choices) -> Call {
+    fn of_thread(&self, draw: &mut Draw) -> Call {
         if self.threads.is_empty() {
             return Call::Start;
         }
@@ -99,14 +99,14 @@ impl Scene<'_> {
     }
 
     // While threads rest, those that are away mostly stay there.
-    fn away(&self, draw: &mut Choices, back: Call) -> Call {
+    fn away(&self, draw: &mut Draw, back: Call) -> Call {
         if matches!(self.phase, Phase::Rest) && !draw.one_in(8) {
             return self.of_request(draw);
         }
         back
     }
 
-    fn in_java(&self, draw: &mut Choices, name: u64) -> Call {
+    fn in_java(&self, draw: &mut Draw, name: u64) -> Call {
         let Shares { calls, returns, .. } = self.habits.shares(self.phase);
         let drawn = draw.below(100);
         if drawn < calls {
@@ -130,7 +130,7 @@ impl Scene<'_> {
         }
     }
 
-    fn in_vm(&self, draw: &mut Choices, name: u64) -> Call {
+    fn in_vm(&self, draw: &mut Draw, name: u64) -> Call {
         if matches!(self.phase, Phase::Rest) && draw.one_in(2) {
             return Call::Of(name, ThreadCall::Block);
         }
@@ -144,7 +144,7 @@ impl Scene<'_> {
     }
 
     // A call, now and then of a method that isn't there, by its hint, by a hint that may be old, or by none.
-    fn call_method(&self, draw: &mut Choices) -> ThreadCall {
+    fn call_method(&self, draw: &mut Draw) -> ThreadCall {
         let method = self.method(draw);
         let hint = match draw.below(8) {
             0 => None,
@@ -154,7 +154,7 @@ impl Scene<'_> {
         ThreadCall::Call(method, hint)
     }
 
-    fn method(&self, draw: &mut Choices) -> u32 {
+    fn method(&self, draw: &mut Draw) -> u32 {
         let methods = self.sizes.methods;
         if methods == 0 || draw.one_in(40) {
             return methods;
@@ -162,7 +162,7 @@ impl Scene<'_> {
         draw.index(methods as usize) as u32
     }
 
-    fn any_code(&self, draw: &mut Choices) -> Option<CodeId> {
+    fn any_code(&self, draw: &mut Draw) -> Option<CodeId> {
         if self.oracle.codes.is_empty() {
             return None;
         }
@@ -171,7 +171,7 @@ impl Scene<'_> {
     }
 
     // A serial: mostly one of those that stand in a slot, now and then any.
-    fn serial(&self, draw: &mut Choices) -> u64 {
+    fn serial(&self, draw: &mut Draw) -> u64 {
         if self.oracle.slots.is_empty() || draw.one_in(10) {
             return draw.index(self.oracle.codes.len().saturating_add(2)) as u64;
         }
@@ -179,7 +179,7 @@ impl Scene<'_> {
         self.oracle.slots[slot]
     }
 
-    fn of_code(&self, draw: &mut Choices) -> Call {
+    fn of_code(&self, draw: &mut Draw) -> Call {
         match draw.below(16) {
             0..=3 => Call::Code(CodeCall::Install(self.method(draw))),
             4..=6 => Call::Code(CodeCall::Invalidate(self.serial(draw))),
@@ -192,7 +192,7 @@ impl Scene<'_> {
     }
 
     // Where a request is open or waits, that is mostly worked on first.
-    fn reclaim(&self, draw: &mut Choices) -> Call {
+    fn reclaim(&self, draw: &mut Draw) -> Call {
         let idle = self.oracle.open.is_empty() && self.oracle.waiting.is_empty();
         if !idle && !draw.one_in(8) {
             return self.drive(draw);
@@ -204,7 +204,7 @@ impl Scene<'_> {
     }
 
     // With jobs, where there are jobs for the handshake.
-    fn reclaim_with_jobs(&self, draw: &mut Choices) -> Call {
+    fn reclaim_with_jobs(&self, draw: &mut Draw) -> Call {
         let handshake = self.handshake(draw);
         let jobs = if self.stock.has(handshake) {
             Some(handshake)
@@ -215,12 +215,12 @@ impl Scene<'_> {
     }
 
     // A place, now and then the one past the last.
-    fn place(&self, draw: &mut Choices) -> usize {
+    fn place(&self, draw: &mut Draw) -> usize {
         draw.index(self.sizes.places.saturating_add(1))
     }
 
     // The place of a live thread, or any.
-    fn place_of_thread(&self, draw: &mut Choices) -> usize {
+    fn place_of_thread(&self, draw: &mut Draw) -> usize {
         if self.oracle.live.is_empty() || draw.one_in(10) {
             return self.place(draw);
         }
@@ -229,7 +229,7 @@ impl Scene<'_> {
     }
 
     // The name of a live thread, or any.
-    fn name(&self, draw: &mut Choices) -> u64 {
+    fn name(&self, draw: &mut Draw) -> u64 {
         if self.oracle.live.is_empty() || draw.one_in(10) {
             return draw.below(self.oracle.names.saturating_add(3));
         }
@@ -238,7 +238,7 @@ impl Scene<'_> {
     }
 
     // A thread that is wanted for a step of a request, from a drawn one on.
-    fn wanted(&self, draw: &mut Choices, whom: Whom) -> Option<Live> {
+    fn wanted(&self, draw: &mut Draw, whom: Whom) -> Option<Live> {
         let count = self.oracle.live.len();
         if count == 0 || draw.one_in(6) {
             return None;
@@ -278,7 +278,7 @@ impl Scene<'_> {
         false
     }
 
-    fn handshake(&self, draw: &mut Choices) -> Handshake {
+    fn handshake(&self, draw: &mut Draw) -> Handshake {
         let count = match draw.below(16) {
             0 => 0,
             1..=12 => draw.index(3) as u64 + 1,
@@ -298,7 +298,7 @@ impl Scene<'_> {
         }
     }
 
-    fn ask(&self, draw: &mut Choices) -> Ask {
+    fn ask(&self, draw: &mut Draw) -> Ask {
         match draw.below(4) {
             0 => Ask::Depth,
             1 => Ask::Top,
@@ -307,7 +307,7 @@ impl Scene<'_> {
     }
 
     // A handshake or a census; few where many wait.
-    fn submit(&self, draw: &mut Choices) -> Call {
+    fn submit(&self, draw: &mut Draw) -> Call {
         if self.oracle.waiting.len() > FEW && !self.habits.greedy && !draw.one_in(6) {
             return Call::Request(RequestCall::Open);
         }
@@ -320,7 +320,7 @@ impl Scene<'_> {
         Call::Request(RequestCall::Submit(Handshake { fits, ..handshake }))
     }
 
-    fn of_request(&self, draw: &mut Choices) -> Call {
+    fn of_request(&self, draw: &mut Draw) -> Call {
         if self.habits.forgets && draw.one_in(16) {
             return Call::Request(RequestCall::Forget);
         }
@@ -341,7 +341,7 @@ impl Scene<'_> {
         }
     }
 
-    fn drive(&self, draw: &mut Choices) -> Call {
+    fn drive(&self, draw: &mut Draw) -> Call {
         if draw.one_in(2) {
             return Call::Request(RequestCall::DriveFour);
         }
@@ -349,7 +349,7 @@ impl Scene<'_> {
     }
 
     // One more is opened, or where none waits asked for.
-    fn open_more(&self, draw: &mut Choices) -> Call {
+    fn open_more(&self, draw: &mut Draw) -> Call {
         if self.oracle.waiting.is_empty() {
             return self.submit(draw);
         }
@@ -357,7 +357,7 @@ impl Scene<'_> {
     }
 
     // The oldest is closed, or that of a number, which may be open or not.
-    fn close(&self, draw: &mut Choices) -> Call {
+    fn close(&self, draw: &mut Draw) -> Call {
         if draw.one_in(2) {
             return Call::Request(RequestCall::Close);
         }
@@ -369,7 +369,7 @@ impl Scene<'_> {
     }
 
     // A step of the open requests that is lawful, from a drawn kind on; now and then any, and where there is none any too.
-    fn step_of_request(&self, draw: &mut Choices) -> Call {
+    fn step_of_request(&self, draw: &mut Draw) -> Call {
         if draw.one_in(5) {
             return self.any_step(draw);
         }
@@ -385,7 +385,7 @@ impl Scene<'_> {
         self.any_step(draw)
     }
 
-    fn lawful_step(&self, draw: &mut Choices, whom: Whom) -> Option<Call> {
+    fn lawful_step(&self, draw: &mut Draw, whom: Whom) -> Option<Call> {
         let live = self.wanted(draw, whom)?;
         let step = match whom {
             Whom::Untold => StepCall::Tell(live.name),
@@ -398,7 +398,7 @@ impl Scene<'_> {
         Some(Call::Step(step))
     }
 
-    fn any_step(&self, draw: &mut Choices) -> Call {
+    fn any_step(&self, draw: &mut Draw) -> Call {
         match draw.below(16) {
             0 | 1 => Call::Step(StepCall::Tell(self.name(draw))),
             2..=4 => Call::Step(StepCall::Hold(self.place_of_thread(draw))),

@@ -1,4 +1,4 @@
--- What contracts see of a running thread, and what a poll leads to.
+-- What contracts see of a mutator, what its type keeps, and what a poll leads to.
 use Rattle.std.specs.Prelude.{◌≡◌, ◌≢◌, ◌⊎◌, ◌<◌, ◌==◌, ◌++◌, ◌∷◌, [], ℕ, Option, Some, None, Bool, true, false, if◌then◌else◌, IfSome}
 use Rattle.thread_state.specs.declared.State.{State}
 use Rattle.thread_state.specs.declared.State.TheVariants.{InJava, InVm, AtPoll}
@@ -19,7 +19,7 @@ use Rattle.berths.specs.declared.room.BodyAct.TheVariants.{MovedIn, Given, Resum
 use Rattle.thread_list.specs.declared.polls.Poll.{Poll}
 use Rattle.thread_list.specs.declared.polls.Poll.TheVariants.{Go, Stop}
 
--- What contracts see of a running thread: its name and place, its state, its body where it has it in hand, how many methods there are, and how its
+-- What contracts see of a mutator: its name and place, its state, its body where it has it in hand, how many methods there are, and how its
 -- body last went: into its berth on the way into native code or a wait, or out of it from there, at its start, or where an exit was
 -- refused after it had served.
 pub record Running : Type 0 where
@@ -30,7 +30,7 @@ pub record Running : Type 0 where
   pub body : Option BodyView
   pub crossed : Moved
 
--- The states in which a thread owns itself between its calls.
+-- The thread has its body in hand in these states. In all others that a mutator is in, the body is in its berth or held.
 abbrev pub owns : State → Bool
 owns InJava = true
 owns InVm = true
@@ -62,6 +62,18 @@ pub record IsFirst (name : ℕ) (seat : SpareView) (body : BodyView) : Type 0 wh
   pub image : ImageView
   pub empty : image.frames ≡ []
   pub published : IsPublished (record { name = name; image = image; seat = seat.seat; poller = seat.poller }) body
+
+-- What a mutator keeps: a body is the thread's own, the thread has it in hand in the states in which it owns itself, its name and its
+-- first body, with an empty stack and published once, went into its berth when it started, and a body that it hasn't in hand went there since.
+pub record IsRunning (places name place : ℕ) (state : State) (body : Option BodyView) (seat : SpareView) (moved_in crossed : Moved) : Type 0 where
+  pub own : IsOf name place body
+  pub there : owns state ≡ true → is_there body ≡ true
+  pub named : 0 < name
+  pub seated : place < places
+  pub moved_in_there : Went place name MovedIn moved_in
+  pub moved_in_empty : moved_in.body.image.frames ≡ []
+  pub moved_in_first : IsFirst name seat moved_in.body
+  pub given_there : IsGiven name place body crossed
 
 -- It is the same thread: what no call changes.
 abbrev pub SameThread : Running → Running → Type 0

@@ -5,10 +5,9 @@ ghost use Rattle.bodies.specs.Bodies.{BodyView, IsPublished};
 ghost use Rattle.thread_list.specs.Moves.{SameThread, Calls, CallsByHint, Polls, Leaves, is_running};
 ghost use Rattle.thread_list.specs.Refused.{call_accepted, call_refused, return_refused};
 
-use crate::faults::{CallFault, ReturnFault};
 use crate::hints::HintWords;
+use crate::own_part::OwnPart;
 use crate::polls::Poll;
-use crate::running_thread::RunningThread;
 use crate::shared::Shared;
 use bodies::{Called, Name};
 use frames::CodeId;
@@ -23,20 +22,37 @@ pub struct Mutator<'a, N: Name, J: Errand> {
     pub(crate) shared: &'a Shared<N, J>,
     /// Its own words of what is shared, so that a call by a hint doesn't look there where they lie.
     pub(crate) hints: HintWords<'a>,
-    pub(crate) thread: RunningThread<N>,
+    pub(crate) own_part: OwnPart<N>,
 }
 
 impl<'a, N: Name, J: Errand> Model for Mutator<'a, N, J> {
-    ghost use Rattle.std.specs.Prelude.{◌≡◌, true};
-    ghost use Rattle.thread_list.specs.Moves.{Running, is_there, owns};
+    ghost use Rattle.std.specs.Prelude.{◌≡◌};
+    ghost use Rattle.thread_list.specs.Moves.{Running};
 
     ghost Value = { Running };
 
-    ghost view = { λ m. m.thread };
+    ghost view = { λ m. m.own_part };
 
-    ghost invariant = { λ m. (m.thread.methods ≡ m.shared.now.methods)
-        × (m.hints ≡ m.shared.now.methods)
-        × (owns m.thread.state ≡ true → is_there m.thread.body ≡ true) };
+    ghost invariant = { λ m. (m.own_part.methods ≡ m.shared.now.methods)
+        × (m.hints ≡ m.shared.now.methods) };
+}
+
+/// Why a thread doesn't enter a method, in the order of the tests.
+#[derive(Clone, Copy, PartialEq, Eq, Debug, Drop)]
+pub enum CallFault {
+    /// It isn't in Java.
+    Illegal(State),
+    NoSuchMethod,
+    /// Its stack has 256 frames.
+    DepthFull,
+}
+
+/// Why a thread doesn't return from a method, in the order of the tests.
+#[derive(Clone, Copy, PartialEq, Eq, Debug, Drop)]
+pub enum ReturnFault {
+    /// It isn't in Java.
+    Illegal(State),
+    EmptyStack,
 }
 
 impl<'a, N: Name, J: Errand> Mutator<'a, N, J> {
@@ -44,7 +60,7 @@ impl<'a, N: Name, J: Errand> Mutator<'a, N, J> {
     pub fn name(&self) -> u64
         ensures { result ≡ self.now.name }
     {
-        self.thread.name()
+        self.own_part.name()
     }
 
     /// The place whose words are the thread's.
@@ -52,14 +68,14 @@ impl<'a, N: Name, J: Errand> Mutator<'a, N, J> {
         ensures value { result ≡ self.now.place }
         ensures bound { result < N.board.places }
     {
-        self.thread.place()
+        self.own_part.place()
     }
 
     /// The thread's state.
     pub fn state(&self) -> State
         ensures { result ≡ self.now.state }
     {
-        self.thread.state()
+        self.own_part.state()
     }
 
     /// Enters a method: by the code of the hint where its entry is found in use, by one load, and otherwise, or without a
@@ -74,7 +90,7 @@ impl<'a, N: Name, J: Errand> Mutator<'a, N, J> {
         ensures same { SameThread self.old self.new }
         ensures err { IfErr result (λ e. (self.new ≡ self.old) × call_refused self.old method e) }
     {
-        self.thread.call(self.shared.board(), method, hint)
+        self.own_part.call(self.shared.board(), method, hint)
     }
 
     /// Enters a method by its hint, the code that was installed for it last, as `call` does: by that code where its entry is found in
@@ -88,7 +104,8 @@ impl<'a, N: Name, J: Errand> Mutator<'a, N, J> {
         ensures err { IfErr result (λ e. (self.new ≡ self.old) × call_refused self.old method e) }
     {
         let (board, slots) = (self.shared.board(), self.shared.slots());
-        self.thread.call_by_hint(board, &self.hints, slots, method)
+        self.own_part
+            .call_by_hint(board, &self.hints, slots, method)
     }
 
     /// Returns from the method of the top frame, and polls: one load.
@@ -99,7 +116,7 @@ impl<'a, N: Name, J: Errand> Mutator<'a, N, J> {
         ensures same { SameThread self.old self.new }
         ensures err { IfErr result (λ e. (self.new ≡ self.old) × return_refused self.old e) }
     {
-        self.thread.ret(self.shared.row())
+        self.own_part.ret(self.shared.row())
     }
 
     /// A back edge of a loop: the thread polls, by one load. A thread that isn't in Java is refused with its state.
@@ -111,7 +128,7 @@ impl<'a, N: Name, J: Errand> Mutator<'a, N, J> {
         ensures err { IfErr result (λ s. (s ≡ self.old.state) × (s ≢ IsInJava)
             × (self.new ≡ self.old)) }
     {
-        self.thread.back_edge(self.shared.row())
+        self.own_part.back_edge(self.shared.row())
     }
 
     /// Publishes the stack: one load of the moment, a step for each code whose counts differ, and a store of the moment that was
@@ -126,7 +143,7 @@ impl<'a, N: Name, J: Errand> Mutator<'a, N, J> {
         ensures err { IfErr result (λ s. (s ≡ self.old.state) × (is_running s ≡ false)
             × (self.new ≡ self.old)) }
     {
-        self.thread.publish(self.shared.board())
+        self.own_part.publish(self.shared.board())
     }
 
     /// From Java into the VM, without a poll. A thread that isn't in Java is refused with its state.
@@ -136,7 +153,7 @@ impl<'a, N: Name, J: Errand> Mutator<'a, N, J> {
         ensures err { IfErr result (λ s. (s ≡ self.old.state) × (s ≢ IsInJava)
             × (self.new ≡ self.old)) }
     {
-        self.thread.to_vm()
+        self.own_part.to_vm()
     }
 
     /// From the VM back into Java: the thread polls, by one load. A thread that isn't in the VM is refused with its state.
@@ -147,6 +164,6 @@ impl<'a, N: Name, J: Errand> Mutator<'a, N, J> {
         ensures err { IfErr result (λ s. (s ≡ self.old.state) × (s ≢ IsInVm)
             × (self.new ≡ self.old)) }
     {
-        self.thread.from_vm(self.shared.row())
+        self.own_part.from_vm(self.shared.row())
     }
 }

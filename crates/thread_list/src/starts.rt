@@ -9,7 +9,7 @@ ghost use Rattle.bodies.specs.Bodies.{BodyView};
 
 use crate::body_state::{BodyState, OwnHand};
 use crate::mutator::Mutator;
-use crate::running_thread::RunningThread;
+use crate::own_part::OwnPart;
 use crate::serving::served;
 use crate::shared::Shared;
 use berths::BodyReceipt;
@@ -46,7 +46,7 @@ impl<N: Name, J: Errand> Shared<N, J> {
         body.publish(self.board());
         let moved_in = berth.move_in(rt, body);
         let (body, crossed) = self.go_on(rt, name, place);
-        let thread = RunningThread {
+        let own_part = OwnPart {
             name,
             place,
             methods: self.methods() as usize,
@@ -58,7 +58,7 @@ impl<N: Name, J: Errand> Shared<N, J> {
         let mutator = Mutator {
             shared: self,
             hints: self.hint_words(),
-            thread,
+            own_part,
         };
         Ok((mutator, receipt))
     }

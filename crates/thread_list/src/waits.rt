@@ -9,15 +9,14 @@ ghost use Rattle.thread_state.specs.declared.Move.TheVariants as movement;
 ghost use Rattle.thread_state.specs.States as table;
 ghost use Rattle.desk.specs.declared.entries.Entry.{Entry};
 ghost use Rattle.thread_list.specs.declared.polls.Poll.TheVariants.{Go as GoesOn};
-ghost use Rattle.thread_list.specs.Moves.{SameThread, SameBody, ComesBack, GoesBack, Gives, IsResumed, IsTurn, IsVacated, IsKept, HasStopped, IsGivenUp, IsGivenUpAfter, as_polled, first_of, is_running, owns};
-ghost use Rattle.thread_list.specs.BodyStates.{state_in, body_in, answer_in, given_in, serves};
+ghost use Rattle.thread_list.specs.Moves.{SameThread, SameBody, ComesBack, GoesBack, Gives, IsResumed, IsTurn, IsVacated, IsKept, HasStopped, IsGivenUp, IsGivenUpAfter, as_polled, first_of, is_running};
+ghost use Rattle.thread_list.specs.BodyStates.{state_in, body_in};
 ghost use Rattle.thread_list.specs.Refused.{exit_refused, HasNoFrame};
 
-use crate::body_state::{BodyState, OwnHand, after_poll, going_on};
-use crate::faults::ExitFault;
+use crate::body_state::{BodyState, OwnHand};
 use crate::mutator::Mutator;
+use crate::own_part::{OwnPart, is_running};
 use crate::polls::{Poll, poll_of};
-use crate::running_thread::{RunningThread, is_running};
 use crate::serving::served;
 use crate::shared::{Exited, Shared};
 use crate::turns::Turn;
@@ -26,6 +25,26 @@ use bodies::{Body, Name};
 use operations::job::Errand;
 use std::sync::Wait;
 use thread_state::{Back, State};
+
+/// Why a thread doesn't exit, in the order of the tests.
+#[derive(Clone, Copy, PartialEq, Eq, Debug, Drop)]
+pub enum ExitFault {
+    /// It isn't in Java or in the VM.
+    Illegal(State),
+    StackNotEmpty,
+}
+
+// A thread with this body goes on where its way back leads.
+#[inline(always)]
+fn going_on<N: Name>(back: Back, body: Body<N>) -> BodyState<N>
+    ensures state { state_in result ≡ table.state_of back }
+    ensures body { body_in result ≡ Some body }
+{
+    match back {
+        Back::Java => BodyState::InJava(body),
+        Back::Vm => BodyState::InVm(body),
+    }
+}
 
 impl<'a, N: Name, J: Errand> Mutator<'a, N, J> {
     /// From Java or the VM into native code, without a poll: the body goes into its berth, where it may be held. A thread that is
@@ -39,14 +58,12 @@ impl<'a, N: Name, J: Errand> Mutator<'a, N, J> {
         ensures err { IfErr result (λ s. (s ≡ self.old.state)
             × (table.step s movement.ToNative ≡ None) × (self.new ≡ self.old)) }
     {
-        let back = match &self.thread.body_state {
+        let back = match &self.own_part.body_state {
             BodyState::InJava(_) => Back::Java,
             BodyState::InVm(_) => Back::Vm,
-            BodyState::AtPoll(_, _)
-            | BodyState::InNative(_)
-            | BodyState::Blocked
-            | BodyState::Given(_, _)
-            | BodyState::Serves(_, _, _) => return Err(self.state()),
+            BodyState::AtPoll(_, _) | BodyState::InNative(_) | BodyState::Blocked => {
+                return Err(self.state());
+            }
         };
         self.give(rt, BodyState::InNative(back));
         Ok(())
@@ -63,7 +80,7 @@ impl<'a, N: Name, J: Errand> Mutator<'a, N, J> {
         ensures err { IfErr result (λ s. (s ≡ self.old.state) × ((back : WayBack)
             → s ≢ IsInNative back) × (self.new ≡ self.old)) }
     {
-        let BodyState::InNative(back) = &self.thread.body_state else {
+        let BodyState::InNative(back) = &self.own_part.body_state else {
             return Err(self.state());
         };
         let back = *back;
@@ -79,7 +96,7 @@ impl<'a, N: Name, J: Errand> Mutator<'a, N, J> {
         ensures err { IfErr result (λ s. (s ≡ self.old.state) × (s ≢ IsInVm)
             × (self.new ≡ self.old)) }
     {
-        let BodyState::InVm(_) = &self.thread.body_state else {
+        let BodyState::InVm(_) = &self.own_part.body_state else {
             return Err(self.state());
         };
         self.give(rt, BodyState::Blocked);
@@ -96,7 +113,7 @@ impl<'a, N: Name, J: Errand> Mutator<'a, N, J> {
         ensures err { IfErr result (λ s. (s ≡ self.old.state) × (s ≢ IsBlocked)
             × (self.new ≡ self.old)) }
     {
-        let BodyState::Blocked = &self.thread.body_state else {
+        let BodyState::Blocked = &self.own_part.body_state else {
             return Err(self.state());
         };
         Ok(self.come_back(rt, Back::Vm))
@@ -116,13 +133,13 @@ impl<'a, N: Name, J: Errand> Mutator<'a, N, J> {
         ensures err { IfErr result (λ s. (s ≡ self.old.state) × ((back : WayBack)
             → s ≢ IsAtPoll back) × (self.new ≡ self.old)) }
     {
-        let BodyState::AtPoll(back, _) = &self.thread.body_state else {
+        let BodyState::AtPoll(back, _) = &self.own_part.body_state else {
             return Err(self.state());
         };
         let back = *back;
-        let body = self.thread.body_state.take_body();
+        let body = self.own_part.body_state.take_body();
         let (body, turn) = served(rt, self.shared, body);
-        self.thread.body_state = going_on(back, body);
+        self.own_part.body_state = going_on(back, body);
         Ok(turn)
     }
 
@@ -130,18 +147,17 @@ impl<'a, N: Name, J: Errand> Mutator<'a, N, J> {
     #[inline(always)]
     fn give<R: Wait>(&mut self, rt: &R, to: BodyState<N>)
         requires running { is_running self.old.state ≡ true }
-        requires safe { (owns (state_in to) ≡ false) × (is_running (state_in to) ≡ false)
-            × (serves (state_in to) ≡ false) }
-        requires away { (body_in to ≡ None) × (answer_in to ≡ None) × (given_in to ≡ None) }
+        requires safe { table.is_safe (state_in to) ≡ true }
+        requires away { body_in to ≡ None }
 
         ensures state { self.new.state ≡ state_in to }
         ensures given { Gives self.old self.new }
         ensures same { SameThread self.old self.new }
     {
-        let body = self.thread.body_state.take_body();
-        self.thread.body_state = to;
+        let body = self.own_part.body_state.take_body();
+        self.own_part.body_state = to;
         let berth = self.shared.berth_of(&body);
-        self.thread.crossed = berth.give(rt, body);
+        self.own_part.crossed = berth.give(rt, body);
     }
 
     // The body comes out of its berth, and the thread polls: it goes on where the way back leads, or stops there.
@@ -151,12 +167,16 @@ impl<'a, N: Name, J: Errand> Mutator<'a, N, J> {
         ensures resumed { IsResumed self.new }
         ensures same { SameThread self.old self.new }
     {
-        let berth = self.shared.berth(self.thread.place);
-        let (outgoing, resumed) = berth.resume(rt, self.thread.name, self.thread.place);
+        let berth = self.shared.berth(self.own_part.place);
+        let (outgoing, resumed) = berth.resume(rt, self.own_part.name, self.own_part.place);
         let mut body = outgoing.in_hand(&OwnHand);
         let found = body.poll(self.shared.row());
-        self.thread.crossed = resumed;
-        self.thread.body_state = after_poll(back, body, found);
+        self.own_part.crossed = resumed;
+        self.own_part.body_state = if found == 0 {
+            going_on(back, body)
+        } else {
+            BodyState::AtPoll(back, body)
+        };
         poll_of(found)
     }
 
@@ -184,15 +204,15 @@ impl<'a, N: Name, J: Errand> Mutator<'a, N, J> {
         if !is_running(state) {
             return Err((ExitFault::Illegal(state), self));
         }
-        if self.thread.depth() != 0 {
+        if self.depth() != 0 {
             return Err((ExitFault::StackNotEmpty, self));
         }
         let Mutator {
             shared,
             hints,
-            thread,
+            own_part,
         } = self;
-        let RunningThread {
+        let OwnPart {
             name,
             place,
             methods,
@@ -200,12 +220,12 @@ impl<'a, N: Name, J: Errand> Mutator<'a, N, J> {
             seat,
             moved_in,
             crossed: _,
-        } = thread;
+        } = own_part;
         let body = body_state.take_body();
         match vacate(rt, shared, body) {
             Ok((vacated, served)) => Ok(shared.enter_exit(rt, vacated, served)),
             Err((body, crossed)) => {
-                let thread = RunningThread {
+                let own_part = OwnPart {
                     name,
                     place,
                     methods,
@@ -217,10 +237,22 @@ impl<'a, N: Name, J: Errand> Mutator<'a, N, J> {
                 let back = Mutator {
                     shared,
                     hints,
-                    thread,
+                    own_part,
                 };
                 Err((ExitFault::StackNotEmpty, back))
             }
+        }
+    }
+
+    // How many frames the stack of the thread has, as far as it has its body.
+    fn depth(&self) -> usize
+        ensures deep { (b : _) → self.now.body ≡ Some b → result ≡ length b.image.frames }
+    {
+        match &self.own_part.body_state {
+            BodyState::InJava(body) => body.depth(),
+            BodyState::InVm(body) => body.depth(),
+            BodyState::AtPoll(_, body) => body.depth(),
+            BodyState::InNative(_) | BodyState::Blocked => 0,
         }
     }
 }

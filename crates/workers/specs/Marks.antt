@@ -13,8 +13,8 @@ use Rattle.interp.specs.declared.mark.Mark.TheVariants as mark
 use Rattle.thread_list.specs.declared.polls.Poll.{Poll}
 use Rattle.thread_list.specs.declared.polls.Poll.TheVariants.{Go}
 use Rattle.thread_list.specs.Moves.{Running, SameThread, Polls, Leaves, ComesBack}
-use Rattle.thread_list.specs.declared.faults.CallFault.{CallFault}
-use Rattle.thread_list.specs.declared.faults.CallFault.TheVariants.{NoSuchMethod}
+use Rattle.thread_list.specs.declared.mutator.CallFault.{CallFault}
+use Rattle.thread_list.specs.declared.mutator.CallFault.TheVariants.{NoSuchMethod}
 use Rattle.thread_list.specs.Refused.{call_refused, return_refused}
 use Rattle.workers.specs.declared.worker.Refused.{Refused}
 use Rattle.workers.specs.declared.worker.Refused.TheVariants as refused

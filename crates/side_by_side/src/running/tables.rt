@@ -41,6 +41,7 @@ impl<'a, N: Name, J: Errand> Tables<'a, N, J> {
     }
 
     pub fn shared(&self) -> &'a Shared<N, J> {
+        let _ = &self.slots;
         self.shared
     }
 
@@ -91,6 +92,7 @@ impl<'a, N: Name, J: Errand> Tables<'a, N, J> {
 
     /// Why the code can't be weighed, or Done where it can.
     pub fn weighable<R: Wait>(&self, rt: &R, serial: u64) -> Said {
+        let _ = &self.slots;
         let desk = self.shared.desk().lock(rt);
         match desk.weigh_fault(serial) {
             None => Said::Done,

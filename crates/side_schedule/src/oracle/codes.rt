@@ -1,10 +1,10 @@
 //! What is called of codes, as events.
 use super::{Made, Oracle};
 use crate::calls::CodeCall;
+use crate::lists::keep;
 use crate::said::Said;
 use frames::CodeId;
 use system::events::Event;
-use test_tools::keep;
 
 impl Oracle {
     /// What the call of a code is to answer.

@@ -1,11 +1,11 @@
 //! `drive`, `drive_four` and `reclaim`, as events.
 use super::{Live, OPEN, Oracle, is_listed};
 use crate::calls::Handshake;
+use crate::lists::keep;
 use crate::said::Said;
 use frames::Frame;
 use system::answers::Refusal;
 use system::events::{Act, Event};
-use test_tools::keep;
 use thread_state::State;
 
 impl Oracle {

@@ -1,12 +1,12 @@
 //! What is called of requests, one step each, as events.
 use super::{Live, Opened, Oracle, Waiting, is_listed};
 use crate::calls::{Handshake, RequestCall, StepCall};
+use crate::lists::keep;
 use crate::losses::Lost;
 use crate::said::Said;
 use operations::{Request, Targets};
 use system::answers::Refusal;
 use system::events::{Act, Event};
-use test_tools::keep;
 use thread_state::State;
 
 impl Opened {

@@ -1,12 +1,12 @@
 //! What a thread calls, as events.
 use super::{Live, OPEN, Oracle, Reply};
 use crate::calls::ThreadCall;
+use crate::lists::keep;
 use crate::losses::Lost;
 use crate::said::Said;
 use frames::CodeId;
 use system::answers::Refusal;
 use system::events::{Act, Event};
-use test_tools::keep;
 use thread_state::State;
 
 impl Oracle {

@@ -1,0 +1,4 @@
+use Rattle.recorded.proofs.random.Given as goal
+
+abbrev pub ghosts-run : goal.ghosts-run
+ghosts-run g a = record { board = a.parts.board; poll_row = a.parts.row }

@@ -1,0 +1,4 @@
+pub mod BodyStates
+pub mod Moves
+pub mod Rooms
+pub mod Refused

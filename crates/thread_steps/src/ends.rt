@@ -1,0 +1,228 @@
+//! The first steps of a thread, and its last.
+ghost use Rattle.std.specs.Prelude.{◌≡◌, ◌≢◌, ◌<◌, ◌==◌, [], ℕ, Some, None, true, false, IfOk, IfErr, OnOk, OnErr, IfSome, IfNone, length};
+ghost use Rattle.berths.specs.Berths.{moved};
+ghost use Rattle.bodies.specs.Bodies.{BodyView, IsPublished};
+ghost use Rattle.frames.specs.Stack.{times};
+ghost use Rattle.frames.specs.declared.CodeId.{CodeId as Code};
+ghost use Rattle.thread_state.specs.declared.Back.TheVariants.{Java as OfJava};
+ghost use Rattle.thread_state.specs.declared.State.TheVariants.{InJava as IsInJava, AtPoll as IsAtPoll};
+ghost use Rattle.thread_list.specs.Moves.{SameThread, IsResumed, IsVacated, IsGivenUp, is_running};
+ghost use Rattle.thread_steps.specs.Moves.{PollsIn};
+ghost use Rattle.thread_list.specs.Refused.{HasNoFrame};
+ghost use Rattle.thread_steps.specs.Rooms.{HasNoSeat, MovesIn, IsVacant};
+ghost use Rattle.thread_steps.specs.Refused.{exit_refused};
+
+use crate::body_state::{BodyState, OwnHand};
+use crate::runner::{Stepper, after_poll};
+use berths::{BodyAct, BodyReceipt, Room};
+use board::Board;
+use bodies::Name;
+use frames::image::Image;
+use operations::job::Errand;
+use poll::PollRow;
+use std::error::Error;
+use std::fmt;
+use std::marker::{Model, PhantomData};
+use thread_list::{Poll, poll_of};
+use thread_state::{Back, State};
+
+/// A thread whose Start is entered, and that hasn't its place yet.
+#[derive(Drop)]
+pub struct Entered<N: Name> {
+    name: u64,
+    place: usize,
+    methods: u32,
+    image: Image,
+    of: PhantomData<N>,
+}
+
+impl<N: Name> Model for Entered<N> {
+    ghost use Rattle.std.specs.Prelude.{◌≡◌, ◌<◌, [], false};
+    ghost use Rattle.thread_steps.specs.Moves.{Starting};
+
+    ghost Value = { Starting };
+
+    ghost view = { λ e. record { name = e.name; place = e.place; methods = e.methods } };
+
+    ghost invariant = { λ e. (0 < e.name) × (e.place < N.board.places)
+        × (e.image ≡ record { frames = []; counted = []; changed = []; publishing = false }) };
+}
+
+impl<N: Name> Entered<N> {
+    pub fn new(name: u64, place: usize, methods: u32, image: Image) -> Entered<N>
+        requires name { 0 < name }
+        requires place { place < N.board.places }
+        requires image { image
+            ≡ record { frames = []; counted = []; changed = []; publishing = false } }
+        ensures { result ≡ record { name = name; place = place; methods = methods } }
+    {
+        Entered {
+            name,
+            place,
+            methods,
+            image,
+            of: PhantomData,
+        }
+    }
+
+    pub fn name(&self) -> u64
+        ensures { result ≡ self.now.name }
+    {
+        let _ = &self.image;
+        self.name
+    }
+
+    pub fn place(&self) -> usize
+        ensures value { result ≡ self.now.place }
+        ensures bound { result < N.board.places }
+    {
+        let _ = &self.image;
+        self.place
+    }
+
+    /// The thread takes its place, makes its first publication, and polls on its way into Java. It comes back where another has the
+    /// place, or the room is of another.
+    pub fn move_in<J: Errand>(
+        self,
+        room: &mut Room<N, J>,
+        board: &Board,
+        row: &PollRow,
+    ) -> Result<Stepper<N>, Entered<N>>
+        requires board { board.now ≡ N.board }
+        requires row { row.now ≡ N.poll_row }
+
+        ensures started { IfOk result
+            (λ r. (r.name ≡ self.name) × (r.place ≡ self.place) × (r.methods ≡ self.methods)) }
+        ensures resumed { IfOk result (λ r. IsResumed r) }
+        ensures polled { IfOk result (λ r. PollsIn r.crossed.body r OfJava) }
+        ensures room { IfOk result (λ r. MovesIn self.name r.crossed room.old room.new) }
+
+        ensures handed_back { IfErr result (λ e. (e ≡ self) × (room.new ≡ room.old)) }
+        ensures taken { OnErr result (HasNoSeat room.old self.place) }
+    {
+        if room.place() != self.place {
+            return Err(self);
+        }
+        let Some((spare, _seat)) = room.start() else {
+            return Err(self);
+        };
+        let Entered {
+            name,
+            place,
+            methods,
+            image,
+            of: _,
+        } = self;
+        let mut body = spare.body(name, image);
+        body.publish(board);
+        let Ok(moved_in) = room.move_in(body) else {
+            unreachable!()
+        };
+        let Some((outgoing, crossed)) = room.resume(name, place) else {
+            unreachable!()
+        };
+        let mut body = outgoing.in_hand(&OwnHand);
+        let found = body.poll(row);
+        let body_state = after_poll(Back::Java, body, found);
+        Ok(Stepper {
+            name,
+            place,
+            methods,
+            body_state,
+            moved_in,
+            crossed,
+        })
+    }
+}
+
+/// Why a thread doesn't exit, in the order of the tests.
+#[derive(Clone, Copy, PartialEq, Eq, Debug, Drop)]
+pub enum ExitFault {
+    /// It isn't in Java or in the VM.
+    Illegal(State),
+    StackNotEmpty,
+    /// Its room doesn't let it go, since something is told to it: it polled, and this is what the poll answered.
+    Told(Poll),
+}
+
+impl fmt::Display for ExitFault {
+    fn fmt<W: fmt::Write>(&self, f: &mut fmt::Formatter<W>) -> fmt::Result {
+        match self {
+            ExitFault::Illegal(state) => write!(f, "not in Java or in the VM, but in {state}"),
+            ExitFault::StackNotEmpty => write!(f, "the stack isn't empty"),
+            ExitFault::Told(_) => write!(f, "something is told to the thread"),
+        }
+    }
+}
+
+impl Error for ExitFault {}
+
+impl<N: Name> Stepper<N> {
+    /// The thread ends: it publishes its empty stack and gives its place up. Answers the receipt of that.
+    pub fn vacate<J: Errand>(
+        self,
+        room: &mut Room<N, J>,
+        board: &Board,
+        row: &PollRow,
+    ) -> Result<BodyReceipt<N>, (ExitFault, Stepper<N>)>
+        requires board { board.now ≡ N.board }
+        requires row { row.now ≡ N.poll_row }
+
+        ensures accepted { OnOk result ((is_running self.state ≡ true) × HasNoFrame self.body) }
+        ensures vacated { IfOk result (λ r. IsVacated self.place self.name r) }
+        ensures given_up { IfOk result (λ r. IsGivenUp self.body r) }
+        ensures vacant { IfOk result (λ r. IsVacant r room.old room.new) }
+
+        ensures same { IfErr result (λ e. SameThread self e.1) }
+        ensures refused { IfErr result (λ e. exit_refused room.old self e.1 e.0) }
+        ensures kept { OnErr result (room.new ≡ room.old) }
+    {
+        let state = self.state();
+        if !matches!(state, State::InJava | State::InVm) {
+            return Err((ExitFault::Illegal(state), self));
+        }
+        if self.depth() != 0 {
+            return Err((ExitFault::StackNotEmpty, self));
+        }
+        let Stepper {
+            name,
+            place,
+            methods,
+            mut body_state,
+            moved_in,
+            crossed,
+        } = self;
+        let mut body = body_state.take_body();
+        body.publish(board);
+        match room.exit(body, board) {
+            Ok(vacated) => Ok(vacated),
+            Err(mut body) => {
+                let found = body.poll(row);
+                let body_state = after_poll(Back::Java, body, found);
+                let back = Stepper {
+                    name,
+                    place,
+                    methods,
+                    body_state,
+                    moved_in,
+                    crossed,
+                };
+                Err((ExitFault::Told(poll_of(found)), back))
+            }
+        }
+    }
+
+    // How many frames the stack of the thread has, as far as it has its body.
+    fn depth(&self) -> usize
+        ensures deep { (b : _) → self.now.body ≡ Some b → result ≡ length b.image.frames }
+    {
+        let _ = &self.name;
+        match &self.body_state {
+            BodyState::InJava(body) => body.depth(),
+            BodyState::InVm(body) => body.depth(),
+            BodyState::AtPoll(_, body) => body.depth(),
+            BodyState::Serves(_, body, _) => body.depth(),
+            BodyState::InNative(_) | BodyState::Blocked | BodyState::Given(_, _) => 0,
+        }
+    }
+}
