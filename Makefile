@@ -86,14 +86,14 @@ edits:
 	@tests/edits.sh $(CRATES)
 
 bench:
-	@tests/build.py monitor running_bench
+	@tests/build.py monitor bench_running
 	@bench/replay.py crates/monitor/out/monitor
-	@bench/running.py crates/running_bench/out/running_bench
-	@bench/scale.py crates/running_bench/out/running_bench
+	@bench/running.py crates/bench_running/out/bench_running
+	@bench/scale.py crates/bench_running/out/bench_running
 
 scale:
-	@tests/build.py running_bench
-	@bench/scale.py crates/running_bench/out/running_bench --plot bench/scale.svg > bench/scale.txt && cat bench/scale.txt
+	@tests/build.py bench_running
+	@bench/scale.py crates/bench_running/out/bench_running --plot bench/scale.svg > bench/scale.txt && cat bench/scale.txt
 
 hostile:
 	@tests/hostile.py
@@ -104,12 +104,12 @@ runs:
 	@tests/refused.py crates/monitor/out/monitor
 
 soak:
-	@tests/build.py soak
-	@tests/soak.py crates/soak/out/soak $(MINUTES)
+	@tests/build.py test_soak
+	@tests/soak.py crates/test_soak/out/test_soak $(MINUTES)
 
 side:
-	@tests/build.py side_by_side
-	@crates/side_by_side/out/side_by_side $(or $(SEEDS),1000) $(FIRST)
+	@tests/build.py differential_threads
+	@crates/differential_threads/out/differential_threads $(or $(SEEDS),1000) $(FIRST)
 
 witness:
 	@tests/build.py monitor safepoint confirm

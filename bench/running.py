@@ -1,7 +1,7 @@
 #!/usr/bin/env python3
 """Times the calls and the stops of running threads: running.py [PROGRAM] [calls|stops ..]
 
-PROGRAM is crates/running_bench/out/running_bench by default; its source says what it measures, kind by kind. Where
+PROGRAM is crates/bench_running/out/bench_running by default; its source says what it measures, kind by kind. Where
 cargo is there, the plain Rust program in twin/ runs the same loops in turn with PROGRAM, and each row has the ratio of
 the two. A row of calls has nanoseconds a turn, the least and the median of seven runs. A row of stops has microseconds,
 the median and the 99th percentile of the stops of thirty-one runs, and of three runs where threads are busy. Where one
@@ -29,7 +29,7 @@ from cores import one_core
 from plain import plain
 
 HERE = pathlib.Path(__file__).resolve().parent
-PROGRAM = HERE.parent / "crates/running_bench/out/running_bench"
+PROGRAM = HERE.parent / "crates/bench_running/out/bench_running"
 
 # What HotSpot's calls for tests and its handshake of all threads take.
 JAVA_FLAGS = ["--add-modules", "jdk.incubator.foreign", "-XX:+UnlockDiagnosticVMOptions", "-XX:+WhiteBoxAPI",

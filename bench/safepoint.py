@@ -1,7 +1,7 @@
 #!/usr/bin/env python3
 """Times the calls and the stops of threads of C: safepoint.py [LIBSAFEPOINT [PROGRAM]] [calls|stops ..]
 
-LIBSAFEPOINT is crates/safepoint/out/libsafepoint.a by default, PROGRAM is crates/running_bench/out/running_bench. Where
+LIBSAFEPOINT is crates/safepoint/out/libsafepoint.a by default, PROGRAM is crates/bench_running/out/bench_running. Where
 PROGRAM is there, it runs the same loops in turn, inside Rattle, and each row has the ratio of the two. A row of calls
 has nanoseconds a turn, the least and the median of seven runs on one core, and how much the least of C exceeds the
 least of PROGRAM. A row of stops has microseconds, the median and the 99th percentile of the stops of three runs. The C
@@ -23,7 +23,7 @@ HERE = pathlib.Path(__file__).resolve().parent
 ROOT = HERE.parent
 CRATE = ROOT / "crates/safepoint"
 LIBRARY = CRATE / "out/libsafepoint.a"
-PROGRAM = ROOT / "crates/running_bench/out/running_bench"
+PROGRAM = ROOT / "crates/bench_running/out/bench_running"
 
 # What, the kind, turns, the argument, and what is wanted at most: so many nanoseconds more, or so many times.
 CALLS = [

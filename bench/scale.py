@@ -1,7 +1,7 @@
 #!/usr/bin/env python3
 """Shows that what a stop costs doesn't grow with what it doesn't touch: scale.py [PROGRAM] [--of PAGE] [--plot FILE]
 
-PROGRAM is crates/running_bench/out/running_bench by default; its source describes its kinds. The script prints
+PROGRAM is crates/bench_running/out/bench_running by default; its source describes its kinds. The script prints
 
 - for stops of threads in native code, microseconds for each thread, from 1 to 64 threads;
 - for the replies of a handshake, an install and a reclaiming (with the handshake of one thread), nanoseconds behind
@@ -25,7 +25,7 @@ import sys
 from looks import said_once
 
 HERE = pathlib.Path(__file__).resolve().parent
-PROGRAM = HERE.parent / "crates/running_bench/out/running_bench"
+PROGRAM = HERE.parent / "crates/bench_running/out/bench_running"
 
 STOPS = [("handshake", 6), ("census", 7), ("reclaim", 8)]
 LATE = [("replies", 20), ("install", 21), ("reclaim", 22)]

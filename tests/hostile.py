@@ -5,7 +5,7 @@ threads  Each test that runs several threads, twenty times. It passes each time,
          same.
 memory   Each test that is made for refused memory, with its first growth refused, with its second, and so on until none
          is. It passes each time, says what was refused, and the growths come to an end where nothing was. Those of
-         `desk_tests` may also end with the error of refused memory. All of these need a C compiler, for the library
+         `test_desk` may also end with the error of refused memory. All of these need a C compiler, for the library
          that refuses the growths: without one each is skipped.
 
 No test that is made for refused memory is left out: each says `no growth was refused` where it runs without refusals,
@@ -36,12 +36,12 @@ MOST_GROWTHS = 2000
 QUIET_GROWTHS = 20
 
 THREADS = {
-    "words_tests": [
+    "test_words": [
         "tests::poll_rows::no_arming_is_lost_to_a_clear",
         "tests::poll_rows::the_armer_is_in_another_thread",
         "tests::stopped::a_publication_is_looked_at_from_another_thread_at_each_boundary",
     ],
-    "running_tests": [
+    "test_running": [
         "tests::threads::four_threads_call_and_return",
         "tests::four::four_are_closed_over_two_running_threads",
         "tests::many::sixty_four_threads_shake_hands_a_thousand_times",
@@ -50,8 +50,8 @@ THREADS = {
         "tests::invalidated::no_call_enters_what_is_seen_invalidated",
         "tests::leaving::a_thread_that_exits_is_gone_or_has_answered",
     ],
-    "workers_tests": ["tests::runs::four_ticks_meet", "tests::runs::codes_are_replaced_while_threads_run"],
-    "commands_tests": [
+    "test_workers": ["tests::runs::four_ticks_meet", "tests::runs::codes_are_replaced_while_threads_run"],
+    "test_cli": [
         "tests::running::four_threads_run_a_loop_of_calls",
         "tests::running::two_ticks_meet",
         "tests::running::refused_memory_prints_nothing",
@@ -60,26 +60,26 @@ THREADS = {
 
 # Those of a list meet the same at each growth.
 MEMORY = {
-    "core_tests": [
+    "test_core": [
         ["tests::codes::want_of_memory_changes_nothing"],
         ["tests::requests::want_of_memory_hands_back"],
     ],
-    "replay_tests": [
+    "test_replay": [
         [
             "tests::refused_memory::refused_memory_leaves_the_answers_before_a_line",
             "tests::refused_memory::refused_memory_leaves_as_many_answers_of_a_block",
         ],
         ["tests::run_of_events::refused_memory_stops_a_run_before_its_event"],
     ],
-    "script_tests": [
+    "test_script": [
         ["tests::refused_memory::refused_memory_is_told"],
         ["tests::refused_memory::refused_memory_leaves_a_beginning"],
     ],
-    "words_tests": [
+    "test_words": [
         ["tests::poll_rows::a_row_is_made_whole_or_not_at_all"],
         ["tests::boards::a_board_is_made_whole_or_not_at_all"],
     ],
-    "desk_tests": [
+    "test_desk": [
         ["tests::sixty_four_requests_wait"],
         ["tests::a_handshake_is_answered_once"],
         ["tests::four_handshakes_are_answered_in_order_and_closed_in_any"],
@@ -89,9 +89,9 @@ MEMORY = {
         ["tests::what_is_forgotten_has_no_replies"],
         ["tests::a_full_history_that_is_forgotten_goes_on"],
     ],
-    "run_tests": [["tests::counted::what_lacks_memory_is_tried_again"]],
-    "parties_tests": [["tests::counted::what_lacks_memory_is_tried_again"]],
-    "commands_tests": [
+    "test_calls": [["tests::counted::what_lacks_memory_is_tried_again"]],
+    "test_parties": [["tests::counted::what_lacks_memory_is_tried_again"]],
+    "test_cli": [
         ["tests::refused_memory_writes_nothing"],
         ["tests::running::refused_memory_prints_nothing"],
     ],
@@ -99,7 +99,7 @@ MEMORY = {
 NONE_REFUSED = "no growth was refused"
 # What a sweep of these tests must meet.
 TO_MEET = {
-    ("parties_tests", "tests::counted::what_lacks_memory_is_tried_again"): [
+    ("test_parties", "tests::counted::what_lacks_memory_is_tried_again"): [
         "a system was refused",
         "k install 0 was refused",
         "a start was refused",
@@ -110,15 +110,15 @@ TO_MEET = {
         "c operate was refused",
         "k reclaim 1 was refused",
     ],
-    ("core_tests", "tests::codes::want_of_memory_changes_nothing"): ["the table was refused", "install 1 was refused"],
-    ("core_tests", "tests::requests::want_of_memory_hands_back"): [
+    ("test_core", "tests::codes::want_of_memory_changes_nothing"): ["the table was refused", "install 1 was refused"],
+    ("test_core", "tests::requests::want_of_memory_hands_back"): [
         f"request {number} was refused" for number in (1, 5, 9, 17)
     ],
-    ("desk_tests", "tests::a_full_history_takes_no_entry"): [
+    ("test_desk", "tests::a_full_history_takes_no_entry"): [
         "the desk was refused",
         "pass 499999 = 499999 was refused",
     ],
-    ("run_tests", "tests::counted::what_lacks_memory_is_tried_again"): [
+    ("test_calls", "tests::counted::what_lacks_memory_is_tried_again"): [
         "a coordinator was refused",
         "install 0 was refused",
         "start was refused",
@@ -127,8 +127,8 @@ TO_MEET = {
         "submit count_of 1 of 1 2 was refused",
         "reclaim 1 depth of 1 2 was refused",
     ],
-    ("commands_tests", "tests::refused_memory_writes_nothing"): ["refused before the check", "refused in the check"],
-    ("commands_tests", "tests::running::refused_memory_prints_nothing"): [
+    ("test_cli", "tests::refused_memory_writes_nothing"): ["refused before the check", "refused in the check"],
+    ("test_cli", "tests::running::refused_memory_prints_nothing"): [
         "refused before the run",
         "refused in the run",
         "refused while threads were started",
@@ -138,7 +138,7 @@ PASSED = "test result: ok"
 
 # The tests of these crates pass, or end with one of the errors: what std answers where a block, or the block of a box,
 # isn't given.
-ENDING = {"desk_tests"}
+ENDING = {"test_desk"}
 ERRORS = ("error: AllocError\n", "error: AllocFailed { .. }\n")
 ENDED = "ended with the error"
 

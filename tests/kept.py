@@ -1,8 +1,8 @@
 """Keeps what the wrong bodies of a crate came to, for the next run over the same text.
 
-A crate's verdicts are kept where each of its edits came to what it must. They hold for one text: of the crate, of all
-crates below it, of their edits, of the scripts that try them, and of the toolchain. Of each crate the last verdicts are
-kept, in $XDG_CACHE_HOME/meqzhuly or ~/.cache/meqzhuly. KEPT=no tries all anew.
+A crate's verdicts are kept if each of its edits came to what it must. They hold for one text: of the crate, of all
+crates below it, of the crate's further edits, of the scripts that try them, and of the program `rattle`. The last
+verdicts of each crate are kept, in $XDG_CACHE_HOME/meqzhuly or ~/.cache/meqzhuly. KEPT=no tries all anew.
 """
 import hashlib
 import json

@@ -606,6 +606,7 @@ static void compare_seen(void) {
         if (all[i].name > above && (!least || all[i].name < least)) least = all[i].name;
     }
     IS(sp_live_after(&coordinator, (uint64_t)above), least);
+    IS(sp_open_kind(&coordinator), !opens ? SP_NONE : is_census() ? SP_CENSUS : SP_HANDSHAKE);
     compare_replies((int64_t)drawn((uint64_t)asked + 2), (int64_t)drawn((uint64_t)names + 2));
     if (reply_count) compare_replies(replies[reply_count - 1].operation, replies[reply_count - 1].name);
 }

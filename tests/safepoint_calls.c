@@ -30,6 +30,7 @@ static void no_party_does_nothing(void) {
     IS(sp_back_edge(&none), SP_NOT_THIS);
     IS(sp_target(&none, 1), SP_NOT_THIS);
     IS(sp_submit(&none, SP_DEPTH, 0), SP_NOT_THIS);
+    IS(sp_open_kind(&none), SP_NOT_THIS);
     IS(sp_open(&none), SP_NOT_THIS);
     sp_free(&none);
     IS(none.made, 0);
@@ -145,6 +146,7 @@ static void codes_are_installed(void) {
 
 static void requests_are_refused(void) {
     IS(sp_open(&c), SP_QUEUE_EMPTY);
+    IS(sp_open_kind(&c), SP_NONE);
     IS(sp_tell(&c, 1), SP_NOTHING_OPEN);
     IS(sp_hold(&c, 0), SP_NOTHING_OPEN);
     IS(sp_close(&c), SP_NOTHING_OPEN);
@@ -165,7 +167,11 @@ static void a_thread_serves_itself(void) {
     IS(sp_target(&d, 1), 0);
     IS(sp_submit(&d, SP_DEPTH, 0), 1);
     IS(sp_reply(&d, 1, 1), SP_NOT_ANSWERED);
+    IS(sp_open_kind(&c), SP_NONE);
     IS(sp_open(&c), 1);
+    IS(sp_open_kind(&c), SP_HANDSHAKE);
+    IS(sp_open_kind(&a), SP_HANDSHAKE);
+    IS(sp_open_kind(&d), SP_HANDSHAKE);
     IS(sp_back_edge(&a), 0);
     IS(sp_tell(&c, 2), SP_NOT_OF);
     IS(sp_hold(&c, 0), SP_NOT_TOLD);
@@ -186,7 +192,9 @@ static void a_thread_serves_itself(void) {
     IS(sp_hold(&c, 0), SP_ALREADY_DONE);
     IS(sp_operate(&c), SP_NOT_OF);
     IS(sp_close_of(&c, 7), SP_NOT_OF);
+    IS(sp_open_kind(&c), SP_HANDSHAKE);
     IS(sp_close(&c), 1);
+    IS(sp_open_kind(&c), SP_NONE);
     IS(sp_reply(&d, 1, 1), 2);
     IS(sp_reply(&d, 1, 2), SP_NOT_ANSWERED);
 }
@@ -224,6 +232,8 @@ static void a_held_thread_is_served(void) {
 static void a_census_is_operated(void) {
     IS(sp_census(&d), 3);
     IS(sp_open(&c), 3);
+    IS(sp_open_kind(&c), SP_CENSUS);
+    IS(sp_open_kind(&d), SP_CENSUS);
     IS(sp_start(&d), SP_SAFEPOINT_OPEN);
     IS(sp_tell(&c, 1), 3);
     IS(sp_tell(&c, 2), 3);
@@ -239,6 +249,7 @@ static void a_census_is_operated(void) {
     IS(sp_hold(&c, 1), 3);
     IS(sp_operate(&c), 3);
     IS(sp_operate(&c), SP_ALREADY_DONE);
+    IS(sp_open_kind(&c), SP_CENSUS);
     IS(sp_counted(&c, 1), 1);
     IS(sp_counted(&c, 2), 1);
     IS(sp_counted(&c, 3), 0);
@@ -260,6 +271,7 @@ static void four_are_open(void) {
     IS(sp_target(&d, 2), 0);
     IS(sp_submit(&d, SP_DEPTH, 0), 8);
     IS(sp_open(&c), SP_ALREADY_OPEN);
+    IS(sp_open_kind(&c), SP_HANDSHAKE);
     for (int64_t number = 4; number < 8; number++) IS(sp_tell(&c, 2), number);
     IS(sp_tell(&c, 2), SP_ALREADY_TOLD);
     IS(sp_back_edge(&b), 7);
@@ -279,6 +291,7 @@ static void four_are_open(void) {
 static void the_queue_is_full(void) {
     for (int waiting = 0; waiting < 64; waiting++) IS(sp_census(&d), 9 + waiting);
     IS(sp_census(&d), SP_QUEUE_FULL);
+    IS(sp_open_kind(&c), SP_NONE);
     IS(sp_reclaim_begin(&d, 1), SP_ALREADY_OPEN);
 }
 
@@ -302,6 +315,7 @@ static void a_code_is_reclaimed(void) {
     IS(sp_target(&one, 1), 0);
     IS(sp_reclaim_begin(&one, 1), 1);
     IS(sp_open(&one), 1);
+    IS(sp_open_kind(&one), SP_HANDSHAKE);
     IS(sp_tell(&one, 1), 1);
     IS(sp_back_edge(&thread), 1);
     IS(sp_stop_next(&thread), 1);

@@ -5,6 +5,8 @@
 
 #include "safepoint.hpp"
 
+using Kind = safepoint::Party::Kind;
+
 int main() {
     constexpr int threads = 3, rounds = 100;
     safepoint::System system(8, 16, 4);
@@ -27,9 +29,18 @@ int main() {
     for (int i = 0; i < rounds; i++) {
         auto names = system.live();
         auto operation = system.submit(names);
+        failed += system.open_kind() != Kind::none;
+        if (i % 2) {
+            safepoint::wait([&] { return sp_open(system.get()); });
+            failed += system.open_kind() != Kind::handshake;
+        }
         failed += system.drive(callback) != operation || ran != (i + 1) * threads;
         for (auto name : names) failed += system.reply(operation, name) > 1;
     }
+    auto census = system.census();
+    safepoint::wait([&] { return sp_open(system.get()); });
+    failed += system.open_kind() != Kind::census;
+    failed += system.drive() != census || system.open_kind() != Kind::none;
     ends = true;
     for (auto &thread : all) thread.join();
     try {

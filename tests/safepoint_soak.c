@@ -213,13 +213,25 @@ static void release_all(void) {
     }
 }
 
+/* Operates the open census, where all that live are held. */
+static void operate(void) {
+    int64_t answer;
+    SP_WAIT(answer, sp_operate(&coordinator));
+    if (answer == SP_NOT_ALL_HELD) return;
+    must("sp_operate", answer);
+    atomic_fetch_add(&censuses, 1);
+    release_all();
+}
+
 /* The oldest request, by the calls of safepoint.h alone. */
 static void drive_by_steps(void) {
     struct sp_pause pause = {0, 0};
-    int64_t number, answer, name = 0, told;
+    int64_t number, kind, answer, name = 0, told;
     SP_WAIT(number, sp_open(&coordinator));
     if (number == SP_QUEUE_EMPTY) return;
     must("sp_open", number);
+    SP_WAIT(kind, sp_open_kind(&coordinator));
+    if (kind != SP_HANDSHAKE && kind != SP_CENSUS) fail("sp_open_kind", kind);
     for (;;) {
         SP_WAIT(name, sp_live_after(&coordinator, (uint64_t)name));
         if (must("sp_live_after", name) == 0) break;
@@ -227,10 +239,8 @@ static void drive_by_steps(void) {
         if (told != number && told != 0 && told != SP_NOT_OF) fail("sp_tell", told);
     }
     for (;;) {
-        SP_WAIT(answer, sp_operate(&coordinator));
-        if (answer > 0) atomic_fetch_add(&censuses, 1);
-        if (answer > 0) release_all();
-        hold_and_serve(answer == SP_NOT_ALL_HELD);
+        if (kind == SP_CENSUS) operate();
+        hold_and_serve(kind == SP_CENSUS);
         sp_ring();
         SP_WAIT(answer, sp_close_of(&coordinator, (uint64_t)number));
         if (answer == number) return;

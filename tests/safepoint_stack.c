@@ -101,6 +101,7 @@ BODY(install, sp_install(at, (uint32_t)n))
 BODY(invalidate, sp_invalidate(at, n))
 BODY(reply, sp_reply(at, n, 1))
 BODY(live_after, sp_live_after(at, n))
+BODY(open_kind, sp_open_kind(at))
 BODY(forget, sp_forget(at))
 BODY(open, sp_open(at))
 BODY(tell, sp_tell(at, n))
@@ -155,6 +156,7 @@ static void by_hand(void) {
     for (int i = 0; i < PLACES; i++) ON(target, &client, (uint64_t)i + 1, 0);
     ON(submit, &client, 0, 1);
     ON(open, &coordinator, 0, 1);
+    ON(open_kind, &client, 0, SP_HANDSHAKE);
     for (int i = 0; i < PLACES; i++) ON(tell, &coordinator, (uint64_t)i + 1, 1);
     ON(back_edge, thread, 0, 1);
     ON(stop_next, thread, 0, 1);
@@ -181,6 +183,7 @@ static void of_all(void) {
     ON(to_native, &threads[0], 0, 0);
     ON(census, &client, 0, 4);
     ON(open, &coordinator, 0, 4);
+    ON(open_kind, &coordinator, 0, SP_CENSUS);
     for (int i = 0; i < PLACES; i++) ON(tell, &coordinator, (uint64_t)i + 1, 4);
     for (int i = 0; i < PLACES; i++) ON(hold, &coordinator, (uint64_t)i, 4);
     ON(operate, &coordinator, 0, 4);

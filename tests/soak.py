@@ -1,10 +1,10 @@
 #!/usr/bin/env python3
 """Runs threads hard over what they share, with one seed after the other: soak.py PROGRAM [MINUTES [FIRST]]
 
-PROGRAM is the built program of the crate `soak`. Each seed, from FIRST on (1 unless told otherwise), is one run on 2,
-3, 8, 16 or 64 threads by turns; in the runs of even seeds what is closed is forgotten now and then. It stops by itself
-after so many minutes (10 unless told otherwise), or at the first run that went wrong, which it names with its words. A
-run that hasn't ended after so many seconds has gone wrong too.
+PROGRAM is the built program of the crate `test_soak`. Each seed, from FIRST on (1 unless told otherwise), is one run
+on 2, 3, 8, 16 or 64 threads by turns; in the runs of even seeds what is closed is forgotten now and then. It stops by
+itself after so many minutes (10 unless told otherwise), or at the first run that went wrong, which it names with its
+words. A run that hasn't ended after so many seconds has gone wrong too.
 The last line is `N passed, N failed, N skipped`; the status is 0 where none failed.
 """
 import subprocess

@@ -6,14 +6,14 @@ witness.py LIBSAFEPOINT MONITOR [SEEDS] [--liars] [--many N [FIRST]]
 | what | how |
 |---|---|
 | `witness_threads.c`, SEEDS seeds (3 without a number) for some counts of threads | with futex and condition |
-| `crates/recorded` with SEEDS seeds for some counts of threads | recorded by `recorder` |
+| `crates/test_soak` with SEEDS seeds for some counts of threads | recorded by `recorder` |
 | `examples/jit` runs for a moment, and `timeline` draws it | recorded |
 | each log has an order | `witness --order`; MONITOR answers its lines as the log says, and `confirm` writes them |
 | logs by hand in `calls`, texts that are no logs, and bad words | what `witness` says of each is what it must say |
 | --liars: the recorder hears lies | each kind is found out within ten runs |
 | --many N FIRST: N runs of 2 to 16 threads, from number FIRST (0) on | each has an order; calls a second, the slowest |
 
-What can't run for want of a C compiler, or since `recorded`, `timeline` or `confirm` isn't built, is skipped by name.
+What can't run for want of a C compiler, or since `test_soak`, `timeline` or `confirm` isn't built, is skipped by name.
 The last line is `N passed, N failed, N skipped`; the status is 0 where none failed.
 """
 import pathlib
@@ -37,9 +37,9 @@ from search import FOUND, Search
 
 CONFIRM = ROOT / "crates" / "confirm" / "out" / "confirm"
 TIMELINE = ROOT / "crates" / "timeline" / "out" / "timeline"
-RECORDED = ROOT / "crates" / "recorded" / "out" / "recorded"
+SOAK = ROOT / "crates" / "test_soak" / "out" / "test_soak"
 # Threads and rounds of its runs.
-RECORDED_RUNS = ((1, 40), (2, 24), (3, 24), (6, 10), (16, 4))
+SOAK_RUNS = ((1, 40), (2, 24), (3, 24), (6, 10), (16, 4))
 # Where the log of a run goes that has no order.
 OUT = ROOT / "out"
 # Threads and seconds of a run of examples/jit.
@@ -272,11 +272,11 @@ def recorded(tests, seeds):
 
 
 def recorded_in_rattle(tests, seeds):
-    runs = [(*run, seed) for seed in range(1, seeds + 1) for run in RECORDED_RUNS]
+    runs = [(*run, seed) for seed in range(1, seeds + 1) for run in SOAK_RUNS]
     names = [f"recorded, {count} threads, seed {seed}" for count, _, seed in runs]
-    if tests.is_built(RECORDED, *names):
+    if tests.is_built(SOAK, *names):
         for name, run in zip(names, runs):
-            tests.judge(name, tests.fault_of(tests.log(RECORDED, *run)))
+            tests.judge(name, tests.fault_of(tests.log(SOAK, *run, "record")))
 
 
 def jit(tests):

@@ -252,10 +252,22 @@ static void drive_all(void) {
     while (must("sp_drive_four", sp_drive_four(&coordinator, at_safe_point, NULL))) continue;
 }
 
+/* An Operate before anybody is held for it: it is refused by the kind of what is open, but where nobody lives whom a census waits for. */
+static void operate_too_early(void) {
+    int64_t kind, answer;
+    SP_WAIT(kind, sp_open_kind(&coordinator));
+    SP_WAIT(answer, sp_operate(&coordinator));
+    if (kind == SP_NONE) refused("sp_operate", answer, SP_NOTHING_OPEN);
+    if (kind == SP_HANDSHAKE) refused("sp_operate", answer, SP_NOT_OF);
+    if (kind == SP_CENSUS && answer < 0) refused("sp_operate", answer, SP_NOT_ALL_HELD);
+}
+
 static void census(void) {
     int64_t answer;
     SP_WAIT(answer, sp_census(&coordinator));
     if (answer != SP_QUEUE_FULL) must("sp_census", answer);
+    SP_WAIT(answer, sp_open(&coordinator));
+    operate_too_early();
     drive();
 }
 
@@ -292,6 +304,7 @@ static void work_by_hand(void) {
     for (uint64_t i = 1 + drawn(&coordinator_random, 3); i; i--) submit(true);
     do SP_WAIT(answer, sp_open(&coordinator));
     while (answer > 0);
+    operate_too_early();
     tell_all();
     for (int turn = 0; turn < 3; turn++)
         for (size_t place = 0; place < (size_t)count; place++) hold_by_hand(place, turn > 0);

@@ -8,7 +8,7 @@ import jdk.incubator.foreign.ResourceScope;
 import sun.hotspot.WhiteBox;
 
 /**
- * Times stops of HotSpot 17: Stops KIND THREADS STOPS ARG, with the words of running_bench, prints nanoseconds of each stop.
+ * Times stops of HotSpot 17: Stops KIND THREADS STOPS ARG, with the words of bench_running, prints nanoseconds of each stop.
  *
  * KIND 6 is a handshake of all threads, 7 an operation at a safepoint, 8 a method's code invalidated and freed. Where ARG is 1 the
  * threads are parked, which HotSpot takes as it takes native code; else each runs a loop with a poll. It stops after six seconds.

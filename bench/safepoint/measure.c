@@ -1,5 +1,5 @@
 /* How long the calls and the stops of safepoint.h take: measure KIND THREADS TURNS ARG prints times in nanoseconds, separated by spaces, and
-   nothing else. The kinds, their loops and what they answer are those of crates/running_bench, which makes them in Rattle: bench/safepoint.py
+   nothing else. The kinds, their loops and what they answer are those of crates/bench_running, which makes them in Rattle: bench/safepoint.py
    runs the two in turn. */
 #include <pthread.h>
 #include <stdatomic.h>

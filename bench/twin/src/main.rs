@@ -1,4 +1,4 @@
-//! `twin KIND THREADS ITERS ARG [packed|sorted|16yields]`: the loops of `running_bench` over the same protocol in plain Rust, without proofs. It
+//! `twin KIND THREADS ITERS ARG [packed|sorted|16yields]`: the loops of `bench_running` over the same protocol in plain Rust, without proofs. It
 //! prints times in ns, separated by spaces.
 
 // What only the product answers with is written here and read by nobody.

@@ -40,6 +40,7 @@ mod thread;
 mod waiting;
 
 pub use callback::Served;
+pub use party::Kind;
 pub use refusal::Refusal;
 pub use system::{Ask, Reclaimed, Safepoints};
 pub use thread::{Client, Thread};

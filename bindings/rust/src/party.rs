@@ -1,8 +1,17 @@
 //! A party to a system.
 use crate::refusal::Refusal;
 use crate::sys;
-use crate::waiting::answer;
+use crate::waiting::{answer, wait};
 use std::ptr;
+
+/// Of which kind a request is.
+#[derive(Clone, Copy, Debug, PartialEq, Eq)]
+pub enum Kind {
+    /// A handshake with some threads.
+    Handshake,
+    /// A census of all threads.
+    Census,
+}
 
 /// A party to a system, which is freed with it. It may move: no call keeps where its two words are.
 #[derive(Debug)]
@@ -23,6 +32,14 @@ impl Party {
         let mut other = Party::none();
         answer(unsafe { sys::sp_fork(&mut self.0, &mut other.0) })?;
         Ok(other)
+    }
+
+    pub fn open_kind(&mut self) -> Result<Option<Kind>, Refusal> {
+        Ok(match wait(|| unsafe { sys::sp_open_kind(self.at()) })? {
+            0 => None,
+            1 => Some(Kind::Handshake),
+            _ => Some(Kind::Census),
+        })
     }
 
     pub fn at(&mut self) -> *mut sys::Party {

@@ -44,6 +44,7 @@ extern "C" {
     pub fn sp_invalidate(party: *mut Party, serial: u64) -> i64;
     pub fn sp_reply(party: *mut Party, operation: u64, name: u64) -> i64;
     pub fn sp_live_after(party: *mut Party, name: u64) -> i64;
+    pub fn sp_open_kind(party: *mut Party) -> i64;
     pub fn sp_forget(party: *mut Party) -> i64;
     pub fn sp_counted(coordinator: *mut Party, serial: u64) -> i64;
 }

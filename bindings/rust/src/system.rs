@@ -1,6 +1,6 @@
 //! A system of threads, as its coordinator.
 use crate::callback::{with_callback, Served};
-use crate::party::Party;
+use crate::party::{Kind, Party};
 use crate::refusal::Refusal;
 use crate::sys;
 use crate::thread::Client;
@@ -101,6 +101,11 @@ impl Safepoints {
             }
             names.push(last);
         }
+    }
+
+    /// Of which kind the open requests are; None where nothing is open.
+    pub fn open_kind(&mut self) -> Result<Option<Kind>, Refusal> {
+        self.party.open_kind()
     }
 
     /// Forgets the entries of the history so far, and the replies of operations that are closed.

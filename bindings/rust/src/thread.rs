@@ -1,6 +1,6 @@
 //! The threads of a system.
 use crate::callback::{with_callback, Ran, Served};
-use crate::party::Party;
+use crate::party::{Kind, Party};
 use crate::refusal::Refusal;
 use crate::sys;
 use crate::waiting::answer;
@@ -19,6 +19,11 @@ pub struct Client {
 impl Client {
     pub(crate) fn of(party: Party) -> Client {
         Client { party }
+    }
+
+    /// Of which kind the open requests are; None where nothing is open.
+    pub fn open_kind(&mut self) -> Result<Option<Kind>, Refusal> {
+        self.party.open_kind()
     }
 
     /// Starts the calling thread, with the callback that it runs for each operation that it serves itself.

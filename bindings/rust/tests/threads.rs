@@ -1,5 +1,5 @@
 //! Threads with callbacks, beside a coordinator.
-use safepoint::{Ask, Client, Reclaimed, Refusal, Safepoints, Served, Thread};
+use safepoint::{Ask, Client, Kind, Reclaimed, Refusal, Safepoints, Served, Thread};
 use std::cell::Cell;
 use std::panic::{catch_unwind, resume_unwind, AssertUnwindSafe};
 use std::sync::atomic::{AtomicBool, AtomicU64, Ordering};
@@ -43,6 +43,50 @@ fn refusals_have_texts() {
     assert_eq!(system.drive(|_| {}).unwrap_err(), Refusal::QueueEmpty);
     assert_eq!(system.drive_four(|_| {}).unwrap(), 0);
     assert_eq!(system.reclaim(1, |_| {}).unwrap_err(), Refusal::Unknown);
+}
+
+/// The only thread doesn't poll until another party has seen what is open, so the drive can't end before.
+fn assert_is_seen_open(
+    system: &mut Safepoints,
+    kind: Kind,
+    submit: impl FnOnce(&mut Safepoints, u64),
+) {
+    let (mut looking, client) = (system.client().unwrap(), system.client().unwrap());
+    let (ready, started) = mpsc::channel();
+    let ends = Ends::default();
+    thread::scope(|scope| {
+        let _ends_here = ends.at_the_end();
+        let ends = &ends;
+        scope.spawn(move || {
+            let mut thread = client.start(|_| {}).unwrap();
+            ready.send(thread.name()).unwrap();
+            while !ends.has_come() {
+                thread::yield_now();
+            }
+            thread.poll().unwrap();
+        });
+        submit(system, started.recv().unwrap());
+        assert_eq!(looking.open_kind(), Ok(None));
+        scope.spawn(move || {
+            let _ends_here = ends.at_the_end();
+            while looking.open_kind() != Ok(Some(kind)) {
+                thread::yield_now();
+            }
+        });
+        system.drive(|_| {}).unwrap();
+        assert_eq!(system.open_kind(), Ok(None));
+    });
+}
+
+#[test]
+fn the_kind_of_what_is_open_is_told() {
+    let mut system = Safepoints::new(1, 1, 1).unwrap();
+    assert_is_seen_open(&mut system, Kind::Handshake, |system, name| {
+        system.submit(&[name], Ask::Depth).unwrap();
+    });
+    assert_is_seen_open(&mut system, Kind::Census, |system, _name| {
+        system.census().unwrap();
+    });
 }
 
 #[test]

@@ -1,7 +1,7 @@
--- Those that wait at a berth.
+-- Threads that wait at a berth.
 use Rattle.std.specs.Prelude.{ℕ, Bool}
 
--- at the berth of which place, and whether one waited there
+-- the place of the berth, and whether a thread waited there
 pub record WaitersSeen : Type 0 where
   pub place : ℕ
   pub waits : Bool

@@ -1,47 +1,47 @@
-//! A berth: where a thread's body is while the thread doesn't own itself.
+//! A berth keeps a thread's body while the thread is in a safe state and nobody holds the body.
 ghost use Rattle.std.specs.Prelude.{◌≡◌, ◌≢◌, ◌⊎◌, ◌<◌, ◌^◌, ◌||◌, [], false, Ok, Some, OnOk, IfOk, IfErr, IfSome};
 ghost use Rattle.frames.specs.ImageView.{IsCounted};
 ghost use Rattle.berths.specs.Berths.{acted, moved};
 ghost use Rattle.berths.specs.Turns.{ComesOut, TriesTurn};
 
-use crate::due::Due;
 use crate::locked;
-use crate::outgoing::{Outgoing, OutgoingSeat};
 use crate::room::{
-    BerthAct, BerthReceipt, BodyAct, BodyReceipt, CountsSleepers, NotBack, Outing, Room,
-    SeatReceipt,
+    BerthAct, BerthReceipt, BodyAct, BodyReceipt, CountsSleepers, NotBack, Room, SeatReceipt,
+    StopReceipt,
 };
+use crate::taken_body::{OutgoingSeat, TakenBody};
+use crate::taken_job::TakenJob;
 use crate::waiters::Waiters;
 use board::Board;
 use bodies::{Body, Name};
-use operations::job::Errand;
+use operations::job::HandshakeOp;
 use std::marker::Model;
 use std::sync::{Condvar, Mutex, MutexGuard, Wait};
 use std::thread;
 
-// How often a thread that has stopped yields before it sleeps: a stop is mostly over within that, and who has to be woken costs the
-// coordinator more than all else that it does for a thread.
+// How often a stopped thread yields before it sleeps. Most stops end within that time, and waking a sleeping thread costs the coordinator
+// more than all its other work for that thread.
 const YIELDS: u32 = 32;
 
-// What a stop changes lies at the front of `room`. Behind that come the list of the later jobs, at its end, then the bell, so many words,
-// and the place of the next berth: more than a line of the cache before the room of that one.
+// The fields that a stop changes are at the front of `room`. The list of the later jobs is at the end of `room`, followed by the bell,
+// `APART` words and the place of the next berth: together more than a cache line before the room of the next berth.
 const APART: usize = 4;
 
-/// A room under a lock, and a bell that rings for those that wait for a change of it. Each call takes this lock, and none another, and
-/// answers the receipt of what it did there, or what came out. Contracts see the place that it was made for.
+/// A room under a lock, and a bell that rings for the threads that wait for a change of the room. Each call takes this lock and no other.
+/// It returns the receipt of what it did under the lock, or what it took out. Contracts see the place that the berth was made for.
 ///
-/// `give`, `turn`, `release_quietly` and `resume` try once in line, and only their further tries are a call: the first nearly always
-/// succeeds, and what a call of the loop answers would go through memory. So does `bring_idle`, whose caller goes on with `bring`.
+/// `give`, `turn`, `release_quietly` and `resume` inline their first try, which nearly always succeeds. Only the further tries are a call,
+/// since the result of a called loop would go through memory. `bring_idle` also tries once inline, and its caller continues with `bring`.
 #[derive(Drop)]
-pub struct Berth<N: Name, J: Errand> {
+pub struct Berth<N: Name, J: HandshakeOp> {
     place: usize,
     room: Mutex<Room<N, J>>,
     bell: Condvar,
-    /// Keeps what changes in the next berth out of the lines of this one: each is of another thread.
+    /// Keeps the changing fields of the next berth out of the cache lines of this one, since each berth is of another thread.
     apart: [u64; APART],
 }
 
-impl<N: Name, J: Errand> Model for Berth<N, J> {
+impl<N: Name, J: HandshakeOp> Model for Berth<N, J> {
     ghost use Rattle.std.specs.Prelude.{ℕ};
 
     ghost Value = { ℕ };
@@ -49,29 +49,30 @@ impl<N: Name, J: Errand> Model for Berth<N, J> {
     ghost view = { λ b. b.place };
 }
 
-/// What came out of a berth for a thread that has stopped.
-pub struct CameOut<N: Name, J: Errand> {
-    pub body: Outgoing<N>,
-    /// The oldest job that was told to it.
-    pub told: Option<Due<J>>,
-    /// That the body went in, and came out.
-    pub outing: Outing<N>,
-    /// Whether the thread slept or has woken another.
+/// What a stopped thread takes out of its berth.
+pub struct CameOut<N: Name, J: HandshakeOp> {
+    pub body: TakenBody<N>,
+    /// The thread's oldest pending job, if there is one.
+    pub told: Option<TakenJob<J>>,
+    /// The receipts that the body went in and came out.
+    pub outing: StopReceipt<N>,
+    /// Whether the thread slept or woke another thread.
     pub changed: bool,
 }
 
-// What one try of a turn comes to.
-enum Tried<N: Name, J: Errand> {
+// The result of one try of a turn.
+enum Tried<N: Name, J: HandshakeOp> {
     CameOut(CameOut<N, J>, Waiters<N>),
-    // The body went in, and a census keeps it.
+    // The body went in, and a pending census keeps it there.
     Kept(BodyReceipt<N>, Waiters<N>),
-    // It didn't go in.
+    // The body didn't go in.
     Refused(Body<N>),
 }
 
-// The body that its thread gave comes out of the room of this place to serve, where it is there and no census keeps it.
+// Takes a body, which its thread gave, out of the room of this place, to serve, if the body is there and no census is pending. Otherwise
+// the receipt comes back.
 #[inline(always)]
-fn come_out<N: Name, J: Errand>(
+fn come_out<N: Name, J: HandshakeOp>(
     room: &mut Room<N, J>,
     place: usize,
     given: BodyReceipt<N>,
@@ -94,7 +95,7 @@ fn come_out<N: Name, J: Errand>(
     Ok((out, room.waiters()))
 }
 
-// Tries further, after a try that failed: other threads run before each.
+// Retries after a failed try. Yields to other threads before each retry.
 #[inline(never)]
 fn tried_further<R: Wait, B, T, F: Fn(B) -> Result<T, B>>(rt: &R, back: B, attempt: F) -> T
     requires callable { F.pre attempt back }
@@ -112,7 +113,7 @@ fn tried_further<R: Wait, B, T, F: Fn(B) -> Result<T, B>>(rt: &R, back: B, attem
     unreachable!()
 }
 
-// Sleeps until the bell rings. It notes itself under the lock that it gives up, so no ring from then on is missed.
+// Sleeps until the bell rings. The thread counts itself as a sleeper under the lock that the wait releases, so it misses no later ring.
 fn sleep<R: Wait, V: CountsSleepers>(rt: &R, bell: &Condvar, value: MutexGuard<'_, V>) {
     let mut value = value;
     value.note_sleeper(true);
@@ -120,8 +121,8 @@ fn sleep<R: Wait, V: CountsSleepers>(rt: &R, bell: &Condvar, value: MutexGuard<'
     value.note_sleeper(false);
 }
 
-// Looks under the lock until the look finds something, and sleeps before each further one. It looks under the lock under which it
-// notes itself, so no change is missed.
+// Looks under the lock until the look finds something, and sleeps before each further look. The thread looks under the lock under which it
+// counts itself as a sleeper, so it misses no change.
 #[inline(never)]
 fn awaited<R: Wait, V: CountsSleepers, T, F: Fn(&mut V) -> Option<T>>(
     rt: &R,
@@ -142,8 +143,8 @@ fn awaited<R: Wait, V: CountsSleepers, T, F: Fn(&mut V) -> Option<T>>(
     unreachable!()
 }
 
-impl<N: Name, J: Errand> Berth<N, J> {
-    /// The berth of this room.
+impl<N: Name, J: HandshakeOp> Berth<N, J> {
+    /// Makes the berth of this room.
     pub fn new(room: Room<N, J>) -> Berth<N, J>
         ensures { result ≡ room.place }
     {
@@ -161,7 +162,7 @@ impl<N: Name, J: Errand> Berth<N, J> {
         &self.room
     }
 
-    // Wakes those that wait for a change, where there are any, and answers whether there are.
+    // Wakes the threads that wait for a change. Returns whether there are any.
     #[inline(always)]
     pub(crate) fn ring(&self, waiters: Waiters<N>) -> bool
         ensures { result ≡ waiters.waits }
@@ -189,7 +190,7 @@ impl<N: Name, J: Errand> Berth<N, J> {
         Ok((receipt, room.waiters()))
     }
 
-    /// The body goes in.
+    /// Puts the body in. Retries while the room refuses it.
     #[inline(always)]
     pub fn give<R: Wait>(&self, rt: &R, body: Body<N>) -> BodyReceipt<N>
         requires body { (body.seat.stored ≢ 0) × (0 < body.name) }
@@ -218,7 +219,7 @@ impl<N: Name, J: Errand> Berth<N, J> {
         Ok((receipt, room.waiters()))
     }
 
-    /// Name and body of a thread that starts go in.
+    /// Puts in the name and the body of a starting thread. Retries while the room refuses them.
     pub fn move_in<R: Wait>(&self, rt: &R, body: Body<N>) -> BodyReceipt<N>
         requires body { (body.seat.stored ≢ 0) × (0 < body.name) }
         ensures { result ≡ moved body BodyAct.MovedIn }
@@ -248,7 +249,8 @@ impl<N: Name, J: Errand> Berth<N, J> {
         Ok((receipt, room.waiters()))
     }
 
-    /// A held body goes back. Where a census was operated over it, nothing keeps the thread any more.
+    /// Puts a held body back, and wakes the threads that wait here. `operated` says that a census has run over the body: that census is no
+    /// longer pending, and nothing keeps the thread any more.
     #[inline(always)]
     pub fn release<R: Wait>(&self, rt: &R, body: Body<N>, operated: bool) -> BodyReceipt<N>
         requires body { (body.seat.stored ≢ 0) × (0 < body.name) }
@@ -259,7 +261,8 @@ impl<N: Name, J: Errand> Berth<N, J> {
         receipt
     }
 
-    /// A held body goes back, and nobody is woken. Answers also those that wait, who are woken later ([`Unwoken`](crate::Unwoken)).
+    /// Puts a held body back, and wakes nobody. Also returns the threads that wait here, which are woken later
+    /// ([`Unwoken`](crate::Unwoken)).
     #[inline(always)]
     pub fn release_quietly<R: Wait>(
         &self,
@@ -277,12 +280,12 @@ impl<N: Name, J: Errand> Berth<N, J> {
         }
     }
 
-    // The error of a try is the body alone, where the berth doesn't take it.
+    // The error of a try is the body alone: the berth refuses it.
     fn try_bring<R: Wait>(
         &self,
         rt: &R,
         body: Body<N>,
-    ) -> Result<Result<(BodyReceipt<N>, Waiters<N>), (Outgoing<N>, Due<J>)>, Body<N>>
+    ) -> Result<Result<(BodyReceipt<N>, Waiters<N>), (TakenBody<N>, TakenJob<J>)>, Body<N>>
         requires body { (body.seat.stored ≢ 0) × (0 < body.name) }
         ensures ok { IfOk result (λ r. IfOk r (λ back. back.0
             ≡ moved body (BodyAct.Released false))) }
@@ -293,19 +296,19 @@ impl<N: Name, J: Errand> Berth<N, J> {
     {
         let mut room = locked!(self.room, rt);
         if let Ok(job) = room.job(body.name()) {
-            return Ok(Err((Outgoing::of(body), job)));
+            return Ok(Err((TakenBody::of(body), job)));
         }
         let receipt = room.release(body, false)?;
         Ok(Ok((receipt, room.waiters())))
     }
 
-    /// A body that was taken out to serve goes back. Where its thread was told more meanwhile it doesn't, and comes back with the oldest
-    /// job.
+    /// Puts back a body that was taken out to serve. If another job for its thread is pending by then, the body doesn't go in: the error is
+    /// the body with the oldest job.
     pub fn bring<R: Wait>(
         &self,
         rt: &R,
         body: Body<N>,
-    ) -> Result<BodyReceipt<N>, (Outgoing<N>, Due<J>)>
+    ) -> Result<BodyReceipt<N>, (TakenBody<N>, TakenJob<J>)>
         requires body { (body.seat.stored ≢ 0) × (0 < body.name) }
         ensures ok { IfOk result (λ r. r ≡ moved body (BodyAct.Released false)) }
         ensures told { IfErr result (λ r. (r.0 ≡ body) × (J.whom r.1 ≡ body.name)
@@ -320,8 +323,8 @@ impl<N: Name, J: Errand> Berth<N, J> {
         Ok(receipt)
     }
 
-    /// A body that was taken out to serve goes back at once, where nothing more was told to its thread meanwhile; else it comes back, with
-    /// the receipt of that, and `bring` is for it.
+    /// Puts back a body that was taken out to serve, in one try, if nothing is pending for its thread by then. The error is the body with
+    /// the receipt that it didn't go in; the caller continues with `bring`.
     #[inline(always)]
     pub fn bring_idle<R: Wait>(
         &self,
@@ -340,7 +343,7 @@ impl<N: Name, J: Errand> Berth<N, J> {
         Ok(receipt)
     }
 
-    /// The seat and the poller come out for a thread that starts in this place, once no thread has them.
+    /// Takes out the seat and the poller for a thread that starts in this place, once no thread has them.
     pub fn start<R: Wait>(&self, rt: &R, place: usize) -> (OutgoingSeat<N>, SeatReceipt<N>)
         ensures { (result.1 ≡ result.0) × (result.0.seat.place ≡ place) }
     {
@@ -357,15 +360,15 @@ impl<N: Name, J: Errand> Berth<N, J> {
         unreachable!()
     }
 
-    /// Takes the body of the name to be held, where it is here and something is told to its thread; the error is the receipt that it wasn't
-    /// here, or that nothing was told.
+    /// Takes out the body of the thread `name` to hold it, if the body is here and a job or a census is pending for the thread. The error
+    /// is the receipt that the body wasn't here (`Absent`) or that nothing was pending (`NothingTold`).
     #[inline(always)]
     pub fn take<R: Wait>(
         &self,
         rt: &R,
         name: u64,
         place: usize,
-    ) -> Result<(Outgoing<N>, BodyReceipt<N>), BerthReceipt<N>>
+    ) -> Result<(TakenBody<N>, BodyReceipt<N>), BerthReceipt<N>>
         ensures held { IfOk result (λ r. r.1 ≡ moved r.0 BodyAct.Held) }
         ensures body { IfOk result (λ r. (r.0.name ≡ name) × (0 < r.0.name)
             × (r.0.seat.place ≡ place) × (r.0.seat.stored ≢ 0)) }
@@ -375,15 +378,15 @@ impl<N: Name, J: Errand> Berth<N, J> {
         locked!(self.room, rt).take(name, place)
     }
 
-    /// Takes the body of the name to serve it, with its oldest job, where both are here; the error is the receipt that the body wasn't, or
-    /// that there was no job.
+    /// Takes out the body of the thread `name` with the thread's oldest job, to run the job on the body, if both are here. The error is the
+    /// receipt that the body wasn't here (`Absent`) or that there was no job (`NoJob`).
     #[inline(always)]
     pub fn take_told<R: Wait>(
         &self,
         rt: &R,
         name: u64,
         place: usize,
-    ) -> Result<(Outgoing<N>, BodyReceipt<N>, Due<J>), BerthReceipt<N>>
+    ) -> Result<(TakenBody<N>, BodyReceipt<N>, TakenJob<J>), BerthReceipt<N>>
         ensures held { IfOk result (λ r. r.1 ≡ moved r.0 BodyAct.Held) }
         ensures body { IfOk result (λ r. (r.0.name ≡ name) × (0 < r.0.name)
             × (r.0.seat.place ≡ place) × (r.0.seat.stored ≢ 0)) }
@@ -394,8 +397,9 @@ impl<N: Name, J: Errand> Berth<N, J> {
         locked!(self.room, rt).take_told(name, place)
     }
 
-    /// Takes the body of the name to be held, once it is here and something is told to its thread.
-    pub fn hold<R: Wait>(&self, rt: &R, name: u64, place: usize) -> (Outgoing<N>, BodyReceipt<N>)
+    /// Waits until the body of the thread `name` is here and a job or a census is pending for the thread. Then takes the body out to hold
+    /// it.
+    pub fn hold<R: Wait>(&self, rt: &R, name: u64, place: usize) -> (TakenBody<N>, BodyReceipt<N>)
         ensures body { (result.0.name ≡ name) × (0 < result.0.name) × (result.0.seat.place ≡ place)
             × (result.0.seat.stored ≢ 0) }
         ensures held { result.1 ≡ moved result.0 BodyAct.Held }
@@ -414,7 +418,7 @@ impl<N: Name, J: Errand> Berth<N, J> {
         rt: &R,
         name: u64,
         place: usize,
-    ) -> Option<(Outgoing<N>, BodyReceipt<N>)>
+    ) -> Option<(TakenBody<N>, BodyReceipt<N>)>
         ensures body { IfSome result (λ r. (r.0.name ≡ name) × (0 < r.0.name)
             × (r.0.seat.place ≡ place) × (r.0.seat.stored ≢ 0)) }
         ensures resumed { IfSome result (λ r. r.1 ≡ moved r.0 BodyAct.Resumed) }
@@ -422,9 +426,10 @@ impl<N: Name, J: Errand> Berth<N, J> {
         locked!(self.room, rt).resume(name, place)
     }
 
-    /// Takes the body of the name out for its thread to go on, once it is here and nobody holds it. What was told to it stays.
+    /// Waits until the body of the thread `name` is here and nobody holds it. Then takes it out for its thread to continue. What is pending
+    /// for the thread stays pending.
     #[inline(always)]
-    pub fn resume<R: Wait>(&self, rt: &R, name: u64, place: usize) -> (Outgoing<N>, BodyReceipt<N>)
+    pub fn resume<R: Wait>(&self, rt: &R, name: u64, place: usize) -> (TakenBody<N>, BodyReceipt<N>)
         ensures body { (result.0.name ≡ name) × (0 < result.0.name) × (result.0.seat.place ≡ place)
             × (result.0.seat.stored ≢ 0) }
         ensures resumed { result.1 ≡ moved result.0 BodyAct.Resumed }
@@ -435,7 +440,7 @@ impl<N: Name, J: Errand> Berth<N, J> {
         }
     }
 
-    // One try: it goes in and comes out under one hold of the lock, where no census keeps it.
+    // One try: the body goes in and comes out under one hold of the lock, unless a pending census keeps it there.
     #[inline(always)]
     fn try_turn<R: Wait>(&self, rt: &R, body: Body<N>) -> Tried<N, J>
         requires body { (body.seat.stored ≢ 0) × (0 < body.name) }
@@ -453,8 +458,8 @@ impl<N: Name, J: Errand> Berth<N, J> {
         }
     }
 
-    /// A turn of a thread that has stopped: its body goes in, and comes out again to serve, with its oldest job, once no census keeps it.
-    /// Nobody finds it here in between to serve it in the thread's place.
+    /// Makes one turn of a stopped thread: puts its body in, and takes the body out again to serve, with the oldest job, once no census is
+    /// pending. If none is pending at once, both happen under one hold of the lock, so nobody else serves the body in between.
     #[inline(always)]
     pub fn turn<R: Wait>(&self, rt: &R, body: Body<N>) -> CameOut<N, J>
         requires body { (body.seat.stored ≢ 0) × (0 < body.name) }
@@ -475,7 +480,7 @@ impl<N: Name, J: Errand> Berth<N, J> {
         }
     }
 
-    // Wakes those that wait where a body came out.
+    // Wakes the threads that wait here after a body came out. `changed` also notes whether there were any.
     #[inline(always)]
     fn tell_out(&self, out: CameOut<N, J>, waiters: Waiters<N>) -> CameOut<N, J>
         ensures { result ≡ record out { changed = out.changed || waiters.waits } }
@@ -487,8 +492,8 @@ impl<N: Name, J: Errand> Berth<N, J> {
         out
     }
 
-    // Takes the body that its thread gave out again, once it is here and no census keeps it, with its oldest job: yields between its first
-    // looks, and sleeps before each further one.
+    // Takes out again the body that its thread gave, with the oldest job, once the body is here and no census is pending. Yields between
+    // its first looks, and sleeps before each further one.
     #[inline(never)]
     fn serve<R: Wait>(&self, rt: &R, place: usize, given: BodyReceipt<N>) -> CameOut<N, J>
         ensures given { result.outing.given ≡ given }
@@ -521,8 +526,8 @@ impl<N: Name, J: Errand> Berth<N, J> {
         unreachable!()
     }
 
-    /// Waits until the thread of the name has brought its body, or has come for what it was told up to the number. Answers the receipt
-    /// that its body is here, or that it isn't and none of these jobs waits for it.
+    /// Waits until the thread `name` has put its body in, or has taken its jobs up to `number`. Returns the receipt that its body is here
+    /// (`Here`), or that it isn't and none of these jobs waits for the thread (`DoneUpTo`).
     pub fn wait_for<R: Wait>(&self, rt: &R, name: u64, place: usize, number: u64) -> BerthReceipt<N>
         ensures { (result ≡ acted place name BerthAct.Here)
             ⊎ (result ≡ acted place name (BerthAct.DoneUpTo number)) }
@@ -535,8 +540,8 @@ impl<N: Name, J: Errand> Berth<N, J> {
         )
     }
 
-    /// The oldest job that was told to a thread whose body is out; the error is the receipt that there was none.
-    pub fn job<R: Wait>(&self, rt: &R, name: u64) -> Result<Due<J>, BerthReceipt<N>>
+    /// Takes the oldest job of the thread `name`, whose body is out. The error is the receipt that no job came out (`NoJob`).
+    pub fn job<R: Wait>(&self, rt: &R, name: u64) -> Result<TakenJob<J>, BerthReceipt<N>>
         ensures job { IfOk result (λ j. (J.whom j ≡ name) × (0 < J.number j)) }
         ensures no_job { IfErr result (λ r. (r.name ≡ name) × (r.act ≡ BerthAct.NoJob)) }
     {
@@ -560,7 +565,8 @@ impl<N: Name, J: Errand> Berth<N, J> {
         Ok((receipt, room.waiters()))
     }
 
-    /// The name is taken off and the place is given up. The body comes back where something is told to it.
+    /// Removes the name and gives the place up. The error is the body: a job or a census is pending for its thread, or the body came out of
+    /// another berth.
     pub fn exit<R: Wait>(
         &self,
         rt: &R,

@@ -1,28 +1,29 @@
-//! The berths of a running system: for each place a room under a lock, with the body of a thread that doesn't own itself and what it is told.
-//! `thread_list` puts bodies in and takes them out, and `held_threads` and `coordinator` do it for the coordinator.
+//! The berths of a running system, one for each place: a room under a lock. The room keeps the body of a thread in a safe state, and the
+//! operations that are pending for the thread.
+//! `thread_list` puts bodies in and takes them out. `stopped_threads` and `coordinator` do the same for the coordinator.
 //! Read `src/room.rt` first, then `src/berth.rt` and `specs/Berths.antt`.
 //!
-//! A room takes a body, or gives it, by name and place alone, and answers each time with a receipt that only it can make. What was told
-//! to a thread leaves its room as a job that has to be run or handed on (`Due`), and what it answers has to be entered (`Answered`). A body
-//! comes out as one that has to be taken in hand (`Outgoing`), and a seat as one that has to get a body (`OutgoingSeat`). Whoever changes a
-//! berth gets those that wait there (`Waiters`), to wake them at once or later (`Unwoken`). Each call of a `Berth` takes the lock of its
-//! room once in each try, and no other.
+//! A room takes or gives a body only for its name and place, and answers each time with a receipt that only a room can make. The rest is
+//! typed so that nothing gets lost: a job that leaves its room has to be run or handed on (`TakenJob`), and its answer has to be entered
+//! (`JobResult`). A body that comes out has to be taken over (`TakenBody`), and a seat that comes out has to get a body (`OutgoingSeat`).
+//! Whoever changes a berth gets the threads that wait there (`Waiters`), and wakes them at once or later (`Unwoken`). Each call of a
+//! `Berth` takes the lock of its room once in each try, and takes no other lock.
 #![tactic(auto)]
 
 mod berth;
-mod due;
 mod jobs;
 mod locking;
-mod outgoing;
 mod room;
+mod taken_body;
+mod taken_job;
 mod waiters;
 
 pub use berth::{Berth, CameOut};
-pub use due::{Answered, Due, Recorder};
 pub use locking::{Guarded, Laid};
-pub use outgoing::{Hand, Outgoing, OutgoingSeat};
 pub use room::{
-    BerthAct, BerthReceipt, BodyAct, BodyReceipt, Holder, JOBS, NotBack, Outing, Room, SeatReceipt,
-    ToldJob,
+    BerthAct, BerthReceipt, BodyAct, BodyReceipt, Holder, JOBS, NotBack, Room, SeatReceipt,
+    StopReceipt, ToldJob,
 };
+pub use taken_body::{BodyOwner, OutgoingSeat, TakenBody};
+pub use taken_job::{JobResult, Recorder, TakenJob};
 pub use waiters::{Unwoken, Waiters};

@@ -1,12 +1,12 @@
-//! Locking in line, and a lock that shows what was put under it.
+//! Inlined locking, and a lock that shows which value was put under it.
 ghost use Rattle.std.specs.Prelude.{◌≡◌};
 
 use std::marker::Model;
 use std::snapshot::Snapshot;
 use std::sync::{Mutex, MutexGuard, Wait};
 
-/// Takes a lock, in line where it is free, as it nearly always is: a call costs as much again as the step itself. It is a macro, since
-/// behind each call of what may wait the program looks at a word in memory, also where the call is in line.
+/// Takes a lock, inline if it is free. It nearly always is, and a call costs as much again as the step itself. This is a macro because the
+/// program looks at a word in memory after each call of a function that may wait, even if that call is inlined.
 #[macro_export]
 macro_rules! locked {
     ($mutex:expr, $rt:expr) => {
@@ -17,13 +17,13 @@ macro_rules! locked {
     };
 }
 
-/// A value under a lock that is taken only by who may wait: so what made the lock can't change the value any more.
+/// A value under a lock. Only code that may wait takes the lock, so the code that made the lock can't change the value any more.
 #[derive(Drop)]
 pub struct Guarded<T> {
     mutex: Mutex<T>,
 }
 
-/// What a value was as it was put under its lock. Only `Guarded::new` makes one. Contracts see the value.
+/// The value as it was when it went under its lock. Only `Guarded::new` makes one. Contracts see the value.
 #[derive(Drop)]
 pub struct Laid<T> {
     value: Snapshot<T>,
@@ -36,7 +36,7 @@ impl<T> Model for Laid<T> {
 }
 
 impl<T> Guarded<T> {
-    /// The value under a lock of its own, and what it was.
+    /// Puts the value under a lock of its own. Also returns what the value was.
     pub fn new(value: T) -> (Guarded<T>, Laid<T>)
         ensures { result.1 ≡ value }
     {
@@ -54,7 +54,7 @@ impl<T> Guarded<T> {
         self.mutex.lock(rt)
     }
 
-    /// Takes the lock where it is free.
+    /// Takes the lock if it is free.
     #[inline(always)]
     pub fn try_lock(&self) -> Option<MutexGuard<'_, T>> {
         self.mutex.try_lock()

@@ -1,14 +1,14 @@
-//! Those that wait at a berth for a change. None of it is `Drop`, so whoever changed something wakes them.
+//! Threads that wait at a berth for a change. No type here is `Drop`, so whoever makes a change wakes them.
 ghost use Rattle.std.specs.Prelude.{◌≡◌, ◌<◌, ◌==◌, ◌^◌, not, bit_or, length, if◌then◌else◌};
 
 use crate::berth::Berth;
 use bodies::Name;
-use operations::job::Errand;
+use operations::job::HandshakeOp;
 use std::marker::{Model, PhantomData};
 use std::snapshot::Snapshot;
 
-/// Whether threads waited at a berth of the system of N when a body went in there or came out. Only a room makes one, and only the bell
-/// of a berth, or a list of those that are woken later, takes it. Contracts see the place of that room, and whether one waited.
+/// Whether threads waited at a berth of the system N when a body went in or came out. Only a room makes one. Only the bell of a berth, or a
+/// list of threads to wake later, takes it. Contracts see the place of that room, and whether a thread waited.
 pub struct Waiters<N: Name> {
     waits: bool,
     place: Snapshot<usize>,
@@ -24,7 +24,7 @@ impl<N: Name> Model for Waiters<N> {
 }
 
 impl<N: Name> Waiters<N> {
-    /// Those of this place, of which so many sleep.
+    /// The waiting threads of this place: `sleepers` of them.
     #[inline(always)]
     pub(crate) fn of(place: usize, sleepers: usize) -> Waiters<N>
         ensures { result ≡ record { place = place; waits = not (sleepers == 0) } }
@@ -36,7 +36,7 @@ impl<N: Name> Waiters<N> {
         }
     }
 
-    /// Whether any are to be woken, for who wakes them.
+    /// Whether the caller has a thread to wake.
     #[inline(always)]
     pub(crate) fn told(self) -> bool
         ensures { result ≡ self.waits }
@@ -50,7 +50,7 @@ impl<N: Name> Waiters<N> {
     }
 }
 
-/// Those that wait at berths of the system of N and are woken later. Contracts see a bit for each of their places.
+/// The places of the system N whose waiting threads are woken later. Contracts see one bit for each place.
 pub struct Unwoken<N: Name> {
     places: u64,
     of: PhantomData<N>,
@@ -65,7 +65,7 @@ impl<N: Name> Model for Unwoken<N> {
 }
 
 impl<N: Name> Unwoken<N> {
-    /// Nobody.
+    /// No place.
     pub fn nobody() -> Unwoken<N>
         ensures { result ≡ 0 }
     {
@@ -75,7 +75,7 @@ impl<N: Name> Unwoken<N> {
         }
     }
 
-    /// Those that wait at the berth of the place come to it.
+    /// Adds the threads that wait at the berth of the place, which is below 64.
     #[inline(always)]
     pub fn add(&mut self, place: usize, waiters: Waiters<N>)
         requires few { place < 64 }
@@ -87,9 +87,9 @@ impl<N: Name> Unwoken<N> {
         }
     }
 
-    /// Wakes them, those at the last of all berths first: the next stop comes to the first of them first, and where it hasn't woken yet
-    /// finds its body at once.
-    pub fn wake<J: Errand>(self, berths: &[Berth<N, J>])
+    /// Wakes these threads, from the last berth to the first. The next stop begins at the first berth, and finds the body of a thread that
+    /// isn't awake yet at once.
+    pub fn wake<J: HandshakeOp>(self, berths: &[Berth<N, J>])
         requires { length berths.now ≡ N.board.places }
     {
         let Unwoken { places, of: _of } = self;

@@ -1,5 +1,5 @@
--- The table of a board: which word stands where, and whose each seat is. The first seat is the keeper's; the threads' seats are
--- split off it in the order of their places.
+-- The table of a board: the index of each word, and the owner of each seat. The first seat is the keeper's. The threads' seats are split
+-- off it in the order of their places.
 use Rattle.std.specs.Prelude.{◌≡◌, ℕ, suc, ◌+◌, ◌-◌, ◌*◌, ◌<◌, ◌≤◌, List, [], ◌∷◌, length, slice_index, ◌==◌, if◌then◌else◌}
 use mathlib.Core.Option.{Option, none, some}
 use lib.ListN.{get_elem?}
@@ -16,8 +16,8 @@ use Rattle.frames.specs.BoardRule.{BoardState, IsBoardKept}
 use Rattle.frames.specs.BoardStep.{BoardStep, keeper, thread}
 use Rattle.frames.specs.BoardViews.{slot_state, seat_state, slot_of, keeper_view, seat_view}
 
--- Where the words stand. The moment has a cache line to itself (8 words); the entries stand side by side, since they are
--- mostly read; each count and each place's moment has a line to itself; and 8 words lie between the groups.
+-- The index of each word. The moment has a cache line of its own (8 words). The entries are side by side, since they are mostly read. Each
+-- count and each place's moment has a line of its own. 8 words are between the groups.
 abbrev pub index_of : ℕ → Word → ℕ
 index_of slots the_moment = 8
 index_of slots (entry_of k) = 16 + k
@@ -31,7 +31,7 @@ words_at slots places = 24 + 9 * slots + 8 * places
 abbrev pub word_in : ℕ → List ℕ → Word → ℕ
 word_in slots ws x = slice_index ws (index_of slots x)
 
--- what the seat knows, if it is the keeper's, and if it is a thread's
+-- what the keeper knows, if the view is the keeper's, and what a thread knows, if it is a thread's
 abbrev pub keeper_of : BoardView → KeeperView
 keeper_of (Keeper k us n) = k
 keeper_of (Thread t n) = keeper_view 0 0
@@ -42,7 +42,7 @@ thread_of (Keeper k us n) = seat_view 0
 thread_of (Thread t n) = t
 thread_of Ended = seat_view 0
 
--- what the seats knew that were given back, if it is the keeper's
+-- the views of the seats that were given back, if the view is the keeper's
 abbrev pub ended_of : BoardView → List SeatView
 ended_of (Keeper k us n) = us
 ended_of (Thread t n) = []
@@ -67,12 +67,12 @@ abbrev pub seat_or_first : ℕ → Option BoardView → SeatView
 seat_or_first p none = seat_view p
 seat_or_first p (some v) = thread_of v
 
--- the view of the place p among those that were given back, and t where it isn't there
+-- the view of the place p among the seats that were given back, and t if it isn't among them
 abbrev pub seat_known : List SeatView → ℕ → SeatView → SeatView
 seat_known [] p t = t
 seat_known (u ∷ us) p t = if u.place == p then u else seat_known us p t
 
--- the place p isn't among those whose seats were given back
+-- the seat of the place p wasn't given back
 abbrev pub IsLive : List SeatView → ℕ → Type 0
 IsLive us p = (t : SeatView) → seat_known us p t ≡ t
 
@@ -81,21 +81,21 @@ abbrev pub AreApart : List SeatView → Type 0
 AreApart [] = Unit {0}
 AreApart (u ∷ us) = IsLive us u.place × AreApart us
 
--- The view of the seat of the place p: as it was given back, or the opening one where it isn't split off yet.
+-- The view of the seat of the place p: as it was given back, or as the table has it, or the first view if the seat isn't split off yet.
 abbrev pub seat_at : List SeatView → List BoardView → ℕ → SeatView
 seat_at us views p = seat_known us p (seat_or_first p (get_elem? views (suc p)))
 
--- the board that a table is, with what its keeper knows, and the seats that were given back
+-- the state of the board in a table, from the words, the keeper's view, the seats that were given back, and the table's views
 abbrev pub board_state : ℕ → List ℕ → KeeperView → List SeatView → List BoardView → BoardState
 board_state slots ws k us views = record { word = word_in slots ws; now = k.moment; slot = λ i. slot_state (slot_of k i); seat = λ p. seat_state (seat_at us views p) }
 
--- which seat has which view
+-- the seat with this index may have this view
 abbrev pub IsSeatedAt : ℕ → BoardView → Type 0
 IsSeatedAt id (Keeper k us n) = id ≡ 0
 IsSeatedAt id (Thread t n) = id ≡ suc t.place
 IsSeatedAt id Ended = 0 < id
 
--- What a step says of the words as it left them. The seat of the place p made it, or the keeper.
+-- The words are as the step left them. The seat of the place p, or the keeper, made it.
 abbrev pub IsToldBy : (Word → ℕ) → ℕ → StepMade → Type 0
 IsToldBy word p Nothing = Unit {0}
 IsToldBy word p (LoadEntry c found) = word (entry_of c.slot) ≡ found
@@ -108,7 +108,7 @@ IsToldBy word p (SubCount c by found) = word (count_of c.slot) ≡ found - by
 IsToldBy word p (LoadPlace c q found) = word (place_of q) ≡ found
 IsToldBy word p (LoadCount c found) = word (count_of c.slot) ≡ found
 
--- The last step of the seat left the words so. Of the keeper it isn't said once the board is being closed.
+-- The words are as the seat's last step left them. For the keeper of a board that is being closed this says nothing.
 abbrev pub IsTold : ℕ → List ℕ → BoardView → Type 0
 IsTold slots ws (Keeper k [] n) = IsToldBy (word_in slots ws) 0 k.last
 IsTold slots ws (Keeper k (u ∷ us) n) = Unit {0}
@@ -119,8 +119,8 @@ IsTold slots ws Ended = Unit {0}
 abbrev pub IsLatest : List BoardView → ℕ → Type 0
 IsLatest views stamp = (id : ℕ) (v : BoardView) → get_elem? views id ≡ some v → stamp_of v ≤ stamp
 
--- The table is a board of so many slots and places (the two parts of n), its keeper knows k, seats that knew us were given
--- back, and the board meets the rule.
+-- The table is a board with these numbers of slots and places (the two parts of n). Its keeper has the view k. The seats that were given
+-- back had the views us. The board meets the rule.
 pub record IsBoardAt (n : ℕ × ℕ) (s : State (Unit {0}) BoardView) (k : KeeperView) (us : List SeatView) : Type 0 where
   pub stamp : ℕ
   pub keeper_is : get_elem? s.views 0 ≡ some (Keeper k us stamp)
@@ -128,17 +128,17 @@ pub record IsBoardAt (n : ℕ × ℕ) (s : State (Unit {0}) BoardView) (k : Keep
   pub split : (length s.views ≡ suc k.split) × (k.split ≤ n.1)
   pub slots_are : length k.slots ≡ n.0
   pub words_are : length s.words ≡ words_at n.0 n.1
-  -- a thread that has its seat hasn't given it back, and none gave it back twice
+  -- a thread that has its seat hasn't given it back, and no seat was given back twice
   pub live : (id : ℕ) (t : SeatView) (g : ℕ) → get_elem? s.views id ≡ some (Thread t g) → IsLive us t.place
   pub apart : AreApart us
   pub kept : IsBoardKept n.0 n.1 (board_state n.0 s.words k us s.views)
-  -- the seat that stepped last met or left what its word holds
+  -- the last step of all seats found in its word, or left there, the word's present value
   pub told : (id : ℕ) (v : BoardView) → get_elem? s.views id ≡ some v → IsLatest s.views (stamp_of v) → IsTold n.0 s.words v
 
 abbrev pub IsBoard : ℕ × ℕ → State (Unit {0}) BoardView → Type 0
 IsBoard n s = (k : KeeperView) × (us : List SeatView) × IsBoardAt n s k us
 
--- Which board it is
+-- The board's identity: its table and its sizes.
 pub record BoardId : Type 0 where
   pub table : TableId
   pub slots : ℕ
@@ -147,7 +147,7 @@ pub record BoardId : Type 0 where
 abbrev pub board_id : TableId → ℕ → ℕ → BoardId
 board_id z slots places = record { table = z; slots = slots; places = places }
 
--- What contracts see of a seat and of the keeper: which board's they are, and what they know
+-- What contracts see of a thread's seat and of the keeper: the board's identity, the view, and the stamp, which rises at each step.
 pub record SeatSeen : Type 0 where
   pub board : BoardId
   pub seen : SeatView
@@ -171,8 +171,8 @@ first_seat b p = record { board = b; seen = seat_view p; stamp = 0 }
 abbrev pub first_keeper : BoardId → KeeperSeen
 first_keeper b = record { board = b; seen = keeper_view b.slots b.places; stamp = 0 }
 
--- A thread's seat made one step: there is a board that met the rule, the seat had its view there, and the last step that its
--- view has led to a board that meets the rule and where it has its new view.
+-- A thread's seat made one step. There is a board that met the rule and on which the seat had its old view. The last step of the new view
+-- led to a board that meets the rule and on which the seat has its new view.
 pub record ThreadSteps (board : BoardId) (old new : SeatView) : Type 0 where
   pub before : BoardState
   pub after : BoardState
@@ -182,12 +182,12 @@ pub record ThreadSteps (board : BoardId) (old new : SeatView) : Type 0 where
   pub seat_before : before.seat old.place ≡ seat_state old
   pub seat_after : after.seat old.place ≡ seat_state new
 
--- what the board's keeper knows is k
+-- the board agrees with the keeper's view k
 pub record IsKeptBy (b : BoardState) (k : KeeperView) : Type 0 where
   pub now_is : b.now ≡ k.moment
   pub slot_is : (i : ℕ) → b.slot i ≡ slot_state (slot_of k i)
 
--- a step of the keeper, on some board where it knows what it knows
+-- the keeper made one step, on some board that agrees with its view before and after
 pub record KeeperSteps (board : BoardId) (old new : KeeperView) : Type 0 where
   pub before : BoardState
   pub after : BoardState
@@ -197,7 +197,7 @@ pub record KeeperSteps (board : BoardId) (old new : KeeperView) : Type 0 where
   pub keeper_before : IsKeptBy before old
   pub keeper_after : IsKeptBy after new
 
--- a seat is split off the keeper's
+-- the keeper's view after a seat is split off
 abbrev pub one_more_split : KeeperView → KeeperView
 one_more_split k = record { moment = k.moment; slots = k.slots; split = k.split + 1; steps = k.steps; last = k.last }
 
@@ -211,7 +211,7 @@ right_of (Keeper k us n) = Thread (seat_view k.split) 0
 right_of (Thread t n) = Thread t n
 right_of Ended = Ended
 
--- the keeper after a seat was given back
+-- the keeper's view after a seat was given back
 abbrev pub both_of : BoardView → BoardView → BoardView
 both_of v u = Keeper (keeper_of v) (thread_of u ∷ ended_of v) (stamp_of v + stamp_of u)
 

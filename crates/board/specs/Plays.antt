@@ -1,4 +1,4 @@
--- What each kind of step tells the seat that makes it.
+-- The view of a seat after each kind of step.
 use Rattle.std.specs.Prelude.{◌≡◌, ◌≢◌, ℕ, ◌<◌, true, []}
 use Rattle.atomic_table.specs.Table.{Me, Step}
 use Rattle.frames.specs.declared.CodeId.{CodeId}
@@ -13,7 +13,7 @@ use Rattle.frames.specs.BoardRule.{code}
 use Rattle.frames.specs.BoardViews.{has_code, IsHeld, IsStandingWord, slot_of, entered, moment_read, stored_as, counted_up, counted_down, went_round, entry_stored, in_use, not_entrant, in_state, looked_at, weighed}
 use Rattle.board.specs.Boards.{BoardId, stamp_of, keeper_of, thread_of, ThreadSteps, KeeperSteps}
 
--- what a step is about: its board, and the code and place that are asked for
+-- what a step is about: its board, and the code and place that it concerns
 pub record Asked : Type 0 where
   pub board : BoardId
   pub code : CodeId
@@ -22,21 +22,21 @@ pub record Asked : Type 0 where
 abbrev pub asked : BoardId → CodeId → ℕ → Asked
 asked b c p = record { board = b; code = c; place = p }
 
--- of the board alone
+-- about the board only
 abbrev pub asked_of : BoardId → Asked
 asked_of b = asked b (code 0 0) 0
 
 abbrev Sat : Type 0
 Sat = Me (Unit {0}) BoardView
 
--- the thread's seat knows t afterwards, by one step
+-- one step gives the thread's seat the view t, and the seat's stamp rises
 abbrev pub ThreadTells : Asked → Sat → SeatView → Sat → Type 0
 ThreadTells a m t n = (n.0 ≡ Thread t (stamp_of n.0)) × ThreadSteps a.board (thread_of m.0) (thread_of n.0) × (stamp_of m.0 < stamp_of n.0) × (n.1 ≡ m.1)
 
 abbrev pub KeeperTells : Asked → Sat → KeeperView → Sat → Type 0
 KeeperTells a m k n = (n.0 ≡ Keeper k [] (stamp_of n.0)) × KeeperSteps a.board (keeper_of m.0) (keeper_of n.0) × (stamp_of m.0 < stamp_of n.0)
 
--- A code that was found gone is never found in use again, and one that the seat holds is found standing.
+-- A code that was once found gone is never found in use again. A code that the seat holds is found in its slot, in use or not entrant.
 abbrev pub Enters : Asked → Step (Unit {0}) → Sat → ℕ → Sat → Type 0
 Enters a st m found n = ThreadTells a m (entered (thread_of m.0) a.code found) n
     × (has_code (thread_of m.0).gone a.code ≡ true → found ≢ pack a.code.serial InUse)

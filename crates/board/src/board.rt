@@ -1,4 +1,4 @@
-//! The board.
+//! The board and its words.
 ghost use Rattle.std.specs.Prelude.{◌≡◌, ℕ, ◌+◌, ◌*◌, ◌<◌, ◌≤◌, length, IfOk, Some, slice_get};
 ghost use Rattle.board.specs.Boards.{BoardId, SeatSeen, board_id, words_at, AreFirst, first_seat, first_keeper};
 ghost use Rattle.frames.specs.BoardWords.{count_of};
@@ -15,7 +15,7 @@ use frames::board_rule::BoardView;
 use std::alloc::{AllocError, Global};
 use std::marker::Model;
 
-/// The words of the codes and places, which any number of threads share. Contracts see which board it is.
+/// The words of the codes and places, shared by any number of threads. Contracts see the board's identity.
 #[derive(Drop)]
 pub struct Board {
     pub(crate) table: Table<(), BoardView, (usize, usize), BoardRule, Global>,
@@ -48,9 +48,11 @@ fn first_words(alloc: Global, slots: usize, places: usize) -> Result<Vec<u64>, A
 }
 
 impl Board {
-    /// A board of vacant places and slots in its first moment, its keeper, and the seat of each place in order.
+    /// Makes a board of vacant places and slots in its first moment, its keeper, and the seat of each place in order. The error is
+    /// that memory was refused.
     ///
-    /// There are 1 to 64 places and at most 1024 slots. Whatever is needed is allocated here, and nothing later.
+    /// There are 1 to 64 places and at most 1024 slots. This call takes all memory that the board needs, and no later call takes
+    /// any.
     pub fn new(
         alloc: Global,
         places: usize,
@@ -81,15 +83,17 @@ impl Board {
         Ok((board, Keeper::of(seat, slots, places, notes), seats))
     }
 
-    /// What the count of the slot was a moment ago. Nothing is promised of it, and it is no step of the board.
+    /// The recent value of the slot's count. Nothing is guaranteed about it, and reading it is no step. The slot is one of the
+    /// board's.
     pub fn peek_count(&self, slot: u32) -> u64
         requires { slot < self.now.slots }
     {
         self.table.shared.peek(count_at(self.slots, slot))
     }
 
-    /// Ends the board, which no thread shares any more, with the seats that are given back, and shows its words: those of a board
-    /// that meets the rule, with what the keeper and these seats know. Where each place was given up, nothing is counted.
+    /// Ends the board, which no thread shares any more, with the seats that are given back. Returns its words: those of a board
+    /// that meets the rule and that agrees with the views of the keeper and of these seats. If each place was given up, every count
+    /// is 0.
     pub fn close(self, keeper: Keeper, mut seats: Vec<ThreadSeat>) -> ClosedBoard
         requires keeper { keeper.board ≡ self }
         requires seats { (i : ℕ) (s : SeatSeen) → slice_get seats.items i ≡ Some s

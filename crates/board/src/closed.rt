@@ -1,4 +1,4 @@
-//! A board that has ended.
+//! A closed board.
 ghost use Rattle.std.specs.Prelude.{◌≡◌, ℕ, ◌+◌, ◌*◌, ◌<◌, ◌≤◌, length};
 ghost use Rattle.std.specs.Mem.Slots.{slots_items, slots_len, IsFull};
 ghost use Rattle.frames.specs.BoardWords.{entry_of, count_of, place_of, the_moment, unpack};
@@ -11,7 +11,7 @@ use frames::board_rule::Entry;
 use std::alloc::Global;
 use std::marker::Model;
 
-/// The words that a board left. Contracts see its sizes and words.
+/// The words of a closed board. Contracts see its sizes and words.
 pub struct ClosedBoard {
     closed: Closed<(), Global>,
     slots: usize,
@@ -42,7 +42,7 @@ impl ClosedBoard {
         }
     }
 
-    /// The entry of the slot.
+    /// The entry of the slot, which is below the number of slots.
     pub fn entry(&self, slot: u32) -> Entry
         requires { slot < self.now.slots }
         ensures { result ≡ unpack (word_left self.now (entry_of slot)) }
@@ -50,7 +50,7 @@ impl ClosedBoard {
         Entry::unpack(self.closed.word(entry_at(slot)))
     }
 
-    /// The count of the slot.
+    /// The count of the slot, which is below the number of slots.
     pub fn count(&self, slot: u32) -> u64
         requires { slot < self.now.slots }
         ensures { result ≡ word_left self.now (count_of slot) }
@@ -58,7 +58,7 @@ impl ClosedBoard {
         self.closed.word(count_at(self.slots, slot))
     }
 
-    /// The moment of the place, 0 for a vacant one.
+    /// The moment of the place, 0 for a vacant one. The place is below the number of places.
     pub fn place(&self, place: usize) -> u64
         requires { place < self.now.places }
         ensures { result ≡ word_left self.now (place_of place) }

@@ -20,18 +20,18 @@ use frames::board_rule::{BoardView, Entry, EntryState};
 use frames::{CodeId, LAST};
 use std::marker::{Brand, Model};
 
-/// The last moment was reached, 2^40 - 1.
+/// The board has reached its last moment, 2^40 - 1.
 #[derive(Clone, Copy, Debug, PartialEq, Eq)]
 pub struct Spent;
 
-/// Stores the entries of the codes, looks at the places, weighs the codes, and counts the moments. A board has one. Contracts
-/// see its board and its view.
+/// Stores the entries of the codes, looks at the places, weighs the codes, and increments the moment. A board has one keeper.
+/// Contracts see its board and its view.
 #[derive(Drop)]
 pub struct Keeper {
     pub(crate) seat: Seat<(), BoardView>,
     slots: usize,
     places: usize,
-    // The view's moment, and what the view says of each slot, as far as the calls ask for it.
+    // The view's moment, and the part of the view of each slot that the calls need.
     moment: u64,
     notes: Vec<Note>,
 }
@@ -46,7 +46,7 @@ impl Model for Keeper {
         × (0 < k.places) × AreNoted k.slots k.notes.items (keeper_of k.seat.me.0) };
 }
 
-/// The word of the code in the state.
+/// The entry's word for the code in this state. The serial is below 2^40.
 fn word_of(code: CodeId, state: EntryState) -> u64
     requires { code.serial < 2 ^ 40 }
     ensures { result ≡ pack code.serial state }
@@ -94,7 +94,7 @@ impl Keeper {
         seat
     }
 
-    /// The view has each slot of the board, with a serial that a word can hold.
+    /// The view has each slot of the board, each with a serial that fits into a word.
     fn has_slots(&self)
         ensures slots { length self.now.seen.slots ≡ self.now.board.slots }
         ensures small { (i : ℕ) → i < self.now.board.slots
@@ -124,7 +124,8 @@ impl Keeper {
         self.notes[code.slot as usize] = Note::at(0);
     }
 
-    /// Puts a code in use into a vacant slot: one store of its entry. The serial is greater than that of the slot's last code.
+    /// Installs a code in a vacant slot: the code is in use. One store of its entry. The serial is greater than that of the slot's
+    /// last code.
     pub fn install(&mut self, board: &Board, code: CodeId)
         requires board { self.old.board ≡ board.now }
         requires slot { code.slot < self.old.board.slots }
@@ -164,7 +165,7 @@ impl Keeper {
         self.notes[code.slot as usize] = Note::at(self.moment);
     }
 
-    /// Makes a code in use not entrant, at the board's moment: one store of its entry.
+    /// Makes a code that is in use not entrant, in the board's moment: one store of its entry.
     pub fn invalidate(&mut self, board: &Board, code: CodeId)
         requires board { self.old.board ≡ board.now }
         requires slot { code.slot < self.old.board.slots }
@@ -182,8 +183,9 @@ impl Keeper {
         self.store_not_entrant::<Brand>(board, code);
     }
 
-    /// Replaces a code in use by another one, in a vacant slot: makes the old one not entrant, at the board's moment, and puts the new
-    /// one in use. Two stores in this order, each with the board's rule after it; between them neither is in use.
+    /// Replaces a code that is in use by another one in a vacant slot: makes the old code not entrant, in the board's moment, and
+    /// then puts the new code in use. It makes two stores in this order, and the board's rule holds after each. Between them
+    /// neither code is in use.
     pub fn replace(&mut self, board: &Board, old: CodeId, code: CodeId)
         requires board { self.old.board ≡ board.now }
         requires old { (old.slot < self.old.board.slots) × IsIn self.old.seen old InUse }
@@ -219,7 +221,7 @@ impl Keeper {
         self.moment += 1;
     }
 
-    /// The board's moment, from 1 to 2^40 - 1. It makes no step.
+    /// The board's moment, from 1 to 2^40 - 1. This call makes no step.
     pub fn moment(&self) -> u64
         ensures { result ≡ self.now.seen.moment }
     {
@@ -227,7 +229,7 @@ impl Keeper {
         self.moment
     }
 
-    /// Whether the last moment was reached, so that a round would answer `Spent`. It makes no step.
+    /// Whether the board has reached its last moment: then `round` fails with `Spent`. This call makes no step.
     pub fn is_last_moment(&self) -> bool
         ensures { result ≡ nat_le (2 ^ 40) (self.now.seen.moment + 1) }
     {
@@ -235,7 +237,7 @@ impl Keeper {
         self.moment >= LAST
     }
 
-    /// Begins the next moment: one fetch-add. `Spent`, without a step, where the last moment was reached.
+    /// Begins the next moment: one fetch-add. The error is `Spent`, without a step: the board has reached its last moment.
     pub fn round(&mut self, board: &Board) -> Result<(), Spent>
         requires board { self.old.board ≡ board.now }
 
@@ -275,8 +277,9 @@ impl Keeper {
         past
     }
 
-    /// Whether the place is done with the code, which is not entrant: its stack was published in a moment after the code's
-    /// invalidation, or nobody is there. One load of the place's moment; where it is done, the place is looked at for good.
+    /// Looks at a place for a code that is not entrant: one load of the place's moment. Returns whether the place is covered: its
+    /// stack was published in a moment after the code's invalidation, or the place is vacant. A covered place counts as looked at
+    /// from then on.
     pub fn look(&mut self, board: &Board, code: CodeId, place: usize) -> bool
         requires board { self.old.board ≡ board.now }
         requires slot { (code.slot < self.old.board.slots) × (place < self.old.board.places) }
@@ -295,7 +298,7 @@ impl Keeper {
         self.load_place::<Brand>(board, code, place)
     }
 
-    /// The least place that wasn't looked at for the code.
+    /// The least place that wasn't looked at for the code, if there is one.
     fn unlooked(&self, code: CodeId) -> Option<usize>
         requires slot { code.slot < self.now.board.slots }
         ensures some { IfSome result (λ p. (p < self.now.board.places)
@@ -330,8 +333,9 @@ impl Keeper {
             .load::<Weigh<A>>(&mut self.seat, count_at(self.slots, code.slot))
     }
 
-    /// Weighs a code that is not entrant: the least place that wasn't looked at for it, without a step, or else by one load how
-    /// often the seats count it. At `Clear` no seat counts it or has it fresh.
+    /// Weighs a code that is not entrant. Returns the least place that wasn't looked at for it, without a step, if there is one.
+    /// Otherwise returns how often the seats count the code, by one load. `Clear` means that no seat counts the code or has it
+    /// fresh.
     pub fn weigh(&mut self, board: &Board, code: CodeId) -> Weighed
         requires board { self.old.board ≡ board.now }
         requires slot { code.slot < self.old.board.slots }
@@ -415,7 +419,7 @@ impl Keeper {
             .store::<Free<A>>(&mut self.seat, entry_at(code.slot), word);
     }
 
-    /// Frees the slot of a zombie: one store of its entry, in which the serial stays.
+    /// Frees the slot of a zombie: one store of its entry, which keeps the serial.
     pub fn free(&mut self, board: &Board, code: CodeId)
         requires board { self.old.board ≡ board.now }
         requires slot { code.slot < self.old.board.slots }

@@ -1,33 +1,34 @@
-//! What the rule of a board asks of each step, whatever a `Play` tells of it; and how far apart the words lie.
+//! What the rule of a board requires of each step, whatever a `Play` says of it, and how far apart the words are.
 ghost use Rattle.board.specs.Laws.{AnswersStand, KeeperAnswersStand, MomentsElsewhereRefused, EntriesElsewhereRefused, LooksElsewhereRefused, WeightsElsewhereRefused, WordsApart, WordsInside};
 
-/// A law: what a thread is told of its step stands in the words. Whatever a `Play` tells, the rule allows no step after which it
-/// doesn't, on any board where the thread knows what it knows.
+/// A law: the words are as a thread's view says after the thread's step. Whatever a `Play` says, the rule refuses every other step,
+/// on any board on which the thread has its view.
 pub fn answers_stand_in_the_words()
     ensures { AnswersStand }
 {}
 
-/// A law: the same of the keeper.
+/// A law: the words are as the keeper's view says after the keeper's step. Whatever a `Play` says, the rule refuses every other
+/// step, on any board on which the keeper has its view and some thread its seat.
 pub fn keeper_answers_stand_in_the_words()
     ensures { KeeperAnswersStand }
 {}
 
-/// A law: no step at another word is told as a load of the board's moment.
+/// A law: no step at another word gives a thread the view that it loaded the board's moment.
 pub fn no_moment_is_of_another_word()
     ensures { MomentsElsewhereRefused }
 {}
 
-/// A law: no step at another word is told as a load of an entry.
+/// A law: no step at another word gives a thread the view that it loaded an entry.
 pub fn no_entry_is_of_another_word()
     ensures { EntriesElsewhereRefused }
 {}
 
-/// A law: no step at another word is told as a look at a place.
+/// A law: no step at another word gives the keeper the view that it looked at a place.
 pub fn no_look_is_of_another_word()
     ensures { LooksElsewhereRefused }
 {}
 
-/// A law: no step at another word is told as a weighing.
+/// A law: no step at another word gives the keeper the view that it weighed a code.
 pub fn no_weight_is_of_another_word()
     ensures { WeightsElsewhereRefused }
 {}
@@ -37,7 +38,7 @@ pub fn words_lie_lines_apart()
     ensures { WordsApart }
 {}
 
-/// A law: 8 words lie before the first of a board's words and behind the last.
+/// A law: there are 8 words before the first of a board's words and 8 after the last.
 pub fn words_lie_lines_inside()
     ensures { WordsInside }
 {}

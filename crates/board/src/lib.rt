@@ -1,10 +1,11 @@
-//! The code board: which codes are in use, how often each is counted, and in which moment each place last published, in atomic words.
-//! `bodies` counts and publishes by it, and `desk` keeps its codes in it.
+//! The code board, in atomic words: which codes are in use, how often each is counted, and in which moment (global epoch) each
+//! place last published.
+//! `bodies` counts and publishes with this crate, and `desk` keeps its codes in it.
 //! Read `src/board.rt` first, then `src/thread_seat.rt`, `src/keeper.rt` and the rule in `frames/specs/BoardRule.antt`.
 //!
-//! The words and views meet the rule between any two steps, and there are twelve kinds of step. Each call is one of these steps, or none, and
-//! nothing waits or takes memory once the board is made. What a call did is read off the view of its seat: the number of its steps, and the
-//! last one with the value that it met.
+//! The words and views meet the rule between any two steps. There are twelve kinds of step. Each call makes one of these steps or
+//! none, except `replace`, which makes two. No call waits, and none takes memory once the board is made. The view of a call's seat
+//! shows what the call did: the number of the seat's steps, and the last step with the value that it found.
 #![tactic(auto)]
 
 mod board;

@@ -1,16 +1,17 @@
-//! What the keeper writes down of a slot.
+//! What the keeper notes of a slot.
 ghost use Rattle.std.specs.Prelude.{◌≡◌, ◌<◌, ◌≤◌, ℕ, true, false};
 ghost use Rattle.frames.specs.BoardStep.{is_past};
 ghost use Rattle.board.specs.Notes.{note_at, is_noted, IsNotedAfter};
 
-/// The moment of the invalidation, and which places were looked at: a bit for each.
+/// The moment in which the slot's code was made not entrant, and the places that were looked at since: one bit for each.
 #[derive(Clone, Copy)]
 pub struct Note {
     pub left: u64,
     pub looked: u64,
 }
 
-/// Whether what was found at a place lets it pass: nobody is there, or its stack was published in a moment after the invalidation.
+/// Whether the moment found at a place shows that the place is covered: the place is vacant, or its stack was published in a moment
+/// after the invalidation.
 fn is_past(left: u64, found: u64) -> bool
     ensures { result ≡ Rattle.frames.specs.BoardStep.is_past left found }
 {
@@ -18,14 +19,14 @@ fn is_past(left: u64, found: u64) -> bool
 }
 
 impl Note {
-    /// No place was looked at.
+    /// A note of an invalidation in this moment: no place was looked at yet.
     pub fn at(left: u64) -> Note
         ensures { result ≡ note_at left }
     {
         Note { left, looked: 0 }
     }
 
-    /// The least place that wasn't looked at, 64 where all were.
+    /// The least place that wasn't looked at, 64 if all were.
     pub fn least_unlooked(&self) -> usize
         ensures bound { result ≤ 64 }
         ensures below { (p : ℕ) → p < result → is_noted self.now p ≡ true }
@@ -34,7 +35,7 @@ impl Note {
         self.looked.trailing_ones() as usize
     }
 
-    /// Writes down what a load of the place's moment tells, and answers it.
+    /// Notes the moment found by a load of the place's word. Returns whether the place is covered. The place is below 64.
     pub fn look(&mut self, place: usize, found: u64) -> bool
         requires { place < 64 }
         ensures answer { result ≡ is_past self.old.left found }

@@ -1,4 +1,4 @@
-//! The rule of a board's table, and what each kind of step tells its seat.
+//! The rule of a board's table, and the view of a seat after each kind of step.
 ghost use Rattle.frames.specs.declared.board_rule.BoardView.TheVariants.{Keeper as IsKeeper, Ended as HasEnded};
 ghost use Rattle.frames.specs.declared.board_rule.EntryState.TheVariants.{Zombie, Vacant};
 ghost use Rattle.frames.specs.BoardViews.{keeper_view};
@@ -11,7 +11,7 @@ use atomic_table::{Join, Play, Split, TableRule};
 use frames::board_rule::BoardView;
 use std::marker::{Brand, PhantomData};
 
-/// The rule of a board. Its key is how many slots and places there are.
+/// The rule of a board. Its key is the number of slots and the number of places.
 pub struct BoardRule;
 
 impl TableRule<(), BoardView, (usize, usize)> for BoardRule {
@@ -20,7 +20,7 @@ impl TableRule<(), BoardView, (usize, usize)> for BoardRule {
     ghost first = { λ n. IsKeeper (keeper_view n.0 0) [] 0 };
 }
 
-/// How a thread's seat is split off the keeper's.
+/// Splits a thread's seat off the keeper's.
 pub struct SplitOff;
 
 impl Split<BoardView> for SplitOff {
@@ -29,7 +29,7 @@ impl Split<BoardView> for SplitOff {
     ghost right = { right_of };
 }
 
-/// How a thread's seat is given back: the keeper takes over what it knew.
+/// Gives a thread's seat back: the keeper's view takes over what the seat's view knew.
 pub struct GivenBack;
 
 impl Join<BoardView> for GivenBack {
@@ -38,7 +38,7 @@ impl Join<BoardView> for GivenBack {
     ghost spent = { HasEnded };
 }
 
-/// What a step is about. Each call picks it, and it leaves nothing in the code.
+/// What a step is about: board, code and place. Each call picks it, and it leaves nothing in the compiled code.
 pub trait About {
     ghost asked: { Asked };
 }

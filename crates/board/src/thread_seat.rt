@@ -1,4 +1,4 @@
-//! The seat of one place.
+//! The seat of one place, with which its thread steps on the board.
 ghost use Rattle.std.specs.Prelude.{◌≡◌, ◌≢◌, ℕ, [], pos, ◌+ℤ◌, ◌<ℤ◌, ◌≤ℤ◌, true, false, ◌+◌, ◌*◌, ◌==◌, ◌<◌, ◌≤◌};
 ghost use Rattle.frames.specs.declared.CodeId.{CodeId as Code};
 ghost use Rattle.frames.specs.declared.board_rule.BoardView.TheVariants.{Thread as IsThreads};
@@ -16,11 +16,11 @@ use frames::CodeId;
 use frames::board_rule::BoardView;
 use std::marker::{Brand, Model};
 
-// The serials whose words are numbers of 64 bits lie below this.
+// Below this bound, the word of a serial fits into 64 bits.
 const SERIALS: u64 = 1 << 62;
 
-/// Whether the entry's word says that the serial is in use. The word of that is compared whole: to unpack what was found takes two
-/// tests.
+/// Whether the entry's word says that the serial is in use. It compares whole words, since unpacking the word that was found takes
+/// two tests.
 #[inline(always)]
 fn is_in_use(word: u64, serial: u64) -> bool
     ensures { result ≡ (word == pack serial InUse) }
@@ -28,14 +28,14 @@ fn is_in_use(word: u64, serial: u64) -> bool
     serial < SERIALS && word == 4 * serial
 }
 
-/// Enters codes, counts them, and publishes for the thread of one place. Contracts see its board and its view.
+/// Enters codes, counts them, and publishes, for the thread of one place. Contracts see its board and its view.
 #[derive(Drop)]
 pub struct ThreadSeat {
     seat: Seat<(), BoardView>,
     slots: usize,
     places: usize,
     place: usize,
-    // The moment that was read, 0 for none: the view's.
+    // The view's moment: the one that was read, 0 for none.
     moment: u64,
 }
 
@@ -86,7 +86,7 @@ impl ThreadSeat {
         seat
     }
 
-    /// Its place.
+    /// The seat's place.
     #[inline(always)]
     pub fn place(&self) -> usize
         ensures value { result ≡ self.now.seen.place }
@@ -116,11 +116,11 @@ impl ThreadSeat {
             .load::<Enter<A>>(&mut self.seat, entry_at(code.slot))
     }
 
-    /// Whether the code is in use, so that an activation of it may be made: one load of the entry of its slot. A code that is in
-    /// use joins the fresh ones of this seat, and one that no longer is joins those that it never enters again. A code that the
-    /// seat counts or has fresh is found standing there, in use or not entrant.
+    /// Tries to enter a code: one load of the entry of its slot. Returns whether the code is in use, so that an activation of it
+    /// may be made. A code that is in use joins the fresh codes of this seat. A code that no longer is joins the codes that this
+    /// seat never enters again. A code that the seat counts or has fresh is found in its slot, in use or not entrant.
     ///
-    /// The seat has ended a publication, and the code's slot is one of the board's.
+    /// The seat must have ended a publication, and the code's slot must be one of the board's.
     #[inline(always)]
     pub fn enter(&mut self, board: &Board, code: CodeId) -> bool
         requires board { self.old.board ≡ board.now }
@@ -187,7 +187,7 @@ impl ThreadSeat {
         self.moment = 0;
     }
 
-    /// Ends a publication: one store of the moment that was read when it began. Nothing is fresh from then on.
+    /// Ends a publication: one store of the moment that was read at its start. No code is fresh from then on.
     #[inline(always)]
     pub fn end_publication(&mut self, board: &Board)
         requires board { self.old.board ≡ board.now }
@@ -219,7 +219,7 @@ impl ThreadSeat {
         self.moment = 0;
     }
 
-    /// Gives the place up: one store of 0. The seat counts no code any more.
+    /// Gives the place up: one store of 0. The seat must count no code.
     pub fn vacate(&mut self, board: &Board)
         requires board { self.old.board ≡ board.now }
         requires uncounted { (c : Code) → how_often self.old.seen.counted c ≡ 0 }
@@ -270,7 +270,7 @@ impl ThreadSeat {
             .fetch_sub::<CountDown<A>>(&mut self.seat, count_at(self.slots, code.slot), by)
     }
 
-    /// Changes how often this seat counts the code, inside a publication: one fetch-add, or one fetch-sub where `by` is negative.
+    /// Changes how often this seat counts the code, inside a publication: one fetch-add, or one fetch-sub if `by` is negative.
     ///
     /// `by` isn't 0, the count stays from 0 to 256, and it rises only for a fresh code.
     #[inline(always)]

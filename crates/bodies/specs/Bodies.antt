@@ -24,7 +24,7 @@ pub record BodyView : Type 0 where
   pub seat : SeatView
   pub poller : Watching
 
--- what contracts see of a seat with its poller that nobody has
+-- what contracts see of the seat and the poller of a place that no thread has
 pub record SpareView : Type 0 where
   pub seat : SeatView
   pub poller : Watching
@@ -34,12 +34,12 @@ pub record SeatsView : Type 0 where
   pub seat : SeatSeen
   pub poller : PollerSeen
 
--- the image in a box, that of an empty stack where there is none
+-- the image in a box, or the image of an empty stack if the box has none
 abbrev pub image_of : List ImageView → ImageView
 image_of [] = record { frames = []; counted = []; changed = []; publishing = false }
 image_of (image ∷ others) = image
 
--- what a place that nobody has keeps: no image, and room for one
+-- what the box of a place keeps while no thread has the place: no image, and room for one
 abbrev pub IsVacant : List ImageView → ℕ → Type 0
 IsVacant images room = (images ≡ []) × (1 ≤ room)
 
@@ -51,15 +51,15 @@ pub record IsFit (slots : ℕ) (image : ImageView) (seat : SeatView) : Type 0 wh
   pub counted_is : (c : CodeId) → times c image.counted ≡ how_often seat.counted c
   -- a code with more frames than are counted was entered since the last publication
   pub more_is_fresh : (c : CodeId) → times c image.counted < act c image.frames → has_code seat.fresh c ≡ true
-  -- codes are those of the board's slots
+  -- each code has a slot of the board
   pub frame_slots : (c : CodeId) → 0 < act c image.frames → c.slot < slots
   pub counted_slots : (c : CodeId) → 0 < times c image.counted → c.slot < slots
 
--- what a seat without a body keeps
+-- what a seat without a body keeps: no moment is stored, and no code is counted
 abbrev pub IsSpare : SeatView → Type 0
 IsSpare seat = (seat.stored ≡ 0) × ((c : CodeId) → how_often seat.counted c ≡ 0)
 
--- the seats of a place are of the board and the poll row, and of one place
+-- the seat is of this board, the poller of this poll row, and both of the same place
 abbrev pub IsPaired : BoardId → TableId → SeatSeen → PollerSeen → Type 0
 IsPaired board row seat poller = (seat.board ≡ board) × (poller.table ≡ row) × (poller.seen.place ≡ seat.seen.place)
 
@@ -79,17 +79,20 @@ abbrev pub code_if : CodeId → Bool → Option CodeId
 code_if c true = Some c
 code_if c false = None
 
--- what a load of a code's entry tells: a code that is held is found standing, and one that was once seen gone isn't found in use
+-- what a load of a code's entry shows: the entry of a code that the seat holds has this code, in use or not entrant; a code that the seat
+-- once saw gone isn't found in use
 abbrev pub Tells : SeatView → CodeId → ℕ → Type 0
 Tells old c found = (IsHeld old c → IsStandingWord c found) × (has_code old.gone c ≡ true → (found == pack c.serial InUse) ≡ false)
 
--- which code a call enters: without a hint none, and no step is made; with one its entry is loaded once, and it is the hint's where the load found that in use
+-- Which code a call enters. Without a hint it enters none and makes no step. With a hint it loads the entry of the hint's code once, and
+-- enters this code exactly if the load found it in use.
 abbrev pub IsTried : SeatView → SeatView → Option CodeId → Option CodeId → Type 0
 IsTried old new None code = (code ≡ None) × (new ≡ old)
 IsTried old new (Some c) code = (found : ℕ) × (new ≡ entered old c found) × (code ≡ code_if c (found == pack c.serial InUse)) × Tells old c found
 
--- a call without a hint makes no step; one with a hint makes one load of the code's entry. It pushes one frame, which has the code exactly where the load found that in use.
--- Where a frame has the code already, the load finds it in use or not entrant; a code that was once seen gone is never entered again.
+-- A call without a hint makes no step. A call with a hint makes one load of the code's entry. The call pushes one frame, which has the code
+-- exactly if the load found it in use. If a frame of the stack has the code already, the load finds the code in use or not entrant. A code
+-- that the seat once saw gone is never entered again.
 abbrev pub IsCalled : BodyView → BodyView → ℕ → Option CodeId → Called → Type 0
 IsCalled old new m None said = (said ≡ Interpreted) × (new.seat ≡ old.seat) × HasFrames old.image new.image (old.image.frames ++ frame m None ∷ [])
 IsCalled old new m (Some c) said =
@@ -97,7 +100,7 @@ IsCalled old new m (Some c) said =
     × HasFrames old.image new.image (old.image.frames ++ frame m (code_if c (found == pack c.serial InUse)) ∷ [])
     × (0 < act c old.image.frames → IsStandingWord c found) × (has_code old.seat.gone c ≡ true → said ≡ Interpreted)
 
--- the seat after changes, the newest first, each with the count that it met
+-- the seat after these changes, listed with the newest first, each with the count that its step found
 abbrev pub all_changed : SeatView → List (Change × ℕ) → SeatView
 all_changed t [] = t
 all_changed t (x ∷ xs) = count_changed (all_changed t xs) x.0.code x.0.by x.1
@@ -106,14 +109,15 @@ abbrev pub changed : List (Change × ℕ) → List CodeId
 changed [] = []
 changed (x ∷ xs) = x.0.code ∷ changed xs
 
--- changes that were made of an image so far: each code that was uncounted is changed once, or is uncounted still
+-- the changes of an image that a publication has made so far: each code that was uncounted at its start has been changed once, or is still
+-- uncounted
 pub record AreMade (old image : ImageView) (start seat : SeatView) (made : List (Change × ℕ)) : Type 0 where
   pub frames_stay : image.frames ≡ old.frames
   pub publishing_stays : image.publishing ≡ old.publishing
   pub seat_is : seat ≡ all_changed start made
   pub each : (c : CodeId) → times c (changed made) + cond (is_uncounted image.frames image.counted c) 1 0 ≡ cond {A = ℕ} (is_uncounted old.frames old.counted c) 1 0
 
--- a publication's changes, each made: every frame is counted, and the image and the seat fit as before
+-- all changes of a publication are made: every frame is counted, and the image and the seat still fit together
 pub record AreCounted (old image : ImageView) (start seat : SeatSeen) : Type 0 where
   pub board_stays : seat.board ≡ start.board
   pub fit : IsFit start.board.slots image seat.seen
@@ -121,7 +125,7 @@ pub record AreCounted (old image : ImageView) (start seat : SeatSeen) : Type 0 w
   pub made : AreMade old image start.seen seat.seen changes
   pub settled : IsSettled image
 
--- a publication: a load of the moment, one step for each code whose counts differ, and a store of the moment that was loaded
+-- a publication: a load of the board's moment, one step for each code whose counts differ, and a store of the loaded moment
 pub record IsPublished (old new : BodyView) : Type 0 where
   pub moment : ℕ
   pub made : List (Change × ℕ)
@@ -136,7 +140,7 @@ pub record IsPublished (old new : BodyView) : Type 0 where
   pub place_stays : new.seat.place ≡ old.seat.place
   pub poller_stays : new.poller ≡ old.poller
 
--- at any moment at which the board's rule holds, the code of each frame stands in its slot's entry
+-- whenever the board's rule holds, the entry of the code of each frame has this code, in use or not entrant
 abbrev pub AreStanding : ImageView → SeatView → Type 0
 AreStanding image seat =
     (slots places : ℕ) (b : BoardState) → IsBoardKept slots places b → seat.place < places → b.seat seat.place ≡ seat_state seat

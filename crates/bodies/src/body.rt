@@ -13,7 +13,7 @@ use crate::name::Name;
 use board::{Board, ThreadSeat};
 use frames::image::Image;
 use frames::{CodeId, Frame};
-use operations::job::{Done, Errand};
+use operations::job::{Done, HandshakeOp};
 use poll::{PollRow, Poller};
 use std::alloc::{AllocError, Global};
 use std::marker::{Model, PhantomData};
@@ -27,26 +27,26 @@ pub enum Called {
     Interpreted,
 }
 
-// What a place keeps for the threads that have it in turn. `images` has one image while a thread has the place, and none while
-// nobody has it. It is a list since an index whose bound is proved makes no test, and a `match` of an `Option` makes one.
+// What a place keeps for the threads that have it one after another. `images` has one image while a thread has the place, and none
+// otherwise. It is a list because an index with a proved bound makes no test, while a `match` of an `Option` makes one.
 #[derive(Drop)]
 struct Parts {
     name: u64,
     images: Vec<Image>,
     seat: ThreadSeat,
     poller: Poller,
-    // Nothing: what the thread of the next place writes lies behind it, on lines of its own.
+    // Padding: the fields that the thread of the next place writes are behind it, on cache lines of their own.
     apart: [u64; LINE],
 }
 
-// A line of the processor's caches, in words.
+// A cache line, in words.
 const LINE: usize = 8;
 
-/// The seat and the poller of one place, in a box with room for the name and the image of the thread that has the place: bodies are
-/// moved as that box.
+/// The seat and the poller of one place, in a box with room for the name and the image of the thread that has the place. Moving a
+/// body moves this box.
 ///
-/// The box and the room for its image are made with the place and not by its threads, so that those of all places lie beside one
-/// another.
+/// The box and the room for its image are allocated with the place, not by its threads, so that those of all places are next to one
+/// another in memory.
 #[derive(Drop)]
 pub struct Seats {
     parts: Box<Parts>,
@@ -65,7 +65,7 @@ impl Model for Seats {
 }
 
 impl Seats {
-    /// The error is that memory was refused.
+    /// Makes the seats of a place. The error is that memory was refused.
     pub fn new(alloc: Global, seat: ThreadSeat, poller: Poller) -> Result<Seats, AllocError>
         ensures { IfOk result (λ s. (s.seat ≡ seat) × (s.poller ≡ poller)) }
     {
@@ -82,7 +82,7 @@ impl Seats {
     }
 }
 
-/// The seat and the poller of one place, while no thread has the place: nothing is stored or counted there.
+/// The seat and the poller of one place, while no thread has the place. The seat has no moment stored and counts no code.
 #[derive(Drop)]
 pub struct SpareSeat<N: Name> {
     parts: Box<Parts>,
@@ -106,7 +106,7 @@ impl<N: Name> Model for SpareSeat<N> {
 }
 
 impl<N: Name> SpareSeat<N> {
-    /// The seats of a place that no thread has had.
+    /// The seats of a place that no thread has had yet.
     pub fn new(seats: Seats) -> SpareSeat<N>
         requires tables { (seats.seat.board ≡ N.board) × (seats.poller.table ≡ N.poll_row) }
         requires place { seats.poller.seen.place ≡ seats.seat.seen.place }
@@ -130,12 +130,12 @@ impl<N: Name> SpareSeat<N> {
     }
 }
 
-/// A thread's name, the image of its stack, and its seats: the one at the code board and the poller, of the same place.
+/// A thread's name, the image of its stack, and its seats of the same place: the seat at the code board and the poller.
 ///
-/// The type keeps that the image counts a code as often as the seat has counted it on the board, that a code with more frames than
-/// are counted was entered since the last publication, and that no publication is open.
+/// The type keeps three facts. The image counts a code as often as the seat has counted it on the board. A code with more frames
+/// than are counted was entered since the last publication. No publication is open.
 ///
-/// It is the box of its place, since bodies are moved into their berths and out again: a move is of one pointer.
+/// A body is the box of its place, so that moving a body into its berth or out of it moves one pointer.
 #[derive(Drop)]
 pub struct Body<N: Name> {
     parts: Box<Parts>,
@@ -160,7 +160,7 @@ impl<N: Name> Model for Body<N> {
         × (1 ≤ vec_capacity b.parts.value.images) };
 }
 
-// Makes each change that the image has left.
+// Makes each change that the image still has to publish.
 fn count_changes(image: &mut Image, seat: &mut ThreadSeat, board: &Board)
     requires board { seat.old.board ≡ board.now }
     requires fit { IsFit seat.old.board.slots image.old seat.old.seen }
@@ -178,7 +178,7 @@ fn count_changes(image: &mut Image, seat: &mut ThreadSeat, board: &Board)
     }
 }
 
-// Opens a publication, counts the codes that moved, one by one, and ends it.
+// Opens a publication, counts the codes whose number of frames changed, one by one, and ends the publication.
 #[inline(never)]
 fn publish_all(image: &mut Image, seat: &mut ThreadSeat, board: &Board)
     requires board { seat.old.board ≡ board.now }
@@ -198,7 +198,8 @@ fn publish_all(image: &mut Image, seat: &mut ThreadSeat, board: &Board)
     }
 }
 
-// Counts the codes that moved: one alone at once, and else one by one. It stands apart, since in most publications no code moved.
+// Counts the codes whose number of frames changed: a single one directly, several one by one. This is a function of its own, not
+// inlined, since most publications have no such code.
 #[inline(never)]
 fn publish_changes(image: &mut Image, seat: &mut ThreadSeat, board: &Board)
     requires board { seat.old.board ≡ board.now }
@@ -213,7 +214,7 @@ fn publish_changes(image: &mut Image, seat: &mut ThreadSeat, board: &Board)
     }
 }
 
-// Counts the codes that moved, if any did.
+// Counts the codes whose number of frames changed, if there are any.
 #[inline(always)]
 fn count_moved(image: &mut Image, seat: &mut ThreadSeat, board: &Board)
     requires board { seat.old.board ≡ board.now }
@@ -228,7 +229,8 @@ fn count_moved(image: &mut Image, seat: &mut ThreadSeat, board: &Board)
 }
 
 impl<N: Name> Body<N> {
-    /// The body of a thread that starts, in the box of the place that it takes: its stack is empty and nothing of it is counted.
+    /// Makes the body of a starting thread, in the box of the place that the thread takes. Its stack is empty, and no code is
+    /// counted.
     pub fn new(name: u64, image: Image, pair: SpareSeat<N>) -> Body<N>
         requires empty { (image.frames ≡ []) × (image.publishing ≡ false)
             × ((c : Code) → times c image.counted ≡ 0) }
@@ -264,8 +266,8 @@ impl<N: Name> Body<N> {
         self.parts.seat.place()
     }
 
-    /// Runs a job on its own image, which must be settled.
-    pub fn run<J: Errand>(&self, job: J) -> Done
+    /// Runs a job on the body's own image, which must be settled.
+    pub fn run<J: HandshakeOp>(&self, job: J) -> Done
         requires { IsSettled self.now.image }
         ensures same { (result.op ≡ J.number job) × (result.target ≡ J.whom job)
             × (result.ask ≡ J.asks job) }
@@ -275,7 +277,7 @@ impl<N: Name> Body<N> {
         job.run_on(&self.parts.images[0])
     }
 
-    /// The frames, the top last.
+    /// The frames of the stack, the top frame last.
     pub fn frames(&self) -> &[Frame]
         ensures value { result.now ≡ self.now.image.frames }
         ensures few { length result.now ≤ 256 }
@@ -293,16 +295,16 @@ impl<N: Name> Body<N> {
         self.parts.images[0].depth()
     }
 
-    /// Whether each code is counted as often as it has frames.
+    /// Whether each code is counted as often as it has frames on the stack.
     pub fn is_settled(&self) -> bool
         ensures { IsTrue result ↔ IsSettled self.now.image }
     {
         self.parts.images[0].is_settled()
     }
 
-    /// Enters a method: in the code of the hint, where the one load of its entry finds it in use, and else interpreted.
-    /// Without a hint no step is made. The body must have ended a publication, have room for a frame, and the hint must name a
-    /// slot of the board.
+    /// Enters a method: in the code of the hint, if one load of its entry finds the code in use, and otherwise in the interpreter.
+    /// Without a hint the call makes no step. The body must have ended a publication and must have room for a frame. The hint must
+    /// name a slot of the board.
     #[inline(always)]
     pub fn call(&mut self, board: &Board, method: u32, hint: Option<CodeId>) -> Called
         requires board { board.now ≡ N.board }
@@ -328,7 +330,7 @@ impl<N: Name> Body<N> {
         Called::Interpreted
     }
 
-    /// Leaves the method of the top frame, and gives that frame.
+    /// Leaves the method of the top frame, and returns that frame. The stack must have a frame.
     #[inline(always)]
     pub fn ret(&mut self) -> Frame
         requires frames { 0 < length self.old.image.frames }
@@ -342,7 +344,8 @@ impl<N: Name> Body<N> {
         image.take_top()
     }
 
-    /// Publishes the stack: one load of the moment, a step for each code whose counts differ, and a store of the moment that was loaded.
+    /// Publishes the stack: one load of the board's moment, one step for each code whose counts differ, and one store of the loaded
+    /// moment.
     #[inline(always)]
     pub fn publish(&mut self, board: &Board)
         requires board { board.now ≡ N.board }
@@ -355,7 +358,7 @@ impl<N: Name> Body<N> {
         parts.seat.end_publication(board);
     }
 
-    /// The number that the place is armed with, 0 where it isn't: one load.
+    /// Polls: returns the number that the place is armed with, 0 if it isn't armed. One load.
     #[inline(always)]
     pub fn poll(&mut self, row: &PollRow) -> u64
         requires row { row.now ≡ N.poll_row }
@@ -368,7 +371,7 @@ impl<N: Name> Body<N> {
         parts.poller.poll(row)
     }
 
-    /// Clears the place where it is armed with `n`, and says whether it did: one compare-exchange.
+    /// Disarms the place if it is armed with `n`, which isn't 0. Returns whether it was. One compare-exchange.
     #[inline(always)]
     pub fn clear(&mut self, row: &PollRow, n: u64) -> bool
         requires row { row.now ≡ N.poll_row }
@@ -382,7 +385,7 @@ impl<N: Name> Body<N> {
         parts.poller.clear(row, n)
     }
 
-    /// Gives the place up, by one store of 0. The stack must be empty, and nothing counted.
+    /// Gives the place up: one store of 0. The stack must be empty, and no code counted.
     pub fn vacate(self, board: &Board) -> SpareSeat<N>
         requires board { board.now ≡ N.board }
         requires empty { self.image.frames ≡ [] }
@@ -399,7 +402,7 @@ impl<N: Name> Body<N> {
         }
     }
 
-    /// Law: what a body keeps of its image and its seat; and so, whenever the board's rule holds, the entry of the code of each
+    /// A law: the image and the seat of a body fit together. Hence, whenever the board's rule holds, the entry of the code of each
     /// frame has that code, in use or not entrant.
     pub fn frames_stand(&self)
         ensures fit { IsFit N.board.slots self.now.image self.now.seat }

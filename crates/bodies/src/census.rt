@@ -1,4 +1,4 @@
-//! How many frames of each code stand on the stacks of some bodies.
+//! How many frames of each code are on the stacks of some bodies.
 ghost use Rattle.std.specs.Prelude.{◌≡◌, ℕ, ◌+◌, ◌*◌, ◌≤◌, [], ◌∷◌, length, IfOk};
 ghost use Rattle.frames.specs.Stack.{serial_count};
 ghost use Rattle.activation_index.specs.Counts.{count_in, IsRisingFrom};
@@ -30,7 +30,7 @@ fn count_frames(index: &mut Index, frames: &[Frame])
     }
 }
 
-// Counts a frame, where it has a code.
+// Counts a frame, if it has a code.
 fn count_frame(index: &mut Index, frame: Frame)
     requires rising { IsRisingFrom 0 index.old.entries }
     requires room { length index.old.entries + 1 ≤ index.old.slots }
@@ -66,8 +66,8 @@ fn count_bodies<N: Name>(index: &mut Index, bodies: &[Body<N>])
     }
 }
 
-/// The census of at most 64 bodies: each serial with its frames over all stacks as they are, rising, without zeros.
-/// Refused only for want of memory.
+/// Makes the census of at most 64 bodies: each serial with its number of frames on all these stacks, serials rising, without zeros.
+/// The error is that memory was refused.
 pub fn census_of<N: Name>(alloc: Global, bodies: &[Body<N>]) -> Result<Vec<(u64, u32)>, AllocError>
     requires { length bodies.now ≤ 64 }
     ensures { IfOk result (λ list. IsCensus bodies.now list.items) }

@@ -5,8 +5,8 @@ ghost use Rattle.atomic_table.specs.Seated.{TableId};
 
 use std::marker::Brand;
 
-/// The identities of a board and of a poll row. What carries a name of the same type belongs to the same board and row,
-/// also where it comes out of a lock. Each program picks one where it makes the two.
+/// The identities of a board and of a poll row. Values whose types have the same `Name` belong to the same board and row, also
+/// after they come out of a lock. A program picks one `Name` where it makes the board and the row.
 pub trait Name {
     ghost board: { BoardId };
 

@@ -1,9 +1,9 @@
--- How many numbers stand behind a word.
+-- How many numbers follow a word.
 use Rattle.std.specs.Prelude.{ℕ, nat_le, Bool, false, ◌&&◌, Option, Some, None}
 use Rattle.call_log.specs.declared.word.Word.{Word}
 use Rattle.call_log.specs.declared.word.Word.TheVariants as word
 
--- The least and the greatest count of numbers behind a word that is called.
+-- The least and the greatest count of arguments of a call's word.
 abbrev pub call_range : Word → Option (ℕ × ℕ)
 call_range word.Start = Some (0, 0)
 call_range word.Call = Some (2, 3)
@@ -41,7 +41,7 @@ call_range word.ReclaimTop = Some (2, 65)
 call_range word.ReclaimCount = Some (3, 66)
 call_range other = None
 
--- How many numbers follow a word that is answered.
+-- The least and the greatest count of values after an answer's word.
 abbrev pub answer_range : Word → Option (ℕ × ℕ)
 answer_range word.Ok = Some (0, 0)
 answer_range word.Thread = Some (2, 2)

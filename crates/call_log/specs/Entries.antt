@@ -26,7 +26,7 @@ answer_in (token.Word word.Question) = None
 answer_in (token.Word w) = Some w
 answer_in _ = None
 
--- Each four numbers as a job.
+-- Each group of four numbers as a job.
 abbrev pub jobs_in : List ℕ → List Job
 jobs_in (op ∷ name ∷ reply ∷ ticket ∷ more) = record { op = op; name = name; reply = reply; ticket = ticket } ∷ jobs_in more
 jobs_in _ = []

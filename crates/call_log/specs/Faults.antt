@@ -51,7 +51,7 @@ abbrev pub same : Bool → Bool → Bool
 same true b = b
 same false b = not b
 
--- Of the stream, the tickets and what is called.
+-- Faults in the stream, the tickets and the call's word.
 abbrev pub head_fault : List Token → Option Fault
 head_fault tokens =
     if not (is_number (at tokens 0)) then Some fault.Stream
@@ -60,7 +60,7 @@ head_fault tokens =
     else if not (calls (at tokens 3)) then Some fault.Call
     else None
 
--- Of the colon, the answer and how many numbers stand behind it.
+-- Faults in the colon, the answer's word and the count of numbers after it.
 abbrev pub answer_fault : List Token → ℕ → Token → ℕ → Option Fault
 answer_fault tokens colon answer values =
     if not (is_colon (at tokens colon)) then Some fault.Colon
@@ -68,7 +68,7 @@ answer_fault tokens colon answer values =
     else if not (says answer values) then Some fault.Values
     else None
 
--- Of what stands behind, where so many numbers stand behind the mark.
+-- Faults in what follows the answer, with this count of numbers after the semicolon.
 abbrev pub jobs_fault : List Token → ℕ → ℕ → Option Fault
 jobs_fault tokens end numbers =
     if length tokens == end then None
@@ -79,7 +79,7 @@ abbrev pub or_else : Option Fault → Option Fault → Option Fault
 or_else (Some fault) next = Some fault
 or_else None next = next
 
--- Where the colon stands, and where all ends that isn't a job.
+-- The position of the colon, and the position after the last part that isn't a job.
 abbrev pub colon_at : List Token → ℕ
 colon_at tokens = 4 + count_from (drop 4 tokens)
 
@@ -89,7 +89,7 @@ end_at tokens = colon_at tokens + 2 + count_from (drop (colon_at tokens + 2) tok
 abbrev pub arguments_fault : List Token → Option Fault
 arguments_fault tokens = if takes (at tokens 3) (count_from (drop 4 tokens)) then None else Some fault.Arguments
 
--- The first part of a line that isn't as it is to be.
+-- The first part of a line that isn't well-formed.
 abbrev pub line_fault : List Token → Option Fault
 line_fault tokens =
     or_else (head_fault tokens) (or_else (arguments_fault tokens)

@@ -1,4 +1,4 @@
--- What is read of a text.
+-- How a text is read as a log.
 use Rattle.std.specs.Prelude.{◌≡◌, ℕ, ◌+◌, ◌^◌, ◌<◌, ◌≤◌, nat_lt, Bool, true, false, ◌&&◌, ◌||◌, bytes_eq, codes, length, take, drop, List, ◌++◌, Option, Some, None, if◌then◌else◌}
 use Rattle.std.specs.Borrow.{Bor}
 use Rattle.std.specs.List.{All}
@@ -20,7 +20,7 @@ use Rattle.call_log.specs.Spelled.{line_text, first_text, size_text, header_text
 abbrev pub spelling_fault : List ℕ → Option Fault
 spelling_fault line = if bytes_eq (line_text (entry_of (tokens_of line))) line then None else Some fault.Spelling
 
--- The first that is wrong with a line.
+-- The first fault of a line.
 abbrev pub fault_of : List ℕ → Option Fault
 fault_of line = if nat_lt 65536 (length line) then Some fault.Long else or_else (line_fault (tokens_of line)) (spelling_fault line)
 
@@ -28,11 +28,11 @@ abbrev pub IsFaultOf : List ℕ → LineFault → Type 0
 IsFaultOf line (of_line.Bad f) = fault_of line ≡ Some f
 IsFaultOf line of_line.NoMemory = Unit {0}
 
--- A line that has no fault spells the call.
+-- The line of this call has no fault.
 abbrev pub IsCall : Entry → Type 0
 IsCall call = fault_of (line_text call) ≡ None
 
--- The first line, and what stands behind its newline.
+-- The first line, and the text after its newline.
 abbrev pub cut : List ℕ → Option (List ℕ × List ℕ)
 cut bytes = if nat_lt (end_of bytes) (length bytes) then Some (take (end_of bytes) bytes, drop (end_of bytes + 1) bytes) else None
 
@@ -44,7 +44,7 @@ abbrev pub first_fault : Option (List ℕ × List ℕ) → Option Fault
 first_fault None = Some fault.Cut
 first_fault (Some parts) = fault_of parts.0
 
--- Lines of calls without a fault stand before the line of this number, and the line has the fault.
+-- The line of this number has the fault, and all lines before it are lines of calls without a fault.
 pub record FaultAt (text : List ℕ) (number : ℕ) (wrong : Fault) : Type 0 where
   pub calls : List Entry
   pub are_calls : All IsCall calls
@@ -61,7 +61,7 @@ pub record HasTooMany (text : List ℕ) : Type 0 where
   pub many : 2 ^ 20 ≤ length calls
   pub more : 0 < length rest
 
--- Why the lines behind the header aren't read.
+-- Why the lines after the header can't be read.
 abbrev pub StandsIn : List ℕ → ReadFault → Type 0
 StandsIn text read.Header = ⊥
 StandsIn text (read.Line number wrong) = FaultAt text number wrong
@@ -74,7 +74,7 @@ number_at tokens i = number_in (at tokens i)
 abbrev pub size_of : List ℕ → List ℕ
 size_of second = size_text (number_at (tokens_of second) 1) (number_at (tokens_of second) 2) (number_at (tokens_of second) 3)
 
--- The two lines are those of a log.
+-- The two lines are the header of a log.
 abbrev pub is_header : List ℕ → List ℕ → Bool
 is_header first second = (bytes_eq first (codes "witness 1 jobs") || bytes_eq first (codes "witness 1")) && bytes_eq (size_of second) second
 
@@ -95,14 +95,14 @@ has_first (Some parts) = has_second parts.0 (cut parts.1)
 abbrev pub log_text : Log → List ℕ
 log_text log = header_text log.jobs log.places log.slots log.methods ++ calls_text log.calls.items
 
--- The header is there, and behind it the calls can't be read.
+-- The header is correct, and the calls after it can't be read.
 pub record BehindHeader (text : List ℕ) (wrong : ReadFault) : Type 0 where
   pub header : Header
   pub rest : List ℕ
   pub text_is : text ≡ header_text header.jobs header.places header.slots header.methods ++ rest
   pub stands : StandsIn rest wrong
 
--- Why a text isn't read.
+-- Why a text can't be read.
 abbrev pub IsReadFault : List ℕ → ReadFault → Type 0
 IsReadFault text read.Header = has_first (cut text) ≡ false
 IsReadFault text (read.Line number wrong) = BehindHeader text (read.Line number wrong)

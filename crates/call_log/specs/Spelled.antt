@@ -14,7 +14,7 @@ abbrev pub answer_text : Option Word → List ℕ
 answer_text None = codes "?"
 answer_text (Some word) = word_text word
 
--- A number behind a space.
+-- A space and a number.
 abbrev pub number_text : ℕ → List ℕ
 number_text n = 32 ∷ decimal n
 
@@ -28,11 +28,11 @@ abbrev pub jobs_text : List Job → List ℕ
 jobs_text [] = []
 jobs_text (job ∷ jobs) = codes " ;" ++ flat_map job_text (job ∷ jobs)
 
--- What stands before the colon.
+-- The part of a line before the colon.
 unfoldable pub head_text : Entry → List ℕ
 head_text entry = decimal entry.stream ++ number_text entry.before ++ 32 ∷ after_text entry.after ++ 32 ∷ word_text entry.call ++ numbers_text entry.args
 
--- What stands from the colon on.
+-- The part of a line from the colon on.
 unfoldable pub tail_text : Entry → List ℕ
 tail_text entry = codes " : " ++ answer_text entry.answer ++ numbers_text entry.values ++ jobs_text entry.jobs
 

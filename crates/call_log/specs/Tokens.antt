@@ -6,12 +6,12 @@ use Rattle.call_log.specs.declared.tokens.Token.{Token}
 use Rattle.call_log.specs.declared.tokens.Token.TheVariants as token
 use Rattle.call_log.specs.Words.{word_text, word_of}
 
--- The value of digits behind a number: too great as soon as a beginning is.
+-- The value of a number followed by these digits; None as soon as a prefix is too great.
 abbrev pub value : ℕ → List ℕ → Option ℕ
 value n [] = Some n
 value n (b ∷ bytes) = if nat_lt (n * 10 + (b - 48)) (2 ^ 40) then value (n * 10 + (b - 48)) bytes else None
 
--- The number whose decimal the bytes are.
+-- The number that has these bytes as its decimal.
 abbrev pub number : List ℕ → Option ℕ
 number bytes = option_and_then (λ n. if bytes_eq bytes (decimal n) then Some n else None) (value 0 bytes)
 
@@ -33,17 +33,17 @@ token_text (token.Number n) = decimal n
 token_text (token.Word word) = word_text word
 token_text token.Other = []
 
--- How many numbers stand in front.
+-- How many tokens at the beginning are numbers.
 abbrev pub count_from : List Token → ℕ
 count_from (token.Number n ∷ tokens) = suc (count_from tokens)
 count_from _ = 0
 
--- The numbers that stand in front.
+-- The numbers at the beginning of the tokens.
 abbrev pub numbers_from : List Token → List ℕ
 numbers_from (token.Number n ∷ tokens) = n ∷ numbers_from tokens
 numbers_from _ = []
 
--- Where the newline stands first, or the length.
+-- The position of the first newline, or the length if there is none.
 abbrev pub end_of : List ℕ → ℕ
 end_of [] = 0
 end_of (b ∷ bytes) = if b == 10 then 0 else suc (end_of bytes)

@@ -124,6 +124,6 @@ all_words =
     word.AlreadyOpen ∷ word.QueueEmpty ∷ word.AlreadyTold ∷ word.NotAllHeld ∷ word.NotBegun ∷
     word.ChangesLeft ∷ word.NotZombie ∷ []
 
--- The word that is spelled so.
+-- The word with this spelling.
 abbrev pub word_of : List ℕ → Option Word
 word_of text = find (λ word. bytes_eq text (word_text word)) all_words

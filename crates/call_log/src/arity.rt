@@ -1,10 +1,10 @@
-//! How many numbers stand behind a word.
+//! How many numbers follow a word.
 ghost use Rattle.std.specs.Prelude.{◌≡◌, is_some};
 ghost use Rattle.call_log.specs.Arity.{call_range, answer_range, is_within};
 
 use crate::word::Word;
 
-/// The least and the greatest count of numbers behind a word that is called; none where it isn't.
+/// The least and the greatest count of arguments of a call's word; None if the word isn't a call's.
 fn call_range(word: Word) -> Option<(usize, usize)>
     ensures { result ≡ call_range word }
 {
@@ -47,7 +47,7 @@ fn call_range(word: Word) -> Option<(usize, usize)>
     }
 }
 
-/// How many numbers may follow a word that is answered, at least and at most.
+/// The least and the greatest count of values after an answer's word; None if the word isn't an answer's.
 fn answer_range(word: Word) -> Option<(usize, usize)>
     ensures { result ≡ answer_range word }
 {
@@ -124,28 +124,28 @@ fn is_within(range: Option<(usize, usize)>, count: usize) -> bool
     }
 }
 
-/// Whether the word is called.
+/// Whether the word is the name of a call.
 pub(crate) fn is_call(word: Word) -> bool
     ensures { result ≡ is_some (call_range word) }
 {
     call_range(word).is_some()
 }
 
-/// Whether the word is answered.
+/// Whether the word is an answer.
 pub(crate) fn is_answer(word: Word) -> bool
     ensures { result ≡ is_some (answer_range word) }
 {
     answer_range(word).is_some()
 }
 
-/// Whether the word is called with so many numbers.
+/// Whether a call with this word takes this count of arguments.
 pub(crate) fn takes(word: Word, count: usize) -> bool
     ensures { result ≡ is_within (call_range word) count }
 {
     is_within(call_range(word), count)
 }
 
-/// Whether the word is answered with so many numbers.
+/// Whether an answer with this word has this count of values.
 pub(crate) fn says(word: Word, count: usize) -> bool
     ensures { result ≡ is_within (answer_range word) count }
 {

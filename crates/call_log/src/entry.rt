@@ -1,4 +1,4 @@
-//! A call as a line of a log has it.
+//! A call, as a line of a log has it.
 ghost use Rattle.std.specs.Prelude.{◌≡◌, IfOk, map};
 ghost use Rattle.call_log.specs.Entries.{number_in, after_in, word_in, answer_in, jobs_in, entry_of};
 
@@ -8,21 +8,21 @@ use crate::tokens::{Token, count, numbers, token_at};
 use crate::word::Word;
 use std::alloc::{AllocError, Global};
 
-/// A call of one stream. Tickets are draws of one counter that rises.
+/// A call of one stream. Tickets are drawn from one shared counter that only rises.
 #[derive(Debug, Drop)]
 pub struct Entry {
-    /// Which thread of the machine wrote the line.
+    /// The number of the stream. Each thread of the machine that writes lines has its own.
     pub stream: u64,
-    /// A ticket that was drawn before the call.
+    /// The ticket drawn before the call.
     pub before: u64,
-    /// A ticket that was drawn after it; none where it hadn't returned.
+    /// The ticket drawn after the call; None if the call hadn't returned.
     pub after: Option<u64>,
     pub call: Word,
     pub args: Numbers,
-    /// None where it hadn't returned.
+    /// None if the call hadn't returned.
     pub answer: Option<Word>,
     pub values: Numbers,
-    /// The jobs that ran in the call.
+    /// The jobs that ran during the call.
     pub jobs: Jobs,
 }
 
@@ -63,7 +63,7 @@ fn answer_in(token: Token) -> Option<Word>
     }
 }
 
-/// Each four numbers as a job.
+/// Each group of four numbers as a job.
 fn jobs_in(alloc: Global, numbers: &[u64]) -> Result<Vec<Job>, AllocError>
     ensures { IfOk result (λ jobs. jobs.items ≡ jobs_in numbers.now) }
 {

@@ -7,12 +7,12 @@ use crate::arity;
 use crate::tokens::{Token, count, token_at};
 use crate::word::Word;
 
-/// What is wrong with a line of a call: the first of its parts that isn't as it is to be.
+/// The fault of a call's line: the first of its parts that isn't well-formed.
 #[derive(Clone, Copy, Debug, PartialEq, Eq, Drop)]
 pub enum Fault {
-    /// It has no newline.
+    /// The line has no newline.
     Cut,
-    /// It has more than 65,536 bytes.
+    /// The line has more than 65,536 bytes.
     Long,
     /// The number of the stream.
     Stream,
@@ -20,19 +20,19 @@ pub enum Fault {
     Before,
     /// The ticket after, or `-`.
     After,
-    /// What is called.
+    /// The name of the call.
     Call,
-    /// How many numbers stand behind what is called.
+    /// The count of numbers after the name of the call.
     Arguments,
     /// The colon.
     Colon,
-    /// What is answered: `?` just where there is no ticket after.
+    /// The answer. It must be `?` exactly where the ticket after is `-`.
     Answer,
-    /// How many numbers stand behind what is answered.
+    /// The count of numbers after the answer.
     Values,
-    /// The jobs: four numbers each, behind a semicolon.
+    /// The jobs: four numbers each, after a semicolon.
     Jobs,
-    /// All parts are there, and they aren't spelled so.
+    /// All parts are there, but the line isn't their exact spelling.
     Spelling,
 }
 
@@ -117,7 +117,7 @@ fn says(token: Token, count: usize) -> bool
     }
 }
 
-/// What stands from the position on.
+/// The tokens from this position on.
 pub(crate) fn behind(tokens: &[Token], at: usize) -> &[Token]
     ensures { result.now ≡ drop at tokens.now }
 {
@@ -128,7 +128,7 @@ pub(crate) fn behind(tokens: &[Token], at: usize) -> &[Token]
     }
 }
 
-/// Of what stands before what is called, and of that.
+/// Faults in the stream, the tickets and the name of the call.
 fn head_fault(tokens: &[Token]) -> Option<Fault>
     ensures { result ≡ head_fault tokens.now }
 {
@@ -146,7 +146,7 @@ fn head_fault(tokens: &[Token]) -> Option<Fault>
     }
 }
 
-/// Of what stands from the colon on.
+/// Faults from the colon on.
 fn answer_fault(tokens: &[Token], colon: usize, answer: Token, values: usize) -> Option<Fault>
     ensures { result ≡ answer_fault tokens.now colon answer values }
 {
@@ -161,7 +161,7 @@ fn answer_fault(tokens: &[Token], colon: usize, answer: Token, values: usize) ->
     }
 }
 
-/// Of what stands behind the answer and its numbers, where so many numbers stand behind the mark.
+/// Faults in what follows the answer and its numbers, with this count of numbers after the semicolon.
 fn jobs_fault(tokens: &[Token], end: usize, numbers: usize) -> Option<Fault>
     ensures { result ≡ jobs_fault tokens.now end numbers }
 {
@@ -177,7 +177,7 @@ fn jobs_fault(tokens: &[Token], end: usize, numbers: usize) -> Option<Fault>
     }
 }
 
-/// The first part of a line that isn't as it is to be.
+/// The first part of a line that isn't well-formed.
 pub(crate) fn line_fault(tokens: &[Token]) -> Option<Fault>
     ensures { result ≡ line_fault tokens.now }
 {

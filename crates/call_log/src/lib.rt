@@ -1,5 +1,5 @@
-//! The log of a run's calls: what it is, how it is spelled, and how it is read and written.
-//! `call_runs` and `witness_check` explain what it holds.
+//! The log of a run's calls: its content, its spelling, and how to read and write it.
+//! `call_runs` and `witness_check` explain the calls of a log by events of the core.
 //! Read `src/entry.rt` first, then `specs/Spelled.antt` and `docs/start/RECORDING.md`.
 #![tactic(auto)]
 

@@ -1,4 +1,4 @@
-//! Lists of an entry.
+//! The lists in an entry.
 ghost use Rattle.std.specs.Prelude.{◌≡◌};
 
 use std::marker::Model;
@@ -31,7 +31,7 @@ impl Numbers {
     }
 }
 
-/// A job that ran in a call: of which operation, for which thread, with which reply, and a ticket that was drawn where it ran.
+/// A job that ran during a call: its operation, its thread, its reply, and a ticket that was drawn when it ran.
 #[derive(Clone, Copy, Debug, PartialEq, Eq, Drop)]
 pub struct Job {
     pub op: u64,

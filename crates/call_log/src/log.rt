@@ -6,10 +6,10 @@ use crate::entry::Entry;
 pub struct Log {
     /// Whether the jobs of each call are recorded.
     pub jobs: bool,
-    /// How many places, slots and methods the system has.
+    /// The numbers of places, slots and methods of the system.
     pub places: u64,
     pub slots: u64,
     pub methods: u64,
-    /// Those of a stream in the order of its program; streams may be mixed.
+    /// The calls of a stream are in program order. The streams may be interleaved.
     pub calls: Vec<Entry>,
 }

@@ -16,23 +16,23 @@ use std::alloc::{AllocError, Global};
 /// The longest line of a call, without its newline.
 const LONGEST: usize = 65_536;
 
-/// How many calls a log has at most.
+/// The greatest number of calls in a log.
 const MOST: usize = 1_048_576;
 
-/// Why a log isn't read.
+/// Why a text can't be read as a log.
 #[derive(Clone, Copy, Debug, PartialEq, Eq, Drop)]
 pub enum ReadFault {
-    /// The first two lines aren't those of a log.
+    /// The first two lines aren't the header of a log.
     Header,
-    /// The line of this number, counted from 1, isn't that of a call.
+    /// The line of this number, counted from 1, isn't the line of a call.
     Line(u64, Fault),
-    /// There are more than 1,048,576 calls.
+    /// The log has more than 1,048,576 calls.
     TooMany,
     /// Memory was refused.
     NoMemory,
 }
 
-/// Why a line isn't read.
+/// Why a line can't be read.
 #[derive(Clone, Copy, Debug, PartialEq, Eq, Drop)]
 enum LineFault {
     Bad(Fault),
@@ -69,7 +69,7 @@ fn read_line(alloc: Global, line: &[u8]) -> Result<Entry, LineFault>
     }
 }
 
-/// The first line and what stands behind its newline; none where there is no newline.
+/// The first line and the text after its newline; None if there is no newline.
 #[tactic(auto, using(crate::proofs::Cuts::cut_plain, crate::proofs::Cuts::cut_mixed, crate::proofs::Cuts::cut_slices))]
 fn cut(text: &[u8]) -> Option<(&[u8], &[u8])>
     ensures cut { cut_seen result ≡ cut text.now }
@@ -83,7 +83,7 @@ fn cut(text: &[u8]) -> Option<(&[u8], &[u8])>
     }
 }
 
-/// The calls that the lines of the text spell, which begin with the third line.
+/// The calls that the lines of the text spell. The first of these lines is the third of the log.
 fn read_calls(alloc: Global, text: &[u8]) -> Result<Vec<Entry>, ReadFault>
     ensures calls { IfOk result (λ calls. text.now ≡ calls_text calls.items) }
     ensures clean { IfOk result (λ calls. All IsCall calls.items) }
@@ -122,7 +122,7 @@ fn number_at(tokens: &[Token], at: usize) -> u64
     }
 }
 
-/// What the first two lines tell: whether jobs are recorded, and the sizes.
+/// The content of the first two lines: whether jobs are recorded, and the sizes.
 #[derive(Clone, Copy, Debug, Drop)]
 struct Header {
     jobs: bool,
@@ -131,7 +131,7 @@ struct Header {
     methods: u64,
 }
 
-/// What the two lines tell, where they are those of a log.
+/// The content of the two lines, or None if they aren't the header of a log.
 fn read_header(alloc: Global, first: &[u8], second: &[u8]) -> Result<Option<Header>, AllocError>
     ensures { IfOk result
         (λ header. MatchOption header (is_header first.now second.now
@@ -158,8 +158,8 @@ fn read_header(alloc: Global, first: &[u8], second: &[u8]) -> Result<Option<Head
     }
 }
 
-/// Reads a log: a header of two lines, and a line for each call, each with its newline. What is read is all that the text says: it is
-/// the text of the log, and no line of a call has a fault.
+/// Reads a log: a header of two lines, and a line for each call, each with its newline. The result stands for the whole text: the text is
+/// exactly the text of this log, and no line of a call has a fault.
 pub fn read(alloc: Global, text: &[u8]) -> Result<Log, ReadFault>
     ensures log { IfOk result (λ log. text.now ≡ log_text log) }
     ensures clean { IfOk result (λ log. All IsCall log.calls.items) }

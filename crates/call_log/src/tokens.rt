@@ -11,7 +11,7 @@ use std::alloc::{AllocError, Global};
 /// The greatest number of a log.
 const GREATEST: u64 = 1_099_511_627_775;
 
-/// What stands between two spaces.
+/// The bytes between two spaces.
 #[derive(Clone, Copy, Debug, PartialEq, Eq, Drop)]
 pub enum Token {
     /// At most 2^40 - 1, in decimal without zeros in front.
@@ -20,7 +20,7 @@ pub enum Token {
     Other,
 }
 
-/// The value of the bytes as digits, where it isn't too great.
+/// The value of the bytes as digits; None if it is too great.
 fn value(bytes: &[u8]) -> Option<u64>
     ensures value { result ≡ value 0 bytes.now }
     ensures small { IfSome result (λ n. n < 2 ^ 40) }
@@ -63,7 +63,7 @@ impl Token {
     }
 }
 
-/// What stands between two spaces, as bytes.
+/// The parts of a line between spaces, as bytes.
 fn parts(alloc: Global, line: &[u8]) -> Result<Vec<&[u8]>, AllocError>
     ensures { IfOk result
         (λ parts. map (λ x. x.now) parts.items ≡ slice_split (λ b. b == 32) line.now) }
@@ -83,7 +83,7 @@ pub fn tokens(alloc: Global, line: &[u8]) -> Result<Vec<Token>, AllocError>
     Ok(tokens)
 }
 
-/// Where the newline stands first, or the length.
+/// The position of the first newline, or the length if there is none.
 pub(crate) fn find_end(bytes: &[u8]) -> usize
     ensures at { result ≡ end_of bytes.now }
     ensures bound { result ≤ length bytes.now }
@@ -96,14 +96,14 @@ pub(crate) fn find_end(bytes: &[u8]) -> usize
     bytes.len()
 }
 
-/// The token at the position; past the end another.
+/// The token at this position; `Other` past the end.
 pub(crate) fn token_at(tokens: &[Token], at: usize) -> Token
     ensures { result ≡ slice_index_or tokens.now at Tokens.Other }
 {
     tokens.get(at).copied().unwrap_or(Token::Other)
 }
 
-/// How many numbers stand in front.
+/// How many tokens at the beginning are numbers.
 pub(crate) fn count(tokens: &[Token]) -> usize
     ensures count { result ≡ count_from tokens.now }
     ensures bound { result ≤ length tokens.now }
@@ -117,7 +117,7 @@ pub(crate) fn count(tokens: &[Token]) -> usize
     tokens.len()
 }
 
-/// The numbers that stand in front.
+/// The numbers at the beginning of the tokens.
 pub(crate) fn numbers(alloc: Global, tokens: &[Token]) -> Result<Vec<u64>, AllocError>
     ensures { IfOk result (λ numbers. numbers.items ≡ numbers_from tokens.now) }
 {

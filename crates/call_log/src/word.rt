@@ -2,7 +2,7 @@
 ghost use Rattle.std.specs.Prelude.{◌≡◌, ◌≤◌, length, find, bytes_eq, MatchOption};
 ghost use Rattle.call_log.specs.Words.{word_text, all_words, word_of};
 
-/// A word that stands in a log: a mark, what is called, what is answered, or why a call is refused.
+/// A word of a log: a mark, the name of a call, an answer, or the reason of a refusal.
 #[derive(Clone, Copy, Debug, PartialEq, Eq, Drop)]
 pub enum Word {
     Witness,
@@ -204,7 +204,7 @@ const ALL: [Word; 96] = [
 ];
 
 impl Word {
-    /// How the word is spelled.
+    /// The spelling of the word.
     pub fn text(self) -> &'static [u8]
         ensures { result.now ≡ word_text self }
     {
@@ -308,7 +308,7 @@ impl Word {
         }
     }
 
-    /// The word that is spelled so.
+    /// The word with this spelling.
     pub fn of(text: &[u8]) -> Option<Word>
         ensures { result ≡ word_of text.now }
     {

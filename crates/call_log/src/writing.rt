@@ -16,7 +16,7 @@ fn put_number(text: &mut Vec<u8>, n: u64) -> Result<(), AllocError>
     text.extend_from_slice(buffer.format(n).as_bytes())
 }
 
-/// Each number behind a space.
+/// Appends each number after a space.
 fn put_numbers(text: &mut Vec<u8>, numbers: &[u64]) -> Result<(), AllocError>
     ensures { OnOk result (text.new.items ≡ text.old.items ++ numbers_text numbers.now) }
 {
@@ -40,7 +40,7 @@ fn put_job(text: &mut Vec<u8>, job: Job) -> Result<(), AllocError>
     put_number(text, job.ticket)
 }
 
-/// Jobs behind a semicolon; nothing where there are none.
+/// Appends the jobs after a semicolon; nothing if there are none.
 fn put_jobs(text: &mut Vec<u8>, jobs: &[Job]) -> Result<(), AllocError>
     ensures { OnOk result (text.new.items ≡ text.old.items ++ jobs_text jobs.now) }
 {
@@ -96,7 +96,7 @@ fn put_tail(text: &mut Vec<u8>, entry: &Entry) -> Result<(), AllocError>
     put_jobs(text, entry.jobs.as_slice())
 }
 
-/// Puts the line of a call behind the text, without a newline.
+/// Appends the line of a call to the text, without a newline.
 pub fn put_line(text: &mut Vec<u8>, entry: &Entry) -> Result<(), AllocError>
     ensures { OnOk result (text.new.items ≡ text.old.items ++ line_text entry.now) }
 {
@@ -104,7 +104,7 @@ pub fn put_line(text: &mut Vec<u8>, entry: &Entry) -> Result<(), AllocError>
     put_tail(text, entry)
 }
 
-/// Puts the second line of a log behind the text, without a newline.
+/// Appends the second line of a log to the text, without a newline.
 pub(crate) fn put_size(
     text: &mut Vec<u8>,
     places: u64,
@@ -121,7 +121,7 @@ pub(crate) fn put_size(
     put_number(text, methods)
 }
 
-/// Puts the first line of a log behind the text, without a newline: whether jobs are recorded.
+/// Appends the first line of a log to the text, without a newline: it says whether jobs are recorded.
 fn put_first(text: &mut Vec<u8>, jobs: bool) -> Result<(), AllocError>
     ensures { OnOk result (text.new.items ≡ text.old.items ++ first_text jobs) }
 {
@@ -132,7 +132,7 @@ fn put_first(text: &mut Vec<u8>, jobs: bool) -> Result<(), AllocError>
     }
 }
 
-/// Puts the first two lines of a log behind the text: whether jobs are recorded, and the sizes of the system.
+/// Appends the first two lines of a log to the text: whether jobs are recorded, and the sizes of the system.
 pub fn put_header(
     text: &mut Vec<u8>,
     jobs: bool,

@@ -1,4 +1,4 @@
--- The runs of calls: what is done at the place of a call.
+-- The runs of calls: the acts at the place of a call.
 use Rattle.std.specs.Prelude.{ℕ, ◌+◌, ◌==◌, nat_lt, Bool, true, false, not, ◌&&◌, ◌||◌, bytes_eq, length, slice_index, slice_get, List, [], ◌∷◌, Option, Some, None, if◌then◌else◌}
 use Rattle.system.specs.declared.events.Act.{Act}
 use Rattle.system.specs.declared.events.Act.TheVariants as act
@@ -24,7 +24,7 @@ when lawful stage = if lawful then Some stage else None
 abbrev pub turned : Stage → At → Stage
 turned stage to = record { at = to; place = stage.place; jobs = stage.jobs; served = stage.served; times = stage.times; asked = stage.asked; begun = stage.begun }
 
--- A publication is Begin, some Changes, End.
+-- A publication is a Begin, any number of Changes, and an End.
 abbrev pub begins : Stage → Act → Answer → At → Option Stage
 begins stage act.Begin said to = when (is_done said) (turned stage to)
 begins stage other said to = None
@@ -42,7 +42,7 @@ abbrev pub wakes : Stage → Act → Answer → Option Stage
 wakes stage act.Wake said = when (is_done said) (turned stage at.StartAwake)
 wakes stage other said = None
 
--- A poll within a call goes on, or stops the thread: then a turn follows.
+-- A poll within a call either goes on or stops the thread. After a stop a turn follows.
 abbrev pub crosses : Stage → Answer → Option Stage → Option Stage
 crosses stage answer.Go over = over
 crosses stage (answer.Stop n) over = Some (turned stage at.AtPoll)
@@ -52,7 +52,7 @@ abbrev pub has_reply : Option Job → ℕ → Bool
 has_reply None reply = false
 has_reply (Some job) reply = job.reply == reply
 
--- Where jobs are recorded, the reply is that of the call's next job.
+-- Where jobs are recorded, the reply must be that of the call's next job.
 abbrev pub is_job : Bool → Entry → ℕ → ℕ → Bool
 is_job false entry jobs reply = true
 is_job true entry jobs reply = has_reply (slice_get entry.jobs jobs) reply
@@ -75,7 +75,7 @@ abbrev pub stop_word : Bool → Word
 stop_word true = word.Served
 stop_word false = word.Ok
 
--- After the last turn a start is over; an exit publishes anew; a stop answers whether that turn had a job.
+-- After the last turn a start is over, an exit publishes again, and a stop answers whether that turn ran a job.
 abbrev pub turn_over_by : Word → Entry → Stage → Option Stage
 turn_over_by word.Start entry stage = Some (turned stage at.Over)
 turn_over_by word.Exit entry stage = Some (stopped stage)
@@ -84,7 +84,7 @@ turn_over_by other entry stage = when (says entry (stop_word stage.served) []) (
 abbrev pub turn_over : Entry → Stage → Option Stage
 turn_over entry stage = turn_over_by entry.call entry stage
 
--- A turn is Take, a publication, each Finish with its Clear, and a poll.
+-- A turn is a Take, a publication, each Finish with its Clear, and a poll.
 abbrev pub polls : Bool → Entry → Stage → Act → Answer → Option Stage
 polls recorded entry stage act.Finish said = finishes recorded entry stage said at.TurnFinished
 polls recorded entry stage act.Cross said = crosses stage said (turn_over entry stage)
@@ -108,8 +108,8 @@ abbrev pub exits_by : Entry → Stage → Answer → Option Stage
 exits_by entry stage (answer.Exited name) = when (says entry (exit_word stage.times) (name ∷ [])) (turned stage at.Over)
 exits_by entry stage other = when (fits entry other) (turned stage at.Over)
 
--- An exit is a publication and Exit; where something is told, a poll that stops, turns, and a publication stand between. One that is to be
--- made again publishes again.
+-- An exit is a publication and an Exit. Where operations are pending, a poll that stops, turns and another publication come between them.
+-- An exit that must be repeated publishes again.
 abbrev pub exits : Entry → Stage → Act → Answer → Option Stage
 exits entry stage act.Begin said = when (is_done said) (turned stage at.ExitBegun)
 exits entry stage act.Exit said = exits_by entry stage said
@@ -122,7 +122,7 @@ leaves entry stage act.Begin said = when (is_done said) (turned stage at.ExitBeg
 leaves entry stage act.Exit said = when (not (is_done said) && fits entry said) (turned stage at.Over)
 leaves entry stage other said = None
 
--- Acts that are all of a call.
+-- Acts that are the only event of their call.
 abbrev pub single_word : Act → Option Word
 single_word act.Leave = Some word.Ret
 single_word act.Edge = Some word.Edge
@@ -153,7 +153,8 @@ abbrev pub by_hint : Entry → Stage → ℕ → Answer → Option Stage
 by_hint entry stage serial answer.WrongMethod = Some (turned stage at.Sent)
 by_hint entry stage serial other = when (entered entry word.Compiled (serial ∷ []) other) (turned stage at.Over)
 
--- A call of a method is Enter with the code of its hint; where that sends the thread away, or without a hint, Enter without a code.
+-- A call of a method is an Enter with the code of its hint. If that is answered WrongMethod, or if there is no hint, it is an Enter
+-- without a code.
 abbrev pub enters : Entry → Stage → ℕ → Option ℕ → Answer → Option Stage
 enters entry stage method None said =
     when ((method == arg entry 1) && ((length entry.args == 2) || is_sent stage.at) && entered entry word.Interpreted [] said) (turned stage at.Over)
@@ -166,7 +167,7 @@ abbrev pub calls : Entry → Stage → Act → Answer → Option Stage
 calls entry stage (act.Enter method code) said = enters entry stage method code said
 calls entry stage other said = None
 
--- A thread comes back by Wake and a poll.
+-- A return to Java is a Wake and a poll.
 abbrev pub wakes_by : Entry → Stage → Answer → Option Stage
 wakes_by entry stage answer.Done = Some (turned stage at.Awake)
 wakes_by entry stage other = when (fits entry other) (turned stage at.Over)
@@ -179,7 +180,7 @@ abbrev pub back : Entry → Stage → Act → Answer → Option Stage
 back entry stage act.Cross said = when (not (is_done said) && fits entry said) (turned stage at.Over)
 back entry stage other said = None
 
--- What the core calls illegal at a thread that isn't held, a Serve calls NotHeld.
+-- Where the core answers Illegal because the thread isn't held, a Serve answers NotHeld.
 abbrev pub is_unserved : Entry → Answer → Bool
 is_unserved entry (answer.Refused (refusal.Illegal state)) = fits entry (answer.Refused (refusal.Illegal state)) || says entry word.NotHeld []
 is_unserved entry (answer.Refused why) = fits entry (answer.Refused why)
@@ -189,7 +190,7 @@ abbrev pub opens_by : Entry → Stage → Answer → At → Option Stage
 opens_by entry stage answer.Done to = when (says entry word.Ok []) (turned stage to)
 opens_by entry stage other to = when (fits entry other) (turned stage at.Over)
 
--- A publication, and a Serve, which publishes first.
+-- A publication by itself, and a Serve, which begins with one.
 abbrev pub opens : Entry → Stage → Act → Answer → At → Option Stage
 opens entry stage act.Begin said to = opens_by entry stage said to
 opens entry stage act.Finish said to = when (is_unserved entry said) (turned stage at.Over)
@@ -203,7 +204,8 @@ abbrev pub holds_by : Entry → Stage → Answer → Option Stage
 holds_by entry stage answer.Done = when (says entry word.Ok [] || says entry word.NotSafe []) (turned stage (hold_at (says entry word.NotSafe [])))
 holds_by entry stage other = when (fits entry other) (turned stage at.Over)
 
--- A Hold answers NotSafe also where the core would hold: the thread hasn't brought its body. That is Hold and Release.
+-- A Hold also answers NotSafe where the core allows it but the thread hasn't brought its body yet. The core's events are then a Hold and a
+-- Release.
 abbrev pub holds : Entry → Stage → Act → Answer → Option Stage
 holds entry stage act.Hold said = holds_by entry stage said
 holds entry stage other said = None
@@ -233,7 +235,7 @@ abbrev pub polls_first : Stage → Act → Answer → Option Stage
 polls_first stage act.Cross said = crosses stage said (Some (turned stage at.Over))
 polls_first stage other said = None
 
--- The next act at the place of the call.
+-- The next act at the call's own place.
 abbrev pub own_by : At → Bool → Entry → Stage → Act → Answer → Option Stage
 own_by at.Fresh recorded entry stage deed said = fresh_act entry stage deed said
 own_by at.Started recorded entry stage deed said = begins stage deed said at.StartBegun
@@ -264,7 +266,7 @@ abbrev pub in_drive : Option Stage → Stage → Option Stage
 in_drive None stage = None
 in_drive (Some made) stage = Some (record { at = at.Driving; place = stage.place; jobs = made.jobs; served = stage.served; times = stage.times; asked = stage.asked; begun = stage.begun })
 
--- What is done at a place in a drive.
+-- An act at a place within a drive.
 abbrev pub drives_at : Bool → Entry → Stage → Act → Answer → Option Stage
 drives_at recorded entry stage act.Hold said = when (is_done said) stage
 drives_at recorded entry stage act.Begin said = when (is_done said) stage
@@ -275,7 +277,7 @@ drives_at recorded entry stage act.Clear said = when (is_done said) stage
 drives_at recorded entry stage act.Release said = when (is_done said) stage
 drives_at recorded entry stage other said = None
 
--- Held threads are published for a census.
+-- Acts at held threads, which the caller publishes for a census.
 abbrev pub gathers : Stage → Act → Answer → Option Stage
 gathers stage act.Begin said = when (is_done said) stage
 gathers stage act.Change said = when (is_changed said) stage

@@ -1,4 +1,4 @@
--- What a call is recorded to answer, beside what an event answers.
+-- The recorded answer of a call, compared with the answers of its events.
 use Rattle.std.specs.Prelude.{ℕ, ◌==◌, Bool, true, false, ◌&&◌, bytes_eq, List, [], ◌∷◌, Option, Some, None}
 use Rattle.thread_state.specs.declared.State.TheVariants.{Vacant}
 use Rattle.system.specs.declared.answers.Answer.{Answer}
@@ -11,16 +11,16 @@ use Rattle.call_log.specs.declared.word.Word.TheVariants as word
 use Rattle.call_log.specs.declared.entry.Entry.{Entry}
 use Rattle.call_log.specs.Words.{word_text}
 
--- A call that hadn't returned may answer anything.
+-- A call that hadn't returned is consistent with any answer.
 abbrev pub says_by : Option Word → List ℕ → Word → List ℕ → Bool
 says_by None values word numbers = true
 says_by (Some said) values word numbers = bytes_eq (word_text said) (word_text word) && bytes_eq values numbers
 
--- The call answers the word with the numbers.
+-- The recorded answer is this word with these numbers.
 abbrev pub says : Entry → Word → List ℕ → Bool
 says entry word numbers = says_by entry.answer entry.values word numbers
 
--- The name of a refusal. What isn't legal is named Vacant where the place is.
+-- The name of a refusal. An illegal act is recorded as Vacant where the place is vacant.
 abbrev pub refusal_word : Refusal → Word
 refusal_word (refusal.Illegal Vacant) = word.Vacant
 refusal_word (refusal.Illegal other) = word.Illegal
@@ -59,7 +59,7 @@ refusal_word refusal.QueueEmpty = word.QueueEmpty
 refusal_word refusal.AlreadyTold = word.AlreadyTold
 refusal_word refusal.NotAllHeld = word.NotAllHeld
 
--- The call answers what its one event answers.
+-- The recorded answer is that of the call's single event.
 abbrev pub fits : Entry → Answer → Bool
 fits entry answer.Done = says entry word.Ok []
 fits entry answer.Go = says entry word.Go []
@@ -81,7 +81,7 @@ abbrev pub answers_by : Option Word → Word → Bool
 answers_by None word = true
 answers_by (Some said) word = bytes_eq (word_text said) (word_text word)
 
--- The call answers the word, with whatever numbers.
+-- The recorded answer is this word, with any numbers.
 abbrev pub answers : Entry → Word → Bool
 answers entry word = answers_by entry.answer word
 
@@ -89,7 +89,7 @@ abbrev pub is_none : List ℕ → Bool
 is_none [] = true
 is_none (n ∷ numbers) = false
 
--- The numbers are the serials and counts, in turn.
+-- The numbers are the serials and counts, alternating.
 abbrev pub are_counts : List CodeCount → List ℕ → Bool
 are_counts [] numbers = is_none numbers
 are_counts (counted ∷ counts) (serial ∷ count ∷ numbers) = (serial == counted.serial) && (count == counted.count) && are_counts counts numbers
@@ -103,7 +103,7 @@ abbrev pub counts_by : Option Word → List ℕ → List CodeCount → Bool
 counts_by None values counts = true
 counts_by (Some said) values counts = bytes_eq (word_text said) (word_text word.Census) && counts_behind values counts
 
--- The call answers the counts of a census, behind the number of the operation.
+-- The recorded answer has the number of the operation and then the counts of a census.
 abbrev pub counts_said : Entry → List CodeCount → Bool
 counts_said entry counts = counts_by entry.answer entry.values counts
 
@@ -111,7 +111,7 @@ abbrev pub is_head : List ℕ → ℕ → Bool
 is_head [] n = false
 is_head (first ∷ numbers) n = first == n
 
--- The call answers a census of that number.
+-- The recorded answer is that of the census with this number.
 abbrev pub census_by : Option Word → List ℕ → ℕ → Bool
 census_by None values n = true
 census_by (Some said) values n = bytes_eq (word_text said) (word_text word.Census) && is_head values n

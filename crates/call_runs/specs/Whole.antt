@@ -1,4 +1,4 @@
--- The runs of calls: events that are of no place, whole runs, and when a call is over.
+-- The runs of calls: events without a place, whole runs, and when a call is over.
 use Rattle.std.specs.Prelude.{ℕ, ◌+◌, ◌==◌, nat_lt, nat_le, Bool, true, false, not, ◌&&◌, ◌||◌, bytes_eq, length, drop, List, [], ◌∷◌, Option, Some, None, option_map, if◌then◌else◌}
 use Rattle.operations.specs.declared.Ask.{Ask as AskKind}
 use Rattle.operations.specs.declared.Ask.TheVariants.{Depth, CountOf, Top}
@@ -37,7 +37,8 @@ closes_by word.Drive entry stage n = when (closed_by stage.served entry n) (turn
 closes_by word.DriveFour entry stage n = when (nat_lt stage.times 1000000) (once_more stage)
 closes_by other entry stage n = when (n == stage.asked) (turned stage at.Looking)
 
--- A drive ends by a Close; one of four handshakes by as many as it answers; a reclaiming closes the handshake that it asked for, and goes on to look.
+-- A drive ends with its Close. A drive of four handshakes makes as many Closes as it answers. A reclaiming closes the handshake that it
+-- asked for, and goes on with looks.
 abbrev pub closes : Entry → Stage → ℕ → Option Stage
 closes entry stage n = closes_by entry.call entry stage n
 
@@ -64,7 +65,7 @@ abbrev pub closes_one : Entry → Stage → Answer → Option Stage
 closes_one entry stage (answer.Closed n) = closes entry stage n
 closes_one entry stage other = None
 
--- A drive opens, tells, holds, serves and releases, and closes.
+-- A drive opens a request, arms the polls of the targets, holds, serves and releases safe threads, and closes.
 abbrev pub drives : Entry → Stage → Event → Answer → Option Stage
 drives entry stage event.Open said = opens_next entry stage said
 drives entry stage (event.Tell name) said = tells_one stage said
@@ -92,7 +93,7 @@ is_handshake entry targets (CountOf serial) =
     (is_named entry word.SubmitCount && (serial == arg entry 0) && are_args entry 1 targets)
     || (is_named entry word.ReclaimCount && (serial == arg entry 1) && are_args entry 2 targets)
 
--- The call asks for the request.
+-- The call asks for this request.
 abbrev pub is_request : Entry → Request → Bool
 is_request entry Census = is_named entry word.SubmitCensus
 is_request entry (Handshake targets ask) = is_handshake entry targets ask
@@ -104,7 +105,7 @@ abbrev pub starts : Entry → Stage → Answer → Option Stage
 starts entry stage (answer.Thread name place) = when (says entry word.Thread (name ∷ place ∷ [])) (started stage place)
 starts entry stage other = when (fits entry other) (turned stage at.Over)
 
--- The event, which is of no place, is all that the call is.
+-- The event has no place and is the only event of the call.
 abbrev pub sole : Entry → Event → Bool
 sole entry (event.Install method) = is_named entry word.Install && (method == arg entry 0)
 sole entry (event.Invalidate serial) = is_named entry word.Invalidate && (serial == arg entry 0)
@@ -143,7 +144,7 @@ abbrev pub asks_first : Entry → Stage → Request → Answer → Option Stage
 asks_first entry stage request (answer.Asked n) = when (is_request entry request) (asking stage n)
 asks_first entry stage request other = None
 
--- A reclaiming asks for a handshake where it has jobs, and makes the moment; or it is refused.
+-- A reclaiming asks for a handshake if it has jobs, and makes the round; or it is refused.
 abbrev pub reclaims : Entry → Stage → Event → Answer → Option Stage
 reclaims entry stage (event.Ask request) said = asks_first entry stage request said
 reclaims entry stage event.Round said = when (is_named entry word.Reclaim && is_done said) (turned stage at.Looking)
@@ -151,7 +152,7 @@ reclaims entry stage (event.Weigh serial) said = when ((serial == arg entry 0) &
 reclaims entry stage (event.Resolve method) said = when (says entry word.AlreadyOpen []) (turned stage at.Over)
 reclaims entry stage other said = None
 
--- The call looks, and answers what such a look does.
+-- The call only reads state, and its recorded answer is one that such a call gives.
 abbrev pub is_look : Entry → Bool
 is_look entry = (is_named entry word.Live && answers entry word.Names) || (is_named entry word.Replies && answers entry word.Replies)
 
@@ -187,14 +188,15 @@ abbrev pub goes_on : Bool → Entry → Stage → Event → Answer → Option St
 goes_on recorded entry stage (event.At place deed) said = at_place recorded entry stage place deed said
 goes_on recorded entry stage other said = whole entry stage other said
 
--- A refused event is all of its call; or it is behind an entry that sent the thread away.
+-- A refused event follows other events of its call, the last of which isn't an Enter answered WrongMethod. No call makes one: a refused
+-- event is the only event of its call, or follows such an Enter.
 abbrev pub comes_late : Stage → Answer → Bool
 comes_late stage said = stage.begun && is_refused said && not (is_sent stage.at)
 
 abbrev pub begun : Stage → Stage
 begun stage = record { at = stage.at; place = stage.place; jobs = stage.jobs; served = stage.served; times = stage.times; asked = stage.asked; begun = true }
 
--- How far the call is after its next event, so answered; none where no run of the call goes on so.
+-- The stage of the call after its next event with this answer; None where no run of the call continues this way.
 abbrev pub next : Bool → Entry → Stage → Event → Answer → Option Stage
 next recorded entry stage event said = if comes_late stage said then None else option_map begun (goes_on recorded entry stage event said)
 
@@ -206,7 +208,7 @@ first_at word.Drive = at.Driving
 first_at word.DriveFour = at.Driving
 first_at other = at.Fresh
 
--- Nothing of the call is made.
+-- The stage before the first event.
 abbrev pub first : Entry → Stage
 first entry = record { at = first_at entry.call; place = arg entry 0; jobs = 0; served = false; times = 0; asked = 0; begun = false }
 
@@ -223,6 +225,6 @@ abbrev pub over_by : Option Word → Bool → Bool
 over_by None ended = true
 over_by (Some said) ended = ended
 
--- All of the call is made, and all of its jobs ran. A call that hadn't returned may stand anywhere.
+-- The call made all its events, and all its recorded jobs ran. A call that hadn't returned may be at any stage.
 abbrev pub is_over : Bool → Entry → Stage → Bool
 is_over recorded entry stage = over_by entry.answer (is_ended entry stage && (not recorded || (stage.jobs == length entry.jobs)))

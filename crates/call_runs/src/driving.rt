@@ -12,7 +12,7 @@ use call_log::word::Word;
 use system::answers::Answer;
 use system::events::{Act, Event};
 
-/// What is done at a place in a drive.
+/// An act at a place within a drive.
 pub(crate) fn drives_at(
     recorded: bool,
     entry: &Entry,
@@ -45,7 +45,7 @@ pub(crate) fn drives_at(
     }
 }
 
-/// Held threads are published for a census, and what it was told is cleared after it.
+/// Acts at held threads, which the caller publishes for a census.
 pub(crate) fn gathers(stage: Stage, act: Act, answer: &Answer) -> Option<Stage>
     ensures { result ≡ gathers stage act answer.now }
 {
@@ -57,7 +57,7 @@ pub(crate) fn gathers(stage: Stage, act: Act, answer: &Answer) -> Option<Stage>
     }
 }
 
-/// The last Close of a drive, or one of several; or that of the handshake that a reclaiming asked for.
+/// The Close of a drive, which is its last event or one of several; or the Close of the handshake that a reclaiming asked for.
 fn closes(entry: &Entry, stage: Stage, n: u64) -> Option<Stage>
     ensures { result ≡ closes entry.now stage n }
 {
@@ -89,7 +89,7 @@ fn closes(entry: &Entry, stage: Stage, n: u64) -> Option<Stage>
     }
 }
 
-/// What a drive does that is of no place.
+/// An event of a drive that has no place.
 pub(crate) fn drives(entry: &Entry, stage: Stage, event: &Event, answer: &Answer) -> Option<Stage>
     ensures { result ≡ drives entry.now stage event.now answer.now }
 {
@@ -126,7 +126,7 @@ pub(crate) fn drives(entry: &Entry, stage: Stage, event: &Event, answer: &Answer
     }
 }
 
-/// A census by hand is operated.
+/// The Operate of a census by hand.
 pub(crate) fn operates(entry: &Entry, stage: Stage, event: &Event, answer: &Answer) -> Option<Stage>
     ensures { result ≡ operates entry.now stage event.now answer.now }
 {

@@ -1,5 +1,5 @@
-//! Which events of the core each call of the running layer may be, and which answers they have.
-//! `witness_check` asks it event by event, by `next`.
+//! Which events of the core each call of the running layer may make, and with which answers.
+//! `witness_check` asks for each event, by `next`.
 //! Read `src/runs.rt` first, then the file of the kind of call.
 #![tactic(auto)]
 

@@ -1,4 +1,4 @@
-//! What the runs of several kinds of calls share.
+//! Parts that the runs of several kinds of calls share.
 ghost use Rattle.std.specs.Prelude.{◌≡◌};
 ghost use Rattle.call_runs.specs.Runs.{arg, begins, clears, crosses, finishes, is_changed, is_job, publishes, turned, when};
 ghost use Rattle.call_runs.specs.Whole.{are_args, is_named};
@@ -10,7 +10,7 @@ use call_log::word::Word;
 use system::answers::Answer;
 use system::events::Act;
 
-/// An argument of the call; 0 where there is none.
+/// An argument of the call, or 0 past the last one.
 pub(crate) fn arg(entry: &Entry, at: usize) -> u64
     ensures { result ≡ arg entry.now at }
 {
@@ -37,7 +37,7 @@ pub(crate) fn turned(stage: Stage, at: At) -> Stage
     }
 }
 
-/// A publication begins.
+/// The Begin of a publication.
 pub(crate) fn begins(stage: Stage, act: Act, answer: &Answer, at: At) -> Option<Stage>
     ensures { result ≡ begins stage act answer.now at }
 {
@@ -56,7 +56,7 @@ pub(crate) fn is_changed(answer: &Answer) -> bool
     }
 }
 
-/// An open publication changes, or ends.
+/// A Change or the End of an open publication.
 pub(crate) fn publishes(stage: Stage, act: Act, answer: &Answer, at: At) -> Option<Stage>
     ensures { result ≡ publishes stage act answer.now at }
 {
@@ -67,7 +67,7 @@ pub(crate) fn publishes(stage: Stage, act: Act, answer: &Answer, at: At) -> Opti
     }
 }
 
-/// A poll that nobody is told of goes on, or stops the thread.
+/// A poll within a call, which the log doesn't record: it goes on, or stops the thread.
 pub(crate) fn crosses(stage: Stage, answer: &Answer, over: Option<Stage>) -> Option<Stage>
     ensures { result ≡ crosses stage answer.now over }
 {
@@ -78,7 +78,7 @@ pub(crate) fn crosses(stage: Stage, answer: &Answer, over: Option<Stage>) -> Opt
     }
 }
 
-/// Whether the reply is that of the call's next job, where jobs are recorded.
+/// Whether the reply is that of the call's next job. Where jobs aren't recorded, any reply is.
 fn is_job(recorded: bool, entry: &Entry, jobs: u64, reply: u64) -> bool
     ensures { result ≡ is_job recorded entry.now jobs reply }
 {
@@ -91,7 +91,7 @@ fn is_job(recorded: bool, entry: &Entry, jobs: u64, reply: u64) -> bool
     }
 }
 
-/// A thread is served.
+/// A Finish: a thread's job ran.
 pub(crate) fn finishes(
     recorded: bool,
     entry: &Entry,
@@ -121,7 +121,7 @@ pub(crate) fn finishes(
     }
 }
 
-/// What was served is cleared.
+/// The Clear of an operation whose job ran.
 pub(crate) fn clears(stage: Stage, act: Act, answer: &Answer, at: At) -> Option<Stage>
     ensures { result ≡ clears stage act answer.now at }
 {
@@ -137,7 +137,7 @@ pub(crate) fn is_named(entry: &Entry, word: Word) -> bool
     entry.call.text() == word.text()
 }
 
-/// Whether the numbers are the arguments, from the position on.
+/// Whether these numbers are the arguments from this position on.
 pub(crate) fn are_args(entry: &Entry, from: usize, numbers: &[u64]) -> bool
     ensures { result ≡ are_args entry.now from numbers.now }
 {

@@ -11,7 +11,7 @@ use call_log::word::Word;
 use system::answers::Answer;
 use system::events::Event;
 
-/// Places are looked at, and the code is weighed.
+/// The looks at places, and the weighing of the code.
 pub(crate) fn looks(entry: &Entry, stage: Stage, event: &Event, answer: &Answer) -> Option<Stage>
     ensures { result ≡ looks entry.now stage event.now answer.now }
 {
@@ -76,7 +76,7 @@ fn asking(stage: Stage, n: u64) -> Stage
     }
 }
 
-/// A reclaiming begins: it asks for a handshake where it has jobs, and makes the moment; or it is refused.
+/// The first event of a reclaiming: the Ask of a handshake if it has jobs, else the round; or a refusal.
 pub(crate) fn reclaims(entry: &Entry, stage: Stage, event: &Event, answer: &Answer) -> Option<Stage>
     ensures { result ≡ reclaims entry.now stage event.now answer.now }
 {

@@ -1,4 +1,4 @@
-//! The runs of calls that are one event of no place, and of a start.
+//! The runs of calls that make a single event without a place, and of a start.
 ghost use Rattle.std.specs.Prelude.{◌≡◌};
 ghost use Rattle.call_runs.specs.Whole.{is_handshake, is_request, sole, starts};
 
@@ -11,7 +11,7 @@ use operations::{Ask, Request};
 use system::answers::Answer;
 use system::events::Event;
 
-/// Whether the call asks so of the targets.
+/// Whether the call asks this of these targets.
 fn is_handshake(entry: &Entry, targets: &[u64], ask: Ask) -> bool
     ensures { result ≡ is_handshake entry.now targets.now ask }
 {
@@ -35,7 +35,7 @@ fn is_handshake(entry: &Entry, targets: &[u64], ask: Ask) -> bool
     }
 }
 
-/// Whether the call asks for the request.
+/// Whether the call asks for this request.
 pub(crate) fn is_request(entry: &Entry, request: &Request) -> bool
     ensures { result ≡ is_request entry.now request.now }
 {
@@ -45,7 +45,7 @@ pub(crate) fn is_request(entry: &Entry, request: &Request) -> bool
     }
 }
 
-/// A thread starts.
+/// The Start of a thread.
 pub(crate) fn starts(entry: &Entry, stage: Stage, answer: &Answer) -> Option<Stage>
     ensures { result ≡ starts entry.now stage answer.now }
 {
@@ -66,7 +66,7 @@ pub(crate) fn starts(entry: &Entry, stage: Stage, answer: &Answer) -> Option<Sta
     }
 }
 
-/// Whether the event, which is of no place, is all that the call is.
+/// Whether the event, which has no place, is the only event of the call.
 pub(crate) fn sole(entry: &Entry, event: &Event) -> bool
     ensures { result ≡ sole entry.now event.now }
 {

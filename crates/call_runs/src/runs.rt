@@ -1,4 +1,4 @@
-//! The runs of calls: what a call's next event may be, and when the call is over.
+//! The runs of calls: the possible next events of a call, and when the call is over.
 ghost use Rattle.std.specs.Prelude.{◌≡◌};
 ghost use Rattle.call_runs.specs.Runs.{at_place};
 ghost use Rattle.call_runs.specs.Whole.{begun, comes_late, first, first_at, fresh, goes_on, is_ended, is_look, is_over, next, whole};
@@ -39,7 +39,7 @@ fn at_place(
     }
 }
 
-/// Whether the call looks, and answers what such a look does.
+/// Whether the call only reads state, and its recorded answer is one that such a call gives.
 fn is_look(entry: &Entry) -> bool
     ensures { result ≡ is_look entry.now }
 {
@@ -47,7 +47,7 @@ fn is_look(entry: &Entry) -> bool
         || (is_named(entry, Word::Replies) && answers(entry, Word::Replies))
 }
 
-/// The first event of a call, which is of no place.
+/// The first event of a call, where this event has no place.
 fn fresh(entry: &Entry, stage: Stage, event: &Event, answer: &Answer) -> Option<Stage>
     ensures { result ≡ fresh entry.now stage event.now answer.now }
 {
@@ -70,7 +70,7 @@ fn fresh(entry: &Entry, stage: Stage, event: &Event, answer: &Answer) -> Option<
     }
 }
 
-/// The next event, which is of no place.
+/// The next event of a call, where this event has no place.
 fn whole(entry: &Entry, stage: Stage, event: &Event, answer: &Answer) -> Option<Stage>
     ensures { result ≡ whole entry.now stage event.now answer.now }
 {
@@ -100,7 +100,7 @@ fn goes_on(
     }
 }
 
-/// Whether a refused event isn't all of its call. It may be behind an entry that sent the thread away.
+/// Whether a refused event follows other events of its call, the last of which isn't an Enter answered WrongMethod. No call makes one.
 fn comes_late(stage: Stage, answer: &Answer) -> bool
     ensures { result ≡ comes_late stage answer.now }
 {
@@ -121,7 +121,7 @@ fn begun(stage: Stage) -> Stage
     }
 }
 
-/// How far the call is after its next event, so answered; none where no run of the call goes on so.
+/// The stage of the call after its next event with this answer; None where no run of the call continues this way.
 pub fn next(
     recorded: bool,
     entry: &Entry,
@@ -153,7 +153,7 @@ fn first_at(call: Word) -> At
     }
 }
 
-/// A call of which nothing is made.
+/// The stage of a call before its first event.
 pub fn first(entry: &Entry) -> Stage
     ensures { result ≡ first entry.now }
 {
@@ -181,7 +181,8 @@ fn is_ended(entry: &Entry, stage: Stage) -> bool
     }
 }
 
-/// Whether a call that came so far is over: all of it is made, and all of its jobs ran. A call that hadn't returned may stand anywhere.
+/// Whether a call at this stage is over: it made all its events, and all its recorded jobs ran. A call that hadn't returned may be at any
+/// stage.
 pub fn is_over(recorded: bool, entry: &Entry, stage: Stage) -> bool
     ensures { result ≡ is_over recorded entry.now stage }
 {

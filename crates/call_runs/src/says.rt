@@ -1,4 +1,4 @@
-//! What a call is recorded to answer, beside what an event answers.
+//! The recorded answer of a call, compared with the answers of its events.
 ghost use Rattle.std.specs.Prelude.{◌≡◌, ◌∷◌, []};
 ghost use Rattle.call_log.specs.declared.entry.Entry.{Entry as TheEntry};
 ghost use Rattle.call_runs.specs.Says.{says, says_by, refusal_word, fits, is_done, answers, answers_by, are_counts, counts_said, counts_behind, is_head, census_by};
@@ -17,7 +17,7 @@ fn says_by(answer: Option<Word>, values: &[u64], word: Word, numbers: &[u64]) ->
     }
 }
 
-/// Whether the call answers the word with the numbers, or hadn't returned.
+/// Whether the recorded answer is this word with these numbers, or the call hadn't returned.
 pub(crate) fn says(entry: &Entry, word: Word, numbers: &[u64]) -> bool
     ensures { result ≡ says entry.now word numbers.now }
 {
@@ -67,7 +67,7 @@ fn refusal_word(refusal: Refusal) -> Word
     }
 }
 
-/// Whether the call answers what its one event answers.
+/// Whether the recorded answer is that of the call's single event.
 pub(crate) fn fits(entry: &Entry, answer: &Answer) -> bool
     ensures { result ≡ fits entry.now answer.now }
 {
@@ -104,14 +104,14 @@ fn answers_by(answer: Option<Word>, word: Word) -> bool
     }
 }
 
-/// Whether the call answers the word, with whatever numbers, or hadn't returned.
+/// Whether the recorded answer is this word, with any numbers, or the call hadn't returned.
 pub(crate) fn answers(entry: &Entry, word: Word) -> bool
     ensures { result ≡ answers entry.now word }
 {
     answers_by(entry.answer, word)
 }
 
-/// Whether the numbers are the serials and counts, in turn.
+/// Whether the numbers are the serials and counts, alternating.
 fn are_counts(counts: &[CodeCount], numbers: &[u64]) -> bool
     ensures { result ≡ are_counts counts.now numbers.now }
 {
@@ -130,7 +130,7 @@ fn are_counts(counts: &[CodeCount], numbers: &[u64]) -> bool
     numbers.is_empty()
 }
 
-/// Whether the call answers the counts of a census, behind the number of the operation.
+/// Whether the recorded answer has the number of the operation and then the counts of the census.
 pub(crate) fn counts(entry: &Entry, counts: &[CodeCount]) -> bool
     ensures { result ≡ counts_said entry.now counts.now }
 {
@@ -169,7 +169,7 @@ fn census_by(answer: Option<Word>, values: &[u64], n: u64) -> bool
     }
 }
 
-/// Whether the call answers a census of that number.
+/// Whether the recorded answer is that of the census with this number.
 pub fn is_census(entry: &Entry, n: u64) -> bool
     ensures { result ≡ census_by entry.now.answer entry.now.values n }
 {

@@ -1,71 +1,71 @@
-//! How far a call is.
+//! The stage of a call.
 
-/// What of a call is made, by what may come next.
+/// The events that a call has made, as far as they decide which may come next.
 #[derive(Clone, Copy, Debug, PartialEq, Eq, Drop)]
 pub enum At {
-    /// Nothing.
+    /// No event yet.
     Fresh,
-    /// The thread is started, and has still to publish.
+    /// The thread has started, and publishes next.
     Started,
     StartBegun,
     StartEnded,
-    /// A thread that starts has its body, and polls next.
+    /// A starting thread has taken its body back, and polls next.
     StartAwake,
-    /// A thread that comes back has its body, and polls next.
+    /// A thread that returns to Java has taken its body back, and polls next.
     Awake,
-    /// A publication is open that is all of the call.
+    /// A publication is open, and the call is over with its End.
     Begun,
     /// A poll stopped the thread.
     AtPoll,
-    /// It took its operations in hand, and publishes next.
+    /// The thread has made its Take, and publishes next.
     Taken,
     TurnBegun,
-    /// It may serve, and polls.
+    /// The thread has published in this turn: it may run a job, and polls.
     TurnEnded,
-    /// It served, and clears next.
+    /// The thread has run a job, and clears next.
     TurnFinished,
-    /// A stop is over after which the thread exits.
+    /// The exit publishes next: at its start, or when a stop of it is over.
     Served,
     ExitBegun,
     ExitEnded,
-    /// The coordinator publishes a held thread to serve it.
+    /// The coordinator publishes a held thread, to serve it.
     ServeBegun,
     ServeEnded,
     ServeFinished,
-    /// The entry of a code was refused, and the method is entered without it.
+    /// An Enter was answered WrongMethod, and the method is entered without a code next.
     Sent,
-    /// A thread was held that hasn't brought its body, and is released.
+    /// A thread was held that hasn't brought its body, and is released next.
     Caught,
-    /// Held threads are published for a census.
+    /// The caller publishes held threads for a census.
     Gathering,
-    /// The census is operated: what is left is cleared.
+    /// The census is operated, and its remaining Clears follow.
     Operated,
-    /// Threads are told, held, served and released, up to the last Close.
+    /// The drive arms polls, holds, serves and releases threads, up to the last Close.
     Driving,
-    /// A handshake was asked for before the moment of a reclaiming.
+    /// A reclaiming has asked for its handshake, and makes the round next.
     Asked,
-    /// Places are looked at, and then the code is weighed.
+    /// The looks at places, and then the weighing of the code.
     Looking,
     /// The code is retired, and freed next.
     Weighed,
-    /// All.
+    /// The call has made all its events.
     Over,
 }
 
-/// How far a call is.
+/// The stage of a call, with what its next events depend on.
 #[derive(Clone, Copy, Debug, PartialEq, Eq, Drop)]
 pub struct Stage {
     pub at: At,
-    /// The place of the thread that it is of.
+    /// The place of the thread that the current acts are at.
     pub place: u64,
-    /// How many jobs ran.
+    /// How many jobs of the call have run.
     pub jobs: u64,
-    /// Whether the last turn of a stop had a job.
+    /// Whether the last turn of a stop ran a job, or a drive operated a census.
     pub served: bool,
-    /// How many stops an exit made, or how many operations were closed.
+    /// How many stops an exit has made, or how many operations were closed.
     pub times: u64,
     /// The number of the handshake that a reclaiming asked for.
     pub asked: u64,
-    /// Whether it had an event.
+    /// Whether the call has made an event.
     pub begun: bool,
 }

@@ -10,7 +10,7 @@ use call_log::word::Word;
 use system::answers::{Answer, Refusal};
 use system::events::Act;
 
-/// A thread that starts wakes.
+/// The Wake of a thread that starts.
 fn wakes(stage: Stage, act: Act, answer: &Answer) -> Option<Stage>
     ensures { result ≡ wakes stage act answer.now }
 {
@@ -20,7 +20,7 @@ fn wakes(stage: Stage, act: Act, answer: &Answer) -> Option<Stage>
     }
 }
 
-/// The last turn of a stop is over.
+/// The end of the last turn of a stop.
 fn turn_over(entry: &Entry, stage: Stage) -> Option<Stage>
     ensures { result ≡ turn_over entry.now stage }
 {
@@ -42,7 +42,7 @@ fn turn_over(entry: &Entry, stage: Stage) -> Option<Stage>
     }
 }
 
-/// A thread that published in a turn serves, or polls.
+/// A thread that has published in a turn runs a job, or polls.
 fn polls(recorded: bool, entry: &Entry, stage: Stage, act: Act, answer: &Answer) -> Option<Stage>
     ensures { result ≡ polls recorded entry.now stage act answer.now }
 {
@@ -53,7 +53,7 @@ fn polls(recorded: bool, entry: &Entry, stage: Stage, act: Act, answer: &Answer)
     }
 }
 
-/// A thread takes its operations in hand.
+/// The Take of a thread.
 fn takes(entry: &Entry, stage: Stage, act: Act, answer: &Answer) -> Option<Stage>
     ensures { result ≡ takes entry.now stage act answer.now }
 {
@@ -74,7 +74,7 @@ fn takes(entry: &Entry, stage: Stage, act: Act, answer: &Answer) -> Option<Stage
     }
 }
 
-/// A thread that published exits, or a poll stops it; or it publishes again, where its exit is to be made again.
+/// A thread that has published exits, or a poll stops it. If the exit must be repeated, the thread publishes again.
 fn exits(entry: &Entry, stage: Stage, act: Act, answer: &Answer) -> Option<Stage>
     ensures { result ≡ exits entry.now stage act answer.now }
 {
@@ -97,7 +97,7 @@ fn exits(entry: &Entry, stage: Stage, act: Act, answer: &Answer) -> Option<Stage
     }
 }
 
-/// An exit publishes, or is refused.
+/// The next event of an exit that publishes: the Begin of the publication, or a refused Exit.
 fn leaves(entry: &Entry, stage: Stage, act: Act, answer: &Answer) -> Option<Stage>
     ensures { result ≡ leaves entry.now stage act answer.now }
 {
@@ -111,7 +111,7 @@ fn leaves(entry: &Entry, stage: Stage, act: Act, answer: &Answer) -> Option<Stag
     }
 }
 
-/// An act that is all of a call.
+/// The word of a call that consists of this act alone.
 fn single_word(act: Act) -> Option<Word>
     ensures { result ≡ single_word act }
 {
@@ -139,7 +139,7 @@ fn single(entry: &Entry, stage: Stage, act: Act, answer: &Answer) -> Option<Stag
     }
 }
 
-/// The method is entered, with the code of the call's hint or without one.
+/// The Enter of a method, with the code of the call's hint or without a code.
 fn enters(
     entry: &Entry,
     stage: Stage,
@@ -193,7 +193,7 @@ fn entered(entry: &Entry, word: Word, numbers: &[u64], answer: &Answer) -> bool
     }
 }
 
-/// A call of a method enters it.
+/// The Enter of a method call.
 fn calls(entry: &Entry, stage: Stage, act: Act, answer: &Answer) -> Option<Stage>
     ensures { result ≡ calls entry.now stage act answer.now }
 {
@@ -203,7 +203,7 @@ fn calls(entry: &Entry, stage: Stage, act: Act, answer: &Answer) -> Option<Stage
     }
 }
 
-/// A thread comes back: it wakes.
+/// The Wake of a thread that returns to Java.
 fn returns(entry: &Entry, stage: Stage, act: Act, answer: &Answer) -> Option<Stage>
     ensures { result ≡ returns entry.now stage act answer.now }
 {
@@ -216,7 +216,7 @@ fn returns(entry: &Entry, stage: Stage, act: Act, answer: &Answer) -> Option<Sta
     }
 }
 
-/// It polls.
+/// The poll of a thread that returns to Java.
 fn back(entry: &Entry, stage: Stage, act: Act, answer: &Answer) -> Option<Stage>
     ensures { result ≡ back entry.now stage act answer.now }
 {
@@ -229,7 +229,7 @@ fn back(entry: &Entry, stage: Stage, act: Act, answer: &Answer) -> Option<Stage>
     }
 }
 
-/// A publication that is to be answered by ok begins, or is refused.
+/// The Begin of a publication whose call answers ok, or a refusal.
 fn opens(entry: &Entry, stage: Stage, act: Act, answer: &Answer, at: At) -> Option<Stage>
     ensures { result ≡ opens entry.now stage act answer.now at }
 {
@@ -243,7 +243,7 @@ fn opens(entry: &Entry, stage: Stage, act: Act, answer: &Answer, at: At) -> Opti
     }
 }
 
-/// A Serve is refused: what the core calls illegal at a thread that isn't held, it calls NotHeld.
+/// Whether a Serve is refused. Where the core answers Illegal because the thread isn't held, the call answers NotHeld.
 fn is_unserved(entry: &Entry, answer: &Answer) -> bool
     ensures { result ≡ is_unserved entry.now answer.now }
 {
@@ -256,7 +256,7 @@ fn is_unserved(entry: &Entry, answer: &Answer) -> bool
     }
 }
 
-/// A thread is held; or it is held and released, where it hasn't brought its body.
+/// The Hold of a thread. If the thread hasn't brought its body, a Release follows.
 fn holds(entry: &Entry, stage: Stage, act: Act, answer: &Answer) -> Option<Stage>
     ensures { result ≡ holds entry.now stage act answer.now }
 {

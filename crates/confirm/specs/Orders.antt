@@ -1,4 +1,4 @@
--- An order of events, each of the call of a number.
+-- An order of events, each of the call with a given number.
 use Rattle.std.specs.Prelude.{◌≡◌, ℕ, ◌+◌, ◌<◌, decimal, length, List, [], ◌∷◌, ◌++◌, Option, Some, None, option_map, option_and_then}
 use Rattle.std.specs.List.{flat_map, AllByRecursion}
 use Rattle.system.specs.declared.events.Event.{Event}
@@ -24,7 +24,7 @@ event_line event = line_of (Do event)
 abbrev pub size_line : Log → List ℕ
 size_line log = line_of (Size log.places log.slots log.methods)
 
--- A line for the sizes, and one for each event.
+-- A line for the sizes, and a line for each event.
 abbrev pub lines_text : Log → List Event → List ℕ
 lines_text log events = size_line log ++ flat_map event_line events
 
@@ -32,11 +32,11 @@ lines_text log events = size_line log ++ flat_map event_line events
 abbrev pub IsRead : Event → Type 0
 IsRead event = command_of (spelling (Do event)) ≡ Some (Do event)
 
--- The number of a call, and an event of it.
+-- The number of a call, a space, and the event.
 abbrev pub deed_text : ℕ → Event → List ℕ
 deed_text owner event = decimal owner ++ 32 ∷ spelling (Do event)
 
--- A line for each event, behind the number of its call.
+-- A line for each event, with the number of its call in front.
 abbrev pub order_text : List ℕ → List Event → List ℕ
 order_text (owner ∷ owners) (event ∷ events) = (deed_text owner event ++ 10 ∷ []) ++ order_text owners events
 order_text owners events = []
@@ -54,11 +54,11 @@ deed_in None = None
 deed_in (Some parts) =
     option_and_then (λ owner. option_map (λ event. (owner, event)) (event_in (command_of parts.1))) (owner_in (token_of parts.0))
 
--- The number and the event that the line has: before its first space and behind it.
+-- The number and the event of a line: the parts before and after its first space.
 abbrev pub deed_of : List ℕ → Option (ℕ × Event)
 deed_of line = deed_in (cut 32 line)
 
--- The text is the order of these events, and the lines are theirs, behind a head.
+-- The text is the order of these events, and `lines` is the head followed by their lines.
 pub record IsOrder (text head : List ℕ) (owners : List ℕ) (events : List Event) (lines : List ℕ) : Type 0 where
   pub paired : length owners ≡ length events
   pub spelled : text ≡ order_text owners events
@@ -68,7 +68,7 @@ pub record IsOrder (text head : List ℕ) (owners : List ℕ) (events : List Eve
 abbrev pub first_deed : List ℕ → Option (ℕ × Event)
 first_deed rest = option_and_then (λ parts. deed_of parts.0) (cut 10 rest)
 
--- Lines of events stand before the line of this number, counted from 1, which isn't one.
+-- The line of this number, counted from 1, isn't the line of an event, and all lines before it are.
 pub record IsBadAt (text : List ℕ) (number : ℕ) : Type 0 where
   pub owners : List ℕ
   pub events : List Event
@@ -79,7 +79,7 @@ pub record IsBadAt (text : List ℕ) (number : ℕ) : Type 0 where
   pub more : 0 < length rest
   pub bad : first_deed rest ≡ None
 
--- Why an order isn't read.
+-- Why an order can't be read.
 abbrev pub IsOrderFault : List ℕ → Fault → Type 0
 IsOrderFault text (fault.BadOrder number) = IsBadAt text number
 IsOrderFault text fault.NoMemory = Unit {0}

@@ -2,7 +2,7 @@
 use Rattle.std.specs.Prelude.{◌≡◌, ℕ, ◌==◌, ◌+◌, Bool, true, not, ◌&&◌, option_map, take, drop, bytes_eq, codes, List, [], ◌∷◌, ◌++◌, Option, None}
 use Rattle.std.specs.List.{flat_map, list_all, position}
 
--- What stands before the first such byte, and what stands behind it.
+-- The parts before and after the first such byte.
 abbrev pub cut : ℕ → List ℕ → Option (List ℕ × List ℕ)
 cut byte bytes = option_map (λ at. (take at bytes, drop (at + 1) bytes)) (position (λ b. b == byte) bytes)
 
@@ -10,7 +10,7 @@ cut byte bytes = option_map (λ at. (take at bytes, drop (at + 1) bytes)) (posit
 abbrev pub whole_lines : List (List ℕ) → List ℕ
 whole_lines lines = flat_map (λ line. line ++ 10 ∷ []) lines
 
--- It is one line, and another than `order`.
+-- The text is one line without a newline in it, and not `order`.
 abbrev pub is_other : List ℕ → Bool
 is_other line = list_all (λ b. not (b == 10)) line && not (bytes_eq line (codes "order"))
 
@@ -20,7 +20,7 @@ pub record AreOthers (text : List ℕ) : Type 0 where
   pub text_is : text ≡ whole_lines lines
   pub others : list_all is_other lines ≡ true
 
--- The first line `order` of the text stands between these.
+-- The text is these two parts with its first line `order` between them.
 pub record IsParted (text before behind : List ℕ) : Type 0 where
   pub others : AreOthers before
   pub text_is : text ≡ before ++ (codes "order\n" ++ behind)

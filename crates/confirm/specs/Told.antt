@@ -1,4 +1,4 @@
--- What is told of a text: a log, the line `order` and an order.
+-- The verdict on a text: a log, the line `order` and an order.
 use Rattle.std.specs.Prelude.{◌≡◌, ℕ, List, ◌++◌, true, false, codes, Option, Some, None}
 use Rattle.std.specs.List.{AllByRecursion}
 use Rattle.system.specs.declared.events.Event.{Event}
@@ -14,7 +14,7 @@ use Rattle.confirm.specs.Orders.{order_text, lines_text, IsRead, IsBadAt}
 abbrev pub whole_text : Log → List ℕ → List Event → List ℕ
 whole_text log owners events = log_text log ++ (codes "order\n" ++ order_text owners events)
 
--- The text is a log with an order that explains it; the lines are those of that order, and `replay` reads each as its event.
+-- The text is a log with an order that explains it. `lines` has the lines of that order, and `replay` reads each as its event.
 pub record Explains (text lines : List ℕ) : Type 0 where
   pub log : Log
   pub owners : List ℕ
@@ -36,32 +36,32 @@ abbrev pub IsTold : List ℕ → Option (List ℕ) → Type 0
 IsTold text (Some lines) = Explains text lines
 IsTold text None = Fails text
 
--- The text is that of a log whose tickets rise.
+-- The text is the text of this log, and its tickets rise.
 pub record IsLog (text : List ℕ) (log : Log) : Type 0 where
   pub spelled : text ≡ log_text log
   pub risen : all_rise log.calls.items ≡ true
 
--- The text is that of a log whose tickets don't rise, or whose streams aren't lawful.
+-- The text is that of a log whose tickets don't rise, or that has a stream with an invalid number.
 pub record HasBadTickets (text : List ℕ) : Type 0 where
   pub log : Log
   pub spelled : text ≡ log_text log
   pub fallen : all_rise log.calls.items ≡ false
 
--- Why a log isn't taken.
+-- Why a log is refused.
 abbrev pub IsLogFault : List ℕ → Fault → Type 0
 IsLogFault text (fault.BadLog why) = IsReadFault text why
 IsLogFault text fault.Tickets = HasBadTickets text
 IsLogFault text fault.NoMemory = Unit {0}
 IsLogFault text other = ⊥
 
--- What stands before the line `order` has the fault.
+-- The text before the line `order` has the fault.
 pub record HasBadLog (text : List ℕ) (wrong : Fault) : Type 0 where
   pub before : List ℕ
   pub behind : List ℕ
   pub parted : IsParted text before behind
   pub fault_is : IsLogFault before wrong
 
--- A log stands before the line `order`, and behind it the line of this number isn't one of an event.
+-- The text before the line `order` is a log, and after it the line of this number isn't the line of an event.
 pub record HasBadOrder (text : List ℕ) (number : ℕ) : Type 0 where
   pub before : List ℕ
   pub behind : List ℕ
@@ -70,7 +70,7 @@ pub record HasBadOrder (text : List ℕ) (number : ℕ) : Type 0 where
   pub log_is : IsLog before log
   pub bad : IsBadAt behind number
 
--- Why nothing is told of a text.
+-- Why a text gets no verdict.
 abbrev pub IsFaultOf : List ℕ → Fault → Type 0
 IsFaultOf text fault.NoOrder = LacksOrder text
 IsFaultOf text (fault.BadLog why) = HasBadLog text (fault.BadLog why)

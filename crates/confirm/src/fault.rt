@@ -1,4 +1,4 @@
-//! Why nothing is said of an order.
+//! Why an order gets no verdict.
 ghost use Rattle.std.specs.Prelude.{◌≡◌};
 ghost use Rattle.confirm.specs.declared.fault.Fault.TheVariants as faults;
 
@@ -7,20 +7,20 @@ use call_log::reading::ReadFault;
 use std::alloc::AllocError;
 use std::fmt;
 
-/// A fault. `{}` is what is told on standard error, behind the program's name.
+/// A fault. `{}` is the text on standard error after the program's name.
 #[derive(Clone, Copy, Debug, PartialEq, Eq, Drop)]
 pub enum Fault {
     BadWords,
     ReadFailed,
-    /// There are more than 268,435,456 bytes.
+    /// The input has more than 268,435,456 bytes.
     TooLong,
     /// No line is `order`.
     NoOrder,
-    /// What stands before that line isn't a log.
+    /// The text before that line isn't a log.
     BadLog(ReadFault),
-    /// The tickets of a stream don't rise, or it is numbered above 1023.
+    /// The tickets of a stream don't rise, or a stream has a number above 1023.
     Tickets,
-    /// The line of this number behind the line `order`, counted from 1, isn't that of an event.
+    /// The line of this number after the line `order`, counted from 1, isn't the line of an event.
     BadOrder(u64),
     WriteFailed,
     NoMemory,

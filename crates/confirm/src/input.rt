@@ -6,13 +6,13 @@ use crate::fault::Fault;
 use replay::device::Source;
 use std::alloc::{AllocError, Global};
 
-/// Bytes that are read at a time.
+/// How many bytes are read at a time.
 const BLOCK: usize = 65_536;
 
 /// The longest text, in bytes.
 const MAX_BYTES: usize = 268_435_456;
 
-/// All that a source has.
+/// Reads a source to its end.
 pub fn read_text<R: Source>(alloc: Global, source: &mut R) -> Result<Vec<u8>, Fault>
     requires source { R.failures source.old ≡ 0 }
     requires unread { R.reads source.old ≡ 0 }

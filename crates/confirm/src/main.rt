@@ -1,5 +1,5 @@
-//! The program: a log of calls with an order that somebody found for it in, the lines of that order out.
-//! People and programs that search run it, so that none of them need be believed.
+//! The program: it reads a log of calls with an order that somebody found for it, and writes the lines of that order.
+//! People and searching programs run it, so that nobody has to trust their orders.
 //! Read `run.rt` first, then `told.rt` and `crates/confirm/README.md`.
 #![tactic(auto)]
 
@@ -18,10 +18,10 @@ use replay::device::{FromReader, IntoWriter};
 use std::env;
 use std::process::ExitCode;
 
-/// `confirm` reads on standard input a log of calls, a line `order`, and a line for each event: the number of its call in the log, counted
-/// from 0, and the event as `monitor replay` reads it. Where the order explains the log it writes the lines of the order on standard output,
-/// behind a line for the sizes, and the status is 0. Where it doesn't the status is 1, and for a fault 2: standard error tells it in one
-/// line, and standard output gets nothing, or a beginning of the lines where a write failed.
+/// `confirm` reads from standard input a log of calls, a line `order`, and a line for each event: the number of its call in the log,
+/// counted from 0, and the event as `monitor replay` reads it. If the order explains the log, it writes the lines of the order to standard
+/// output, after a line for the sizes, and the status is 0. If it doesn't, the status is 1, and for a fault it is 2: then standard error
+/// has one line that says so, and standard output gets nothing, or a prefix of the lines if a write failed.
 fn main(rt: HostRuntime) -> ExitCode {
     match confirm_input(&rt) {
         Ok(Status::Explained) => ExitCode::SUCCESS,
@@ -45,7 +45,7 @@ fn confirm_input(rt: &HostRuntime) -> Result<Status, Fault> {
     confirm(rt.alloc(), &mut source, &mut sink)
 }
 
-// Whether there are words behind the program's name, or none that can be had.
+// Whether there are words after the program's name, or the words can't be read.
 fn has_words(rt: &HostRuntime) -> bool {
     match env::args(rt) {
         Ok(words) => words.skip(1).next().is_some(),

@@ -1,4 +1,4 @@
-//! How an order is read.
+//! Reading an order.
 ghost use Rattle.std.specs.Prelude.{◌≡◌, ◌++◌, ◌∷◌, [], decimal, IfOk, IfErr, IfSome, OnOk, option_map};
 ghost use Rattle.call_log.specs.Tokens.{token_of};
 ghost use Rattle.replay.specs.Grammar.{command_of};
@@ -18,18 +18,18 @@ use system::events::Event;
 #[derive(Debug, Drop)]
 pub struct Order {
     pub events: Vec<Event>,
-    /// By event, the number of its call.
+    /// For each event the number of its call.
     pub owners: Vec<usize>,
     /// The lines of the events, as `monitor replay` reads them.
     pub lines: Vec<u8>,
 }
 
-/// An event of the call of a number.
+/// An event with the number of its call.
 #[derive(Debug, Drop)]
 struct Deed<'a> {
     owner: usize,
     event: Event,
-    /// How the event is spelled.
+    /// The spelling of the event.
     spelled: &'a [u8],
 }
 
@@ -59,7 +59,7 @@ fn event_of(alloc: Global, bytes: &[u8]) -> Result<Option<Event>, AllocError>
     }
 }
 
-/// What a line of an order says.
+/// The number and the event of a line of an order.
 fn read_line(alloc: Global, line: &[u8]) -> Result<Option<Deed<'_>>, AllocError>
     ensures deed { IfOk result
         (λ deed. option_map (λ deed. (deed.owner, deed.event)) deed ≡ deed_of line.now) }
@@ -101,7 +101,7 @@ impl Order {
     }
 }
 
-/// The order that the text spells: a line for each event, with its newline. The lines of the events stand behind the head.
+/// The order that the text spells: a line for each event, with its newline. The result has the lines of the events after the head.
 pub fn read_order(alloc: Global, text: &[u8], head: Vec<u8>) -> Result<Order, Fault>
     ensures order { IfOk result
         (λ order. IsOrder text.now head.items order.owners.items order.events.items

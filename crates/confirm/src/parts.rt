@@ -4,7 +4,7 @@ ghost use Rattle.std.specs.Prelude.{◌≡◌, ◌==◌, ◌<◌, length, ◌++�
 ghost use Rattle.call_log.specs.Reading.{cut_seen};
 ghost use Rattle.confirm.specs.Parts.{cut, IsParted, LacksOrder};
 
-/// Where the first such byte stands.
+/// The position of the first such byte.
 fn find(byte: u8, bytes: &[u8]) -> Option<usize>
     ensures at { result ≡ position (λ b. b == byte) bytes.now }
     ensures bound { IfSome result (λ at. at < length bytes.now) }
@@ -12,7 +12,7 @@ fn find(byte: u8, bytes: &[u8]) -> Option<usize>
     bytes.iter().position(|b| *b == byte)
 }
 
-/// What stands before the first such byte and what stands behind it; none where there is no such byte.
+/// The parts before and after the first such byte; None if there is no such byte.
 #[tactic(auto, using(crate::proofs::Cuts::cut_whole))]
 pub fn cut(byte: u8, bytes: &[u8]) -> Option<(&[u8], &[u8])>
     ensures cut { cut_seen result ≡ cut byte bytes.now }
@@ -25,7 +25,7 @@ pub fn cut(byte: u8, bytes: &[u8]) -> Option<(&[u8], &[u8])>
     }
 }
 
-/// What stands before the first line `order` and what stands behind it; none where there is no such line.
+/// The parts before and after the first line `order`; None if there is no such line.
 pub fn part(text: &[u8]) -> Option<(&[u8], &[u8])>
     ensures { MatchOption result (LacksOrder text.now)
         (λ parts. IsParted text.now parts.0.now parts.1.now) }

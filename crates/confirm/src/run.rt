@@ -1,4 +1,4 @@
-//! A log with an order in, the lines of that order out.
+//! Reads a log with an order, and writes the lines of that order.
 ghost use Rattle.std.specs.Prelude.{◌≡◌};
 ghost use Rattle.confirm.specs.Ran.{Ran, FailedCalls};
 
@@ -9,7 +9,7 @@ use replay::device::{Sink, Source};
 use replay::stream::flush;
 use std::alloc::Global;
 
-/// What a run came to.
+/// The result of a run.
 #[derive(Clone, Copy, Debug, PartialEq, Eq, Drop)]
 pub enum Status {
     /// The lines of the order were written: it explains the log.
@@ -18,7 +18,7 @@ pub enum Status {
     NotExplained,
 }
 
-/// Reads a log with an order, and writes the lines of the order only where the checker says that it explains the log.
+/// Reads a log with an order, and writes the lines of the order only if the checker finds that it explains the log.
 pub fn confirm<R: Source, W: Sink>(
     alloc: Global,
     source: &mut R,

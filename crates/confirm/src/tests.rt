@@ -1,4 +1,4 @@
-//! How orders are read, and what is told of whole texts.
+//! Tests of reading orders, and of the verdicts on whole texts.
 use crate::order::read_order;
 use crate::parts::part;
 use crate::told::tell;
@@ -8,7 +8,7 @@ use std::test::Fail;
 /// A log of one call that starts a thread.
 const LOG: &[u8] = b"witness 1\nsize 1 1 1\n0 0 1 start : thread 1 0\norder\n";
 
-/// What is read of an order: the numbers of the calls and the events, or the fault.
+/// What reading an order gives: the numbers of the calls and the events, or the fault.
 fn read_of(alloc: Global, text: &[u8]) -> Result<String, AllocError> {
     match read_order(alloc, text, Vec::new(alloc)) {
         Ok(order) => {

@@ -1,4 +1,4 @@
-//! What is told of a text: a log, the line `order` and an order.
+//! The verdict on a text: a log, the line `order` and an order.
 ghost use Rattle.std.specs.Prelude.{◌≡◌, IfOk, IfErr, string_bytes, option_map};
 ghost use Rattle.confirm.specs.Orders.{size_line};
 ghost use Rattle.confirm.specs.Told.{IsLog, IsLogFault, IsTold, IsFaultOf};
@@ -12,7 +12,7 @@ use std::alloc::{AllocError, Global};
 use witness_check::check::check;
 use witness_check::streams::all_rise;
 
-/// The line for a log's sizes.
+/// The line for the sizes of a log.
 fn size_line(alloc: Global, log: &Log) -> Result<Vec<u8>, AllocError>
     ensures { IfOk result (λ line. line.items ≡ size_line log.now) }
 {
@@ -36,7 +36,7 @@ fn read_log(alloc: Global, text: &[u8]) -> Result<Log, Fault>
     }
 }
 
-/// The lines of the order that stands in the text behind a log, where it explains that log.
+/// The lines of the order that follows the log in the text, if the order explains the log; None if it doesn't.
 pub fn tell(alloc: Global, text: &[u8]) -> Result<Option<Vec<u8>>, Fault>
     ensures told { IfOk result
         (λ lines. IsTold text.now (option_map (λ lines. lines.items) lines)) }

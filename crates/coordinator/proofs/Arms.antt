@@ -4,7 +4,7 @@ use mathlib.Core.Logic.{dite}
 use native.Mathlib.Decide.{ℕ_discrete}
 use Rattle.thread_state.specs.declared.poll_rule.Arming.{Arming}
 use Rattle.thread_state.specs.PollRule.{armed_with}
-use Rattle.held_threads.specs.Holding.{ArmsOn}
+use Rattle.stopped_threads.specs.Holding.{ArmsOn}
 
 pub arms_same : (old new : Arming) → new ≡ old → ArmsOn old new
 arms_same old new e = record { rises = λ place. subst (λ (a : Arming). slice_index old.armed place ≤ slice_index a.armed place) (sym e) (omega arith) }

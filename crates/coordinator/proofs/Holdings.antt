@@ -5,7 +5,7 @@ use Rattle.bodies.specs.Census.{IsCensus}
 use Rattle.desk.specs.Machine.{State}
 use Rattle.coordinator.specs.declared.faults.DriveFault.{DriveFault}
 use Rattle.coordinator.specs.declared.faults.DriveFault.TheVariants.{QueueEmpty, NoMemory}
-use Rattle.held_threads.specs.Holding.{Holding, ArmsOn}
+use Rattle.stopped_threads.specs.Holding.{Holding, ArmsOn}
 use Rattle.desk.specs.Operatings.{OperatingSeen}
 use Rattle.coordinator.specs.declared.faults.Driven.{Driven}
 use Rattle.coordinator.specs.declared.faults.Driven.TheVariants.{Handshake, Census}

@@ -1,7 +1,7 @@
 -- What is held goes on to be held.
 use Rattle.std.proofs.Common.{◌≡◌, List, [], ◌∷◌, ◌++◌, refl, ap, ◌∙◌}
 use Rattle.bodies.specs.Bodies.{BodyView}
-use Rattle.held_threads.specs.Holding.{Holding}
+use Rattle.stopped_threads.specs.Holding.{Holding}
 use Rattle.coordinator.specs.Driving.{HoldsOn}
 use Rattle.coordinator.proofs.Arms.{arms_same, arms_then}
 

@@ -9,9 +9,9 @@ use Rattle.operations.specs.Requests.{kind_of}
 use Rattle.desk.specs.Fields.{DeskSeen, at}
 use Rattle.desk.specs.Machine.{State, Current, Book, after}
 use Rattle.desk.specs.Targets.{is_target_of, is_untold, untold, untold_in, number_of, due_of, kind_of_oldest, open_kind}
-use Rattle.held_threads.specs.Holding.{ArmsOn}
+use Rattle.stopped_threads.specs.Holding.{ArmsOn}
 use Rattle.coordinator.specs.Telling.{telling_by, telling_of, tellings, is_there, more_behind, any_more, AreArmed, due_in}
-use Rattle.coordinator.specs.declared.listing.Telling.{Telling}
+use Rattle.coordinator.specs.declared.listing.PendingOp.{PendingOp}
 
 and_false : (a b : Bool) → b ≡ false → (a && b) ≡ false
 and_false true b e = e
@@ -55,7 +55,7 @@ pub none_first : (s : State) (kind : Kind) (armer : Arming) (l : Live) (ls : Lis
     → tellings s kind armer (l ∷ ls) ≡ tellings s kind armer ls
 none_first s kind armer l ls e = ap (λ o. cons_option o (tellings s kind armer ls)) e
 
-pub some_first : (s : State) (kind : Kind) (armer : Arming) (l : Live) (ls : List Live) (t : Telling) → telling_of s kind armer l ≡ Some t
+pub some_first : (s : State) (kind : Kind) (armer : Arming) (l : Live) (ls : List Live) (t : PendingOp) → telling_of s kind armer l ≡ Some t
     → tellings s kind armer (l ∷ ls) ≡ t ∷ tellings s kind armer ls
 some_first s kind armer l ls t e = ap (λ o. cons_option o (tellings s kind armer ls)) e
 
@@ -63,7 +63,7 @@ pub none_more : (s : State) (kind : Kind) (armer : Arming) (l : Live) (ls : List
     → any_more s kind armer (l ∷ ls) ≡ any_more s kind armer ls
 none_more s kind armer l ls e = ap (λ o. more_behind s o || any_more s kind armer ls) e
 
-pub some_more : (s : State) (kind : Kind) (armer : Arming) (l : Live) (ls : List Live) (t : Telling) → telling_of s kind armer l ≡ Some t
+pub some_more : (s : State) (kind : Kind) (armer : Arming) (l : Live) (ls : List Live) (t : PendingOp) → telling_of s kind armer l ≡ Some t
     → any_more s kind armer (l ∷ ls) ≡ (is_there (untold s t.name t.number) || any_more s kind armer ls)
 some_more s kind armer l ls t e = ap (λ o. more_behind s o || any_more s kind armer ls) e
 
@@ -115,7 +115,7 @@ all_told s kind old new (l ∷ ls) long arms more armed =
     (nat_lt l.place (length old.armed)) (untold s l.name (slice_index old.armed l.place)) refl refl more armed
 
 -- What is armed stays armed, and one more is.
-pub armed_on : (old new : Arming) (ts : List Telling) → ArmsOn old new → AreArmed old ts → AreArmed new ts
+pub armed_on : (old new : Arming) (ts : List PendingOp) → ArmsOn old new → AreArmed old ts → AreArmed new ts
 armed_on old new [] arms are = tt
 armed_on old new (t ∷ ts) arms are = let low = arms.rises t.target.place in let one = are.0 in (omega (arith, low, one), armed_on old new ts arms are.1)
 
@@ -125,7 +125,7 @@ at_same d e book slots methods =
     ap (λ (b : Book). after d.slots d.methods b.history) book ∙ ap (λ n. after n d.methods e.book.history) slots ∙ ap (λ n. after e.slots n e.book.history) methods
 
 -- The first of the rest goes to the end of the list.
-pub moved : (xs : List Telling) (one : Telling) (rest : List Telling) (n k : ℕ) → n ≡ suc k → (xs ++ one ∷ []) ++ take k rest ≡ xs ++ take n (one ∷ rest)
+pub moved : (xs : List PendingOp) (one : PendingOp) (rest : List PendingOp) (n k : ℕ) → n ≡ suc k → (xs ++ one ∷ []) ++ take k rest ≡ xs ++ take n (one ∷ rest)
 moved xs one rest n k e = append_assoc xs (one ∷ []) (take k rest) ∙ sym (ap (λ m. xs ++ take m (one ∷ rest)) e)
 
 pub or_moved : (h m a : Bool) → ((h || m) || a) ≡ (m || (h || a))
@@ -145,7 +145,7 @@ nothing_open (c ∷ cs) e = absurd (let k : Some (kind_of c.request) ≡ None = 
 pub none_due : (s : State) → open_kind s ≡ None → due_in s ≡ []
 none_due s e = ap (λ cs. due_of cs s.live) (nothing_open s.opened e) ∙ nothing_due s.live
 
-pub armed_more : (armer : Arming) (ts : List Telling) (t : Telling) → AreArmed armer ts → t.number ≤ slice_index armer.armed t.target.place → AreArmed armer (ts ++ t ∷ [])
+pub armed_more : (armer : Arming) (ts : List PendingOp) (t : PendingOp) → AreArmed armer ts → t.number ≤ slice_index armer.armed t.target.place → AreArmed armer (ts ++ t ∷ [])
 armed_more armer [] t are low = (low, tt)
 armed_more armer (x ∷ ts) t are low = (are.0, armed_more armer ts t are.1 low)
 

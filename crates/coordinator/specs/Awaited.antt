@@ -8,9 +8,9 @@ use Rattle.desk.specs.Machine.{State}
 use Rattle.desk.specs.Targets.{is_awaited, progress}
 use Rattle.berths.specs.Berths.{acted}
 use Rattle.berths.specs.declared.room.BerthAct.TheVariants.{NoJob}
-use Rattle.held_threads.specs.Brought.{IsAttended}
-use Rattle.coordinator.specs.declared.driving_handshakes.Attended.{Attended}
-use Rattle.coordinator.specs.declared.driving_handshakes.Attended.TheVariants.{Served, Idle}
+use Rattle.stopped_threads.specs.Brought.{IsAttended}
+use Rattle.coordinator.specs.declared.driving_handshakes.TryServed.{TryServed}
+use Rattle.coordinator.specs.declared.driving_handshakes.TryServed.TheVariants.{Served, Idle}
 
 abbrev pub undone_where : Bool → Progress → Option ℕ
 undone_where true (Undone number) = Some number
@@ -23,6 +23,6 @@ abbrev pub awaited : State → ℕ → Option ℕ
 awaited s name = undone_where (is_awaited s name) (progress s name (2 ^ 64 - 1))
 
 -- A target's body was in its berth: it was served and went back, or by the receipt it had no job.
-abbrev pub WasThere : {N J : Type 0} → (J → ℕ) → (J → ℕ) → (J → Ask) → (J → ImageView → ℕ → Type 0) → ℕ → ℕ → Attended N → Type 0
+abbrev pub WasThere : {N J : Type 0} → (J → ℕ) → (J → ℕ) → (J → Ask) → (J → ImageView → ℕ → Type 0) → ℕ → ℕ → TryServed N → Type 0
 WasThere number whom asks may_answer place name (Served b) = IsAttended number whom asks may_answer place name b
 WasThere number whom asks may_answer place name (Idle r) = r ≡ acted place name NoJob

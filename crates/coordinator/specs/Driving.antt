@@ -14,7 +14,7 @@ use Rattle.coordinator.specs.declared.faults.Driven.{Driven}
 use Rattle.coordinator.specs.declared.faults.Driven.TheVariants.{Handshake, Census}
 use Rattle.coordinator.specs.declared.faults.DriveFault.{DriveFault}
 use Rattle.coordinator.specs.declared.faults.DriveFault.TheVariants.{QueueEmpty, NoMemory}
-use Rattle.held_threads.specs.Holding.{Holding, ArmsOn}
+use Rattle.stopped_threads.specs.Holding.{Holding, ArmsOn}
 
 -- The number of the request that was worked on.
 abbrev pub number_of : Driven → ℕ

@@ -4,8 +4,8 @@ use Rattle.std.specs.List.{remove}
 use Rattle.bodies.specs.Bodies.{BodyView}
 use Rattle.berths.specs.Berths.{Moved, moved}
 use Rattle.berths.specs.declared.room.BodyAct.TheVariants.{Released}
-use Rattle.held_threads.specs.Held.{StandsAt}
-use Rattle.held_threads.specs.Holding.{Holding}
+use Rattle.stopped_threads.specs.Held.{StandsAt}
+use Rattle.stopped_threads.specs.Holding.{Holding}
 
 -- The body of the place is held no more, and by the receipt it went into its berth as it was.
 abbrev pub Releases : Holding → Holding → ℕ → Moved → Type 0

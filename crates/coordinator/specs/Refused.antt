@@ -1,4 +1,4 @@
--- What the calls of a coordinator behind locks answer, beside what `held_threads` says of both.
+-- What the calls of a coordinator behind locks answer, beside what `stopped_threads` says of both.
 use Rattle.std.specs.Prelude.{◌≡◌, ◌≢◌, ◌<◌, ℕ, List, Some, slice_get, slice_set}
 use Rattle.frames.specs.ImageView.{ImageView}
 use Rattle.bodies.specs.Bodies.{BodyView}
@@ -9,10 +9,10 @@ use Rattle.desk.specs.Refusals.{reclaim_refused}
 use Rattle.desk.specs.declared.faults.ReclaimFault.{ReclaimFault}
 use Rattle.berths.specs.Berths.{acted}
 use Rattle.berths.specs.declared.room.BerthAct.TheVariants as berth
-use Rattle.held_threads.specs.declared.faults.HoldFault.TheVariants as hold
-use Rattle.held_threads.specs.Holding.{Holding}
-use Rattle.held_threads.specs.Refused.{MayHold, hold_refused}
-use Rattle.held_threads.specs.Serves.{IsServe}
+use Rattle.stopped_threads.specs.declared.faults.HoldFault.TheVariants as hold
+use Rattle.stopped_threads.specs.Holding.{Holding}
+use Rattle.stopped_threads.specs.Refused.{MayHold, hold_refused}
+use Rattle.stopped_threads.specs.Serves.{IsServe}
 use Rattle.coordinator.specs.declared.holding.Unheld.{Unheld}
 use Rattle.coordinator.specs.declared.holding.Unheld.TheVariants as unheld
 

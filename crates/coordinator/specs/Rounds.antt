@@ -6,8 +6,8 @@ use Rattle.desk.specs.declared.entries.Entry.TheVariants.{Ask, Close}
 use Rattle.desk.specs.Fields.{DeskSeen, at}
 use Rattle.desk.specs.Machine.{Stands}
 use Rattle.desk.specs.Pending.{least_pending}
-use Rattle.held_threads.specs.declared.faults.Reclaimed.{Reclaimed}
-use Rattle.held_threads.specs.Reclaiming.{IsReclaimed}
+use Rattle.stopped_threads.specs.declared.faults.Reclaimed.{Reclaimed}
+use Rattle.stopped_threads.specs.Reclaiming.{IsReclaimed}
 
 -- The request, where there is one, waits under the number.
 abbrev pub IsAskOf : Option Request → Option (ℕ × Stands) → Type 0

@@ -9,10 +9,10 @@ use Rattle.desk.specs.declared.entries.Live.{Live}
 use Rattle.desk.specs.Fields.{DeskSeen, at}
 use Rattle.desk.specs.Machine.{State, Current}
 use Rattle.desk.specs.Targets.{untold, untold_of, due_of}
-use Rattle.coordinator.specs.declared.listing.Telling.{Telling}
+use Rattle.coordinator.specs.declared.listing.PendingOp.{PendingOp}
 
 -- A request of this kind, of this number, is to be told to the thread, where there is one.
-abbrev pub telling_by : Kind → Live → Option ℕ → Option Telling
+abbrev pub telling_by : Kind → Live → Option ℕ → Option PendingOp
 telling_by k l None = None
 telling_by k l (Some n) = Some record { name = l.name; target = record { place = l.place; kind = k }; number = n }
 
@@ -26,12 +26,12 @@ kind_told s = kind_told_in s.opened
 
 -- What a live thread is to be told next: the oldest open request that is of it and wasn't told to it, by the number that its place was
 -- armed with last. Nothing where there is no such place.
-abbrev pub telling_of : State → Kind → Arming → Live → Option Telling
+abbrev pub telling_of : State → Kind → Arming → Live → Option PendingOp
 telling_of s k armer l =
     if nat_lt l.place (length armer.armed) then telling_by k l (untold s l.name (slice_index armer.armed l.place)) else None
 
 -- What a live thread is to be told that a handshake of this number is of, where nothing else is open.
-abbrev pub telling_alone : Arming → ℕ → Live → Option Telling
+abbrev pub telling_alone : Arming → ℕ → Live → Option PendingOp
 telling_alone armer n l =
     if nat_lt l.place (length armer.armed) then telling_by kind.Handshake l (untold_of n (slice_index armer.armed l.place)) else None
 
@@ -41,7 +41,7 @@ AreAskedAlone s n [] = Unit {0}
 AreAskedAlone s n (l ∷ ls) = ((last : ℕ) → untold s l.name last ≡ untold_of n last) × AreAskedAlone s n ls
 
 -- What each of these live threads is to be told next, in their order.
-abbrev pub tellings : State → Kind → Arming → List Live → List Telling
+abbrev pub tellings : State → Kind → Arming → List Live → List PendingOp
 tellings s k armer ls = filter_map (telling_of s k armer) ls
 
 abbrev pub is_there : Option ℕ → Bool
@@ -49,7 +49,7 @@ is_there None = false
 is_there (Some n) = true
 
 -- Whether a thread is to be told more behind that.
-abbrev pub more_behind : State → Option Telling → Bool
+abbrev pub more_behind : State → Option PendingOp → Bool
 more_behind s None = false
 more_behind s (Some t) = is_there (untold s t.name t.number)
 
@@ -64,7 +64,7 @@ due_in s = due_of s.opened s.live
 -- A look at the desk: the desk then, what was listed, and whether there is more.
 pub record Listing : Type 0 where
   pub seen : DeskSeen
-  pub list : List Telling
+  pub list : List PendingOp
   pub has_more : Bool
 
 -- Where there is no more, all that any thread that is due is to be told is listed.
@@ -74,7 +74,7 @@ IsListing armer l =
     × (any_more (at l.seen) k armer (due_in (at l.seen)) ≡ false)
 
 -- Each of these is armed, or a greater number is.
-abbrev pub AreArmed : Arming → List Telling → Type 0
+abbrev pub AreArmed : Arming → List PendingOp → Type 0
 AreArmed armer [] = Unit {0}
 AreArmed armer (t ∷ ts) = (t.number ≤ slice_index armer.armed t.target.place) × AreArmed armer ts
 

@@ -5,18 +5,18 @@ ghost use Rattle.bodies.specs.Census.{IsCensus};
 ghost use Rattle.desk.specs.declared.entries.Entry.{Entry};
 ghost use Rattle.desk.specs.Machine.{State as DeskState};
 ghost use Rattle.desk.specs.Refusals.{MayOperate};
-ghost use Rattle.held_threads.specs.Held.{AreEach};
+ghost use Rattle.stopped_threads.specs.Held.{AreEach};
 ghost use Rattle.thread_list.specs.Moves.{IsOperated};
-ghost use Rattle.held_threads.specs.Refused.{census_refused};
+ghost use Rattle.stopped_threads.specs.Refused.{census_refused};
 
 use crate::coordinator::Coordinator;
 use bodies::Name;
 use desk::Operating;
-use held_threads::{OperateFault, operate_over};
-use operations::job::Errand;
+use operations::job::HandshakeOp;
 use std::sync::Wait;
+use stopped_threads::{OperateFault, operate_over};
 
-impl<'a, N: Name, J: Errand> Coordinator<'a, N, J> {
+impl<'a, N: Name, J: HandshakeOp> Coordinator<'a, N, J> {
     /// Operates the open census over the held threads, which must be all that live: publishes the stack of each, counts the frames
     /// of each code over them, and clears the operation for each. Answers the number of the operation and the counts, a pair of
     /// serial and frames for each code that has any, rising by serial; with the receipt of its Operate, which shows them.

@@ -6,7 +6,7 @@ ghost use Rattle.desk.specs.Machine.{Current};
 ghost use Rattle.desk.specs.Fields.{Enters, at};
 ghost use Rattle.desk.specs.Targets.{number_of as number_in};
 ghost use Rattle.desk.specs.Refusals.{oldest_of, holds_target};
-ghost use Rattle.held_threads.specs.Holding.{Holding};
+ghost use Rattle.stopped_threads.specs.Holding.{Holding};
 ghost use Rattle.coordinator.specs.Driving.{number_of, WasOldest, IsWorked, IsListed, IsCounted};
 
 use crate::counted::Counted;
@@ -14,7 +14,7 @@ use crate::faults::Driven;
 use bodies::{Body, Name};
 use desk::{Closing, Desk, Operating, Receipt};
 use operations::Kind;
-use operations::job::Errand;
+use operations::job::HandshakeOp;
 use std::marker::Model;
 
 /// A request was closed. It isn't `Drop`: whoever closes a request answers it.
@@ -61,7 +61,7 @@ impl<N: Name> Worked<N> {
 }
 
 // Whether the oldest open request has this number, where one is given.
-fn has_number<N: Name, J: Errand>(desk: &Desk<N, J>, number: Option<u64>) -> bool
+fn has_number<N: Name, J: HandshakeOp>(desk: &Desk<N, J>, number: Option<u64>) -> bool
     ensures { result ≡ true → IfSome number (λ n.
         number_in (oldest_of (at desk.now).opened) ≡ Some n) }
 {
@@ -75,7 +75,7 @@ fn has_number<N: Name, J: Errand>(desk: &Desk<N, J>, number: Option<u64>) -> boo
 impl<N: Name> Closed<N> {
     /// Closes the oldest open request where it is of this kind, and of this number where one is given; and gives back its jobs that were
     /// not taken.
-    pub fn close<J: Errand>(
+    pub fn close<J: HandshakeOp>(
         desk: &mut Desk<N, J>,
         held: &[Body<N>],
         kind: Kind,

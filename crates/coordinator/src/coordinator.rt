@@ -4,22 +4,22 @@ ghost use Rattle.poll.specs.Rows.{full_armer};
 ghost use Rattle.desk.specs.declared.entries.Entry.{Entry};
 ghost use Rattle.desk.specs.Machine.{State as DeskState};
 ghost use Rattle.desk.specs.Refusals.{open_refused};
-ghost use Rattle.held_threads.specs.Holding.{held_nothing};
+ghost use Rattle.stopped_threads.specs.Holding.{held_nothing};
 ghost use Rattle.coordinator.specs.Driving.{WasOldest};
-ghost use Rattle.held_threads.specs.Refused.{MayClose, not_closed};
+ghost use Rattle.stopped_threads.specs.Refused.{MayClose, not_closed};
 
 use crate::closed::Closed;
-use crate::listing::Untold;
+use crate::listing::PendingJob;
 use berths::locked;
 use bodies::Name;
 use desk::{CloseFault, Closing, Live, OpenFault, Receipt};
-use held_threads::{Held, Teller};
 use operations::Kind;
-use operations::job::Errand;
+use operations::job::HandshakeOp;
 use poll::Armer;
 use std::alloc::Global;
 use std::marker::Model;
 use std::sync::Wait;
+use stopped_threads::{HeldBodies, PollArmer};
 use thread_list::Shared;
 
 /// Works on requests. There is one for what threads share, since it has the one armer. Whoever drops it releases all that it holds before:
@@ -28,22 +28,22 @@ use thread_list::Shared;
 /// Contracts see the bodies that it holds in the order in which it took them, what the armer knows, and whether the open census is
 /// operated. Beside that it has room for two lists, which `drive` fills under the desk's lock and goes through without it.
 #[derive(Drop)]
-pub struct Coordinator<'a, N: Name, J: Errand> {
+pub struct Coordinator<'a, N: Name, J: HandshakeOp> {
     pub(crate) shared: &'a Shared<N, J>,
     pub(crate) alloc: Global,
-    pub(crate) armer: Teller,
+    pub(crate) armer: PollArmer,
     pub(crate) places: usize,
-    pub(crate) bodies: Held<N>,
+    pub(crate) bodies: HeldBodies<N>,
     pub(crate) operated: bool,
-    pub(crate) untold: Vec<Untold<J>>,
+    pub(crate) untold: Vec<PendingJob<J>>,
     pub(crate) due: Vec<Live>,
     /// A bit for each place whose thread had its body when it was told: it comes to a poll, and nobody need look into its berth before.
     pub(crate) out: u64,
 }
 
-impl<'a, N: Name, J: Errand> Model for Coordinator<'a, N, J> {
+impl<'a, N: Name, J: HandshakeOp> Model for Coordinator<'a, N, J> {
     ghost use Rattle.std.specs.Prelude.{◌≡◌, ◌≤◌, length};
-    ghost use Rattle.held_threads.specs.Holding.{Holding};
+    ghost use Rattle.stopped_threads.specs.Holding.{Holding};
 
     ghost Value = { Holding };
 
@@ -53,7 +53,7 @@ impl<'a, N: Name, J: Errand> Model for Coordinator<'a, N, J> {
         × (c.places ≡ N.board.places) × (c.places ≤ 64) };
 }
 
-impl<'a, N: Name, J: Errand> Coordinator<'a, N, J> {
+impl<'a, N: Name, J: HandshakeOp> Coordinator<'a, N, J> {
     /// A coordinator that holds nothing, with the armer that came with what threads share. Where memory is refused the armer comes
     /// back.
     pub fn new(
@@ -73,7 +73,7 @@ impl<'a, N: Name, J: Errand> Coordinator<'a, N, J> {
         let Ok(due) = Vec::with_capacity(alloc, places.saturating_add(1)) else {
             return Err(armer);
         };
-        let (bodies, teller) = Held::with_teller(alloc, places, armer)?;
+        let (bodies, teller) = HeldBodies::with_armer(alloc, places, armer)?;
         Ok(Coordinator {
             shared,
             alloc,

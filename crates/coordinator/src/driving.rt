@@ -4,11 +4,11 @@ ghost use Rattle.desk.specs.declared.entries.Entry.{Entry};
 ghost use Rattle.desk.specs.Machine.{State as DeskState, Stands};
 ghost use Rattle.desk.specs.Fields.{Enters, at};
 ghost use Rattle.desk.specs.Targets.{open_kind};
-ghost use Rattle.held_threads.specs.Holding.{ArmsOn};
+ghost use Rattle.stopped_threads.specs.Holding.{ArmsOn};
 ghost use Rattle.coordinator.specs.Driving.{number_of, IsWorked, IsListed, drive_refused};
 ghost use Rattle.coordinator.specs.Telling.{IsListing};
 
-use crate::all_told::AllTold;
+use crate::all_armed::AllArmed;
 use crate::closed::Worked;
 use crate::coordinator::Coordinator;
 use crate::faults::{DriveFault, Driven};
@@ -16,15 +16,15 @@ use crate::listing::Listed;
 use berths::{Unwoken, locked};
 use bodies::Name;
 use desk::Desk;
-use held_threads::Held;
 use operations::Kind;
-use operations::job::Errand;
+use operations::job::HandshakeOp;
 use std::sync::Wait;
+use stopped_threads::HeldBodies;
 use thread_list::Shared;
 
 // Which kind the oldest open request is. Where nothing is open the oldest that waits is opened first; None where nothing waits either.
 #[tactic(auto, using(crate::proofs::Opens::open_behind))]
-fn open_or_go_on<N: Name, J: Errand>(desk: &mut Desk<N, J>) -> Option<Kind>
+fn open_or_go_on<N: Name, J: HandshakeOp>(desk: &mut Desk<N, J>) -> Option<Kind>
     ensures open { IfSome result (λ kind. open_kind (at desk.new) ≡ Some kind) }
     ensures one { (desk.new ≡ desk.old)
         ⊎ ((n : ℕ) × (receipt : Stands) × Enters desk.old desk.new (Entry.Open n) receipt) }
@@ -41,7 +41,7 @@ fn open_or_go_on<N: Name, J: Errand>(desk: &mut Desk<N, J>) -> Option<Kind>
     }
 }
 
-impl<'a, N: Name, J: Errand> Coordinator<'a, N, J> {
+impl<'a, N: Name, J: HandshakeOp> Coordinator<'a, N, J> {
     /// Works the oldest open request, or where nothing is open the oldest that waits, to its Close: tells all targets before it serves
     /// any, and of a handshake holds one thread at a time. Answers what it was, with the receipt of its Close and, of a census, that of
     /// its Operate, which show it; nothing is held then.
@@ -71,7 +71,7 @@ impl<'a, N: Name, J: Errand> Coordinator<'a, N, J> {
     // Opens the oldest request where nothing is open, and tells all targets of what is open. Answers which kind that is; None where
     // nothing is open and nothing waits.
     #[inline(always)]
-    pub(crate) fn begin<R: Wait>(&mut self, rt: &R) -> Option<(Kind, AllTold<N, J>)>
+    pub(crate) fn begin<R: Wait>(&mut self, rt: &R) -> Option<(Kind, AllArmed<N, J>)>
         ensures empty { IfNone result ((self.new ≡ self.old)
             × ((s : DeskState) × (s.opened ≡ []) × (s.waiting ≡ []))) }
         ensures held { (self.new.held ≡ self.old.held) × (self.new.operated ≡ self.old.operated) }
@@ -120,10 +120,10 @@ impl<'a, N: Name, J: Errand> Coordinator<'a, N, J> {
 
 /// Brings the bodies back into their berths, and wakes nobody yet: who is woken may take this very processor. Answers those that wait
 /// there.
-pub fn put_back<N: Name, J: Errand, R: Wait>(
+pub fn put_back<N: Name, J: HandshakeOp, R: Wait>(
     rt: &R,
     shared: &Shared<N, J>,
-    bodies: &mut Held<N>,
+    bodies: &mut HeldBodies<N>,
     operated: bool,
 ) -> Unwoken<N>
     ensures { bodies.new ≡ [] }

@@ -4,8 +4,8 @@ ghost use Rattle.bodies.specs.Census.{IsCensus};
 ghost use Rattle.operations.specs.declared.Kind.TheVariants as kind;
 ghost use Rattle.desk.specs.declared.entries.Entry.{Entry};
 ghost use Rattle.desk.specs.Machine.{State as DeskState};
-ghost use Rattle.held_threads.specs.Held.{is_held};
-ghost use Rattle.held_threads.specs.Holding.{ArmsOn};
+ghost use Rattle.stopped_threads.specs.Held.{is_held};
+ghost use Rattle.stopped_threads.specs.Holding.{ArmsOn};
 ghost use Rattle.coordinator.specs.Driving.{number_of, WasOldest, IsWorked, IsListed, IsCounted, HoldsOn, LacksList};
 
 use crate::closed::{Closed, Worked};
@@ -17,11 +17,11 @@ use crate::looks::Looks;
 use berths::Unwoken;
 use bodies::{Name, census_of};
 use desk::Live;
-use held_threads::OperateFault;
 use operations::Kind;
-use operations::job::Errand;
+use operations::job::HandshakeOp;
 use std::sync::Wait;
 use std::{hint, thread};
+use stopped_threads::OperateFault;
 
 // How often a census looks into berths for bodies that aren't there before it sleeps.
 const LOOKS: u32 = 128;
@@ -45,7 +45,7 @@ pub enum CensusWait {
     Asleep,
 }
 
-impl<'a, N: Name, J: Errand> Coordinator<'a, N, J> {
+impl<'a, N: Name, J: HandshakeOp> Coordinator<'a, N, J> {
     // Holds all live threads, operates the open census over them, brings them back and closes it.
     pub(crate) fn drive_census<R: Wait>(
         &mut self,

@@ -5,11 +5,11 @@ ghost use Rattle.desk.specs.Machine.{State as DeskState};
 ghost use Rattle.desk.specs.Fields.{at};
 ghost use Rattle.coordinator.specs.Driving.{number_of, IsWorked, IsListed};
 ghost use Rattle.coordinator.specs.Awaited.{awaited, WasThere};
-ghost use Rattle.held_threads.specs.Brought.{IsAttended};
-ghost use Rattle.held_threads.specs.Holding.{Holding};
+ghost use Rattle.stopped_threads.specs.Brought.{IsAttended};
+ghost use Rattle.stopped_threads.specs.Holding.{Holding};
 ghost use Rattle.berths.specs.Berths.{acted};
 
-use crate::all_told::AllTold;
+use crate::all_armed::AllArmed;
 use crate::closed::Worked;
 use crate::coordinator::Coordinator;
 use crate::faults::Driven;
@@ -17,11 +17,11 @@ use crate::looks::Looks;
 use berths::{BerthAct, BerthReceipt};
 use bodies::Name;
 use desk::{Desk, Live, Progress};
-use held_threads::{Brought, Served};
 use operations::Kind;
-use operations::job::Errand;
+use operations::job::HandshakeOp;
 use std::hint;
 use std::sync::Wait;
+use stopped_threads::{BodyInService, ServeReceipt};
 
 // How often the passes of a `drive` look at poll words without a lock before they sleep.
 const SPINS: u32 = 500;
@@ -33,15 +33,15 @@ const PATIENCE: u32 = 250;
 /// The passes over the targets that are due, once all are told: the first over those that telling listed, each further one over those
 /// that are due for the oldest open request.
 #[derive(Drop)]
-pub struct Passes<N: Name, J: Errand> {
-    told: AllTold<N, J>,
+pub struct Passes<N: Name, J: HandshakeOp> {
+    told: AllArmed<N, J>,
     looks: Looks,
     is_first: bool,
 }
 
-impl<N: Name, J: Errand> Passes<N, J> {
+impl<N: Name, J: HandshakeOp> Passes<N, J> {
     /// No pass is made, and no look spent.
-    pub fn new(told: AllTold<N, J>) -> Passes<N, J>
+    pub fn new(told: AllArmed<N, J>) -> Passes<N, J>
         ensures told { result.told ≡ told }
         ensures looks { result.looks ≡ 500 }
         ensures first { result.is_first ≡ true }
@@ -56,13 +56,13 @@ impl<N: Name, J: Errand> Passes<N, J> {
 
 /// What came of a target whose body was in its berth: it was served, or had no job, since its thread has served itself.
 #[derive(Drop)]
-pub enum Attended<N: Name> {
-    Served(Brought<N>),
+pub enum TryServed<N: Name> {
+    Served(ServeReceipt<N>),
     Idle(BerthReceipt<N>),
 }
 
 // The number of the oldest open request where the thread of the name is due for that.
-fn awaited_of<N: Name, J: Errand>(desk: &Desk<N, J>, name: u64) -> Option<u64>
+fn awaited_of<N: Name, J: HandshakeOp>(desk: &Desk<N, J>, name: u64) -> Option<u64>
     ensures { result ≡ awaited (at desk.now) name }
 {
     if !desk.is_awaited(name) {
@@ -74,12 +74,12 @@ fn awaited_of<N: Name, J: Errand>(desk: &Desk<N, J>, name: u64) -> Option<u64>
     }
 }
 
-impl<'a, N: Name, J: Errand> Coordinator<'a, N, J> {
+impl<'a, N: Name, J: HandshakeOp> Coordinator<'a, N, J> {
     // Serves the targets, pass by pass, until the oldest open handshake is closed.
     pub(crate) fn drive_handshake<R: Wait>(
         &mut self,
         rt: &R,
-        told: AllTold<N, J>,
+        told: AllArmed<N, J>,
     ) -> (Driven, Worked<N>)
         ensures closed { result.1.closing.stands.entry ≡ Entry.Close (number_of result.0) }
         ensures worked { IsWorked result.0 result.1.closing }
@@ -124,8 +124,8 @@ impl<'a, N: Name, J: Errand> Coordinator<'a, N, J> {
                 continue;
             }
             let is_out = (self.out >> (who.place % 64)) & 1 == 1;
-            if is_out || self.attend(rt, &passes.told, *who).is_err() {
-                self.serve_later(rt, passes, *who);
+            if is_out || self.try_serve(rt, &passes.told, *who).is_err() {
+                self.wait_then_serve(rt, passes, *who);
             }
         }
     }
@@ -135,13 +135,15 @@ impl<'a, N: Name, J: Errand> Coordinator<'a, N, J> {
     // comes for what it was told serves itself, and is waited for only in a further pass: what another runs until then may wait for
     // those that come after it.
     #[inline(never)]
-    fn serve_later<R: Wait>(&self, rt: &R, passes: &mut Passes<N, J>, who: Live)
+    fn wait_then_serve<R: Wait>(&self, rt: &R, passes: &mut Passes<N, J>, who: Live)
         requires { who.place < N.board.places }
         ensures pass { (passes.new.told ≡ passes.old.told)
             × (passes.new.is_first ≡ passes.old.is_first) }
         ensures looks { passes.new.looks ≤ passes.old.looks }
     {
-        if self.comes(who.place, &mut passes.looks) || self.attend(rt, &passes.told, who).is_ok() {
+        if self.spin_until_clear(who.place, &mut passes.looks)
+            || self.try_serve(rt, &passes.told, who).is_ok()
+        {
             return;
         }
         let Some(number) = self.awaited(rt, who.name) else {
@@ -152,7 +154,7 @@ impl<'a, N: Name, J: Errand> Coordinator<'a, N, J> {
             .berth(who.place)
             .wait_for(rt, who.name, who.place, number);
         if came.act() == BerthAct::Here {
-            let _ = self.attend(rt, &passes.told, who);
+            let _ = self.try_serve(rt, &passes.told, who);
         } else if !passes.is_first {
             self.shared.wait_finished(rt, who.name);
         }
@@ -160,7 +162,7 @@ impl<'a, N: Name, J: Errand> Coordinator<'a, N, J> {
 
     // Whether nothing is armed at the place any more: looks as often as patience and the looks that are left go, and uses up all where
     // something is armed still.
-    fn comes(&self, place: usize, looks: &mut Looks) -> bool
+    fn spin_until_clear(&self, place: usize, looks: &mut Looks) -> bool
         ensures came { result ≡ true → (made : ℕ) × (made < min looks.old 250)
             × (looks.new ≡ looks.old - made) }
         ensures away { result ≡ false → looks.new ≡ 0 }
@@ -187,21 +189,21 @@ impl<'a, N: Name, J: Errand> Coordinator<'a, N, J> {
     // Serves a target where its body is in its berth: takes it out with its oldest job, serves all its jobs in order, and brings it back.
     // The error is the receipt that it isn't there.
     #[inline(always)]
-    fn attend<R: Wait>(
+    fn try_serve<R: Wait>(
         &self,
         rt: &R,
-        told: &AllTold<N, J>,
+        told: &AllArmed<N, J>,
         due: Live,
-    ) -> Result<Attended<N>, BerthReceipt<N>>
+    ) -> Result<TryServed<N>, BerthReceipt<N>>
         requires { due.place < N.board.places }
         ensures attended { IfOk result
             (WasThere J.number J.whom J.asks J.may_answer due.place due.name) }
         ensures absent { IfErr result (λ r. r ≡ acted due.place due.name BerthAct.Absent) }
     {
-        match Served::take(rt, self.shared, told, due.name, due.place) {
-            Ok(served) => Ok(Attended::Served(served.bring_back(rt, self.shared))),
+        match BodyInService::take(rt, self.shared, told, due.name, due.place) {
+            Ok(served) => Ok(TryServed::Served(served.bring_back(rt, self.shared))),
             Err(left) => match left.act() {
-                BerthAct::NoJob => Ok(Attended::Idle(left)),
+                BerthAct::NoJob => Ok(TryServed::Idle(left)),
                 _ => Err(left),
             },
         }

@@ -1,4 +1,4 @@
-//! What driving a request answers, and why it is refused. What the other calls answer is of `held_threads`.
+//! What driving a request answers, and why it is refused. What the other calls answer is of `stopped_threads`.
 ghost use Rattle.std.specs.Prelude.{◌≡◌};
 ghost use Rattle.coordinator.specs.Driving.{number_of};
 

@@ -1,19 +1,19 @@
 //! Working up to four handshakes at once, from their Opens to their Closes.
 ghost use Rattle.std.specs.Prelude.{◌≡◌, [], false, IfErr, OnOk};
-ghost use Rattle.held_threads.specs.Holding.{ArmsOn};
+ghost use Rattle.stopped_threads.specs.Holding.{ArmsOn};
 ghost use Rattle.coordinator.specs.Driving.{drive_refused};
 
-use crate::all_told::AllTold;
+use crate::all_armed::AllArmed;
 use crate::coordinator::Coordinator;
 use crate::driving_handshakes::Passes;
 use crate::faults::DriveFault;
 use bodies::Name;
 use desk::CloseFault;
 use operations::Kind;
-use operations::job::Errand;
+use operations::job::HandshakeOp;
 use std::sync::Wait;
 
-impl<'a, N: Name, J: Errand> Coordinator<'a, N, J> {
+impl<'a, N: Name, J: HandshakeOp> Coordinator<'a, N, J> {
     /// Works up to four handshakes at once, or one census, to their Closes: opens all that may be opened beside those that are open,
     /// tells all their targets, and serves and closes until nothing is open. Answers how many were closed; nothing is held then.
     ///
@@ -48,7 +48,7 @@ impl<'a, N: Name, J: Errand> Coordinator<'a, N, J> {
     }
 
     // Serves the targets, pass by pass, until nothing is open. Answers how many were closed.
-    fn drive_handshakes<R: Wait>(&mut self, rt: &R, told: AllTold<N, J>) -> u32
+    fn drive_handshakes<R: Wait>(&mut self, rt: &R, told: AllArmed<N, J>) -> u32
         ensures free { (self.new.held ≡ []) × (self.new.operated ≡ false) }
         ensures armer { self.new.armer ≡ self.old.armer }
     {

@@ -1,17 +1,17 @@
 //! Holding a thread: the coordinator takes its body out of its berth, and brings it back.
 ghost use Rattle.std.specs.Prelude.{◌≡◌, ◌≢◌, ◌<◌, ◌++◌, ◌∷◌, [], false, IfSome, IfNone, IfOk, IfErr};
 ghost use Rattle.berths.specs.Berths.{Went, acted};
-ghost use Rattle.held_threads.specs.Held.{is_held};
-ghost use Rattle.held_threads.specs.Refused.{Holds, hold_refused, MayHold, HasNoHeld};
+ghost use Rattle.stopped_threads.specs.Held.{is_held};
+ghost use Rattle.stopped_threads.specs.Refused.{Holds, hold_refused, MayHold, HasNoHeld};
 ghost use Rattle.coordinator.specs.Receipts.{Releases};
 ghost use Rattle.coordinator.specs.Refused.{IsUnheld};
 
 use crate::coordinator::Coordinator;
 use berths::{BerthAct, BerthReceipt, BodyAct, BodyReceipt};
 use bodies::Name;
-use held_threads::{HoldFault, ReleaseFault, hold_fault_at};
-use operations::job::Errand;
+use operations::job::HandshakeOp;
 use std::sync::Wait;
+use stopped_threads::{HoldFault, ReleaseFault, hold_fault_at};
 
 /// Why a thread isn't held: by a fault that was found before, or since it isn't safe, by the receipt that its body isn't in its berth.
 #[derive(Drop)]
@@ -20,7 +20,7 @@ pub enum Unheld<N: Name> {
     NotSafe(BerthReceipt<N>),
 }
 
-impl<'a, N: Name, J: Errand> Coordinator<'a, N, J> {
+impl<'a, N: Name, J: HandshakeOp> Coordinator<'a, N, J> {
     /// Holds the thread of a place, which was told an open request and isn't done with it: takes its body out of its berth. Answers
     /// the receipt of that.
     pub fn hold<R: Wait>(&mut self, rt: &R, place: usize) -> Result<BodyReceipt<N>, HoldFault>

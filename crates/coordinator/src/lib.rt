@@ -7,7 +7,7 @@
 //! `docs/running/DESIGN.md` says which lock each call takes. No call holds two locks.
 #![tactic(auto)]
 
-mod all_told;
+mod all_armed;
 mod censuses;
 mod closed;
 mod coordinator;
@@ -30,6 +30,6 @@ pub use closed::Worked;
 pub use coordinator::Coordinator;
 pub use desk::{NotReclaimed, ReclaimFault};
 pub use faults::{DriveFault, Driven};
-pub use held_threads::{
+pub use stopped_threads::{
     HoldFault, OperateFault, Reclaimed, ReleaseFault, ServeFault, TellFault, Told,
 };

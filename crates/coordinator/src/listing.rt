@@ -8,15 +8,15 @@ ghost use Rattle.coordinator.specs.Telling.{telling_of, telling_alone, tellings,
 
 use bodies::Name;
 use desk::{Desk, Live, Target, due_are_told};
-use held_threads::Teller;
 use operations::Kind;
-use operations::job::Errand;
+use operations::job::HandshakeOp;
 use std::marker::Model;
 use std::snapshot::Snapshot;
+use stopped_threads::PollArmer;
 
 /// What a thread is to be told: the number of the oldest open request that is of it and wasn't told to it.
 #[derive(Clone, Copy, Drop)]
-pub struct Telling {
+pub struct PendingOp {
     pub name: u64,
     pub target: Target,
     pub number: u64,
@@ -24,20 +24,20 @@ pub struct Telling {
 
 /// What a thread is to be told, with its job where there is one.
 #[derive(Drop)]
-pub struct Untold<J> {
-    pub what: Telling,
+pub struct PendingJob<J> {
+    pub what: PendingOp,
     pub job: Option<J>,
 }
 
 /// A look at the desk, with what was listed. Contracts see the desk then, what is listed without its jobs, and whether there is more.
 #[derive(Drop)]
-pub struct Listed<N: Name, J: Errand> {
+pub struct Listed<N: Name, J: HandshakeOp> {
     seen: Snapshot<Desk<N, J>>,
-    list: Vec<Untold<J>>,
+    list: Vec<PendingJob<J>>,
     has_more: bool,
 }
 
-impl<N: Name, J: Errand> Model for Listed<N, J> {
+impl<N: Name, J: HandshakeOp> Model for Listed<N, J> {
     ghost use Rattle.std.specs.Prelude.{map};
     ghost use Rattle.coordinator.specs.Telling.{Listing};
 
@@ -51,15 +51,15 @@ impl<N: Name, J: Errand> Model for Listed<N, J> {
     } };
 }
 
-impl<N: Name, J: Errand> Listed<N, J> {
+impl<N: Name, J: HandshakeOp> Listed<N, J> {
     /// Lists into these lists each thread that is due, and what it is to be told next.
     #[inline(always)]
     pub fn list(
         desk: &mut Desk<N, J>,
-        armer: &Teller,
+        armer: &PollArmer,
         places: usize,
         due: &mut Vec<Live>,
-        list: Vec<Untold<J>>,
+        list: Vec<PendingJob<J>>,
     ) -> Listed<N, J>
         requires places { places ≡ length armer.now.seen.armed }
         ensures seen { result.seen ≡ desk.old }
@@ -77,7 +77,7 @@ impl<N: Name, J: Errand> Listed<N, J> {
 
     /// The desk then, what was listed, and whether there is more.
     #[inline(always)]
-    pub fn parts(self) -> (Snapshot<Desk<N, J>>, Vec<Untold<J>>, bool)
+    pub fn parts(self) -> (Snapshot<Desk<N, J>>, Vec<PendingJob<J>>, bool)
         ensures seen { result.0.value ≡ self.seen }
         ensures list { map (λ u. u.what) result.1.items ≡ self.list }
         ensures more { result.2 ≡ self.has_more }
@@ -93,7 +93,7 @@ impl<N: Name, J: Errand> Listed<N, J> {
 
 /// The job of the name in an operation, where it is wanted.
 #[inline(always)]
-pub fn job_of<N: Name, J: Errand>(
+pub fn job_of<N: Name, J: HandshakeOp>(
     desk: &mut Desk<N, J>,
     number: u64,
     name: u64,
@@ -113,13 +113,13 @@ pub fn job_of<N: Name, J: Errand>(
 // What a live thread is to be told next, by what its place was armed with last. None where it was told all, or the desk names a place
 // that there isn't.
 #[inline(always)]
-fn telling_of<N: Name, J: Errand>(
+fn telling_of<N: Name, J: HandshakeOp>(
     desk: &Desk<N, J>,
-    armer: &Teller,
+    armer: &PollArmer,
     places: usize,
     kind: Kind,
     who: Live,
-) -> Option<Telling>
+) -> Option<PendingOp>
     requires places { places ≡ length armer.now.seen.armed }
     ensures { result ≡ telling_of (at desk.now) kind armer.now.seen who }
 {
@@ -130,7 +130,7 @@ fn telling_of<N: Name, J: Errand>(
         Some(number) => number,
         None => return None,
     };
-    Some(Telling {
+    Some(PendingOp {
         name: who.name,
         target: Target {
             place: who.place,
@@ -142,7 +142,7 @@ fn telling_of<N: Name, J: Errand>(
 
 // Whether a thread is to be told more behind what it is to be told next.
 #[inline(always)]
-fn has_more<N: Name, J: Errand>(desk: &Desk<N, J>, name: u64, number: u64) -> bool
+fn has_more<N: Name, J: HandshakeOp>(desk: &Desk<N, J>, name: u64, number: u64) -> bool
     requires next { (last : ℕ) × (untold (at desk.now) name last ≡ Some number) }
     ensures { result ≡ is_there (untold (at desk.now) name number) }
 {
@@ -151,7 +151,7 @@ fn has_more<N: Name, J: Errand>(desk: &Desk<N, J>, name: u64, number: u64) -> bo
 
 // What a thread is to be told, with its job, which is taken from the desk.
 #[inline(always)]
-fn with_job<N: Name, J: Errand>(desk: &mut Desk<N, J>, what: Telling) -> Untold<J>
+fn with_job<N: Name, J: HandshakeOp>(desk: &mut Desk<N, J>, what: PendingOp) -> PendingJob<J>
     ensures what { result.what ≡ what }
     ensures job { IfSome result.job (λ j. (J.whom j ≡ what.name) × (J.number j ≡ what.number)) }
     ensures same { (desk.new.book ≡ desk.old.book) × (desk.new.keeper ≡ desk.old.keeper) }
@@ -163,18 +163,18 @@ fn with_job<N: Name, J: Errand>(desk: &mut Desk<N, J>, what: Telling) -> Untold<
         what.name,
         what.target.kind == Kind::Handshake,
     );
-    Untold { what, job }
+    PendingJob { what, job }
 }
 
 // Lists what each of these is to be told next, as far as there is room. Answers whether any is to be told more, or there was no room.
 #[inline(always)]
-fn list_each<N: Name, J: Errand>(
+fn list_each<N: Name, J: HandshakeOp>(
     desk: &mut Desk<N, J>,
-    armer: &Teller,
+    armer: &PollArmer,
     places: usize,
     kind: Kind,
     due: &[Live],
-    list: &mut Vec<Untold<J>>,
+    list: &mut Vec<PendingJob<J>>,
 ) -> bool
     requires places { places ≡ length armer.now.seen.armed }
 
@@ -208,14 +208,14 @@ fn list_each<N: Name, J: Errand>(
 // What a thread is to be told where it is due for the handshake of this number, which is open alone. None where it was told that, or there is
 // no such place.
 #[inline(always)]
-fn telling_alone(armer: &Teller, places: usize, number: u64, who: Live) -> Option<Telling>
+fn telling_alone(armer: &PollArmer, places: usize, number: u64, who: Live) -> Option<PendingOp>
     requires places { places ≡ length armer.now.seen.armed }
     ensures { result ≡ telling_alone armer.now.seen number who }
 {
     if who.place >= places || armer.last(who.place) >= number {
         return None;
     }
-    Some(Telling {
+    Some(PendingOp {
         name: who.name,
         target: Target {
             place: who.place,
@@ -228,13 +228,13 @@ fn telling_alone(armer: &Teller, places: usize, number: u64, who: Live) -> Optio
 // As `list_each`, for threads that are due for the handshake of this number, which is open alone: its targets aren't looked through, and
 // nothing is to be told behind it.
 #[inline(always)]
-fn list_alone<N: Name, J: Errand>(
+fn list_alone<N: Name, J: HandshakeOp>(
     desk: &mut Desk<N, J>,
-    armer: &Teller,
+    armer: &PollArmer,
     places: usize,
     number: u64,
     due: &[Live],
-    list: &mut Vec<Untold<J>>,
+    list: &mut Vec<PendingJob<J>>,
 ) -> bool
     requires places { places ≡ length armer.now.seen.armed }
     requires asked { AreAskedAlone (at desk.old) number due.now }
@@ -266,12 +266,12 @@ fn list_alone<N: Name, J: Errand>(
 // Lists each thread that is due, and what each is to be told next, as far as there is room in either list. Answers whether any is to be
 // told more, or there may be more than there is room for.
 #[inline(always)]
-fn list_untold<N: Name, J: Errand>(
+fn list_untold<N: Name, J: HandshakeOp>(
     desk: &mut Desk<N, J>,
-    armer: &Teller,
+    armer: &PollArmer,
     places: usize,
     due: &mut Vec<Live>,
-    list: &mut Vec<Untold<J>>,
+    list: &mut Vec<PendingJob<J>>,
 ) -> bool
     requires places { places ≡ length armer.now.seen.armed }
 

@@ -1,7 +1,7 @@
 //! Reclaiming a code that isn't entrant.
 ghost use Rattle.std.specs.Prelude.{◌≡◌, ◌≢◌, ◌<◌, [], false, None, length, IfOk, OnOk, IfErr, OnErr, IfSome};
-ghost use Rattle.held_threads.specs.Holding.{ArmsOn};
-ghost use Rattle.held_threads.specs.Reclaiming.{IsReclaimed};
+ghost use Rattle.stopped_threads.specs.Holding.{ArmsOn};
+ghost use Rattle.stopped_threads.specs.Reclaiming.{IsReclaimed};
 ghost use Rattle.coordinator.specs.Refused.{not_reclaimed};
 ghost use Rattle.coordinator.specs.Rounds.{Shaking, Begins, Shakes, IsClosed, IsReclaimedBehind};
 ghost use Rattle.desk.specs.Fields.{at};
@@ -9,18 +9,18 @@ ghost use Rattle.desk.specs.JobsFit.{jobs_fit, request_of};
 ghost use Rattle.desk.specs.Refusals.{reclaim_refused};
 
 use crate::coordinator::Coordinator;
-use crate::rounds::{Begun, Shaken};
+use crate::rounds::{HandshakeClosed, RoundDone};
 use bodies::Name;
 use desk::{Desk, NotReclaimed, ReclaimFault};
-use held_threads::Reclaimed;
-use operations::job::Errand;
+use operations::job::HandshakeOp;
 use operations::{Request, Targets};
 use std::alloc::{AllocError, Global};
 use std::sync::Wait;
 use std::thread;
+use stopped_threads::Reclaimed;
 
 // A handshake of the targets of the jobs, with the ask of the first.
-fn request_of<J: Errand>(alloc: Global, jobs: &[J]) -> Result<Option<Request>, AllocError>
+fn request_of<J: HandshakeOp>(alloc: Global, jobs: &[J]) -> Result<Option<Request>, AllocError>
     ensures ok { IfOk result (λ r. r ≡ request_of J.whom J.asks jobs.now) }
     ensures err { OnErr result (0 < length jobs.now) }
 {
@@ -41,7 +41,7 @@ fn request_of<J: Errand>(alloc: Global, jobs: &[J]) -> Result<Option<Request>, A
 }
 
 // Why a code isn't reclaimed where there is no memory for the handshake's targets: what the desk's first step would answer with them.
-fn fault_without_memory<N: Name, J: Errand>(
+fn fault_without_memory<N: Name, J: HandshakeOp>(
     desk: &Desk<N, J>,
     serial: u64,
     jobs: &[J],
@@ -62,7 +62,7 @@ fn fault_without_memory<N: Name, J: Errand>(
     ReclaimFault::Ask(desk.ask_fault(jobs))
 }
 
-impl<'a, N: Name, J: Errand> Coordinator<'a, N, J> {
+impl<'a, N: Name, J: HandshakeOp> Coordinator<'a, N, J> {
     /// Reclaims a code that isn't entrant: makes a round and a handshake of the jobs' targets with the jobs, where there are any,
     /// looks at each place once the handshake is closed, and weighs the code. Where no activation stands it is freed.
     ///
@@ -101,7 +101,7 @@ impl<'a, N: Name, J: Errand> Coordinator<'a, N, J> {
         serial: u64,
         request: Result<Option<Request>, AllocError>,
         jobs: Vec<J>,
-    ) -> Result<Begun<N, J>, NotReclaimed<J>>
+    ) -> Result<RoundDone<N, J>, NotReclaimed<J>>
         requires request { IfOk request (λ r. r ≡ request_of J.whom J.asks jobs.items) }
         requires jobs { OnErr request (0 < length jobs.items) }
         ensures begins { IfOk result (Begins (request_of J.whom J.asks jobs.items)) }
@@ -114,7 +114,7 @@ impl<'a, N: Name, J: Errand> Coordinator<'a, N, J> {
             let fault = fault_without_memory(&desk, serial, jobs.as_slice());
             return Err(NotReclaimed { fault, jobs });
         };
-        let begun = match Begun::begin(&mut desk, self.shared.board(), serial, request, jobs) {
+        let begun = match RoundDone::begin(&mut desk, self.shared.board(), serial, request, jobs) {
             Ok(begun) => begun,
             Err(refused) => return Err(refused),
         };
@@ -122,7 +122,7 @@ impl<'a, N: Name, J: Errand> Coordinator<'a, N, J> {
     }
 
     // Works the handshake that waits to its Close, where there is one.
-    fn shake<R: Wait>(&mut self, rt: &R, begun: Begun<N, J>) -> Shaken<N, J>
+    fn shake<R: Wait>(&mut self, rt: &R, begun: RoundDone<N, J>) -> HandshakeClosed<N, J>
         ensures begun { result.begun ≡ begun }
         ensures closed { IsClosed result.begun.asked result.closed }
         ensures shaken { begun.asked ≢ None → (self.new.held ≡ []) × (self.new.operated ≡ false) }
@@ -135,7 +135,7 @@ impl<'a, N: Name, J: Errand> Coordinator<'a, N, J> {
         self.shake_on(rt, begun)
     }
 
-    fn shake_on<R: Wait>(&mut self, rt: &R, begun: Begun<N, J>) -> Shaken<N, J>
+    fn shake_on<R: Wait>(&mut self, rt: &R, begun: RoundDone<N, J>) -> HandshakeClosed<N, J>
         ensures begun { result.begun ≡ begun }
         ensures closed { IsClosed result.begun.asked result.closed }
         ensures shaken { (self.new.held ≡ []) × (self.new.operated ≡ false) }
@@ -156,7 +156,7 @@ impl<'a, N: Name, J: Errand> Coordinator<'a, N, J> {
     }
 
     // Looks at each place and weighs the code behind the handshake, again where it isn't as the first step found it.
-    fn weigh<R: Wait>(&self, rt: &R, serial: u64, shaken: &Shaken<N, J>) -> Reclaimed<N>
+    fn weigh<R: Wait>(&self, rt: &R, serial: u64, shaken: &HandshakeClosed<N, J>) -> Reclaimed<N>
         ensures { IsReclaimedBehind shaken.now.begun.asked N.board.places serial result }
     {
         for _ in rt.forever() {
@@ -168,7 +168,12 @@ impl<'a, N: Name, J: Errand> Coordinator<'a, N, J> {
         unreachable!()
     }
 
-    fn try_weigh<R: Wait>(&self, rt: &R, serial: u64, shaken: &Shaken<N, J>) -> Option<Reclaimed<N>>
+    fn try_weigh<R: Wait>(
+        &self,
+        rt: &R,
+        serial: u64,
+        shaken: &HandshakeClosed<N, J>,
+    ) -> Option<Reclaimed<N>>
         ensures { IfSome result
             (IsReclaimedBehind shaken.now.begun.asked N.board.places serial) }
     {

@@ -10,20 +10,20 @@ ghost use Rattle.coordinator.specs.Rounds.{Begins, IsClosed, IsOver, IsReclaimed
 use board::Board;
 use bodies::Name;
 use desk::{Desk, NotReclaimed, Receipt};
-use held_threads::{Reclaimed, weigh};
 use operations::Request;
-use operations::job::Errand;
+use operations::job::HandshakeOp;
 use std::marker::Model;
 use std::snapshot::Snapshot;
+use stopped_threads::{Reclaimed, weigh};
 
 /// The first step of a reclaiming: a round, and the Ask of its handshake where it has one. It isn't `Drop`: the handshake is worked on.
-pub struct Begun<N: Name, J: Errand> {
+pub struct RoundDone<N: Name, J: HandshakeOp> {
     before: Snapshot<Desk<N, J>>,
     after: Snapshot<Desk<N, J>>,
     asked: Option<(u64, Receipt<N>)>,
 }
 
-impl<N: Name, J: Errand> Model for Begun<N, J> {
+impl<N: Name, J: HandshakeOp> Model for RoundDone<N, J> {
     ghost use Rattle.std.specs.Prelude.{◌≡◌};
     ghost use Rattle.frames.specs.BoardViews.{went_round};
     ghost use Rattle.coordinator.specs.Rounds.{Beginning};
@@ -38,12 +38,12 @@ impl<N: Name, J: Errand> Model for Begun<N, J> {
 }
 
 /// A reclaim whose handshake is closed, where there is one, with the receipt of its Close.
-pub struct Shaken<N: Name, J: Errand> {
-    begun: Begun<N, J>,
+pub struct HandshakeClosed<N: Name, J: HandshakeOp> {
+    begun: RoundDone<N, J>,
     closed: Option<Receipt<N>>,
 }
 
-impl<N: Name, J: Errand> Model for Shaken<N, J> {
+impl<N: Name, J: HandshakeOp> Model for HandshakeClosed<N, J> {
     ghost use Rattle.coordinator.specs.Rounds.{Shaking, IsClosed};
 
     ghost Value = { Shaking };
@@ -53,7 +53,7 @@ impl<N: Name, J: Errand> Model for Shaken<N, J> {
     ghost invariant = { λ s. IsClosed s.begun.asked s.closed };
 }
 
-impl<N: Name, J: Errand> Begun<N, J> {
+impl<N: Name, J: HandshakeOp> RoundDone<N, J> {
     /// Makes the step.
     pub fn begin(
         desk: &mut Desk<N, J>,
@@ -61,7 +61,7 @@ impl<N: Name, J: Errand> Begun<N, J> {
         serial: u64,
         request: Option<Request>,
         jobs: Vec<J>,
-    ) -> Result<Begun<N, J>, NotReclaimed<J>>
+    ) -> Result<RoundDone<N, J>, NotReclaimed<J>>
         requires board { board.now ≡ N.board }
         ensures step { IfOk result (λ b. (b.before ≡ desk.old) × (b.after ≡ desk.new)) }
         ensures begins { IfOk result (Begins request) }
@@ -76,7 +76,7 @@ impl<N: Name, J: Errand> Begun<N, J> {
             Err(refused) => return Err(refused),
         };
         let after = Snapshot::of(desk);
-        Ok(Begun {
+        Ok(RoundDone {
             before,
             after,
             asked,
@@ -115,19 +115,23 @@ impl<N: Name, J: Errand> Begun<N, J> {
     }
 
     /// Goes on where there is no handshake.
-    pub fn alone(self) -> Shaken<N, J>
+    pub fn alone(self) -> HandshakeClosed<N, J>
         requires { self.asked ≡ None }
         ensures begun { result.begun ≡ self }
         ensures closed { IsClosed result.begun.asked result.closed }
     {
-        Shaken {
+        HandshakeClosed {
             begun: self,
             closed: None,
         }
     }
 
     /// Goes on behind the Close of its handshake; that of another leaves it as it is.
-    pub fn shaken(self, number: u64, receipt: Receipt<N>) -> Result<Shaken<N, J>, Begun<N, J>>
+    pub fn shaken(
+        self,
+        number: u64,
+        receipt: Receipt<N>,
+    ) -> Result<HandshakeClosed<N, J>, RoundDone<N, J>>
         requires closed { receipt.entry ≡ Entry.Close number }
         ensures ok { IfOk result (λ s. (s.begun ≡ self) × IsClosed s.begun.asked s.closed) }
         ensures err { IfErr result (λ b. b ≡ self) }
@@ -135,14 +139,14 @@ impl<N: Name, J: Errand> Begun<N, J> {
         if !self.asked_for(number) {
             return Err(self);
         }
-        Ok(Shaken {
+        Ok(HandshakeClosed {
             begun: self,
             closed: Some(receipt),
         })
     }
 }
 
-impl<N: Name, J: Errand> Shaken<N, J> {
+impl<N: Name, J: HandshakeOp> HandshakeClosed<N, J> {
     /// Looks at each place and weighs the code, and where no activation stands frees it. None where it isn't a code that can be weighed,
     /// or the handshake isn't closed at the desk.
     pub fn weigh(
@@ -166,8 +170,8 @@ impl<N: Name, J: Errand> Shaken<N, J> {
     pub fn end(self, said: Reclaimed<N>) -> Reclaimed<N>
         ensures { result ≡ said }
     {
-        let Shaken { begun, closed: _ } = self;
-        let Begun {
+        let HandshakeClosed { begun, closed: _ } = self;
+        let RoundDone {
             before: _,
             after: _,
             asked: _,

@@ -1,18 +1,18 @@
 //! Serving a held thread.
 ghost use Rattle.std.specs.Prelude.{◌≡◌, ◌<◌, ℕ, None, length, IfOk, IfErr};
 ghost use Rattle.bodies.specs.Bodies.{BodyView};
-ghost use Rattle.held_threads.specs.Held.{StandsAt};
-ghost use Rattle.held_threads.specs.Refused.{IsServeFault, serve_refused};
+ghost use Rattle.stopped_threads.specs.Held.{StandsAt};
+ghost use Rattle.stopped_threads.specs.Refused.{IsServeFault, serve_refused};
 ghost use Rattle.coordinator.specs.Refused.{Serves};
 
 use crate::coordinator::Coordinator;
 use bodies::Name;
 use desk::Receipt;
-use held_threads::{ServeFault, serve_fault_of, unserved};
-use operations::job::Errand;
+use operations::job::HandshakeOp;
 use std::sync::Wait;
+use stopped_threads::{ServeFault, serve_fault_of, unserved};
 
-impl<'a, N: Name, J: Errand> Coordinator<'a, N, J> {
+impl<'a, N: Name, J: HandshakeOp> Coordinator<'a, N, J> {
     /// Serves the held thread of a place, which was told an open handshake and isn't done with it: publishes its stack, runs its oldest
     /// job on it, enters what the job answered, and clears the operation. Answers the receipt of the entry.
     pub fn serve<R: Wait>(&mut self, rt: &R, place: usize) -> Result<Receipt<N>, ServeFault>

@@ -1,25 +1,25 @@
 //! Telling a name: its job, or the mark of a census, goes into the berth of its thread, and the thread's place is armed.
 ghost use Rattle.std.specs.Prelude.{◌≡◌, ◌<◌, ◌≤◌, true, length, map, slice_index, IfSome, IfNone, OnSome};
 ghost use Rattle.thread_state.specs.PollRule.{armed_with};
-ghost use Rattle.held_threads.specs.Holding.{ArmsOn};
-ghost use Rattle.held_threads.specs.Refused.{tell_said, told_act};
+ghost use Rattle.stopped_threads.specs.Holding.{ArmsOn};
+ghost use Rattle.stopped_threads.specs.Refused.{tell_said, told_act};
 ghost use Rattle.coordinator.specs.Telling.{IsListing, AreArmed};
 ghost use Rattle.berths.specs.Berths.{acted};
 
-use crate::all_told::AllTold;
+use crate::all_armed::AllArmed;
 use crate::coordinator::Coordinator;
-use crate::listing::{Listed, Untold, job_of};
+use crate::listing::{Listed, PendingJob, job_of};
 use berths::{BerthReceipt, locked};
 use bodies::Name;
 use desk::{Desk, Target};
 use frames::LAST;
-use held_threads::{Found, TellFault, Told, look_up};
 use operations::Kind;
-use operations::job::Errand;
+use operations::job::HandshakeOp;
 use std::sync::Wait;
 use std::{mem, thread};
+use stopped_threads::{Found, TellFault, Told, look_up};
 
-impl<'a, N: Name, J: Errand> Coordinator<'a, N, J> {
+impl<'a, N: Name, J: HandshakeOp> Coordinator<'a, N, J> {
     /// Tells a name of the oldest open request that is of it and wasn't told to its thread, which finds it at its next poll. A name
     /// without a live thread is gone, and nothing is done.
     pub fn tell<R: Wait>(&mut self, rt: &R, name: u64) -> Result<Told<N>, TellFault>
@@ -85,7 +85,7 @@ impl<'a, N: Name, J: Errand> Coordinator<'a, N, J> {
     }
 
     // Tells what was listed, and then lists and tells as long as there is more.
-    pub(crate) fn tell_on<R: Wait>(&mut self, rt: &R, listed: Listed<N, J>) -> AllTold<N, J>
+    pub(crate) fn tell_on<R: Wait>(&mut self, rt: &R, listed: Listed<N, J>) -> AllArmed<N, J>
         requires places { length self.old.armer.armed ≡ N.board.places }
         requires listed { IsListing self.old.armer listed }
         ensures held { (self.new.held ≡ self.old.held) × (self.new.operated ≡ self.old.operated) }
@@ -125,7 +125,7 @@ impl<'a, N: Name, J: Errand> Coordinator<'a, N, J> {
     }
 
     // Tells what was listed. None where there is more, or a thread that was listed wasn't told that.
-    fn tell_listed<R: Wait>(&mut self, rt: &R, listed: Listed<N, J>) -> Option<AllTold<N, J>>
+    fn tell_listed<R: Wait>(&mut self, rt: &R, listed: Listed<N, J>) -> Option<AllArmed<N, J>>
         requires places { length self.old.armer.armed ≡ N.board.places }
         requires listed { IsListing self.old.armer listed }
         ensures seen { IfSome result (λ told. told ≡ listed.seen) }
@@ -138,11 +138,11 @@ impl<'a, N: Name, J: Errand> Coordinator<'a, N, J> {
         if has_more || !is_told {
             return None;
         }
-        Some(AllTold::of(seen, &self.armer))
+        Some(AllArmed::of(seen, &self.armer))
     }
 
     // Tells each thread of the list, in the order of their names. Answers whether each was told what was listed for it.
-    fn tell_each<R: Wait>(&mut self, rt: &R, list: &mut Vec<Untold<J>>) -> bool
+    fn tell_each<R: Wait>(&mut self, rt: &R, list: &mut Vec<PendingJob<J>>) -> bool
         ensures told { result ≡ true → AreArmed self.new.armer (map (λ u. u.what) list.old.items) }
         ensures held { (self.new.held ≡ self.old.held) × (self.new.operated ≡ self.old.operated) }
         ensures arms { ArmsOn self.old.armer self.new.armer }
@@ -157,7 +157,7 @@ impl<'a, N: Name, J: Errand> Coordinator<'a, N, J> {
     // Tells a thread what was listed for it. Where its berth bears another name or none, the name is told as by `tell`. Answers whether
     // it was told what was listed. Its job goes out of the list straight into the berth, since each store of a copy would be waited for.
     #[inline(always)]
-    fn tell_at<R: Wait>(&mut self, rt: &R, untold: &mut Untold<J>) -> bool
+    fn tell_at<R: Wait>(&mut self, rt: &R, untold: &mut PendingJob<J>) -> bool
         ensures told { result ≡ true
             → untold.old.what.number ≤ slice_index self.new.armer.armed untold.old.what.target.place }
         ensures listed { untold.new.what ≡ untold.old.what }

@@ -1,4 +1,4 @@
--- The state that the desk's fields stand for, and what they keep.
+-- The state that the desk's fields represent, and the invariants of the fields.
 use Rattle.std.specs.Prelude.{◌≢◌, ◌<◌, Option, Some, None, slice_get, ◌≡◌, ℕ, ◌+◌, ◌≤◌, true, List, [], ◌∷◌, ◌++◌, length, map, if◌then◌else◌}
 use Rattle.frames.specs.declared.board_rule.KeeperView.{KeeperView}
 use Rattle.method_table.specs.TableView.{TableView}
@@ -25,7 +25,7 @@ asked_of w = record { number = w.number; request = w.request }
 abbrev pub current_of : {J : Type 0} → Opened J → Current
 current_of o = record { number = o.number; request = o.request; before = o.before; left = o.left; due = o.due.items; operated = o.operated }
 
--- the book of a desk, and the fields that its history comes to
+-- the book of a desk, and the fields that represent the state after its history
 pub record Fields (J : Type 0) : Type 0 where
   pub book : Book
   pub next_name : ℕ
@@ -35,7 +35,7 @@ pub record Fields (J : Type 0) : Type 0 where
   pub opened : List (Opened J)
   pub table : TableView
 
--- the state that the fields stand for
+-- the state that the fields represent
 abbrev pub state_of : {J : Type 0} → Fields J → State
 state_of d = record {
   next_name = d.next_name;
@@ -46,8 +46,7 @@ state_of d = record {
   table = d.table;
 }
 
--- a waiting request has a number; no target stands there twice; and it carries a job for each target, and memory for those behind the
--- first
+-- a waiting request has a number, lists no target twice, and carries a job for each target and memory for all targets after the first
 pub record IsCarried {J : Type 0} (whom : J → ℕ) (w : Waiting (Carried J)) : Type 0 where
   pub number : 0 < w.number
   pub room : length (targets_of w.request) ≤ w.load.room + 1
@@ -65,22 +64,22 @@ names_left whom o = map whom o.jobs.items
 abbrev pub jobs_left : {J : Type 0} → (J → ℕ) → Opened J → JobsLeft
 jobs_left whom o = record { number = o.number; names = names_left whom o }
 
--- how many entries an open request must still make
+-- how many entries the open request may still need before its Close
 abbrev pub due_of : Current → ℕ
 due_of c = (if may_operate c then 1 else 0) + length c.due
 
--- an open request has a number, and no more entries are due than are kept for it
+-- an open request has a number, and at least as many entries are reserved for it as it may still need
 abbrev pub AreFit : List Current → Type 0
 AreFit [] = Unit {0}
 AreFit (c ∷ cs) = (0 < c.number) × (due_of c ≤ c.left) × AreFit cs
 
--- no name stands twice in what is due of an open request
+-- the due names of an open request are distinct
 abbrev pub AreDistinct : List Current → Type 0
 AreDistinct [] = Unit {0}
 AreDistinct (c ∷ cs) = (is_distinct c.due ≡ true) × AreDistinct cs
 
--- the history is legal, the fields are the state after it, there is room for all that can still come, and no name is due of an open
--- request twice
+-- the history is legal, the fields represent the state after it, room is reserved for all entries that may still follow, and the due names
+-- of each open request are distinct
 pub record IsKept {J : Type 0} (d : Fields J) : Type 0 where
   pub legal : is_legal d.table.slots d.table.methods d.book.history ≡ true
   pub state : after d.table.slots d.table.methods d.book.history ≡ state_of d
@@ -88,7 +87,7 @@ pub record IsKept {J : Type 0} (d : Fields J) : Type 0 where
   pub fit : AreFit (map current_of d.opened)
   pub distinct : AreDistinct (map current_of d.opened)
 
--- the fields of a desk, the replies that it stores, how many places it gives out, and how many requests are open in memory for how many
+-- the fields of a desk, the replies that it stores, the number of its places, the number of open requests, and for how many there is memory
 pub record Inside (J : Type 0) : Type 0 where
   pub fields : Fields J
   pub lists : List Said
@@ -96,7 +95,7 @@ pub record Inside (J : Type 0) : Type 0 where
   pub open_count : ℕ
   pub open_capacity : ℕ
 
--- what a desk keeps over a board of so many places
+-- the invariant of a desk whose board has this many places
 pub record IsDesk {J : Type 0} (whom : J → ℕ) (board_places : ℕ) (d : Inside J) : Type 0 where
   pub kept : IsKept d.fields
   pub carried : AreCarried whom d.fields.queue
@@ -107,8 +106,8 @@ pub record IsDesk {J : Type 0} (whom : J → ℕ) (board_places : ℕ) (d : Insi
   pub replies : HaveRoom d.fields.book.gone d.fields.next_number (map asked_of d.fields.queue) (map current_of d.fields.opened) d.lists
   pub pending : d.fields.book.gone.operations < least_pending (state_of d.fields)
 
--- what contracts see of a desk: its history with the room that is kept in it, the sizes, the keeper's view, and for each open request
--- the names whose jobs weren't taken
+-- what contracts see of a desk: its history with the reserved room, the sizes, the keeper's view, and for each open request the names whose
+-- jobs weren't taken
 pub record DeskSeen : Type 0 where
   pub book : Book
   pub slots : ℕ
@@ -116,11 +115,11 @@ pub record DeskSeen : Type 0 where
   pub keeper : KeeperView
   pub jobs : List JobsLeft
 
--- the state that its history comes to
+-- the state after its history
 abbrev pub at : DeskSeen → State
 at d = after d.slots d.methods d.book.history
 
--- The desk appends a lawful entry, for which room was kept or not, and the receipt is of it.
+-- The desk appends a lawful entry, whether or not room was reserved for it before, and the receipt is that of the entry.
 pub record Enters (old new : DeskSeen) (entry : Entry) (receipt : Stands) : Type 0 where
   pub lawful_is : lawful (at old) entry ≡ true
   pub history_is : new.book.history ≡ old.book.history ++ entry ∷ []
@@ -128,17 +127,17 @@ pub record Enters (old new : DeskSeen) (entry : Entry) (receipt : Stands) : Type
   pub gone_stays : new.book.gone ≡ old.book.gone
   pub sizes_stay : (new.slots ≡ old.slots) × (new.methods ≡ old.methods)
 
--- The entries of an install: where a code in use is replaced its Invalidate, and then the Install.
+-- The entries of an install: the Invalidate of the code that it replaces, if any, and then the Install.
 abbrev pub install_entries : Option CodeId → CodeId → ℕ → List Entry
 install_entries None code method = Install code method ∷ []
 install_entries (Some old) code method = Invalidate old.serial ∷ Install code method ∷ []
 
--- How many of them use room that was kept before.
+-- How many of these entries use room that was reserved before.
 abbrev pub kept_before : Option CodeId → ℕ
 kept_before None = 0
 kept_before (Some old) = 1
 
--- The desk appends the entries of an install, each lawful behind those before it, and the receipt is of the last.
+-- The desk appends the entries of an install, each lawful after those before it. The receipt is that of the last one.
 pub record EntersInstall (old new : DeskSeen) (replaced : Option CodeId) (code : CodeId) (method : ℕ) (receipt : Stands) : Type 0 where
   pub legal_is : legal_from (at old) (install_entries replaced code method) ≡ true
   pub history_is : new.book.history ≡ old.book.history ++ install_entries replaced code method
@@ -146,12 +145,12 @@ pub record EntersInstall (old new : DeskSeen) (replaced : Option CodeId) (code :
   pub gone_stays : new.book.gone ≡ old.book.gone
   pub sizes_stay : (new.slots ≡ old.slots) × (new.methods ≡ old.methods)
 
--- where the open request of the number stands
+-- the index of the open request with this number
 abbrev pub IsIndex : {J : Type 0} → ℕ → List (Opened J) → Option ℕ → Type 0
 IsIndex n os None = (k : ℕ) (o : _) → slice_get os k ≡ Some o → o.number ≢ n
 IsIndex n os (Some i) = (i < length os) × ((k : ℕ) (o : _) → k < i → slice_get os k ≡ Some o → o.number ≢ n) × ((o : _) → slice_get os i ≡ Some o → o.number ≡ n)
 
--- The keeper looked for the unfreed code of the serial at each place below this one, and nothing else of the desk changed.
+-- The keeper looked for the unfreed code with this serial at each place below this one. Nothing else of the desk changed.
 pub record LooksAtAll (serial places : ℕ) (old new : DeskSeen) : Type 0 where
   pub looks : (code : Code) × (unfreed (at old).table.codes serial ≡ Some code) × LooksBelow (id_of code) places old.keeper new.keeper
   pub book_stays : new.book ≡ old.book

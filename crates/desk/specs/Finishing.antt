@@ -3,7 +3,8 @@ use Rattle.bodies.specs.Bodies.{BodyView}
 use Rattle.operations.specs.declared.Ask.{Ask}
 use Rattle.desk.specs.Machine.{Stands}
 
--- the entry where it stands, what the operation asks, and the body on which that was answered, as it was when the entry was made
+-- the entry and its place in the history, the operation's ask, and the body on which the job was run, as the body was at the time of the
+-- entry
 pub record FinishSeen : Type 0 where
   pub stands : Stands
   pub ask : Ask

@@ -1,4 +1,4 @@
--- The list machine of the desk: entries, the state after them, and when a history is legal. For how many entries room is kept says Room.
+-- The list machine of the desk: entries, the state after them, and when a history is legal. Room says for how many entries room is kept.
 use Rattle.std.specs.Prelude.{ℕ, ◌+◌, ◌-◌, List, [], ◌∷◌, ◌++◌, Bool, true, false, ◌&&◌, not, ◌==◌, nat_lt, Option, Some, None, is_none, length, map, filter, find, if◌then◌else◌}
 use Rattle.std.specs.List.{list_any, list_all}
 use Rattle.method_table.specs.declared.CodeState.TheVariants as state
@@ -18,8 +18,8 @@ pub record Asked : Type 0 where
   pub number : ℕ
   pub request : Request
 
--- an open request: the next name at its Open, so that threads with lesser names alone were live then; how many entries it may still
--- make before its Close; those of its targets that were live when it was opened and have no Finish yet; and whether it was operated
+-- an open request: the next name at its Open (only threads with lesser names were live then); how many entries it may still make before its
+-- Close; its targets that were live at the Open and have no Finish yet; and whether it was operated
 pub record Current : Type 0 where
   pub number : ℕ
   pub request : Request
@@ -28,8 +28,8 @@ pub record Current : Type 0 where
   pub due : List ℕ
   pub operated : Bool
 
--- the name and the number that are given out next, who is live, which requests wait and which are open, each in the order of the
--- numbers, and the codes
+-- the next name and the next operation number to be given out; the live threads; the waiting and the open requests, each in the order of
+-- their numbers; and the codes
 pub record State : Type 0 where
   pub next_name : ℕ
   pub live : List Live
@@ -41,15 +41,15 @@ pub record State : Type 0 where
 abbrev pub is_live : (name : ℕ) → (live : List Live) → Bool
 is_live name ls = list_any (λ l. l.name == name) ls
 
--- a thread is live at the place
+-- a live thread has the place
 abbrev pub is_taken : (place : ℕ) → (live : List Live) → Bool
 is_taken place ls = list_any (λ l. l.place == place) ls
 
--- the live threads but for that of the name
+-- the live threads except the one with this name
 abbrev pub without : (name : ℕ) → (live : List Live) → List Live
 without name ls = filter (λ l. not (l.name == name)) ls
 
--- the names but for this one
+-- the names except this one
 abbrev pub others : (name : ℕ) → (names : List ℕ) → List ℕ
 others name ts = filter (λ t. not (t == name)) ts
 
@@ -62,7 +62,7 @@ abbrev pub place_of : (name : ℕ) → (live : List Live) → Option ℕ
 place_of name [] = None
 place_of name (l ∷ ls) = if l.name == name then Some l.place else place_of name ls
 
--- those of the names that are live
+-- the names in the list that are live
 abbrev pub live_of : (live : List Live) → (names : List ℕ) → List ℕ
 live_of ls ts = filter (λ t. is_live t ls) ts
 
@@ -70,78 +70,78 @@ live_of ls ts = filter (λ t. is_live t ls) ts
 abbrev pub none_live : (live : List Live) → (names : List ℕ) → Bool
 none_live ls ts = list_all (λ t. not (is_live t ls)) ts
 
--- the names that a request asks: none for a census, which has no Finish
+-- the targets that a request lists: none for a census, which has no Finish
 abbrev pub targets_of : Request → List ℕ
 targets_of Census = []
 targets_of (Handshake targets ask) = targets
 
--- how many entries a request makes between its Open and its Close at most
+-- the largest number of entries that a request makes between its Open and its Close
 abbrev pub steps_of : Request → ℕ
 steps_of Census = 1
 steps_of (Handshake targets ask) = length targets
 
--- the oldest request that waits has the number
+-- the oldest waiting request has the number
 abbrev pub is_first : (number : ℕ) → (waiting : List Asked) → Bool
 is_first n [] = false
 is_first n (a ∷ rest) = a.number == n
 
--- the requests that wait behind the oldest
+-- the waiting requests after the oldest
 abbrev pub rest_of : (waiting : List Asked) → List Asked
 rest_of [] = []
 rest_of (a ∷ rest) = rest
 
--- one of the open requests is a census
+-- an open request is a census
 abbrev pub has_census : (opened : List Current) → Bool
 has_census cs = list_any (λ c. is_census c.request) cs
 
--- the oldest request that waits is a census
+-- the oldest waiting request is a census
 abbrev pub awaits_census : (waiting : List Asked) → Bool
 awaits_census [] = false
 awaits_census (a ∷ rest) = is_census a.request
 
--- one more may be opened: up to four handshakes are open, or one census alone
+-- one more request may be opened: at most four handshakes may be open, or one census alone
 abbrev pub may_open_more : (waiting : List Asked) → (opened : List Current) → Bool
 may_open_more waiting cs = nat_lt (length cs) 4 && (not (has_census cs) && not (awaits_census waiting && not (is_empty cs)))
 
--- the open request of the number
+-- the open request with this number
 abbrev pub open_of : (number : ℕ) → (opened : List Current) → Option Current
 open_of n cs = find (λ c. c.number == n) cs
 
 abbrev pub is_open : (number : ℕ) → (opened : List Current) → Bool
 is_open n cs = list_any (λ c. c.number == n) cs
 
--- there is such a request, and the test holds of it
+-- there is such a request, and it passes the test
 abbrev pub passes : (test : Current → Bool) → Option Current → Bool
 passes test None = false
 passes test (Some c) = test c
 
--- a Finish of the name is still to come
+-- the Finish of the name is missing
 abbrev pub is_due : (name : ℕ) → Current → Bool
 is_due name c = among name c.due
 
--- no open request with a lesser number is due for the name: each is answered in the order of the numbers
+-- the name is due for no open request with a lesser number: a thread answers the requests in the order of their numbers
 abbrev pub is_least : (number name : ℕ) → (opened : List Current) → Bool
 is_least n name cs = list_all (λ c. not (nat_lt c.number n && is_due name c)) cs
 
--- a census is operated once
+-- a census is operated only once
 abbrev pub may_operate : Current → Bool
 may_operate c = is_census c.request && not c.operated
 
--- a census is closed behind its Operate, a handshake once nobody who is due is live
+-- a census may be closed after its Operate, a handshake once no due thread is live
 abbrev pub may_close : (live : List Live) → Current → Bool
 may_close ls c = if is_census c.request then c.operated else none_live ls c.due
 
--- the first open request of the number changes
+-- the open requests after a change of the first one with this number
 abbrev pub at_number : (change : Current → Current) → (number : ℕ) → (opened : List Current) → List Current
 at_number f n [] = []
 at_number f n (c ∷ cs) = if c.number == n then f c ∷ cs else c ∷ at_number f n cs
 
--- the first open request of the number goes
+-- the open requests without the first one with this number
 abbrev pub without_number : (number : ℕ) → (opened : List Current) → List Current
 without_number n [] = []
 without_number n (c ∷ cs) = if c.number == n then cs else c ∷ without_number n cs
 
--- a request as it is opened, where this name is given out next and these are live
+-- a request when it is opened, given the next name and the live threads
 abbrev pub opened_of : (next_name : ℕ) → (live : List Live) → Asked → Current
 opened_of before ls a = record {
   number = a.number;
@@ -152,16 +152,16 @@ opened_of before ls a = record {
   operated = false;
 }
 
--- the open requests once the oldest that waits is opened
+-- the open requests after the oldest waiting request is opened
 abbrev pub open_next : (next_name : ℕ) → (live : List Live) → (waiting : List Asked) → (opened : List Current) → List Current
 open_next before ls [] cs = cs
 open_next before ls (a ∷ rest) cs = cs ++ opened_of before ls a ∷ []
 
--- an open request behind a Finish of the name
+-- an open request after a Finish of the name
 abbrev pub finished : (name : ℕ) → Current → Current
 finished name c = record c { left = c.left - 1; due = others name c.due }
 
--- an open census behind its Operate
+-- an open census after its Operate
 abbrev pub as_operated : Current → Current
 as_operated c = record c { left = c.left - 1; operated = true }
 
@@ -170,10 +170,10 @@ abbrev pub is_free_slot : (slot : ℕ) → (free : Option ℕ) → Bool
 is_free_slot slot None = false
 is_free_slot slot (Some free) = free == slot
 
--- Whether an entry is lawful in a state: a Start takes the next name and a place that is free, while no census is open; an Exit is of
--- a live name; an Ask takes the next number; an Open is of the oldest that waits, where one more may be opened; a Finish is of a live
--- name that is due, in the order of the numbers; an Operate is of a census, and the Close of what is done. An Install takes the next
--- serial and the free slot, for a method without code in use, and an Invalidate, Retire or Free is of an unfreed code in the state
+-- Whether an entry is lawful in a state. A Start takes the next name and a free place while no census is open. An Exit takes a live name.
+-- An Ask takes the next number. An Open takes the oldest waiting request, if one more may be opened. A Finish takes a live name that is
+-- due, in the order of the numbers. An Operate takes a census that isn't operated, and a Close a request that is done. An Install takes the
+-- next serial and the free slot, for a method without code in use. An Invalidate, Retire or Free takes an unfreed code that is in the state
 -- before.
 abbrev pub lawful : State → Entry → Bool
 lawful s (Start name place) = (name == s.next_name) && (not (is_taken place s.live) && not (has_census s.opened))
@@ -215,17 +215,17 @@ empty_table slots methods = record { codes = []; slots = slots; methods = method
 abbrev pub start : (slots methods : ℕ) → State
 start slots methods = record { next_name = 1; live = []; next_number = 1; waiting = []; opened = []; table = empty_table slots methods }
 
--- the state that the entries come to from this one
+-- the state after the entries, from this state on
 abbrev pub after_from : State → List Entry → State
 after_from s [] = s
 after_from s (e ∷ es) = after_from (step s e) es
 
--- each entry is lawful in the state that those before it come to from this one
+-- each entry is lawful in the state after those before it, from this state on
 abbrev pub legal_from : State → List Entry → Bool
 legal_from s [] = true
 legal_from s (e ∷ es) = lawful s e && legal_from (step s e) es
 
--- the state after a history. A proof sees into it by `unfolding`
+-- the state after a history. A proof opens the definition by `unfolding`
 unfoldable pub after : (slots methods : ℕ) → (history : List Entry) → State
 after slots methods h = after_from (start slots methods) h
 
@@ -233,7 +233,7 @@ after slots methods h = after_from (start slots methods) h
 unfoldable pub is_legal : (slots methods : ℕ) → (history : List Entry) → Bool
 is_legal slots methods h = legal_from (start slots methods) h
 
--- what contracts see of a receipt: an entry, and at which place of the history it stands
+-- what contracts see of a receipt: an entry and its place in the history
 pub record Stands : Type 0 where
   pub place : ℕ
   pub entry : Entry
@@ -241,12 +241,12 @@ pub record Stands : Type 0 where
 abbrev pub stands : (place : ℕ) → Entry → Stands
 stands k e = record { place = k; entry = e }
 
--- what was forgotten: how many of the first entries count no more, and up to which operation the replies
+-- what was forgotten: the number of first entries that no longer count, and the last operation whose replies were forgotten
 pub record Gone : Type 0 where
   pub entries : ℕ
   pub operations : ℕ
 
--- the entries, for how many more room is kept, and what was forgotten of them
+-- the entries, the number of further entries with room reserved, and what was forgotten
 pub record Book : Type 0 where
   pub history : List Entry
   pub reserved : ℕ

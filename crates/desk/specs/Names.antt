@@ -1,7 +1,7 @@
 -- Lists of names.
 use Rattle.std.specs.Prelude.{ℕ, List}
 
--- the names in their order, and for how many behind the first there is memory
+-- the names in order, and the capacity without the first name
 pub record NamesSeen : Type 0 where
   pub items : List ℕ
   pub capacity : ℕ

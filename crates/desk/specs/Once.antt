@@ -4,7 +4,7 @@ use Rattle.desk.specs.declared.entries.Entry.{Entry}
 use Rattle.desk.specs.declared.entries.Entry.TheVariants.{Start, Exit, Ask, Open, Finish, Operate, Close, Install, Invalidate, Retire, Free}
 use Rattle.desk.specs.Machine.{is_legal}
 
--- whether an entry is a Finish of this operation and name
+-- whether an entry is the Finish of this operation and name
 abbrev pub is_finish : ℕ → ℕ → Entry → Bool
 is_finish n name (Start a b) = false
 is_finish n name (Exit a) = false
@@ -22,7 +22,7 @@ abbrev pub finishes : ℕ → ℕ → List Entry → ℕ
 finishes n name [] = 0
 finishes n name (e ∷ es) = (if is_finish n name e then 1 else 0) + finishes n name es
 
--- the name and the reply of a Finish of this operation
+-- the name and the reply, if the entry is a Finish of this operation
 abbrev pub reply_in : ℕ → Entry → Option (ℕ × ℕ)
 reply_in n (Start a b) = None
 reply_in n (Exit a) = None
@@ -40,7 +40,7 @@ abbrev pub with_reply : Option (ℕ × ℕ) → List (ℕ × ℕ) → List (ℕ 
 with_reply None rest = rest
 with_reply (Some reply) rest = reply ∷ rest
 
--- the names with their replies of all Finish entries of an operation, in their order
+-- the replies to an operation, each with its name: those of all its Finish entries, in order
 abbrev pub replies_of : ℕ → List Entry → List (ℕ × ℕ)
 replies_of n [] = []
 replies_of n (e ∷ es) = with_reply (reply_in n e) (replies_of n es)

@@ -1,4 +1,4 @@
--- For how many entries room is kept: those that can still come of what a state has. And how many a history has room for.
+-- For how many entries room is reserved: those that may still follow from what a state has. And for how many a history has room.
 use Rattle.std.specs.Prelude.{ℕ, ◌+◌, ◌-◌, ◌≡◌, List, [], ◌∷◌, Bool, true, false, nat_le, length}
 use Rattle.method_table.specs.declared.Code.{Code}
 use Rattle.method_table.specs.declared.CodeState.{CodeState}
@@ -7,12 +7,12 @@ use Rattle.desk.specs.declared.log.RoomFault.{RoomFault}
 use Rattle.desk.specs.declared.log.RoomFault.TheVariants.{HistoryFull, NoMemory}
 use Rattle.desk.specs.Machine.{State, Asked, Current, Book, steps_of}
 
--- a request that waits makes its Open and its Close, and its steps between them
+-- a waiting request needs its Open, its Close, and the entries between them
 abbrev pub needs_of_asked : (waiting : List Asked) → ℕ
 needs_of_asked [] = 0
 needs_of_asked (a ∷ rest) = (2 + steps_of a.request) + needs_of_asked rest
 
--- an open request makes its Close, and before it what is left of its steps
+-- an open request needs its Close, and the entries that it may still make before it
 abbrev pub needs_of_opened : (opened : List Current) → ℕ
 needs_of_opened [] = 0
 needs_of_opened (c ∷ cs) = (1 + c.left) + needs_of_opened cs
@@ -28,19 +28,19 @@ abbrev pub needs_of_codes : List Code → ℕ
 needs_of_codes [] = 0
 needs_of_codes (c ∷ cs) = states_left c.state + needs_of_codes cs
 
--- the entries that can still come of what is there: an Exit of each live name, and those of the requests and the codes
+-- the entries that may still follow: an Exit of each live name, and those of the requests and the codes
 abbrev pub needs : State → ℕ
 needs s = length s.live + (needs_of_asked s.waiting + (needs_of_opened s.opened + needs_of_codes s.table.codes))
 
--- how many entries count
+-- how many entries count: all but the forgotten ones
 abbrev pub entries_kept : Book → ℕ
 entries_kept b = length b.history - b.gone.entries
 
--- whether more entries fit in a history of which so many count and so many are reserved
+-- whether `more` entries fit in a history in which `count` entries count and `reserved` are reserved
 abbrev pub has_room : (count reserved more : ℕ) → Bool
 has_room count reserved more = nat_le (count + reserved + more) 1000000
 
--- why no room is kept: the history has none, or there is no memory for it
+-- why no room is reserved: the history has none, or memory for it is refused
 abbrev pub room_fault : (has_room : Bool) → RoomFault → Type 0
 room_fault room HistoryFull = room ≡ false
 room_fault room NoMemory = room ≡ true

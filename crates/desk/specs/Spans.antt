@@ -1,14 +1,14 @@
--- The replies of all operations, which lie behind one another in one list: a span of it for each operation.
+-- The replies to all operations lie one after another in one list. Each operation has a span of it.
 use Rattle.std.specs.Prelude.{◌≡◌, ◌≤◌, ℕ, ◌+◌, ◌-◌, List, [], ◌∷◌, ◌++◌, take, drop}
 use Rattle.desk.specs.declared.replies.Span.{Span}
 use Rattle.desk.specs.Replies.{Said}
 
--- what was said in a span
+-- the replies in a span
 abbrev pub said_in : List (ℕ × ℕ) → Span → Said
 said_in all s = record { said = take s.said (drop s.start all); room = s.room }
 
--- The spans begin at a place, each where the one before it ends, and the last one ends at another place: between the two nothing is left
--- over.
+-- The spans begin at one place, each begins where the one before it ends, and the last ends at another place: they leave no gap between the
+-- two.
 abbrev pub AreBehind : ℕ → List Span → ℕ → Type 0
 AreBehind from [] to = from ≡ to
 AreBehind from (s ∷ ss) to = (s.start ≡ from) × AreBehind (s.start + (s.said + s.room)) ss to
@@ -18,21 +18,21 @@ abbrev pub AreFew : List Span → Type 0
 AreFew [] = Unit {0}
 AreFew (s ∷ ss) = (s.said + s.room ≤ 64) × AreFew ss
 
--- what contracts see of the block: what was said to each operation, for how many more operations there is room, and for how many more
--- replies
+-- what contracts see of the block: the replies to each operation, and for how many more operations and for how many more replies there is
+-- memory
 pub record RepliesSeen : Type 0 where
   pub lists : List Said
   pub spare : ℕ
   pub places : ℕ
 
--- no reply so far, with room for as many
+-- no reply yet, and room for this many
 abbrev pub silent : ℕ → Said
 silent room = record { said = []; room = room }
 
--- one reply more
+-- with one more reply
 abbrev pub answered : ℕ × ℕ → Said → Said
 answered reply s = record { said = s.said ++ reply ∷ []; room = s.room - 1 }
 
--- the span where as many places before it are dropped
+-- the span after `less` places before it are dropped
 abbrev pub earlier : ℕ → Span → Span
 earlier less s = record { start = s.start - less; said = s.said; room = s.room }

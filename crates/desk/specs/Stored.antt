@@ -1,4 +1,4 @@
--- How a proof stores a list of entries.
+-- How a proof encodes a list of entries.
 use Rattle.std.specs.Prelude.{List}
 use Rattle.std.specs.Coded.{Coded, coded_list}
 use Rattle.desk.specs.declared.entries.Entry.{Entry}

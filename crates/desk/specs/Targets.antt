@@ -1,4 +1,4 @@
--- How names stand to the open requests.
+-- What the open requests mean for the thread of a name.
 use Rattle.std.specs.Prelude.{ℕ, List, [], ◌∷◌, Bool, ◌==◌, ◌&&◌, not, nat_lt, nat_le, true, false, find, filter, Option, Some, None, if◌then◌else◌}
 use Rattle.operations.specs.declared.Request.{Request}
 use Rattle.operations.specs.declared.Request.TheVariants.{Handshake, Census}
@@ -14,29 +14,29 @@ use Rattle.desk.specs.declared.entries.Progress.{Progress}
 use Rattle.desk.specs.declared.entries.Progress.TheVariants.{NotTold, Done, Undone}
 use Rattle.desk.specs.Machine.{State, Current, place_of, has_census}
 
--- a handshake is of its targets, a census of all names that were given out
+-- a handshake is for its targets, a census for all names that were given out
 abbrev pub is_asked : ℕ → ℕ → Request → Bool
 is_asked next name Census = nat_lt 0 name && nat_lt name next
 is_asked next name (Handshake targets ask) = among name targets
 
--- whether a name has a Finish still to come, or the census is still to be operated
+-- whether the Finish of a name, or the Operate of the census, is missing
 abbrev pub is_owed : ℕ → Current → Bool
 is_owed name c = if is_census c.request then not c.operated else among name c.due
 
--- a thread that is live was live at the Open where its name was given out before
+-- whether the request is for the name, and the name was given out before the Open: a thread that is live now was live then
 abbrev pub is_target_of : ℕ → ℕ → Current → Bool
 is_target_of next name c = is_asked next name c.request && nat_lt name c.before
 
--- of which kind the open requests are: a census is open alone
+-- the kind of the open requests: a census is never open together with another request
 abbrev pub kind_among : List Current → Kind
 kind_among cs = if has_census cs then kind.Census else kind.Handshake
 
--- how a name that is asked stands, by its place where it is live
+-- the standing of a name that an open request is for, by its place if it is live
 abbrev pub standing_at : Option ℕ → Bool → Kind → Standing
 standing_at None has k = Gone
 standing_at (Some place) has k = if has then Asked record { place = place; kind = k } else Gone
 
--- how a name stands to the open requests
+-- the standing of a name: what the open requests mean for its thread
 abbrev pub standing_to : ℕ → List Live → ℕ → List Current → Standing
 standing_to next ls name cs =
     if is_empty cs then NothingOpen else if list_any (λ c. is_asked next name c.request) cs
@@ -45,8 +45,8 @@ standing_to next ls name cs =
 abbrev pub standing : State → ℕ → Standing
 standing s name = standing_to s.next_name s.live name s.opened
 
--- The next clauses speak of a live thread whose poll word was armed last with the number `last`: it was told those of its requests
--- that have no greater number.
+-- The next definitions are about a live thread whose poll word was armed last with the number `last`. A request for this thread counts as
+-- told if its number is at most `last`: the poll word was armed for it.
 abbrev pub is_untold : ℕ → ℕ → ℕ → Current → Bool
 is_untold next name last c = is_target_of next name c && nat_lt last c.number
 
@@ -60,14 +60,14 @@ abbrev pub number_of : Option Current → Option ℕ
 number_of None = None
 number_of (Some c) = Some c.number
 
--- the oldest request that is of the thread and wasn't told to it
+-- the oldest request that is for the thread and for which its poll word wasn't armed
 abbrev pub untold_in : ℕ → ℕ → ℕ → List Current → Option ℕ
 untold_in next name last cs = number_of (find (is_untold next name last) cs)
 
 abbrev pub untold : State → ℕ → ℕ → Option ℕ
 untold s name last = untold_in s.next_name name last s.opened
 
--- how far the thread is with what it was told: the oldest that it isn't done with
+-- how far the thread is with the requests for which its poll word was armed: the oldest that it isn't done with
 abbrev pub progress_by : Bool → Option Current → Progress
 progress_by told (Some c) = Undone c.number
 progress_by true None = Done
@@ -79,7 +79,7 @@ progress_in next name last cs = progress_by (list_any (is_told next name last) c
 abbrev pub progress : State → ℕ → ℕ → Progress
 progress s name last = progress_in s.next_name name last s.opened
 
--- whether a live thread was live at the Open and is owed
+-- whether a live thread was live at the Open and is due
 abbrev pub is_due_target : Live → Current → Bool
 is_due_target l c = nat_lt l.name c.before && is_owed l.name c
 
@@ -91,7 +91,7 @@ abbrev pub oldest : List Current → List Current
 oldest [] = []
 oldest (c ∷ cs) = c ∷ []
 
--- the oldest alone, or all
+-- only the oldest, or all
 abbrev pub of_which : Bool → List Current → List Current
 of_which true cs = oldest cs
 of_which false cs = cs
@@ -100,7 +100,7 @@ of_which false cs = cs
 abbrev pub is_due_name : ℕ → List Current → List Live → Bool
 is_due_name name cs ls = list_any (λ l. l.name == name && list_any (is_due_target l) cs) ls
 
--- for the oldest open request
+-- whether the thread of the name is due for the oldest open request
 abbrev pub is_awaited : State → ℕ → Bool
 is_awaited s name = is_due_name name (oldest s.opened) s.live
 
@@ -114,21 +114,21 @@ abbrev pub live_after : ℕ → List Live → Option ℕ
 live_after name [] = None
 live_after name (l ∷ ls) = if nat_lt name l.name then Some l.name else live_after name ls
 
--- the number of the handshake that is open alone; None where a census is open, or not one request
+-- the number of the handshake that is the only open request; None if a census is open, or not exactly one request
 abbrev pub only_handshake : List Current → Option ℕ
 only_handshake [] = None
 only_handshake (c ∷ []) = if is_census c.request then None else Some c.number
 only_handshake (c ∷ d ∷ cs) = None
 
--- what of a request of this number is to be told to a thread that it is of, which was told the last number
+-- Some of this number if a poll word that was armed last with `last` wasn't armed for that request yet, else None
 abbrev pub untold_of : ℕ → ℕ → Option ℕ
 untold_of n last = if nat_lt last n then Some n else None
 
--- of which kind the oldest of these requests is
+-- the kind of the oldest of these requests
 abbrev pub kind_of_oldest : List Current → Option Kind
 kind_of_oldest [] = None
 kind_of_oldest (c ∷ cs) = Some (kind_of c.request)
 
--- of which kind the oldest open request is; None where nothing is open
+-- the kind of the oldest open request; None if no request is open
 abbrev pub open_kind : State → Option Kind
 open_kind s = kind_of_oldest s.opened

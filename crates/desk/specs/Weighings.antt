@@ -2,7 +2,7 @@
 use Rattle.std.specs.Prelude.{ℕ}
 use Rattle.board.specs.declared.weighed.Weighed.{Weighed}
 
--- the code, what was found, and how long the history was then
+-- the serial of the code, the result, and the length of the history then
 pub record WeighingSeen : Type 0 where
   pub serial : ℕ
   pub said : Weighed

@@ -17,12 +17,12 @@ use crate::names::DueRoom;
 use bodies::Name;
 use frames::LAST;
 use operations::Request;
-use operations::job::Errand;
+use operations::job::HandshakeOp;
 use operations::queue::{Queue, Unqueued};
 use std::mem;
 
-// Puts a request behind those that wait, with its jobs and the memory for the names that are due of so many targets, which is the spare
-// one where that is enough. Refused only for want of memory, with the jobs.
+// Appends a request to the queue, with its jobs and with memory for the due names of `targets` targets; `spare` is used if it is large
+// enough. Refused only if memory is refused: the jobs come back.
 #[inline(always)]
 fn wait_for_its_turn<J>(
     queue: &mut Queue<Carried<J>>,
@@ -60,8 +60,9 @@ fn wait_for_its_turn<J>(
     }
 }
 
-impl<N: Name, J: Errand> Desk<N, J> {
-    /// Enters a request, which waits with its jobs: one for each target in order, with the request's ask. A refusal hands them back.
+impl<N: Name, J: HandshakeOp> Desk<N, J> {
+    /// Enters an Ask and queues the request with its jobs: one job for each target, in the order of the targets, each with the request's
+    /// ask. A refusal returns the jobs.
     #[inline(always)]
     pub fn submit(
         &mut self,
@@ -117,8 +118,8 @@ impl<N: Name, J: Errand> Desk<N, J> {
         Ok((number, self.log.enter_ask(targets, seen)))
     }
 
-    // Why a request is refused before room is kept for it: one that has targets or not, and whose targets are good and its jobs fit it,
-    // or not.
+    // Why a request is refused before the call reserves room for it. The arguments say whether the request has targets, and whether its
+    // targets are good and its jobs fit.
     #[inline(always)]
     fn ask_refusal(&self, has_some: bool, good: bool) -> Option<AskFault>
         ensures some { IfSome result (λ fault. (r : RequestOf) (fits : Bool) (b : Book)
@@ -143,8 +144,8 @@ impl<N: Name, J: Errand> Desk<N, J> {
         None
     }
 
-    /// Why a handshake of the jobs' targets in order, with the ask of the first, is refused with these jobs: as `submit` refuses it, and
-    /// NoMemory where no test does. It makes no request, and takes no memory.
+    /// Why `submit` refuses a handshake of these jobs, with their targets in order and the ask of the first job; NoMemory if no test
+    /// refuses it. It makes no request and takes no memory.
     pub fn ask_fault(&self, jobs: &[J]) -> AskFault
         requires jobs { 0 < length jobs.now }
         ensures { ask_refused_if (at self.now) (request_of J.whom J.asks jobs.now)

@@ -1,4 +1,4 @@
-//! What is known of a Close where it is entered.
+//! The evidence that a Close was entered.
 ghost use Rattle.std.specs.Prelude.{◌≡◌};
 
 use crate::log::Receipt;
@@ -7,8 +7,8 @@ use operations::Kind;
 use std::marker::Model;
 use std::snapshot::Snapshot;
 
-/// That a Close stands in the history of the desk of N, with the kind of the request and the number of the oldest that was open then,
-/// itself where it was that. Only a desk makes one, where it enters the Close, and it can't be copied.
+/// Evidence that the history of the desk of N has this Close, with the kind of the closed request and the number of the request that was
+/// the oldest open one then, which may be the closed one. Only the desk makes it, when it enters the Close. It can't be copied.
 #[derive(Drop)]
 pub struct Closing<N: Name> {
     receipt: Receipt<N>,

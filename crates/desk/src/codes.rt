@@ -1,4 +1,4 @@
-//! The method table and the keeper's view, which agree.
+//! The method table and the keeper's view of the board, which agree.
 ghost use Rattle.std.specs.Prelude.{◌≡◌, ◌≢◌, ℕ, ◌+◌, ◌<◌, ◌≤◌, ◌^◌, [], true, false, length, Some, None, IfOk, OnOk, OnErr, IfErr, IfSome, IfNone, option_map, nat_le};
 ghost use Rattle.frames.specs.BoardViews.{slot_of, IsIn, entry_stored, not_entrant, in_state, looked_at, went_round, keeper_view};
 ghost use Rattle.frames.specs.BoardStep.{is_past};
@@ -49,7 +49,7 @@ fn id_of(code: Code) -> CodeId
     }
 }
 
-// The code of the serial, where it is not entrant.
+// The code with this serial, if it is not entrant.
 fn find_not_entrant(table: &MethodTable, serial: u64) -> Result<Code, RetireFault>
     ensures sound { IsTable table.now }
     ensures code { IfOk result (λ code. unfreed table.now.codes serial ≡ Some code) }
@@ -67,7 +67,7 @@ fn find_not_entrant(table: &MethodTable, serial: u64) -> Result<Code, RetireFaul
     }
 }
 
-// The entry of a vacant slot says that the new code is in use; before that, the entry of the code that it replaces says that it isn't
+// Stores in the board that the new code is in use in its vacant slot. Before that, it stores that the code it replaces, if any, is not
 // entrant.
 fn store_new(keeper: &mut Keeper, board: &Board, installed: Installed)
     requires board { keeper.old.board ≡ board.now }
@@ -87,7 +87,7 @@ fn store_new(keeper: &mut Keeper, board: &Board, installed: Installed)
     }
 }
 
-// The entry of a zombie says that its slot is free.
+// Stores in the board that a zombie's slot is vacant.
 fn store_vacant(keeper: &mut Keeper, board: &Board, id: CodeId)
     requires board { keeper.old.board ≡ board.now }
     requires slot { id.slot < keeper.old.board.slots }
@@ -99,7 +99,7 @@ fn store_vacant(keeper: &mut Keeper, board: &Board, id: CodeId)
     keeper.free(board, id);
 }
 
-// Looks for the code, which isn't entrant, at each place below this one, in their order.
+// Looks for the code, which is not entrant, at each place below `places`, in ascending order.
 #[inline(always)]
 fn look_below(keeper: &mut Keeper, board: &Board, id: CodeId, places: usize)
     requires board { keeper.old.board ≡ board.now }
@@ -127,15 +127,15 @@ impl<N: Name> Codes<N> {
         }
     }
 
-    /// Why the method gets no code, but for want of memory.
+    /// Why `install` refuses the method, except for lack of memory.
     pub fn refusal(&self, method: u64) -> Option<InstallFault>
         ensures { result ≡ install_fault self.now.table method }
     {
         self.table.refusal(method)
     }
 
-    /// A new code for the method: it joins the table, and its entry is stored. The code that was in use for the method is not entrant
-    /// from now on, in the table and in its entry, which is stored first.
+    /// Adds a new code for the method to the table and stores its entry in the board. If another code is in use for the method, it becomes
+    /// not entrant first, in the table and in the board.
     pub fn install(&mut self, board: &Board, method: u64) -> Result<Installed, InstallFault>
         requires board { board.now ≡ N.board }
 
@@ -165,7 +165,7 @@ impl<N: Name> Codes<N> {
         Ok(installed)
     }
 
-    /// The code is not entrant from now on, in the table and in its entry.
+    /// Makes the code not entrant, in the table and in the board.
     pub fn invalidate(&mut self, board: &Board, serial: u64) -> Result<CodeId, InvalidateFault>
         requires board { board.now ≡ N.board }
 
@@ -194,7 +194,7 @@ impl<N: Name> Codes<N> {
         Ok(id)
     }
 
-    /// Begins the next moment.
+    /// Begins the next moment (epoch).
     pub fn round(&mut self, board: &Board) -> Result<(), Spent>
         requires board { board.now ≡ N.board }
         ensures ok { OnOk result
@@ -210,7 +210,8 @@ impl<N: Name> Codes<N> {
         self.keeper.round(board)
     }
 
-    /// Whether a place is done with the code.
+    /// Looks at a place for a code that is not entrant. Returns whether the place is covered: it can't have an uncounted frame of the code
+    /// any more.
     pub fn look(&mut self, board: &Board, serial: u64, place: usize) -> Result<bool, RetireFault>
         requires board { board.now ≡ N.board }
         requires place { place < N.board.places }
@@ -231,7 +232,7 @@ impl<N: Name> Codes<N> {
         Ok(self.keeper.look(board, id_of(code), place))
     }
 
-    /// Looks for the code at each of so many places, in their order.
+    /// Looks for the code at each place below `places`, in ascending order.
     #[inline(always)]
     pub fn look_at_all(
         &mut self,
@@ -257,7 +258,7 @@ impl<N: Name> Codes<N> {
         Ok(())
     }
 
-    /// Weighs the code. Where no activation stands it is a zombie afterwards, in the table and in its entry.
+    /// Weighs the code. If it has no activation left, it becomes a zombie, in the table and in the board.
     pub fn weigh(&mut self, board: &Board, serial: u64) -> Result<Weighed, RetireFault>
         requires board { board.now ≡ N.board }
 
@@ -281,7 +282,7 @@ impl<N: Name> Codes<N> {
         Ok(said)
     }
 
-    /// The slot of a zombie is free, in the table and in its entry.
+    /// Frees the slot of a zombie, in the table and in the board.
     pub fn free(&mut self, board: &Board, serial: u64) -> Result<CodeId, FreeFault>
         requires board { board.now ≡ N.board }
 
@@ -309,22 +310,22 @@ impl<N: Name> Codes<N> {
         Ok(id)
     }
 
-    /// The codes are the keeper's view.
+    /// The method table and the keeper's view agree.
     pub fn are_entries(&self)
         ensures { AreEntries self.now.table self.now.keeper }
     {
-        // So the proof sees what the codes keep.
+        // This use shows the proof the invariant of the codes.
         let _ = &self.keeper;
     }
 
-    /// Whether the moment is the last.
+    /// Whether the current moment (epoch) is the last one.
     pub fn is_last_moment(&self) -> bool
         ensures { result ≡ nat_le (2 ^ 40) (self.now.keeper.moment + 1) }
     {
         self.keeper.is_last_moment()
     }
 
-    /// Why the code can't be weighed.
+    /// Why `weigh` refuses the code; None if it doesn't.
     pub fn weigh_fault(&self, serial: u64) -> Option<RetireFault>
         ensures { result ≡ retire_fault (unfreed self.now.table.codes serial) }
     {

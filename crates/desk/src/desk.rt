@@ -1,4 +1,4 @@
-//! The desk: what all threads ask of the coordinator, in one history.
+//! The desk: everything that threads and clients ask of the coordinator, in one history.
 ghost use Rattle.std.specs.Prelude.{◌≡◌, ◌+◌, ◌^◌, [], true, nat_le, IfOk, IfErr};
 ghost use Rattle.board.specs.Boards.{first_keeper};
 ghost use Rattle.desk.specs.CodeBoard.{AreEntries};
@@ -14,15 +14,15 @@ use crate::names::DueRoom;
 use board::{Board, Keeper};
 use bodies::Name;
 use method_table::table::MethodTable;
-use operations::job::Errand;
+use operations::job::HandshakeOp;
 use operations::queue::Queue;
 use std::alloc::Global;
 use std::marker::Model;
 
-/// The desk. What a Finish touches comes first, in the order in which it lies in memory behind the desk's lock: the thread that enters it
-/// finds these lines of the cache with another processor.
+/// The desk. The fields that a Finish touches come first, in their order in memory after the desk's lock: the thread that enters a Finish
+/// finds these cache lines at another processor.
 #[derive(Drop)]
-pub struct Desk<N: Name, J: Errand> {
+pub struct Desk<N: Name, J: HandshakeOp> {
     pub(crate) alloc: Global,
     pub(crate) opened: Vec<Opened<J>>,
     pub(crate) live: Vec<Live>,
@@ -31,12 +31,12 @@ pub struct Desk<N: Name, J: Errand> {
     pub(crate) next_name: u64,
     pub(crate) next_number: u64,
     pub(crate) queue: Queue<Carried<J>>,
-    /// The memory for the names that were due of the request that was closed last: the next to be submitted takes it.
+    /// Memory for the due names of the request that was closed last. The next submitted request reuses it.
     pub(crate) spare: DueRoom,
     pub(crate) codes: Codes<N>,
 }
 
-impl<N: Name, J: Errand> Model for Desk<N, J> {
+impl<N: Name, J: HandshakeOp> Model for Desk<N, J> {
     ghost use Rattle.std.specs.Prelude.{map, vec_len, vec_capacity};
     ghost use Rattle.desk.specs.Fields.{DeskSeen, IsDesk, jobs_left};
 
@@ -67,8 +67,8 @@ impl<N: Name, J: Errand> Model for Desk<N, J> {
     }) };
 }
 
-impl<N: Name, J: Errand> Desk<N, J> {
-    /// An empty desk. Where memory is refused the keeper comes back.
+impl<N: Name, J: HandshakeOp> Desk<N, J> {
+    /// An empty desk. If memory is refused, the keeper is returned.
     pub fn new(
         alloc: Global,
         table: MethodTable,
@@ -106,21 +106,21 @@ impl<N: Name, J: Errand> Desk<N, J> {
         })
     }
 
-    /// The codes are the keeper's view.
+    /// The method table and the keeper's view agree.
     pub fn codes_are_entries(&self)
         ensures { AreEntries (at self.now).table self.now.keeper }
     {
         self.codes.are_entries();
     }
 
-    /// Whether nothing is open and nothing waits.
+    /// Whether no request is open or waiting.
     pub fn is_idle(&self) -> bool
         ensures { result ≡ is_idle (at self.now) }
     {
         is_idle(self.opened.as_slice(), &self.queue)
     }
 
-    /// Whether the moment is the last.
+    /// Whether the current moment (epoch) is the last one.
     pub fn is_last_moment(&self) -> bool
         ensures { result ≡ nat_le (2 ^ 40) (self.now.keeper.moment + 1) }
     {
@@ -131,7 +131,7 @@ impl<N: Name, J: Errand> Desk<N, J> {
     pub fn history_is_legal(&self)
         ensures { is_legal self.now.slots self.now.methods self.now.book.history ≡ true }
     {
-        // So the proof sees what a desk keeps.
+        // This use shows the proof the desk's invariant.
         let _ = &self.log;
     }
 }

@@ -1,4 +1,4 @@
-//! Entries of the history, and what the desk keeps of them.
+//! Entries of the history, and the values that the desk keeps from them.
 use crate::names::{Awaited, DueRoom};
 use frames::CodeId;
 use operations::{Kind, Request};
@@ -11,36 +11,36 @@ pub struct Live {
     pub place: usize,
 }
 
-/// How a name stands to the open requests.
+/// What the open requests mean for the thread of a name.
 #[derive(Clone, Copy, PartialEq, Eq, Debug)]
 pub enum Standing {
     /// No request is open.
     NothingOpen,
-    /// No open request is of the name: it is no target of a handshake, and in a census it was never given out.
+    /// No open request is for this name: no open handshake lists it, and for an open census the name was never given out.
     NotOf,
-    /// The thread is live no more, or wasn't live at the Open of any that is of the name.
+    /// Some open request is for the name, but the thread isn't live, or wasn't live at the Open of any such request.
     Gone,
-    /// The thread is live, and was at the Open of one that is of the name.
+    /// The thread is live, and was live at the Open of a request that is for it.
     Asked(Target),
 }
 
-/// A live thread that an open request is of.
+/// A live thread that is the target of an open request.
 #[derive(Clone, Copy, PartialEq, Eq, Debug)]
 pub struct Target {
     /// The thread's place.
     pub place: usize,
-    /// Of which kind the request is. A census is open alone.
+    /// The kind of the open requests. A census is never open together with another request.
     pub kind: Kind,
 }
 
-/// How far a live thread is with what it was told of the open requests.
+/// How far a live thread is with the open requests for which its poll word was armed.
 #[derive(Clone, Copy, PartialEq, Eq, Debug)]
 pub enum Progress {
-    /// It was told nothing.
+    /// Its poll word was armed for no open request.
     NotTold,
-    /// It has a Finish for each handshake that it was told, or the census is operated.
+    /// It has a Finish for each open handshake for which its poll word was armed; or the census, for which it was armed, is operated.
     Done,
-    /// The least number that it was told and isn't done with.
+    /// The least number of an open request for which its poll word was armed and that it isn't done with.
     Undone(u64),
 }
 
@@ -63,25 +63,25 @@ pub enum Entry {
     Free(u64),
 }
 
-/// What a waiting request carries: its jobs, and the memory for the names that are due of it once it is open.
+/// What a waiting request carries: its jobs, and memory for the list of due names that it needs once it is open.
 #[derive(Drop)]
 pub struct Carried<J> {
     pub room: DueRoom,
     pub jobs: Vec<J>,
 }
 
-/// An open request. What a Finish touches comes first.
+/// An open request. The fields that a Finish touches come first.
 #[derive(Drop)]
 pub struct Opened<J> {
     pub number: u64,
-    /// How many Finish entries, or whether an Operate entry, is kept for it.
+    /// How many more entries have room reserved: Finish entries of a handshake, or the Operate of a census.
     pub left: usize,
-    /// The targets that were live at the Open and have no Finish.
+    /// The targets that were live at the Open and have no Finish yet.
     pub due: Awaited,
     pub request: Request,
-    /// The name that was given out next at the Open: a thread with a lesser name was live then, if it is live now.
+    /// The next name to be given out at the time of the Open. A thread that is live now was live at the Open if its name is less than this.
     pub before: u64,
     pub operated: bool,
-    /// Those that weren't taken, in the order of the targets, in which they are taken mostly.
+    /// The jobs that weren't taken yet, in the order of the targets. They are mostly taken in this order.
     pub jobs: VecDeque<J>,
 }

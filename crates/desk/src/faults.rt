@@ -1,4 +1,4 @@
-//! Why the desk refuses a call. The faults of a call are tested in the order in which they stand here.
+//! Why the desk refuses a call. The tests of a call run in the order in which its faults are listed here.
 ghost use Rattle.std.specs.Prelude.{◌≡◌};
 ghost use Rattle.desk.specs.Refusals.{ask_fault};
 
@@ -12,11 +12,11 @@ use std::fmt;
 pub enum StartFault {
     /// A census is open.
     SafepointOpen,
-    /// Each place has a live name.
+    /// All places are taken by live threads.
     PlacesFull,
-    /// The names are given out.
+    /// All names have been given out.
     Spent,
-    /// The history has no room for the Start and the Exit.
+    /// The history has no room for the Start and the later Exit.
     HistoryFull,
     /// There is no memory.
     NoMemory,
@@ -50,18 +50,18 @@ impl fmt::Display for NotLive {
 
 impl Error for NotLive {}
 
-/// Why a request doesn't wait.
+/// Why a request isn't queued.
 #[derive(Drop, Clone, Copy, PartialEq, Eq, Debug)]
 pub enum AskFault {
-    /// The numbers are given out.
+    /// All operation numbers have been given out.
     Spent,
-    /// As many requests wait as can.
+    /// The queue of waiting requests is full.
     QueueFull,
     /// A handshake has no targets.
     NoTargets,
-    /// A target stands twice, there are too many, or the jobs aren't one for each target in order, with the request's ask.
+    /// A target is listed twice, there are too many targets, or the jobs aren't one for each target, in order and with the request's ask.
     BadTargets,
-    /// The history has no room for all that the request can still enter.
+    /// The history has no room for all entries that the request can still cause.
     HistoryFull,
     /// There is no memory.
     NoMemory,
@@ -96,9 +96,9 @@ pub struct Refused<J> {
 /// Why no request is opened.
 #[derive(Drop, Clone, Copy, PartialEq, Eq, Debug)]
 pub enum OpenFault {
-    /// Four handshakes are open, or a census is, or the oldest that waits is a census and something is open.
+    /// Four handshakes are open, a census is open, or the oldest waiting request is a census while another request is open.
     AlreadyOpen,
-    /// None waits.
+    /// No request waits.
     QueueEmpty,
 }
 
@@ -120,11 +120,11 @@ impl Error for OpenFault {}
 pub enum CloseFault {
     /// No request is open.
     NothingOpen,
-    /// None of the number is open.
+    /// No request with the given number is open.
     NotOf,
-    /// The thread of a target is held.
+    /// The body of a target is held.
     Held,
-    /// The census isn't operated, or a live target of the handshake has no Finish.
+    /// The census isn't operated, or a live target of the handshake has no Finish yet.
     NotDone,
 }
 
@@ -150,9 +150,9 @@ pub enum OperateFault {
     NothingOpen,
     /// The open request is a handshake.
     NotOf,
-    /// It is operated.
+    /// The census is operated already.
     AlreadyDone,
-    /// The bodies aren't those of all live names.
+    /// The bodies aren't exactly those of all live threads.
     NotAllHeld,
 }
 
@@ -169,16 +169,16 @@ impl fmt::Display for OperateFault {
 
 impl Error for OperateFault {}
 
-/// Why a code isn't reclaimed.
+/// Why the reclaiming of a code doesn't begin.
 #[derive(Drop, Clone, Copy, PartialEq, Eq, Debug)]
 pub enum ReclaimFault {
-    /// It is unknown, or it isn't not entrant.
+    /// The code is unknown, or its state isn't "not entrant".
     Code(RetireFault),
     /// A request is open or waits.
     AlreadyOpen,
-    /// The moment is the last.
+    /// The current moment (epoch) is the last one.
     Spent,
-    /// The handshake that goes with it is refused.
+    /// The handshake of the reclaiming is refused.
     Ask(AskFault),
 }
 
@@ -195,14 +195,14 @@ impl fmt::Display for ReclaimFault {
 
 impl Error for ReclaimFault {}
 
-/// A code that isn't reclaimed, with the jobs.
+/// The refusal to reclaim a code, with the jobs that the caller gave.
 #[derive(Drop)]
 pub struct NotReclaimed<J> {
     pub fault: ReclaimFault,
     pub jobs: Vec<J>,
 }
 
-/// Why a method gets no code.
+/// Why no code is installed for a method.
 #[derive(Drop, Clone, Copy, PartialEq, Eq, Debug)]
 pub enum CodeFault {
     /// The method table refuses it.

@@ -1,4 +1,4 @@
-//! What is known of a Finish where it is entered.
+//! The evidence that a Finish was entered.
 ghost use Rattle.std.specs.Prelude.{◌≡◌};
 
 use crate::log::Receipt;
@@ -7,8 +7,8 @@ use operations::Ask;
 use std::marker::Model;
 use std::snapshot::Snapshot;
 
-/// That a Finish stands in the history of the desk of N, with what its operation asks and the body on which that was answered, as it was
-/// when the entry was made: before the operation is cleared for it. Only a desk makes one, where it enters the Finish, and it can't be
+/// Evidence that the history of the desk of N has this Finish, with the operation's ask and the body on which the job was run, as the body
+/// was at the time of the entry: before the operation is cleared for it. Only the desk makes it, when it enters the Finish. It can't be
 /// copied.
 #[derive(Drop)]
 pub struct Finished<N: Name> {

@@ -1,4 +1,4 @@
-//! A target's job is taken, and what it gave is entered.
+//! The job of a target is taken, and its reply is entered.
 ghost use Rattle.std.specs.Prelude.{◌≡◌, ◌+◌, ◌<◌, true, false, Some, None, IfOk, IfErr, IfSome, IfNone, OnOk, OnSome, ◌⊎◌};
 ghost use Rattle.frames.specs.ImageView.{IsSettled};
 ghost use Rattle.operations.specs.Asks.{reply};
@@ -11,10 +11,11 @@ use crate::entries::Entry;
 use crate::finished::Finished;
 use crate::lists::{asks_it, finish_at, index_of, is_least, job_of, may_finish};
 use bodies::{Body, Name};
-use operations::job::{Done, Errand};
+use operations::job::{Done, HandshakeOp};
 
-impl<N: Name, J: Errand> Desk<N, J> {
-    /// The job of a target of an open request, with the number of the operation, where it wasn't taken.
+impl<N: Name, J: HandshakeOp> Desk<N, J> {
+    /// Takes the job of a target out of an open request. `number` is the number of the operation. None if there is no such open request or
+    /// its job for the target was taken before.
     #[inline(always)]
     pub fn take_job(&mut self, number: u64, name: u64) -> Option<J>
         ensures some { IfSome result (λ j.
@@ -35,9 +36,9 @@ impl<N: Name, J: Errand> Desk<N, J> {
         job_of(&mut self.opened, place, name)
     }
 
-    /// Enters what a job gave on a settled body, or hands it back where it isn't lawful: the operation is open and the body's thread a
-    /// live target that has no Finish, and has one for each open operation with a lesser number of which it is a live target. A job that
-    /// asked for something else than the operation is handed back too.
+    /// Enters the Finish with the reply that a job gave on a settled body, or returns `done` if the Finish isn't lawful. It is lawful if
+    /// the operation is open, the body's thread is a live target of it without a Finish, and the thread has a Finish for each open
+    /// operation with a lesser number of which it is a live target. `done` is also returned if the job's ask isn't the operation's.
     #[inline(always)]
     pub fn finish(&mut self, body: &Body<N>, done: Done) -> Result<Finished<N>, Done>
         requires name { body.now.name ≡ done.target }

@@ -1,4 +1,4 @@
-//! Replies, and what is forgotten.
+//! Replies are read, and old entries and replies are forgotten.
 ghost use Rattle.std.specs.Prelude.{◌≡◌, ℕ, ◌+◌, ◌<◌, ◌≤◌, length, true, Some, None, IfOk, IfSome, IfNone};
 ghost use Rattle.desk.specs.Fields.{at};
 ghost use Rattle.desk.specs.Once.{replies_of};
@@ -7,19 +7,19 @@ ghost use Rattle.desk.specs.Pending.{least_pending, is_pending};
 
 use crate::desk::Desk;
 use bodies::Name;
-use operations::job::Errand;
+use operations::job::HandshakeOp;
 use std::alloc::AllocError;
 
-impl<N: Name, J: Errand> Desk<N, J> {
-    /// The names with their replies of an operation, in the order of their Finish entries; none where they were forgotten. Refused only
-    /// for want of memory.
+impl<N: Name, J: HandshakeOp> Desk<N, J> {
+    /// The replies to an operation, each with its thread's name, in the order of the Finish entries; none if the replies were forgotten.
+    /// Refused only if memory is refused.
     pub fn replies(&self, op: u64) -> Result<Vec<(u64, u64)>, AllocError>
         ensures { IfOk result (λ list. list.items ≡ replies_kept op self.now.book) }
     {
         self.log.replies(self.alloc, op)
     }
 
-    /// The names with their replies of an operation, and None where they were forgotten.
+    /// The replies to an operation, each with its thread's name, or None if they were forgotten. Refused only if memory is refused.
     pub fn kept_replies(&self, op: u64) -> Result<Option<Vec<(u64, u64)>>, AllocError>
         ensures some { IfOk result (λ r.
             IfSome r (λ list. list.items ≡ replies_of op self.now.book.history)) }
@@ -33,8 +33,8 @@ impl<N: Name, J: Errand> Desk<N, J> {
         Ok(Some(list))
     }
 
-    /// Forgets all entries so far, and the replies of each operation before the first that is open or waits: the memory of these replies
-    /// is used for later ones, and HistoryFull counts from now on what is entered later. Contracts see the whole history as before.
+    /// Forgets all entries so far, and the replies to each operation before the first that is open or waits. The memory of these replies is
+    /// reused, and forgotten entries no longer count towards HistoryFull. Contracts still see the whole history.
     pub fn forget(&mut self)
         ensures history { (self.new.book.history ≡ self.old.book.history)
             × (self.new.book.reserved ≡ self.old.book.reserved) }
@@ -49,11 +49,11 @@ impl<N: Name, J: Errand> Desk<N, J> {
         self.log.forget(least.saturating_sub(1));
     }
 
-    /// Law: the replies of what is open or waits were not forgotten.
+    /// Law: the replies to a request that is open or waits haven't been forgotten.
     pub fn pending_are_kept(&self)
         ensures { (n : ℕ) → is_pending n (at self.now) ≡ true → self.now.book.gone.operations < n }
     {
-        // So the proof sees what a desk keeps.
+        // This use shows the proof the desk's invariant.
         let _ = &self.log;
     }
 }

@@ -16,11 +16,11 @@ use crate::log::Receipt;
 use board::Board;
 use bodies::Name;
 use method_table::table::{FreeFault, Installed, InvalidateFault};
-use operations::job::Errand;
+use operations::job::HandshakeOp;
 
-impl<N: Name, J: Errand> Desk<N, J> {
-    /// Enters a code of the method, which is stored. Where it replaces one in use, that this one isn't entrant is entered and stored
-    /// first, in the room that was kept for it. The receipt is of the Install.
+impl<N: Name, J: HandshakeOp> Desk<N, J> {
+    /// Installs a code for the method, in the history and in the board. If it replaces a code in use, the Invalidate of that code is
+    /// entered and stored first, in room that was reserved when that code was installed. The receipt is that of the Install.
     pub fn install(
         &mut self,
         board: &Board,
@@ -58,7 +58,7 @@ impl<N: Name, J: Errand> Desk<N, J> {
         }
     }
 
-    /// Enters that a code isn't entrant, which is stored.
+    /// Makes a code not entrant, in the history and in the board.
     pub fn invalidate(&mut self, board: &Board, serial: u64) -> Result<Receipt<N>, InvalidateFault>
         requires board { board.now ≡ N.board }
 
@@ -78,7 +78,7 @@ impl<N: Name, J: Errand> Desk<N, J> {
         Ok(self.log.enter(Entry::Invalidate(serial)))
     }
 
-    /// Enters that the slot of a zombie is free, which is stored.
+    /// Frees the slot of a zombie, in the history and in the board.
     pub fn free(&mut self, board: &Board, serial: u64) -> Result<Receipt<N>, FreeFault>
         requires board { board.now ≡ N.board }
 

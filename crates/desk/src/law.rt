@@ -8,12 +8,13 @@ pub fn at_most_once()
     ensures { AtMostOnce }
 {}
 
-/// Law: after a legal history the live names stand in rising order.
+/// Law: after a legal history the live names are in ascending order.
 pub fn live_names_rise()
     ensures { LiveNamesRise }
 {}
 
-/// Law: after each history, where a handshake is open alone, a thread that is due is to be told that, as far as it wasn't told it.
+/// Law: after every history, if a handshake is the only open request, then the next request to arm a due thread's poll for is that
+/// handshake, unless its poll was armed for it before.
 pub fn due_are_told()
     ensures { DueAreTold }
 {}

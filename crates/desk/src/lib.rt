@@ -1,9 +1,9 @@
-//! The desk of a running system: who is live, what is asked of the threads, and which codes there are, in one history of entries.
-//! `thread_list` has it under a lock, and `coordinator`, `thread_steps` and `coordinator_steps` ask it.
-//! Read `src/desk.rt` and `src/entries.rt` first, then `specs/Machine.antt` and `specs/Refusals.antt`.
+//! The desk of a running system: one history of entries says which threads are live, which operations are requested, and which codes there
+//! are. `thread_list` keeps it under a lock; `coordinator` and `coordinator_core` call it. Read `src/desk.rt` and `src/entries.rt` first,
+//! then `specs/Machine.antt` and `specs/Refusals.antt`.
 //!
-//! Each call that changes the desk appends the one entry of its name, where that is lawful, and gives the receipt of it; or it is
-//! refused and changes nothing. The type keeps that the history is legal and that all that the desk keeps is the state after it.
+//! A call that changes the desk either appends the entry of its name, if that entry is lawful, and returns the entry's receipt, or it
+//! refuses and changes nothing. The type's invariant: the history is legal, and the desk's fields are the state after it.
 #![tactic(auto)]
 
 mod asking;
@@ -15,6 +15,7 @@ mod faults;
 mod finished;
 mod finishing;
 mod forgetting;
+mod ghost_history;
 mod installing;
 mod law;
 mod lists;
@@ -23,7 +24,6 @@ mod names;
 mod open_requests;
 mod opening;
 mod operating;
-mod past;
 mod reclaiming;
 mod replies;
 mod targets;

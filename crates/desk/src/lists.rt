@@ -14,18 +14,18 @@ ghost use Rattle.desk.specs.Fields.{asked_of, current_of, names_left, IsIndex};
 
 use crate::entries::{Carried, Live, Opened};
 use bodies::{Body, Name};
-use operations::job::Errand;
+use operations::job::HandshakeOp;
 use operations::queue::Queue;
 use operations::requests::TARGETS;
 use operations::{Ask, Kind, Request};
 use std::alloc::{AllocError, Global};
 use std::collections::VecDeque;
 
-/// How many handshakes are open at most.
+/// How many handshakes may be open at once.
 pub const OPEN: usize = 4;
 
-/// Where a name is live: first tried as far behind the first as it is greater, where it stands while no thread between has left, and
-/// then looked for by halves. None is missed, since live names rise.
+/// The index of a live name. The first guess is the distance of the name from the first live name, which is right if no thread between them
+/// has exited; then a binary search follows. It misses no name, since live names are in ascending order.
 #[inline(always)]
 pub fn found_at(live: &[Live], name: u64) -> Option<usize>
     ensures { IfSome result (λ i.
@@ -55,14 +55,14 @@ pub fn lives(live: &[Live], name: u64) -> bool
     }
 }
 
-/// Whether a place is taken.
+/// Whether a live thread has the place.
 pub fn taken(live: &[Live], place: usize) -> bool
     ensures { result ≡ is_taken place live.now }
 {
     live.iter().any(|l| l.place == place)
 }
 
-/// Whether there is memory for one name more, where there is for its image.
+/// Whether there is memory for one more live name, given that there is memory for its image.
 pub fn make_room(live: &mut Vec<Live>, has_image: bool) -> bool
     ensures items { live.new.items ≡ live.old.items }
     ensures room { result ≡ true → (has_image ≡ true) × (vec_len live.new < vec_capacity live.new) }
@@ -70,7 +70,7 @@ pub fn make_room(live: &mut Vec<Live>, has_image: bool) -> bool
     has_image && live.reserve(1).is_ok()
 }
 
-/// Takes a name off.
+/// Removes a name from the live list.
 pub fn take_off_live(live: &mut Vec<Live>, name: u64)
     ensures items { live.new.items ≡ without name live.old.items }
     ensures capacity { vec_capacity live.new ≡ vec_capacity live.old }
@@ -78,7 +78,7 @@ pub fn take_off_live(live: &mut Vec<Live>, name: u64)
     live.retain(|l| l.name != name);
 }
 
-/// The least place that no live name has.
+/// The least place that no live thread has.
 pub fn least_free(live: &[Live], places: usize) -> Option<usize>
     ensures some { IfSome result (λ p. (p < places) × (is_taken p live.now ≡ false)) }
     ensures least { IfSome result (λ p. (k : ℕ) → k < p → is_taken k live.now ≡ true) }
@@ -103,7 +103,7 @@ pub fn is_census(request: &Request) -> bool
     }
 }
 
-/// How many entries it makes between its Open and its Close at most.
+/// The largest number of entries that the request makes between its Open and its Close.
 pub fn steps_of(request: &Request) -> usize
     ensures { result ≡ steps_of request.now }
 {
@@ -113,7 +113,7 @@ pub fn steps_of(request: &Request) -> usize
     }
 }
 
-/// How many targets it has.
+/// How many targets the request lists; a census lists none.
 #[inline(always)]
 pub fn count_of_targets(request: &Request) -> usize
     ensures { result ≡ length (targets_of request.now) }
@@ -138,7 +138,7 @@ pub fn has_census<J>(opened: &[Opened<J>]) -> bool
     false
 }
 
-/// Of which kind the open requests are. A census is open alone.
+/// The kind of the open requests. A census is never open together with another request.
 pub fn kind_among<J>(opened: &[Opened<J>]) -> Kind
     ensures { result ≡ kind_among (map current_of opened.now) }
 {
@@ -149,7 +149,7 @@ pub fn kind_among<J>(opened: &[Opened<J>]) -> Kind
     }
 }
 
-/// Whether the oldest request that waits is a census.
+/// Whether the oldest waiting request is a census.
 fn awaits_census<J>(queue: &Queue<Carried<J>>) -> bool
     ensures { result ≡ awaits_census (map asked_of queue.now) }
 {
@@ -159,7 +159,7 @@ fn awaits_census<J>(queue: &Queue<Carried<J>>) -> bool
     }
 }
 
-// The number of the oldest request that waits, and where none waits the next.
+// The number of the oldest waiting request; if none waits, the number that is given out next.
 fn first_waiting<J>(queue: &Queue<Carried<J>>, next: u64) -> u64
     ensures { result ≡ first_waiting next (map asked_of queue.now) }
 {
@@ -169,7 +169,7 @@ fn first_waiting<J>(queue: &Queue<Carried<J>>, next: u64) -> u64
     }
 }
 
-// The least number of the open requests and this one.
+// The least of `least` and the numbers of the open requests.
 fn least_open<J>(opened: &[Opened<J>], least: u64) -> u64
     ensures { result ≡ least_open least (map current_of opened.now) }
 {
@@ -182,7 +182,7 @@ fn least_open<J>(opened: &[Opened<J>], least: u64) -> u64
     least
 }
 
-/// The least number of a request that is open or waits, and where there is none the next.
+/// The least number of a request that is open or waits; if there is none, the number that is given out next.
 pub fn least_pending<J>(queue: &Queue<Carried<J>>, opened: &[Opened<J>], next: u64) -> u64
     ensures { result
         ≡ least_open (first_waiting next (map asked_of queue.now)) (map current_of opened.now) }
@@ -190,14 +190,14 @@ pub fn least_pending<J>(queue: &Queue<Carried<J>>, opened: &[Opened<J>], next: u
     least_open(opened, first_waiting(queue, next))
 }
 
-/// Whether one more may be opened: up to four handshakes are open, or one census alone.
+/// Whether one more request may be opened: at most four handshakes may be open, or one census alone.
 pub fn may_open_more<J>(queue: &Queue<Carried<J>>, opened: &[Opened<J>]) -> bool
     ensures { result ≡ may_open_more (map asked_of queue.now) (map current_of opened.now) }
 {
     opened.len() < OPEN && !has_census(opened) && !(awaits_census(queue) && !opened.is_empty())
 }
 
-/// Where the open request of the number stands.
+/// The index of the open request with this number.
 #[inline(always)]
 pub fn index_of<J>(opened: &[Opened<J>], number: u64) -> Option<usize>
     ensures { IsIndex number opened.now result }
@@ -229,7 +229,7 @@ pub fn may_finish<J>(request: &Opened<J>, live: &[Live], name: u64) -> bool
     request.due.has_next(name) && lives(live, name)
 }
 
-/// Whether no open request with a lesser number is due for the name.
+/// Whether the name is due for no open request with a lesser number.
 #[inline(always)]
 pub fn is_least<J>(opened: &[Opened<J>], number: u64, name: u64) -> bool
     ensures { result ≡ is_least number name (map current_of opened.now) }
@@ -244,7 +244,7 @@ pub fn is_least<J>(opened: &[Opened<J>], number: u64, name: u64) -> bool
     true
 }
 
-/// Where the open request of the number stands, and without a number the oldest.
+/// The index of the open request with this number, or of the oldest one if no number is given.
 pub fn place_chosen<J>(opened: &[Opened<J>], number: Option<u64>) -> Option<usize>
     ensures some { IfSome result (λ i.
         (i < length opened.now)
@@ -272,7 +272,7 @@ pub fn number_of_oldest<J>(opened: &[Opened<J>]) -> u64
     opened[0].number
 }
 
-/// Whether a body is of a target of the request.
+/// Whether one of the bodies belongs to a target of the request.
 pub fn holds_target<N: Name>(request: &Request, bodies: &[Body<N>]) -> bool
     ensures { result ≡ holds_target request.now bodies.now }
 {
@@ -299,7 +299,7 @@ fn operate<J>(request: &mut Opened<J>)
     request.left -= 1;
 }
 
-/// A Finish of the name.
+/// Changes the request's fields for a Finish of the name.
 #[inline(always)]
 pub fn finish_at<J>(opened: &mut Vec<Opened<J>>, place: usize, name: u64)
     requires { (place < length opened.old.items)
@@ -316,7 +316,7 @@ pub fn finish_at<J>(opened: &mut Vec<Opened<J>>, place: usize, name: u64)
     finish(&mut opened[place], name);
 }
 
-/// The census is operated.
+/// Marks the census as operated.
 pub fn operate_at<J>(opened: &mut Vec<Opened<J>>, place: usize)
     requires { (place < length opened.old.items)
         × ((o : OpenedOf J) → slice_get opened.old.items place ≡ Some o → 0 < o.left) }
@@ -331,14 +331,14 @@ pub fn operate_at<J>(opened: &mut Vec<Opened<J>>, place: usize)
     operate(&mut opened[place]);
 }
 
-// Whether a body has the name.
+// Whether one of the bodies has this name.
 fn has_body<N: Name>(bodies: &[Body<N>], name: u64) -> bool
     ensures { result ≡ has_body name bodies.now }
 {
     bodies.iter().any(|b| b.name() == name)
 }
 
-// Whether a body has the name, which is first looked for at an index.
+// Whether one of the bodies has this name. The search tries one index first.
 #[tactic(auto, using(crate::proofs::Listed::body_at))]
 fn has_body_at<N: Name>(bodies: &[Body<N>], index: usize, name: u64) -> bool
     ensures { result ≡ has_body name bodies.now }
@@ -349,7 +349,7 @@ fn has_body_at<N: Name>(bodies: &[Body<N>], index: usize, name: u64) -> bool
     has_body(bodies, name)
 }
 
-// Whether each live name has a body. Bodies that were taken in the order of the names stand as the names do.
+// Whether each live name has a body. Bodies that were taken in the order of the names are in the order of the live list.
 fn all_have<N: Name>(live: &[Live], bodies: &[Body<N>]) -> bool
     ensures { result ≡ list_all (λ l. has_body l.name bodies.now) live.now }
 {
@@ -365,14 +365,14 @@ fn all_have<N: Name>(live: &[Live], bodies: &[Body<N>]) -> bool
     true
 }
 
-/// Whether the bodies are those of all live names.
+/// Whether the bodies are exactly those of all live names.
 pub fn are_all<N: Name>(live: &[Live], bodies: &[Body<N>]) -> bool
     ensures { result ≡ are_all live.now bodies.now }
 {
     live.len() == bodies.len() && all_have(live, bodies)
 }
 
-/// Whether nothing is open and nothing waits.
+/// Whether no request is open or waiting.
 pub fn is_idle<J>(opened: &[Opened<J>], queue: &Queue<Carried<J>>) -> bool
     ensures { result ≡ (length opened.now == 0 && length queue.now == 0) }
 {
@@ -393,9 +393,9 @@ pub fn names_of(live: &[Live], alloc: Global) -> Result<Vec<u64>, AllocError>
     Ok(names)
 }
 
-// Takes the first job for the name out of the list, looked for one by one.
+// Removes the first job for the name from the list, by a linear search.
 #[inline(never)]
-fn take_first<J: Errand>(jobs: &mut VecDeque<J>, name: u64) -> Option<J>
+fn take_first<J: HandshakeOp>(jobs: &mut VecDeque<J>, name: u64) -> Option<J>
     ensures job { IfSome result (λ j. J.whom j ≡ name) }
     ensures some { OnSome result (among name (map J.whom jobs.old.items) ≡ true) }
     ensures none { IfNone result (among name (map J.whom jobs.old.items) ≡ false) }
@@ -412,10 +412,10 @@ fn take_first<J: Errand>(jobs: &mut VecDeque<J>, name: u64) -> Option<J>
     None
 }
 
-// Takes the first job for the name. The front is looked at before the list is searched: jobs are mostly taken in their order, and the
-// first is taken without moving another.
+// Removes the first job for the name. It tries the front before it searches the list: jobs are mostly taken in order, and the front is
+// removed without moving another job.
 #[inline(always)]
-fn take_of<J: Errand>(jobs: &mut VecDeque<J>, name: u64) -> Option<J>
+fn take_of<J: HandshakeOp>(jobs: &mut VecDeque<J>, name: u64) -> Option<J>
     ensures job { IfSome result (λ j. J.whom j ≡ name) }
     ensures some { OnSome result (among name (map J.whom jobs.old.items) ≡ true) }
     ensures none { IfNone result (among name (map J.whom jobs.old.items) ≡ false) }
@@ -428,7 +428,7 @@ fn take_of<J: Errand>(jobs: &mut VecDeque<J>, name: u64) -> Option<J>
 }
 
 #[inline(always)]
-fn job_in<J: Errand>(request: &mut Opened<J>, name: u64) -> Option<J>
+fn job_in<J: HandshakeOp>(request: &mut Opened<J>, name: u64) -> Option<J>
     ensures job { IfSome result (λ j. (J.whom j ≡ name) × (J.number j ≡ request.old.number)) }
     ensures some { OnSome result (among name (names_left J.whom request.old) ≡ true) }
     ensures none { IfNone result (among name (names_left J.whom request.old) ≡ false) }
@@ -457,7 +457,7 @@ fn same_ask(one: Ask, other: Ask) -> bool
     }
 }
 
-/// Whether the request is a handshake that asks this.
+/// Whether the request is a handshake with this ask.
 #[inline(always)]
 pub fn asks_it(request: &Request, ask: Ask) -> bool
     ensures { result ≡ asks_it ask request.now }
@@ -468,8 +468,8 @@ pub fn asks_it(request: &Request, ask: Ask) -> bool
     }
 }
 
-// Whether the jobs are one for each target in order, with this ask.
-fn are_for<J: Errand>(targets: &[u64], ask: Ask, jobs: &[J]) -> bool
+// Whether there is one job for each target, in order, each with this ask.
+fn are_for<J: HandshakeOp>(targets: &[u64], ask: Ask, jobs: &[J]) -> bool
     ensures { result ≡ are_for J.whom J.asks targets.now ask jobs.now }
 {
     let mut names = targets;
@@ -487,8 +487,8 @@ fn are_for<J: Errand>(targets: &[u64], ask: Ask, jobs: &[J]) -> bool
     rest.is_empty()
 }
 
-/// Whether the jobs are one for each target of the request in order, with its ask. A census has no jobs.
-pub fn jobs_fit<J: Errand>(request: &Request, jobs: &[J]) -> bool
+/// Whether there is one job for each target of the request, in order, each with its ask. A census has no jobs.
+pub fn jobs_fit<J: HandshakeOp>(request: &Request, jobs: &[J]) -> bool
     ensures { result ≡ jobs_fit J.whom J.asks request.now jobs.now }
 {
     match request {
@@ -497,8 +497,8 @@ pub fn jobs_fit<J: Errand>(request: &Request, jobs: &[J]) -> bool
     }
 }
 
-// Whether a job is for the name.
-fn has_job_for<J: Errand>(jobs: &[J], name: u64) -> bool
+// Whether one of the jobs is for this name.
+fn has_job_for<J: HandshakeOp>(jobs: &[J], name: u64) -> bool
     ensures { result ≡ among name (map J.whom jobs.now) }
 {
     let mut rest = jobs;
@@ -511,8 +511,8 @@ fn has_job_for<J: Errand>(jobs: &[J], name: u64) -> bool
     false
 }
 
-// Whether no two jobs are for one name.
-fn are_distinct<J: Errand>(jobs: &[J]) -> bool
+// Whether no two jobs are for the same name.
+fn are_distinct<J: HandshakeOp>(jobs: &[J]) -> bool
     ensures { result ≡ is_distinct (map J.whom jobs.now) }
 {
     let mut rest = jobs;
@@ -525,8 +525,8 @@ fn are_distinct<J: Errand>(jobs: &[J]) -> bool
     true
 }
 
-// Whether all jobs have the ask: then they are one for each of their own targets in order, with it.
-fn all_ask<J: Errand>(jobs: &[J], ask: Ask) -> bool
+// Whether all jobs have this ask. If so, there is one job with this ask for each of the jobs' own targets, in order.
+fn all_ask<J: HandshakeOp>(jobs: &[J], ask: Ask) -> bool
     ensures { result ≡ are_for J.whom J.asks (map J.whom jobs.now) ask jobs.now }
 {
     let mut rest = jobs;
@@ -539,9 +539,9 @@ fn all_ask<J: Errand>(jobs: &[J], ask: Ask) -> bool
     true
 }
 
-/// Whether a handshake of the jobs' targets, with the ask of the first, has good targets, and the jobs fit it. The number of jobs is
-/// tested first, so that at most 64 are compared with one another.
-pub fn fit_their_request<J: Errand>(jobs: &[J]) -> bool
+/// Whether a handshake of the jobs' targets, with the ask of the first job, has good targets and the jobs fit it. The number of jobs is
+/// tested first, so at most 64 jobs are compared with one another.
+pub fn fit_their_request<J: HandshakeOp>(jobs: &[J]) -> bool
     ensures fits { IfSome (request_of J.whom J.asks jobs.now) (λ asked.
         result ≡ (are_targets asked && jobs_fit J.whom J.asks asked jobs.now)) }
     ensures bound { result ≡ true → length jobs.now ≤ 64 }
@@ -554,9 +554,9 @@ pub fn fit_their_request<J: Errand>(jobs: &[J]) -> bool
     }
 }
 
-/// The job for the name, out of an open request, with its number.
+/// Takes the job for the name out of an open request; the job has the request's number.
 #[inline(always)]
-pub fn job_of<J: Errand>(opened: &mut Vec<Opened<J>>, place: usize, name: u64) -> Option<J>
+pub fn job_of<J: HandshakeOp>(opened: &mut Vec<Opened<J>>, place: usize, name: u64) -> Option<J>
     requires { place < length opened.old.items }
 
     ensures job { IfSome result (λ j.

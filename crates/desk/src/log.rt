@@ -1,9 +1,9 @@
-//! The history with the room that is kept in it and the replies by operation, and receipts of its entries.
+//! The history with the room that is reserved in it, the replies by operation, and the receipts of entries.
 //!
-//! Nothing reads an entry, so the entries exist only in proofs, and what is stored is how many there are and what the threads replied.
+//! Nothing reads an entry, so the entries exist only in proofs. Only their count and the replies of the threads are stored.
 //!
-//! A first part of the history can be forgotten: contracts go on seeing the whole, but it counts no more. So can the replies of the first
-//! operations, and contracts see for which.
+//! The first part of the history can be forgotten: contracts still see the whole history, but the forgotten entries no longer count. The
+//! replies to the first operations can be forgotten too; contracts see which.
 ghost use Rattle.std.specs.Prelude.{◌≡◌, ℕ, ◌+◌, ◌-◌, ◌<◌, ◌≤◌, [], ◌∷◌, ◌++◌, length, drop, true, false, None, OnOk, IfOk, IfErr};
 ghost use Rattle.desk.specs.declared.entries.Entry.{Entry as EntryOf};
 ghost use Rattle.desk.specs.Fields.{install_entries, kept_before};
@@ -14,8 +14,8 @@ ghost use Rattle.desk.specs.Replies.{of_number, replies_kept, HasLess};
 ghost use Rattle.desk.specs.Spans.{silent};
 
 use crate::entries::Entry;
+use crate::ghost_history::Past;
 use crate::lists::{count_of_targets, steps_of};
-use crate::past::Past;
 use crate::replies::{Replies, place_of};
 use bodies::Name;
 use method_table::table::Installed;
@@ -24,10 +24,11 @@ use std::alloc::{AllocError, Global};
 use std::marker::{Model, PhantomData};
 use std::snapshot::Snapshot;
 
-/// How many entries a history has at most, without those that were forgotten.
+/// The largest number of entries in a history, without the forgotten ones.
 pub const MOST: usize = 1_000_000;
 
-/// What stands in the history of the desk of N. Only a log makes one. It exists only in proofs, and takes no memory.
+/// The receipt of an entry: the entry and its place in the history of the desk of N. Only a log makes one. It exists only in proofs and
+/// takes no memory.
 #[derive(Drop)]
 pub struct Receipt<N: Name> {
     before: Snapshot<Past>,
@@ -47,7 +48,7 @@ impl<N: Name> Model for Receipt<N> {
     } };
 }
 
-/// How long the history of the desk of N was. Only a log makes one.
+/// The length of the history of the desk of N at one time. Only a log makes one.
 #[derive(Drop)]
 pub struct Length<N: Name> {
     past: Snapshot<Past>,
@@ -62,15 +63,15 @@ impl<N: Name> Model for Length<N> {
     ghost view = { λ l. length l.past.value.entries };
 }
 
-/// Contracts see the entries with for how many more room is kept, the replies of each operation that was asked, and for how many more
-/// operations and replies there is room.
+/// Contracts see the entries, the number of further entries with room reserved, the replies to each operation that was asked, and for how
+/// many more operations and replies there is memory.
 #[derive(Drop)]
 pub struct Log<N: Name> {
     past: Past,
-    /// How many entries there are, without those that were forgotten.
+    /// The number of entries, without the forgotten ones.
     count: usize,
     reserved: usize,
-    /// Up to which operation the replies were forgotten. A Finish reads it, so it lies beside what a Finish changes.
+    /// The last operation whose replies were forgotten. A Finish reads it, so it lies beside the fields that a Finish changes.
     forgotten: u64,
     replies: Replies,
     of: PhantomData<N>,
@@ -101,14 +102,14 @@ impl<N: Name> Model for Log<N> {
         × AreReplies l.forgotten l.past.entries l.replies.lists };
 }
 
-/// Why no room is kept.
+/// Why no room is reserved.
 #[derive(Drop, Clone, Copy, PartialEq, Eq, Debug)]
 pub enum RoomFault {
     HistoryFull,
     NoMemory,
 }
 
-// Whether more entries fit beside those that are there and those that are kept.
+// Whether more entries fit besides the existing and the reserved ones.
 fn fits(len: usize, reserved: usize, more: usize) -> bool
     ensures { result ≡ has_room len reserved more }
 {
@@ -121,7 +122,7 @@ fn fits(len: usize, reserved: usize, more: usize) -> bool
     }
 }
 
-// Puts an entry to the end.
+// Appends an entry.
 #[inline(always)]
 fn append<N: Name>(past: &mut Past, count: &mut usize, entry: Snapshot<Entry>) -> Receipt<N>
     requires { count.old < 1000000 }
@@ -140,7 +141,7 @@ fn append<N: Name>(past: &mut Past, count: &mut usize, entry: Snapshot<Entry>) -
     }
 }
 
-/// What clauses see of an Ask, and its request again.
+/// The entry of an Ask as contracts see it, and the request, which is returned.
 #[inline(always)]
 pub fn seen_as_ask(number: u64, request: Request) -> (Snapshot<Entry>, Request)
     ensures { (result.0.value ≡ Entry.Ask number request) × (result.1 ≡ request) }
@@ -170,8 +171,8 @@ impl<N: Name> Log<N> {
         }
     }
 
-    /// The names with their replies of an operation, in the order of the entries; none where they were forgotten. Refused only for want
-    /// of memory.
+    /// The replies to an operation, each with its thread's name, in the order of the entries; none if they were forgotten. Refused only if
+    /// memory is refused.
     pub fn replies(&self, alloc: Global, op: u64) -> Result<Vec<(u64, u64)>, AllocError>
         ensures { IfOk result (λ list. list.items ≡ replies_kept op self.now.book) }
     {
@@ -181,7 +182,7 @@ impl<N: Name> Log<N> {
         }
     }
 
-    /// How long the history is.
+    /// The length of the history.
     pub fn length(&self) -> Length<N>
         ensures { result ≡ length self.now.book.history }
     {
@@ -191,7 +192,7 @@ impl<N: Name> Log<N> {
         }
     }
 
-    /// Up to which operation the replies were forgotten.
+    /// The last operation whose replies were forgotten.
     pub fn forgotten(&self) -> u64
         ensures { result ≡ self.now.book.gone.operations }
     {
@@ -205,7 +206,7 @@ impl<N: Name> Log<N> {
         fits(self.count, self.reserved, more)
     }
 
-    /// Keeps room for more entries, and answers whether the history has it.
+    /// Reserves room for more entries; false if the history hasn't that much room.
     pub fn keep(&mut self, more: usize) -> bool
         ensures answer { result ≡ has_room (entries_kept self.old.book) self.old.book.reserved more }
         ensures kept { result ≡ true → self.new.book.reserved ≡ self.old.book.reserved + more }
@@ -223,7 +224,7 @@ impl<N: Name> Log<N> {
         true
     }
 
-    /// Gives up room that was kept.
+    /// Gives up reserved room.
     pub fn give_back(&mut self, less: usize)
         requires { less ≤ self.old.book.reserved }
         ensures book { (self.new.book.history ≡ self.old.book.history)
@@ -235,8 +236,8 @@ impl<N: Name> Log<N> {
         self.reserved -= less;
     }
 
-    /// Keeps room for all entries and all replies that a request can make, and tells how many targets it has. Where that is refused no
-    /// room is kept.
+    /// Reserves room for all entries and replies that a request can cause, and returns the number of its targets. A refusal reserves
+    /// nothing.
     #[inline(always)]
     pub fn keep_request(&mut self, request: &Request) -> Result<usize, RoomFault>
         requires steps { steps_of request.now ≤ 64 }
@@ -269,7 +270,7 @@ impl<N: Name> Log<N> {
         Ok(targets)
     }
 
-    /// Puts an entry that has no reply to the end, in room that was kept.
+    /// Appends an entry that has no reply, in reserved room.
     #[inline(always)]
     pub fn enter(&mut self, entry: Entry) -> Receipt<N>
         requires reserved { 0 < self.old.book.reserved }
@@ -286,7 +287,8 @@ impl<N: Name> Log<N> {
         append(&mut self.past, &mut self.count, seen)
     }
 
-    /// Enters an install: where it replaced a code, that this one isn't entrant, and then the Install, of which the receipt is.
+    /// Appends the entries of an install: the Invalidate of the code that it replaces, if any, and then the Install. The receipt is that of
+    /// the Install.
     pub fn enter_install(&mut self, installed: Installed, method: u64) -> Receipt<N>
         requires reserved { 1 < self.old.book.reserved }
 
@@ -306,7 +308,7 @@ impl<N: Name> Log<N> {
         self.enter(Entry::Install(installed.code, method))
     }
 
-    /// Puts an Ask to the end, with places for so many replies, in room that was kept.
+    /// Appends an Ask, with memory for `targets` replies, in reserved room.
     #[inline(always)]
     pub fn enter_ask(&mut self, targets: usize, seen: Snapshot<Entry>) -> Receipt<N>
         requires reserved { 0 < self.old.book.reserved }
@@ -326,7 +328,7 @@ impl<N: Name> Log<N> {
         append(&mut self.past, &mut self.count, seen)
     }
 
-    /// Puts a Finish to the end, and its reply to those of its operation, in room that was kept.
+    /// Appends a Finish, and its reply to the replies of its operation, in reserved room.
     #[inline(always)]
     pub fn enter_finish(&mut self, op: u64, name: u64, reply: u64) -> Receipt<N>
         requires reserved { 0 < self.old.book.reserved }
@@ -348,7 +350,8 @@ impl<N: Name> Log<N> {
         append(&mut self.past, &mut self.count, Snapshot::of(&entry))
     }
 
-    /// Forgets the entries so far, which count no more, and the replies of the operations up to this one, whose memory is kept for others.
+    /// Forgets the entries so far, which no longer count, and the replies to the operations up to `last`. The memory of these replies is
+    /// reused.
     pub fn forget(&mut self, last: u64)
         requires later { self.old.book.gone.operations ≤ last }
         requires given { last ≤ self.old.book.gone.operations + length self.old.lists }

@@ -1,4 +1,4 @@
-//! The list of who is due for an open request, and the memory that is kept for it while the request waits.
+//! The due names of an open request, and the memory that is reserved for them while the request waits.
 ghost use Rattle.std.specs.Prelude.{◌≡◌, ◌<◌, ◌≤◌, ◌+◌, ◌++◌, length, drop, true, false, IfOk, IfSome, IfNone, OnErr, slice_index, vec_len, vec_capacity};
 ghost use Rattle.std.specs.Option.{option_to_list};
 ghost use Rattle.operations.specs.Names.{among, is_distinct};
@@ -10,7 +10,7 @@ use operations::Request;
 use std::alloc::{AllocError, Global};
 use std::marker::Model;
 
-/// The memory for the names that are due of a request. Contracts see for how many behind the first there is.
+/// Memory for the due names of a request. Contracts see its capacity, without the first name.
 #[derive(Drop)]
 pub struct DueRoom {
     later: Vec<u64>,
@@ -26,7 +26,7 @@ impl Model for DueRoom {
     ghost invariant = { λ r. r.later.items ≡ [] };
 }
 
-// Where a name stands among these, looked for one by one.
+// The index of a name among these, by a linear search.
 #[tactic(auto, using(crate::proofs::Distinct::none_among))]
 fn first_place(names: &[u64], name: u64) -> Option<usize>
     ensures some { IfSome result (λ i. (i < length names.now) × (slice_index names.now i ≡ name)) }
@@ -40,8 +40,8 @@ fn first_place(names: &[u64], name: u64) -> Option<usize>
     None
 }
 
-// Where a name stands among these: first tried as far behind the first as it is greater, where it stands in a list of threads that
-// started one after another, then looked for by halves, since most lists of names rise, and then one by one.
+// The index of a name among these. The first guess is the distance of the name from the first one, which is right for threads that started
+// one after another. A binary search follows, since most lists of names are in ascending order, and then a linear one.
 #[inline(always)]
 fn place_among(names: &[u64], name: u64) -> Option<usize>
     ensures some { IfSome result (λ i. (i < length names.now) × (slice_index names.now i ≡ name)) }
@@ -69,7 +69,7 @@ pub fn is_among(names: &[u64], name: u64) -> bool
     place_among(names, name).is_some()
 }
 
-// Whether a name is among these, of which the first is looked at before the others.
+// Whether a name is among these. The first name is tried before the others.
 #[tactic(auto, using(operations::proofs::Names::listed_at))]
 #[inline(always)]
 fn is_first_or_among(names: &[u64], name: u64) -> bool
@@ -81,7 +81,7 @@ fn is_first_or_among(names: &[u64], name: u64) -> bool
     is_among(names, name)
 }
 
-// The names behind those that are gone.
+// The names after the first `gone`, which are removed.
 #[inline(always)]
 fn rest(names: &Vec<u64>, gone: usize) -> &[u64]
     requires { gone ≤ length names.now.items }
@@ -90,8 +90,9 @@ fn rest(names: &Vec<u64>, gone: usize) -> &[u64]
     names.as_slice().split_at(gone).1
 }
 
-// Takes a name off those behind the ones that are gone, and answers how many are gone then. No name stands there twice, so at most one
-// goes: where it is the first, as it is mostly, it is gone where it stands, and else those behind it move in one step.
+// Removes a name from those after the first `gone`, and returns the new number of removed names at the front. No name is there twice, so at
+// most one is removed. If it is the first, as it mostly is, it stays in memory and is counted as removed; otherwise the names after it move
+// by one place.
 #[inline(always)]
 fn take_off(names: &mut Vec<u64>, gone: usize, name: u64) -> usize
     requires gone { gone ≤ length names.old.items }
@@ -108,7 +109,7 @@ fn take_off(names: &mut Vec<u64>, gone: usize, name: u64) -> usize
     gone
 }
 
-// Puts those of the names that are live behind the others, in room that was kept.
+// Appends those of the names that are live, in reserved room.
 #[inline(always)]
 fn push_live(list: &mut Vec<u64>, names: &[u64], live: &[Live])
     requires room { vec_len list.old + length names.now ≤ vec_capacity list.old }
@@ -131,7 +132,7 @@ fn all_gone(names: &[u64], live: &[Live]) -> bool
 }
 
 impl DueRoom {
-    /// Takes no memory.
+    /// Room without memory: it allocates nothing.
     pub fn new(alloc: Global) -> DueRoom
         ensures { result ≡ 0 }
     {
@@ -140,8 +141,8 @@ impl DueRoom {
         }
     }
 
-    /// Memory for so many names, and never less than there was: this one, where it is enough. Refused only where it isn't and there is no
-    /// more.
+    /// Memory for `count` names, and never less than before; what there is gets reused if it is enough. Refused only if it isn't and memory
+    /// is refused.
     #[inline(always)]
     pub fn for_names(self, count: usize) -> Result<DueRoom, AllocError>
         ensures ok { IfOk result (λ room. count ≤ room + 1) }
@@ -154,13 +155,13 @@ impl DueRoom {
     }
 }
 
-/// The names that are due of an open request, of which the first lies here: whoever comes with the lines of a request finds a single
-/// target there, and needs no line more. Contracts see the names in their order, and for how many behind the first there is memory.
+/// The due names of an open request. The first one is stored inline: a thread that loads the cache lines of the request finds a single
+/// target there and needs no further line. Contracts see the names in order, and the capacity without the first name.
 #[derive(Drop)]
 pub struct Awaited {
     first: Option<u64>,
     later: Vec<u64>,
-    /// How many of the later ones were taken off where they stand.
+    /// How many of the later names are removed but still in memory, at the front.
     gone: usize,
 }
 
@@ -181,7 +182,7 @@ impl Model for Awaited {
 }
 
 impl Awaited {
-    /// Those of the request's targets that are live, in this memory.
+    /// The live ones of the request's targets, in this memory.
     #[inline(always)]
     pub fn live_targets(room: DueRoom, request: &Request, live: &[Live]) -> Awaited
         requires room { length (targets_of request.now) ≤ room + 1 }
@@ -205,7 +206,7 @@ impl Awaited {
         }
     }
 
-    /// The memory of this list, whose names go.
+    /// The memory of this list; the names are dropped.
     #[inline(always)]
     pub fn into_room(self) -> DueRoom
         ensures { result ≡ self.capacity }
@@ -230,7 +231,7 @@ impl Awaited {
         }
     }
 
-    /// The first, where it isn't taken off, and the later ones.
+    /// The first name, unless it is removed, and the later ones.
     #[inline(always)]
     pub fn parts(&self) -> (Option<u64>, &[u64])
         ensures { option_to_list result.0 ++ result.1.now ≡ self.now.items }
@@ -238,7 +239,8 @@ impl Awaited {
         (self.first, rest(&self.later, self.gone))
     }
 
-    /// Whether a name is among these. The first is looked at before the others: who is served in the order of the names is it.
+    /// Whether a name is among these. The first name is tried before the others: if threads are served in the order of their names, it is
+    /// the one.
     #[inline(always)]
     pub fn has_next(&self, name: u64) -> bool
         ensures { result ≡ among name self.now.items }
@@ -249,7 +251,7 @@ impl Awaited {
         }
     }
 
-    /// Takes a name off, which stands there once at most.
+    /// Removes a name, which is in the list at most once.
     #[inline(always)]
     pub fn take_off(&mut self, name: u64)
         requires { is_distinct self.old.items ≡ true }
@@ -261,7 +263,7 @@ impl Awaited {
         }
     }
 
-    /// Whether none is live.
+    /// Whether none of the names is live.
     #[inline(always)]
     pub fn are_gone(&self, live: &[Live]) -> bool
         ensures { result ≡ none_live live.now self.now.items }

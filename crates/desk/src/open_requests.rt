@@ -1,4 +1,4 @@
-//! How names stand to the open requests.
+//! What the open requests mean for a thread.
 ghost use Rattle.std.specs.Prelude.{◌≡◌, ◌-◌, ◌<◌, ◌++◌, take, IfSome, vec_len, vec_capacity};
 ghost use Rattle.desk.specs.Fields.{at};
 ghost use Rattle.desk.specs.Pending.{least_pending};
@@ -11,10 +11,10 @@ use crate::targets::{
     is_due_name, list_due, of_which, oldest, only_handshake, progress_in, standing_to, untold_in,
 };
 use bodies::Name;
-use operations::job::Errand;
+use operations::job::HandshakeOp;
 
-impl<N: Name, J: Errand> Desk<N, J> {
-    /// How a name stands to the open requests: what telling it, or holding its thread, is answered or refused with.
+impl<N: Name, J: HandshakeOp> Desk<N, J> {
+    /// What the open requests mean for the thread of the name: the result or the refusal of `tell` and `hold`.
     pub fn standing(&self, name: u64) -> Standing
         ensures { result ≡ standing (at self.now) name }
     {
@@ -26,8 +26,8 @@ impl<N: Name, J: Errand> Desk<N, J> {
         )
     }
 
-    /// The number of the oldest open request that is of a live thread and wasn't told to it, where `last` is the last number that it
-    /// was told.
+    /// The number of the oldest open request that is for a live thread and for which its poll word wasn't armed. `last` is the last number
+    /// with which the poll word was armed.
     #[inline(always)]
     pub fn untold(&self, name: u64, last: u64) -> Option<u64>
         ensures value { result ≡ untold (at self.now) name last }
@@ -36,8 +36,8 @@ impl<N: Name, J: Errand> Desk<N, J> {
         untold_in(self.opened.as_slice(), self.next_name, name, last)
     }
 
-    /// The number of the handshake that is open alone; None where a census is open, or not one request. It is what each thread that is
-    /// due is to be told (`due_are_told`).
+    /// The number of the handshake that is the only open request; None if a census is open, or not exactly one request. It is the request
+    /// to arm the poll of each due thread for (`due_are_told`).
     #[inline(always)]
     pub fn only_handshake(&self) -> Option<u64>
         ensures { result ≡ only_handshake (at self.now).opened }
@@ -45,22 +45,24 @@ impl<N: Name, J: Errand> Desk<N, J> {
         only_handshake(self.opened.as_slice())
     }
 
-    /// The least number of a request that is open or waits, and where there is none the number that is given out next.
+    /// The least number of a request that is open or waits; if there is none, the number that is given out next.
     pub fn least_pending(&self) -> u64
         ensures { result ≡ least_pending (at self.now) }
     {
         least_pending(&self.queue, self.opened.as_slice(), self.next_number)
     }
 
-    /// How far a live thread is with the open requests that it was told, where `last` is the last number that it was told.
+    /// How far a live thread is with the open requests for which its poll word was armed. `last` is the last number with which it was
+    /// armed.
     pub fn progress(&self, name: u64, last: u64) -> Progress
         ensures { result ≡ progress (at self.now) name last }
     {
         progress_in(self.opened.as_slice(), self.next_name, name, last)
     }
 
-    /// Lists the threads that are live, were so at the Open of an open request, or of the oldest, and have no Finish for it, or whose
-    /// census isn't operated: in the order of their names, as far as the list has room.
+    /// Appends to the list the live threads that are due for an open request, or only for the oldest one. A thread is due if it was live at
+    /// the Open and has no Finish for the handshake, or the census isn't operated. They come in the order of their names, until the list's
+    /// capacity is used up.
     #[inline(always)]
     pub fn list_due(&self, of_oldest: bool, list: &mut Vec<Live>)
         ensures items { list.new.items
@@ -72,8 +74,8 @@ impl<N: Name, J: Errand> Desk<N, J> {
         list_due(opened, self.live.as_slice(), list);
     }
 
-    /// Whether the thread of the name is due for the oldest open request: it is live, was so at the Open, and has no Finish for it, or
-    /// the census isn't operated.
+    /// Whether the thread of the name is due for the oldest open request: it is live, was live at the Open, and has no Finish for the
+    /// handshake, or the census isn't operated.
     #[inline(always)]
     pub fn is_awaited(&self, name: u64) -> bool
         ensures { result ≡ is_awaited (at self.now) name }

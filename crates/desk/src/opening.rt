@@ -18,12 +18,12 @@ use crate::log::Receipt;
 use crate::names::Awaited;
 use bodies::{Body, Name};
 use operations::Kind;
-use operations::job::Errand;
+use operations::job::HandshakeOp;
 use operations::queue::Waiting;
 use std::collections::VecDeque;
 
-impl<N: Name, J: Errand> Desk<N, J> {
-    /// Opens the oldest request that waits, where with it up to four handshakes are open, or one census alone.
+impl<N: Name, J: HandshakeOp> Desk<N, J> {
+    /// Opens the oldest waiting request. At most four handshakes may be open, or one census alone.
     pub fn open(&mut self) -> Result<(u64, Receipt<N>), OpenFault>
         ensures ok { IfOk result (λ r. Enters self.old self.new (Entry.Open r.0) r.1) }
         ensures reserved { OnOk result
@@ -59,8 +59,8 @@ impl<N: Name, J: Errand> Desk<N, J> {
         Ok((number, self.log.enter(Entry::Open(number))))
     }
 
-    /// Closes the open request of the number, or without one the oldest, and gives back its jobs that were not taken. The bodies are
-    /// those that are held. The receipt shows the kind of the request, and the number of the oldest that was open.
+    /// Closes the open request with the number, or the oldest one if no number is given, and returns its jobs that weren't taken. `held`
+    /// has the bodies that are held. The receipt shows the kind of the request, and the number of the request that was the oldest open one.
     pub fn close(
         &mut self,
         number: Option<u64>,
@@ -116,7 +116,7 @@ impl<N: Name, J: Errand> Desk<N, J> {
         ))
     }
 
-    /// Of which kind the oldest open request is; None where nothing is open.
+    /// The kind of the oldest open request; None if no request is open.
     #[inline(always)]
     pub fn open_kind(&self) -> Option<Kind>
         ensures { result ≡ open_kind (at self.now) }
@@ -135,7 +135,7 @@ impl<N: Name, J: Errand> Desk<N, J> {
         self.opened.len()
     }
 
-    /// The number of the oldest open request; None where nothing is open.
+    /// The number of the oldest open request; None if no request is open.
     #[inline(always)]
     pub fn open_number(&self) -> Option<u64>
         ensures { result ≡ number_of (oldest_of (at self.now).opened) }

@@ -1,4 +1,4 @@
-//! The open census is operated, and what is known of an Operate where it is entered.
+//! The open census is operated, and the evidence that an Operate was entered.
 ghost use Rattle.std.specs.Prelude.{◌≡◌, ◌+◌, true, Some, None, IfOk, IfErr, OnOk};
 ghost use Rattle.bodies.specs.Census.{IsCensus};
 ghost use Rattle.desk.specs.Refusals.{operate_refused, AreSettled, are_all, MayOperate, operate_said};
@@ -10,12 +10,12 @@ use crate::faults::OperateFault;
 use crate::lists::{are_all, is_census, operate_at};
 use crate::log::Receipt;
 use bodies::{Body, Name};
-use operations::job::Errand;
+use operations::job::HandshakeOp;
 use std::marker::Model;
 use std::snapshot::Snapshot;
 
-/// That an Operate stands in the history of the desk of N, with the census of the bodies over which it was entered. Only a desk makes
-/// one, where it enters the Operate, and it can't be copied.
+/// Evidence that the history of the desk of N has this Operate, with the census of the bodies over which it was
+/// entered. Only the desk makes it, when it enters the Operate. It can't be copied.
 #[derive(Drop)]
 pub struct Operating<N: Name> {
     receipt: Receipt<N>,
@@ -48,9 +48,9 @@ impl<N: Name> Operating<N> {
     }
 }
 
-impl<N: Name, J: Errand> Desk<N, J> {
-    /// Enters that the open census is operated over these bodies, which are settled and those of all live names. The list is the census
-    /// of their stacks, which the receipt shows.
+impl<N: Name, J: HandshakeOp> Desk<N, J> {
+    /// Enters the Operate of the open census over these bodies, which are settled and exactly those of all live threads. The list is the
+    /// census of their stacks; the receipt shows it.
     pub fn operate(
         &mut self,
         bodies: &[Body<N>],
@@ -82,7 +82,7 @@ impl<N: Name, J: Errand> Desk<N, J> {
         ))
     }
 
-    /// Why `operate` is refused over these bodies; None where it isn't.
+    /// Why `operate` over these bodies is refused; None if it isn't.
     pub fn operate_fault(&self, bodies: &[Body<N>]) -> Option<OperateFault>
         ensures { operate_said (at self.now) bodies.now result }
     {

@@ -20,10 +20,10 @@ use board::{Board, Spent, Weighed};
 use bodies::Name;
 use method_table::table::RetireFault;
 use operations::Request;
-use operations::job::Errand;
+use operations::job::HandshakeOp;
 
-impl<N: Name, J: Errand> Desk<N, J> {
-    /// The first step of reclaiming a code: a request waits, where there is one, and the next moment begins.
+impl<N: Name, J: HandshakeOp> Desk<N, J> {
+    /// The first step of reclaiming a code: the request, if one is given, is queued, and the next moment (epoch) begins.
     pub fn begin_reclaim(
         &mut self,
         board: &Board,
@@ -101,7 +101,7 @@ impl<N: Name, J: Errand> Desk<N, J> {
         }
     }
 
-    /// Begins the next moment.
+    /// Begins the next moment (epoch).
     pub fn round(&mut self, board: &Board) -> Result<(), Spent>
         requires board { board.now ≡ N.board }
 
@@ -118,7 +118,8 @@ impl<N: Name, J: Errand> Desk<N, J> {
         self.codes.round(board)
     }
 
-    /// Whether a place is done with the code.
+    /// Looks at a place for a code that is not entrant. Returns whether the place is covered: it can't have an uncounted frame of the code
+    /// any more.
     pub fn look(&mut self, board: &Board, serial: u64, place: usize) -> Result<bool, RetireFault>
         requires board { board.now ≡ N.board }
         requires place { place < N.board.places }
@@ -142,7 +143,7 @@ impl<N: Name, J: Errand> Desk<N, J> {
         self.codes.look(board, serial, place)
     }
 
-    /// Looks for the code at each of so many places, in their order.
+    /// Looks for the code at each place below `places`, in ascending order.
     #[inline(always)]
     pub fn look_at_all(
         &mut self,
@@ -162,8 +163,8 @@ impl<N: Name, J: Errand> Desk<N, J> {
         self.codes.look_at_all(board, serial, places)
     }
 
-    /// Weighs a code. Where no activation stands it is a zombie afterwards, which is stored and entered. Answers also the receipt of the
-    /// weighing.
+    /// Weighs a code. If it has no activation left, it becomes a zombie: that is stored in the board and entered in the history. The result
+    /// also has the receipt of the weighing.
     pub fn weigh(
         &mut self,
         board: &Board,
@@ -204,7 +205,7 @@ impl<N: Name, J: Errand> Desk<N, J> {
         Ok((said, weighing, Some(self.log.enter(Entry::Retire(serial)))))
     }
 
-    /// Why the code can't be weighed.
+    /// Why `weigh` refuses the code; None if it doesn't.
     pub fn weigh_fault(&self, serial: u64) -> Option<RetireFault>
         ensures { result ≡ retire_fault (unfreed (at self.now).table.codes serial) }
     {

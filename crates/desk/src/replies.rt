@@ -1,4 +1,4 @@
-//! The replies of all operations, in one block, so that an operation needs no memory of its own.
+//! The replies to all operations, in one block, so that an operation needs no memory of its own.
 ghost use Rattle.std.specs.Prelude.{◌≡◌, ℕ, ◌+◌, ◌<◌, ◌≤◌, ◌⊎◌, ◌++◌, ◌∷◌, [], length, map, drop, replicate, get_or, slice_set, IfOk, OnOk, IfSome, IfNone, vec_len, vec_capacity};
 ghost use Rattle.desk.specs.Replies.{nothing_said};
 ghost use Rattle.desk.specs.Spans.{silent, answered, earlier};
@@ -7,7 +7,7 @@ ghost use Rattle.desk.specs.declared.replies.Span.{Span as SpanOf};
 use std::alloc::{AllocError, Global};
 use std::marker::Model;
 
-/// Where the replies of an operation begin, how many there are, and how many more can come behind them.
+/// Where the replies to an operation begin in the block, how many there are, and how many more fit after them.
 #[derive(Clone, Copy)]
 pub struct Span {
     start: usize,
@@ -15,8 +15,8 @@ pub struct Span {
     room: u32,
 }
 
-/// Names with their replies by operation, in the order in which they came. Contracts see for each operation its replies with the room
-/// that is left, for how many more operations there is room, and for how many more replies.
+/// The replies by operation, each with its thread's name, in the order of arrival. Contracts see the replies to each operation with the
+/// number that may still follow, and for how many more operations and for how many more replies there is memory.
 #[derive(Drop)]
 pub struct Replies {
     all: Vec<(u64, u64)>,
@@ -39,7 +39,7 @@ impl Model for Replies {
         × AreFew r.spans.items };
 }
 
-// Puts as many places to the end, in room that was kept, so that a reply is written into its place later.
+// Appends `places` empty places, in reserved room; a reply is written into its place later.
 fn fill(all: &mut Vec<(u64, u64)>, places: usize)
     requires room { vec_len all.old + places ≤ vec_capacity all.old }
     ensures items { all.new.items ≡ all.old.items ++ replicate places (0, 0) }
@@ -49,7 +49,7 @@ fn fill(all: &mut Vec<(u64, u64)>, places: usize)
     }
 }
 
-// Drops the first of a list, which keeps its memory.
+// Drops the first `count` items of a list, which keeps its memory.
 fn drop_first<T: Copy>(list: &mut Vec<T>, count: usize)
     requires { count ≤ vec_len list.old }
     ensures items { list.new.items ≡ drop count list.old.items }
@@ -59,7 +59,7 @@ fn drop_first<T: Copy>(list: &mut Vec<T>, count: usize)
     list.truncate(kept);
 }
 
-// Spans that begin so much earlier, since as many places before them are dropped.
+// Moves the spans `less` places towards the front, since as many places before them are dropped.
 fn shift(spans: &mut Vec<Span>, less: usize)
     requires { (k : ℕ) (s : SpanOf)
         → k < length spans.old.items
@@ -93,7 +93,7 @@ impl Replies {
         self.spans.len()
     }
 
-    /// Keeps room for one operation more with as many replies. Refused only for want of memory.
+    /// Reserves memory for one more operation with this many replies. Refused only if memory is refused.
     #[inline(always)]
     pub fn reserve(&mut self, replies: usize) -> Result<(), AllocError>
         ensures room { OnOk result ((0 < self.new.spare) × (replies ≤ self.new.places)) }
@@ -103,7 +103,7 @@ impl Replies {
         self.all.reserve(replies)
     }
 
-    /// One operation more, which can have as many replies, in room that was kept.
+    /// Adds an operation that can have this many replies, in reserved memory.
     #[inline(always)]
     pub fn add(&mut self, replies: usize)
         requires spare { 0 < self.old.spare }
@@ -120,7 +120,7 @@ impl Replies {
         });
     }
 
-    /// Puts a reply last in those of the operation that stands at a place.
+    /// Appends a reply to those of the operation at an index.
     #[inline(always)]
     pub fn push(&mut self, place: usize, name: u64, reply: u64)
         requires place { place < length self.old.lists }
@@ -138,7 +138,7 @@ impl Replies {
         self.all[start + said as usize] = (name, reply);
     }
 
-    /// Forgets the first operations. Their memory is kept for others.
+    /// Forgets the first `count` operations. Their memory is reused.
     pub fn forget(&mut self, count: usize)
         requires { count ≤ length self.old.lists }
         ensures { self.new.lists ≡ drop count self.old.lists }
@@ -154,7 +154,7 @@ impl Replies {
         shift(&mut self.spans, from);
     }
 
-    /// The names and replies of the operation that stands at a place. Refused only for want of memory.
+    /// The replies to the operation at an index, each with its thread's name. Refused only if memory is refused.
     pub fn copied(&self, alloc: Global, place: usize) -> Result<Vec<(u64, u64)>, AllocError>
         requires { place < length self.now.lists }
         ensures { IfOk result (λ list.
@@ -169,7 +169,7 @@ impl Replies {
     }
 }
 
-/// Where the list of an operation stands among so many: numbers rise by one from 1.
+/// The index of an operation's list among `count` lists: operation numbers rise by one from 1.
 pub fn place_of(op: u64, count: usize) -> Option<usize>
     ensures some { IfSome result (λ place. (place + 1 ≡ op) × (place < count)) }
     ensures none { IfNone result ((op ≡ 0) ⊎ (count < op)) }

@@ -1,4 +1,4 @@
-// How names stand to the open requests.
+// What the open requests mean for a thread.
 ghost use Rattle.std.specs.Prelude.{◌≡◌, ◌&&◌, ◌<◌, ◌++◌, ◌∷◌, [], ◌-◌, false, nat_lt, map, take, vec_capacity, vec_len, IfSome};
 ghost use Rattle.std.specs.Option.{option_to_list};
 ghost use Rattle.operations.specs.Names.{among};
@@ -14,7 +14,7 @@ use crate::lists::{found_at, is_census, kind_among};
 use crate::names::is_among;
 use operations::Request;
 
-/// Where the name is live.
+/// The place at which the name is live.
 pub fn place_of(live: &[Live], name: u64) -> Option<usize>
     requires rising { AreRising 0 (names_of live.now) }
     ensures { result ≡ place_of name live.now }
@@ -32,7 +32,7 @@ pub fn place_of(live: &[Live], name: u64) -> Option<usize>
     None
 }
 
-// The live names behind this one, or all where it isn't live.
+// The live names after this one, or all if it isn't live.
 #[inline(always)]
 fn behind(live: &[Live], name: u64) -> &[Live]
     requires rising { AreRising 0 (names_of live.now) }
@@ -44,7 +44,7 @@ fn behind(live: &[Live], name: u64) -> &[Live]
     }
 }
 
-/// Who is live at the place.
+/// The name that is live at the place.
 pub fn name_at(live: &[Live], place: usize) -> Option<u64>
     ensures { result ≡ name_at place live.now }
 {
@@ -73,7 +73,7 @@ pub fn live_after(live: &[Live], name: u64) -> Option<u64>
     None
 }
 
-// Whether the request is of the name.
+// Whether the request is for the name.
 fn is_asked(request: &Request, next: u64, name: u64) -> bool
     ensures { result ≡ is_asked next name request.now }
 {
@@ -83,7 +83,7 @@ fn is_asked(request: &Request, next: u64, name: u64) -> bool
     }
 }
 
-// Whether a Finish of the name, or the Operate, is still to come.
+// Whether a Finish of the name, or the Operate, is missing.
 #[inline(always)]
 fn is_owed<J>(request: &Opened<J>, name: u64) -> bool
     ensures { result ≡ is_owed name (current_of request.now) }
@@ -95,7 +95,7 @@ fn is_owed<J>(request: &Opened<J>, name: u64) -> bool
     }
 }
 
-// Whether the request is of the name, whose thread was live at its Open where it is now.
+// Whether the request is for the name, and the name was given out before the Open: if its thread is live now, it was live then.
 fn is_target_of<J>(request: &Opened<J>, next: u64, name: u64) -> bool
     ensures { result ≡ is_target_of next name (current_of request.now) }
 {
@@ -128,7 +128,7 @@ fn is_target_of_one<J>(opened: &[Opened<J>], next: u64, name: u64) -> bool
     false
 }
 
-/// How a name stands to the open requests.
+/// What the open requests mean for the thread of the name.
 pub fn standing_to<J>(opened: &[Opened<J>], next: u64, live: &[Live], name: u64) -> Standing
     requires rising { AreRising 0 (names_of live.now) }
     ensures { result ≡ standing_to next live.now name (map current_of opened.now) }
@@ -151,14 +151,14 @@ pub fn standing_to<J>(opened: &[Opened<J>], next: u64, live: &[Live], name: u64)
     })
 }
 
-// Whether the request is of the thread and its number greater than the last that it was told.
+// Whether the request is for the live thread and its number is greater than `last`, with which the thread's poll word was armed last.
 fn is_untold<J>(request: &Opened<J>, next: u64, name: u64, last: u64) -> bool
     ensures { result ≡ is_untold next name last (current_of request.now) }
 {
     is_target_of(request, next, name) && last < request.number
 }
 
-/// The number of the oldest request that is of a live thread and greater than the last that it was told.
+/// The number of the oldest request that is for a live thread and greater than `last`, with which its poll word was armed last.
 pub fn untold_in<J>(opened: &[Opened<J>], next: u64, name: u64, last: u64) -> Option<u64>
     ensures value { result ≡ untold_in next name last (map current_of opened.now) }
     ensures later { IfSome result (λ number. last < number) }
@@ -173,7 +173,7 @@ pub fn untold_in<J>(opened: &[Opened<J>], next: u64, name: u64, last: u64) -> Op
     None
 }
 
-// Whether the request was told to the live thread.
+// Whether the request is for the live thread and its poll word was armed for it.
 fn is_told<J>(request: &Opened<J>, next: u64, name: u64, last: u64) -> bool
     ensures { result ≡ is_told next name last (current_of request.now) }
 {
@@ -199,7 +199,7 @@ fn is_undone<J>(request: &Opened<J>, next: u64, name: u64, last: u64) -> bool
     is_told(request, next, name, last) && is_owed(request, name)
 }
 
-/// How far a live thread is with the open requests up to the last number that it was told.
+/// How far a live thread is with the open requests up to `last`, the number with which its poll word was armed last.
 pub fn progress_in<J>(opened: &[Opened<J>], next: u64, name: u64, last: u64) -> Progress
     ensures { result ≡ progress_in next name last (map current_of opened.now) }
 {
@@ -217,7 +217,7 @@ pub fn progress_in<J>(opened: &[Opened<J>], next: u64, name: u64, last: u64) -> 
     }
 }
 
-// Whether the thread was live at the Open and is owed.
+// Whether the thread was live at the Open and is due: its Finish, or the Operate, is missing.
 #[inline(always)]
 fn is_due_target<J>(thread: Live, request: &Opened<J>) -> bool
     ensures { result ≡ is_due_target thread (current_of request.now) }
@@ -257,7 +257,7 @@ pub fn is_due_name<J>(opened: &[Opened<J>], live: &[Live], name: u64) -> bool
     false
 }
 
-// Whether the thread was live at an Open before which this name was given out next, and is one of the names that are due for it.
+// Whether the thread was live at an Open (its name is less than `before`, the next name at that Open) and is one of the names that are due.
 #[inline(always)]
 fn is_due_among(thread: Live, before: u64, first: Option<u64>, names: &[u64]) -> bool
     ensures { result ≡ (nat_lt thread.name before
@@ -270,8 +270,8 @@ fn is_due_among(thread: Live, before: u64, first: Option<u64>, names: &[u64]) ->
         }
 }
 
-// Lists the live threads that are due for a handshake. What it looks at of the request is read once: what is read behind a write into the
-// list is read from memory again.
+// Appends to the list the live threads that are due for a handshake. It reads the request's fields once, before the loop: after a write
+// into the list the compiler would read them from memory again.
 #[inline(always)]
 fn list_due_of<J>(request: &Opened<J>, live: &[Live], list: &mut Vec<Live>)
     requires handshake { is_census request.now.request ≡ false }
@@ -294,7 +294,8 @@ fn list_due_of<J>(request: &Opened<J>, live: &[Live], list: &mut Vec<Live>)
     }
 }
 
-/// Lists the live threads that are due for one of the requests, in their order, as far as the list has room.
+/// Appends to the list the live threads that are due for one of the requests, in the order of their names, until the list's capacity is
+/// used up.
 #[inline(always)]
 pub fn list_due<J>(opened: &[Opened<J>], live: &[Live], list: &mut Vec<Live>)
     ensures items { list.new.items
@@ -319,7 +320,7 @@ pub fn list_due<J>(opened: &[Opened<J>], live: &[Live], list: &mut Vec<Live>)
     }
 }
 
-/// The oldest request alone.
+/// Only the oldest request.
 pub fn oldest<J>(opened: &[Opened<J>]) -> &[Opened<J>]
     ensures { map current_of result.now ≡ oldest (map current_of opened.now) }
 {
@@ -330,7 +331,7 @@ pub fn oldest<J>(opened: &[Opened<J>]) -> &[Opened<J>]
     }
 }
 
-/// The oldest request alone, or all.
+/// Only the oldest request, or all of them.
 #[inline(always)]
 pub fn of_which<J>(opened: &[Opened<J>], of_oldest: bool) -> &[Opened<J>]
     ensures { map current_of result.now ≡ of_which of_oldest (map current_of opened.now) }
@@ -338,7 +339,7 @@ pub fn of_which<J>(opened: &[Opened<J>], of_oldest: bool) -> &[Opened<J>]
     if of_oldest { oldest(opened) } else { opened }
 }
 
-/// The number of the handshake that is open alone.
+/// The number of the handshake that is the only open request.
 #[inline(always)]
 pub fn only_handshake<J>(opened: &[Opened<J>]) -> Option<u64>
     ensures { result ≡ only_handshake (map current_of opened.now) }

@@ -1,4 +1,4 @@
-//! Threads start and exit, and who is live.
+//! Threads start and exit; the list of live threads.
 ghost use Rattle.std.specs.Prelude.{◌≡◌, ℕ, ◌+◌, ◌<◌, true, false, Some, IfOk, IfErr, OnOk, OnErr};
 ghost use Rattle.desk.specs.Machine.{is_taken, names_of, lawful};
 ghost use Rattle.desk.specs.Refusals.{start_refused, MayStart};
@@ -13,11 +13,11 @@ use crate::log::Receipt;
 use crate::targets::{live_after, name_at};
 use bodies::Name;
 use frames::LAST;
-use operations::job::Errand;
+use operations::job::HandshakeOp;
 use std::alloc::AllocError;
 
-impl<N: Name, J: Errand> Desk<N, J> {
-    /// Enters the start of the next name in the least place that is free. `has_image` says whether there is memory for its stack.
+impl<N: Name, J: HandshakeOp> Desk<N, J> {
+    /// Enters the Start of the next name in the least free place. `has_image` says whether there is memory for the thread's stack image.
     pub fn start(&mut self, has_image: bool) -> Result<(u64, usize, Receipt<N>), StartFault>
         ensures ok { IfOk result (λ r.
             Enters self.old self.new (Entry.Start r.0 r.1) r.2
@@ -57,7 +57,7 @@ impl<N: Name, J: Errand> Desk<N, J> {
         Ok((name, place, self.log.enter(Entry::Start(name, place))))
     }
 
-    /// Enters the exit of a live name.
+    /// Enters the Exit of a live name.
     pub fn exit(&mut self, name: u64) -> Result<Receipt<N>, NotLive>
         ensures ok { IfOk result (λ r. Enters self.old self.new (Entry.Exit name) r) }
         ensures reserved { OnOk result
@@ -74,7 +74,7 @@ impl<N: Name, J: Errand> Desk<N, J> {
         Ok(self.log.enter(Entry::Exit(name)))
     }
 
-    /// The live names, in the order in which they started. Refused only for want of memory.
+    /// The live names, in the order in which they started. Refused only if memory is refused.
     pub fn live(&self) -> Result<Vec<u64>, AllocError>
         ensures { IfOk result (λ names. names.items ≡ names_of (at self.now).live) }
     {

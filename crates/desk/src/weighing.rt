@@ -1,4 +1,4 @@
-//! What is known of a weighing where it is made.
+//! The evidence that a code was weighed.
 ghost use Rattle.std.specs.Prelude.{◌≡◌};
 
 use crate::log::Length;
@@ -7,8 +7,8 @@ use bodies::Name;
 use std::marker::Model;
 use std::snapshot::Snapshot;
 
-/// That a code was weighed at the desk of N: which, by its serial, what was found, and how long the history was then. Only a desk makes
-/// one, where it weighs, and it can't be copied.
+/// Evidence that the desk of N weighed a code: its serial, the result, and the length of the history then. Only the desk makes it, when it
+/// weighs. It can't be copied.
 #[derive(Drop)]
 pub struct Weighing<N: Name> {
     serial: Snapshot<u64>,

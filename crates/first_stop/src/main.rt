@@ -6,7 +6,7 @@
 ghost use Rattle.std.specs.Prelude.{◌≡◌};
 
 use meqzhuly::{
-    Ask, Coordinator, Errand, Mutator, Name, Parts, Poll, Query, Reclaimed, Request, Shared,
+    Ask, Coordinator, HandshakeOp, Mutator, Name, Parts, Poll, Query, Reclaimed, Request, Shared,
     Targets,
 };
 use std::alloc::Global;
@@ -62,7 +62,7 @@ fn run<N: Name + Send + Sync, R: Threads + Wait + Sync>(
 }
 
 // Runs the thread beside this work. Once it is gone nobody waits for it.
-fn beside<N: Name + Send + Sync, J: Errand + Send, R: Threads + Wait + Sync, F>(
+fn beside<N: Name + Send + Sync, J: HandshakeOp + Send, R: Threads + Wait + Sync, F>(
     rt: &R,
     alloc: Global,
     shared: &Shared<N, J>,
@@ -88,7 +88,7 @@ where
 }
 
 // The thread's part.
-fn live<N: Name, J: Errand, R: Wait>(
+fn live<N: Name, J: HandshakeOp, R: Wait>(
     rt: &R,
     alloc: Global,
     shared: &Shared<N, J>,
@@ -101,7 +101,7 @@ fn live<N: Name, J: Errand, R: Wait>(
 }
 
 // Loops in the code until it is asked to end.
-fn run_code<N: Name, J: Errand, R: Wait>(
+fn run_code<N: Name, J: HandshakeOp, R: Wait>(
     rt: &R,
     signals: &Signals,
     thread: &mut Mutator<'_, N, J>,
@@ -120,7 +120,7 @@ fn run_code<N: Name, J: Errand, R: Wait>(
 }
 
 // Stops where the poll says so: the thread serves what it was told.
-fn heed<N: Name, J: Errand, R: Wait>(
+fn heed<N: Name, J: HandshakeOp, R: Wait>(
     rt: &R,
     thread: &mut Mutator<'_, N, J>,
     poll: Poll,

@@ -2,7 +2,7 @@
 use Rattle.std.specs.Prelude.{◌≡◌, List, [], ◌∷◌}
 use Rattle.interp.specs.declared.mark.Mark.{Mark}
 
--- From s, these marks lead to t: `marked` says of one mark what it may lead to.
+-- These marks lead from s to t: `marked` says what one mark may lead to.
 abbrev pub Chain : {S : Type 0} → (S → Mark → S → Type 0) → S → List Mark → S → Type 0
 Chain marked s [] t = s ≡ t
 Chain {S} marked s (m ∷ ms) t = (u : S) × marked s m u × Chain marked u ms t

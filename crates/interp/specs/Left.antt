@@ -21,9 +21,9 @@ size (loop n b rest) = suc (size b + size rest)
 abbrev pub IsQuiet : ℕ → List ℕ → Type 0
 IsQuiet level turns = (k : ℕ) → level ≤ k → slice_index turns k ≡ 0
 
--- `At call level body at turns t`: of a body that stands inside `level` loops, at its step `at`, with these turns of each loop ended,
--- `t` is left. At an act it is the act, and then the rest of the body. Inside a loop it is what is left of the turn, its edge,
--- the turns to come, and what follows the loop. `call` says what a call of each method makes.
+-- `At call level body at turns t`: `t` is left of a body inside `level` loops, at its step `at`, when these turns of each loop have
+-- ended. At an act, `t` is the act, and then the rest of the body. Inside a loop, `t` is the rest of the turn, its edge, the
+-- remaining turns, and what follows the loop. `call` says what a call of each method makes.
 abbrev pub At : (ℕ → Trace) → ℕ → Body → ℕ → List ℕ → Trace → Type 0
 At call level finish at turns t = (at ≡ 0) × IsQuiet level turns × (t ≡ finished)
 At call level (act a rest) at turns t =
@@ -34,26 +34,26 @@ At call level (loop n b rest) at turns t =
     × (t ≡ followed u (made mark.Edge (followed (times to_come (followed (body_trace call b) (made mark.Edge finished))) (body_trace call rest)))))
     ⊎ ((p : ℕ) × (at ≡ suc (size b + p)) × At call level rest p turns t)
 
--- `FrameAt bs left f t`: of the body of the frame `f`, above which `left` frames may stand, `t` is left.
+-- `FrameAt bs left f t`: `t` is left of the body of the frame `f`, on top of which `left` more frames fit.
 abbrev pub FrameAt : List Body → ℕ → Frame → Trace → Type 0
 FrameAt bs left f t = (length f.turns ≡ 8) × At (method_trace left bs) 0 (body_of bs f.method) f.at f.turns t
 
--- `Stand bs room frames later left then`: where `room` frames could stand and `later` was to follow, these frames stand, the first
--- called first. So `left` more may stand above them, and `then` is to follow: what is left of each frame and its end, the last called
--- first, and `later` behind them all.
+-- `Stand bs room frames later left then`: these frames are active, the first called first, where `room` frames fit and `later` was to
+-- follow. `left` more frames fit on top of them, and `then` is to follow: the rest of each frame and its end, the last called first,
+-- and `later` after them all.
 abbrev pub Stand : List Body → ℕ → List Frame → Trace → ℕ → Trace → Type 0
 Stand bs room [] later left then = (left ≡ room) × (then ≡ later)
 Stand bs room (f ∷ fs) later left then =
     (above : ℕ) × (u : Trace) × (room ≡ suc above) × FrameAt bs above f u × Stand bs above fs (followed u (made (mark.Out f.method) later)) left then
 
--- In this phase, with this frame above its callers, `t` is left of the whole trace.
+-- In this phase, with this frame on top of its callers, `t` is left of the whole trace.
 abbrev pub LeftIn : List Body → Phase → Frame → List Frame → Trace → Type 0
 LeftIn bs phase.Fresh f callers t = (callers ≡ []) × (f ≡ fresh 0) × (t ≡ trace bs)
 LeftIn bs phase.Running f callers t =
     (left : ℕ) × (then u : Trace) × Stand bs 256 callers finished (suc left) then × FrameAt bs left f u × (t ≡ followed u (made (mark.Out f.method) then))
 LeftIn bs phase.Finished f callers t = t ≡ finished
 
--- The runner, of the code of a checked script, has this left of its trace.
+-- The runner has the code of a checked script, and this is left of its trace.
 abbrev pub Left : Runner → Trace → Type 0
 Left r t = (bs : List Body) × (r.code.now ≡ map routine bs) × AreChecked bs × LeftIn bs r.phase r.frame r.callers.items t
 

@@ -1,4 +1,4 @@
--- What a runner does next, and how it stands then.
+-- What a runner does next, and its state after that.
 use Rattle.std.specs.Prelude.{◌≡◌, ◌⊎◌, ℕ, ◌+◌, ◌-◌, ◌<◌, ◌^◌, nat_lt, List, [], ◌∷◌, ◌++◌, length, slice_index, slice_set, slice_get, Option, Some, None, option_and_then, if◌then◌else◌, ⊤}
 use Rattle.script.specs.declared.items.Action.{Action}
 use Rattle.script.specs.declared.items.Action.TheVariants as does
@@ -20,7 +20,7 @@ action_ahead depth does.Block = ahead.Made mark.Block move.Pass
 action_ahead depth does.Tick = ahead.Made mark.Tick move.Pass
 action_ahead depth (does.Call m) = if nat_lt depth 255 then ahead.Made (mark.In m) (move.Enter m) else ahead.Overflow
 
--- with so many callers
+-- what a step, or the end of the method, makes below so many callers
 abbrev pub op_ahead : ℕ → Frame → Option Op → Ahead
 op_ahead depth f None = ahead.Made (mark.Out f.method) move.Leave
 op_ahead depth f (Some (op.Action a)) = action_ahead depth a
@@ -34,7 +34,7 @@ ahead_of code phase.Fresh f callers = ahead.Made (mark.In 0) move.Begin
 ahead_of code phase.Running f callers = op_ahead (length callers) f (op_at code f)
 ahead_of code phase.Finished f callers = ahead.Finished
 
--- at the beginning of a method
+-- a frame at the beginning of a method
 abbrev pub fresh : ℕ → Frame
 fresh m = record { method = m; at = 0; turns = 0 ∷ 0 ∷ 0 ∷ 0 ∷ 0 ∷ 0 ∷ 0 ∷ 0 ∷ [] }
 
@@ -59,7 +59,7 @@ Fits f callers ahead.Finished = ⊤
 Fits f callers ahead.Overflow = ⊤
 Fits f callers (ahead.Made m v) = MoveFits f callers v
 
--- how a runner stands before and after a move
+-- the state of a runner before and after a move
 abbrev pub Moved : Move → Phase → Frame → List Frame → Phase → Frame → List Frame → Type 0
 Moved move.Begin p f cs q g ds = (q ≡ phase.Running) × (g ≡ f) × (ds ≡ cs)
 Moved move.Pass p f cs q g ds = (q ≡ p) × (g ≡ passed f) × (ds ≡ cs)

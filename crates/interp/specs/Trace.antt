@@ -40,12 +40,12 @@ body_trace call (loop n b rest) = followed (times n (followed (body_trace call b
 abbrev pub body_of : List Body → ℕ → Body
 body_of bs m = unwrap_or (slice_get bs m) finish
 
--- the trace of a call of a method, where so many frames more may stand: In, its body, Out
+-- the trace of a call of a method, if so many more frames fit: In, its body, Out
 unfoldable pub method_trace : ℕ → List Body → ℕ → Trace
 method_trace zero bs m = overflowed
 method_trace (suc left) bs m = made (mark.In m) (followed (body_trace (method_trace left bs) (body_of bs m)) (made (mark.Out m) finished))
 
--- a run starts with method 0, and at most 256 frames stand
+-- a run starts with method 0, and at most 256 frames are active
 abbrev pub trace : List Body → Trace
 trace bs = method_trace 256 bs 0
 

@@ -2,7 +2,7 @@ ghost use Rattle.std.specs.Prelude.{◌≡◌, ◌<◌, ◌^◌};
 
 use crate::mark::Mark;
 
-/// How the run stands.
+/// The phase of a run.
 #[derive(Clone, Copy, Debug, PartialEq, Eq)]
 pub enum Phase {
     Fresh,
@@ -10,7 +10,7 @@ pub enum Phase {
     Finished,
 }
 
-/// What the runner does as it makes a mark.
+/// How the runner changes when it makes a mark.
 #[derive(Clone, Copy, Debug, PartialEq, Eq)]
 pub enum Move {
     Begin,
@@ -24,7 +24,7 @@ pub enum Move {
     },
 }
 
-/// What comes next.
+/// What the runner does next.
 #[derive(Clone, Copy, Debug, PartialEq, Eq)]
 pub enum Ahead {
     Finished,
@@ -32,8 +32,8 @@ pub enum Ahead {
     Made(Mark, Move),
 }
 
-/// A call that stands: its method, the step that it makes next, and for each level of loops the turns that
-/// are ended.
+/// An active call: its method, the step that it makes next, and for each level of loops how many turns
+/// have ended.
 #[derive(Clone, Copy, Debug)]
 pub struct Frame {
     pub method: usize,
@@ -44,7 +44,7 @@ pub struct Frame {
 impl Frame {
     ghost use Rattle.interp.specs.Moves.{fresh, passed, turned_frame};
 
-    /// At the beginning of a method.
+    /// A frame at the beginning of a method.
     pub fn new(method: usize) -> Frame
         ensures { result ≡ fresh method }
     {
@@ -64,7 +64,7 @@ impl Frame {
         frame
     }
 
-    /// At the end of a turn of a loop of so many.
+    /// The frame after the end of a turn of a loop of so many turns.
     pub fn turned(self, turns: u64, start: usize, level: usize) -> Frame
         requires at { self.at < 2 ^ 63 }
         requires turns { 0 < turns }

@@ -1,5 +1,5 @@
-//! The interpreter of scripts: it makes a script's marks one by one.
-//! `workers` runs each thread of a script by it.
+//! The interpreter of scripts. It makes a script's marks one by one.
+//! `workers` runs each thread of a script with it.
 //! Read `src/runner.rt` first, then `specs/Trace.antt`.
 #![tactic(auto)]
 

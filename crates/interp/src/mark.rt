@@ -17,7 +17,7 @@ pub enum Mark {
     Tick,
 }
 
-/// Whoever makes the marks of a script. `mark` may wait, where its type has the leave to.
+/// The maker of a script's marks. `mark` may block if its type holds the capability to block.
 pub trait Steps {
     ghost use Rattle.interp.specs.declared.mark.Mark.{Mark};
 
@@ -35,7 +35,7 @@ pub trait Steps {
         ensures err { IfErr result (λ e. refused self.old mark e self.new) };
 }
 
-/// A fake that keeps the marks, and refuses one where a growth is refused.
+/// A fake that keeps the marks, and refuses a mark if a growth is refused.
 #[derive(Debug, Drop)]
 pub struct Tape {
     pub marks: Vec<Mark>,

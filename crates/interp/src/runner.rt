@@ -6,7 +6,7 @@ use crate::mark::{Mark, Steps};
 use script::{Action, Code, Op};
 use std::alloc::{AllocError, Global};
 
-/// The most calls that stand at once.
+/// The most calls that are active at once.
 pub const MAX_DEPTH: usize = 256;
 
 /// How a run ended.
@@ -14,9 +14,9 @@ pub const MAX_DEPTH: usize = 256;
 pub enum Outcome<E> {
     /// The whole trace is made.
     Finished,
-    /// The next mark would begin a call above [`MAX_DEPTH`] that stand.
+    /// The next mark would begin a call on top of [`MAX_DEPTH`] active ones.
     Overflow,
-    /// A mark is left, and no fuel.
+    /// A mark is left, but no fuel.
     OutOfFuel,
     /// The next mark was refused.
     Refused(E),
@@ -44,8 +44,8 @@ impl<'c> Runner<'c> {
     ghost use Rattle.interp.specs.Left.{Left, made_by};
     ghost use Rattle.interp.specs.Stepped.{Stepped, Ran};
 
-    /// A runner that has the whole trace of a checked script left, whose code this is. All memory that it
-    /// ever needs is taken here.
+    /// A runner that has the whole trace of a checked script left; `code` is that script's code. This call
+    /// takes all the memory that the runner ever needs.
     pub fn new(alloc: Global, code: &'c Code) -> Result<Runner<'c>, AllocError>
         ensures left { IfOk result (λ r. (bs : List Body) → code.now ≡ map routine bs
             → AreChecked bs → Left r (trace bs)) }
@@ -67,8 +67,8 @@ impl<'c> Runner<'c> {
         self.made
     }
 
-    /// Makes the next mark: true where one was left and is made. After a refusal the runner is as before.
-    /// It takes no memory but what `mark` takes.
+    /// Makes the next mark, and returns true if one was left. After a refusal the runner is as before. The
+    /// call takes no memory but what `mark` takes.
     pub fn step<S: Steps>(&mut self, steps: &mut S) -> Result<bool, S::Refusal>
         ensures stepped { Stepped S.marked S.refused self.old steps.old result self.new steps.new }
         ensures made { IfOk result
@@ -88,8 +88,8 @@ impl<'c> Runner<'c> {
         }
     }
 
-    /// Makes marks until none is left, or the fuel is used up, or one is refused: tested in this order, one
-    /// unit of fuel a mark.
+    /// Makes marks until none is left, the fuel is used up, or a mark is refused, tested in this order.
+    /// Each mark uses one unit of fuel.
     pub fn run<S: Steps>(&mut self, steps: &mut S, fuel: u64) -> Outcome<S::Refusal>
         ensures { Ran S.marked S.refused self.old steps.old fuel result self.new steps.new }
     {
@@ -168,7 +168,7 @@ impl<'c> Runner<'c> {
     }
 }
 
-/// What an action makes where so many callers stand.
+/// What an action makes below so many active callers.
 fn action_ahead(depth: usize, action: Action) -> Ahead
     ensures { result ≡ action_ahead_of depth action }
 {

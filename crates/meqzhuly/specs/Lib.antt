@@ -7,7 +7,7 @@ pub use Rattle.thread_list.specs.Moves
 pub use Rattle.thread_list.specs.Sharing
 pub use Rattle.thread_list.specs.BodyStates
 pub use Rattle.coordinator.specs.Driving
-pub use Rattle.held_threads.specs.Holding
-pub use Rattle.held_threads.specs.Reclaiming
+pub use Rattle.stopped_threads.specs.Holding
+pub use Rattle.stopped_threads.specs.Reclaiming
 pub use Rattle.coordinator.specs.Receipts
 pub use Rattle.coordinator.specs.Refused

@@ -7,9 +7,9 @@ ghost use Rattle.std.specs.Prelude.{◌≡◌};
 ghost use Rattle.method_table.specs.Codes.{is_in_use, is_not_entrant, is_zombie, takes_slot};
 
 mod fault_texts;
-mod guesses;
 mod history;
 pub mod laws;
+mod slot_cache;
 mod slots;
 pub mod table;
 

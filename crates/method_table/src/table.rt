@@ -7,8 +7,8 @@ ghost use Rattle.method_table.specs.declared.Code.{Code};
 ghost use Rattle.method_table.specs.declared.CodeState.TheVariants.{NotEntrant, Zombie, Freed};
 ghost use Rattle.method_table.specs.TableView.{IsTable, install_fault, reason, invalidate_fault, retire_fault, free_fault, entry_of};
 
-use crate::guesses::Guesses;
 use crate::history::{Edit, History};
+use crate::slot_cache::SlotCache;
 use crate::slots::{Slots, forget, note, slot_of};
 use crate::{Code, CodeState};
 use frames::{CodeId, LAST};
@@ -68,7 +68,7 @@ pub struct MethodTable {
     next: u64,
     records: Vec<Code>,
     index: Slots,
-    guesses: Guesses,
+    guesses: SlotCache,
     current: Vec<Option<CodeId>>,
     taken: usize,
     history: History,
@@ -165,7 +165,7 @@ impl MethodTable {
             next: 1,
             records: Vec::new(alloc),
             index: HashMap::new(alloc),
-            guesses: Guesses::new(alloc)?,
+            guesses: SlotCache::new(alloc)?,
             current: vec![in alloc; None; methods as usize]?,
             taken: 0,
             history: History::new(),

@@ -11,14 +11,14 @@ use Rattle.std_heap.specs.contracts.GlobalAllocator.TheImpl.{ghosts, dict}
 use Rattle.std_heap.proofs.Global.TheLaws as heap
 use Rattle.model.specs.contracts.line_model.LineModel as LineModel
 use Rattle.model.proofs.line_model.LineModel.TheLaws as line_model
-use Rattle.model.specs.contracts.loose.Loose as Loose
+use Rattle.model.specs.contracts.raw_box.RawBox as RawBox
 use Rattle.model.specs.contracts.handle.Handle as Handle
 
 abbrev pub E : Bx
 E = record { row = LineModel.the_row; laws = line_model.the_row_laws; al = record { row = Heap.the_row; laws = heap.the_row_laws; g = ghosts; d = dict; drops = impl [] tnil dnil } }
 
 abbrev pub FromParts : Slot 0
-FromParts = plain (λ _. Loose.the_row LineModel.the_row Heap.the_row ghosts)
+FromParts = plain (λ _. RawBox.the_row LineModel.the_row Heap.the_row ghosts)
 
 abbrev pub FromHeap : Slot 0
 FromHeap = plain (λ _. Heap.the_row)

@@ -1,4 +1,4 @@
--- What C is told, and what becomes of its model. A place holds a model or none.
+-- What a call returns to C, and what becomes of its model. A place holds a model or none.
 use Rattle.std.specs.Prelude.{◌≡◌, ◌≤◌, ℕ, ℤ, pos, negsuc, true, false, List, Option, Some, None, Result, Ok, Err, length, take, drop}
 use Rattle.system.specs.World.{start_world}
 use Rattle.system.specs.Stands.{are_sizes}
@@ -46,7 +46,7 @@ pub record IsFresh (places slots methods : ℕ) (model : Stepped) : Type 0 where
   pub at : IsAt model.system (Some (start_world places slots methods))
   pub none_waits : model.waits ≡ None
 
--- The answer to a line, and the model and the room behind it.
+-- The answer to a line, and the model and the room after it.
 abbrev pub LineDone : Result ℕ LineFault → List ℕ → Stepped → List ℕ → Stepped → List ℕ → Type 0
 LineDone (Ok n) bytes old room new room' = Answered old bytes (take n room') new × (n ≤ length room') × (drop n room' ≡ drop n room)
 LineDone (Err fault) bytes old room new room' = Kept fault old bytes (length room) new × (room' ≡ room)

@@ -1,4 +1,4 @@
--- A model that is stepped by lines: what a contract sees of it, and what a line comes to.
+-- A model that is stepped by lines: what a contract sees of it, and what a line does.
 use Rattle.std.specs.Prelude.{◌≡◌, ◌<◌, ℕ, Bool, true, false, List, Option, Some, None, is_some, length}
 use Rattle.system.specs.World.{World}
 use Rattle.replay.specs.declared.engine.Reply.{Reply}
@@ -11,12 +11,12 @@ use Rattle.model.specs.declared.line_model.LineFault.TheVariants as line
 use Rattle.model.specs.declared.line_model.AnswerFault.{AnswerFault}
 use Rattle.model.specs.declared.line_model.AnswerFault.TheVariants as answer
 
--- The system, which stands for the lines that were played; and the reply whose text wasn't taken yet, if one waits.
+-- The system, which represents the lines that were played; and the reply that waits, whose text wasn't taken yet, if there is one.
 pub record Stepped : Type 0 where
   pub system : Option SystemView
   pub waits : Option Reply
 
--- The line is played: there is the definitions' reply to it in each world that the system was at, and the system is at the world after.
+-- The line is played: the reply is the one of the definitions in each world that the system was at, and the system is at the world after.
 -- This is the text of the reply. No other reply waited, and none waits.
 pub record Answered (old : Stepped) (line text : List ℕ) (new : Stepped) : Type 0 where
   pub none_waited : is_some old.waits ≡ false
@@ -25,7 +25,7 @@ pub record Answered (old : Stepped) (line text : List ℕ) (new : Stepped) : Typ
   pub text_is : text ≡ reply_text said
   pub none_waits : new.waits ≡ None
 
--- The line is played, and its reply waits. No other did.
+-- The line is played, and its reply waits. No other reply waited.
 pub record Plays (old : Stepped) (line : List ℕ) (new : Stepped) : Type 0 where
   pub none_waited : is_some old.waits ≡ false
   pub said : Reply
@@ -48,7 +48,7 @@ WhyUnknown answer.NothingWaits None = Unit {0}
 WhyUnknown answer.Unwritten (Some said) = is_short_reply said ≡ false
 WhyUnknown fault waits = ⊥
 
--- Why the text of a reply isn't given: that; or it is longer than the room.
+-- Why the text of a reply isn't given: it isn't made, or it is longer than the room.
 abbrev pub WhyWaits : AnswerFault → Option Reply → ℕ → Type 0
 WhyWaits (answer.TooLong n) (Some said) room = (n ≡ length (reply_text said)) × (room < n)
 WhyWaits (answer.TooLong n) None room = ⊥
@@ -59,7 +59,7 @@ WhyWaits answer.Unwritten waits room = WhyUnknown answer.Unwritten waits
 abbrev pub taken : Stepped → Stepped
 taken model = record { system = model.system; waits = None }
 
--- What is so where a line has no answer yet. It wasn't played, and nothing changed; or it was, and its reply waits.
+-- What holds when a line has no answer yet. The line wasn't played, and nothing changed; or it was played, and its reply waits.
 abbrev pub Kept : LineFault → Stepped → List ℕ → ℕ → Stepped → Type 0
 Kept line.NoMemory old bytes room new = (is_some old.waits ≡ false) × (new ≡ old) × ((world : Option World) → IsAt old.system world → LineTakes world bytes)
 Kept line.AnswerWaits old bytes room new = (is_some old.waits ≡ true) × (new ≡ old)

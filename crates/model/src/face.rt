@@ -2,7 +2,7 @@
 ghost use Rattle.std.specs.Prelude.{◌≡◌, None};
 ghost use Rattle.model.specs.Face.{NewTold, LineTold, AnswerTold, NeedsTold, fault_code, answer_fault_code, new_fault_code};
 
-use crate::handle::Place;
+use crate::handle::CHandle;
 use crate::line_model::{AnswerFault, LineFault, LineModel};
 use std::alloc::Global;
 use system::NewFault;
@@ -53,11 +53,11 @@ fn answer_fault_code(fault: AnswerFault) -> isize
     }
 }
 
-/// Makes a model of these sizes in its place, and answers 0, or a fault.
+/// Makes a model of these sizes in its place. Returns 0, or a fault.
 #[unsafe(no_mangle)]
 pub extern "C" fn model_new(
     alloc: Global,
-    model: &mut Place,
+    model: &mut CHandle,
     places: usize,
     slots: usize,
     methods: usize,
@@ -79,11 +79,11 @@ pub extern "C" fn model_new(
     }
 }
 
-/// Plays a line, and answers the length of its answer, which is in the room then, or a fault.
+/// Plays a line, and puts its answer into the room. Returns the answer's length, or a fault.
 #[unsafe(no_mangle)]
 pub extern "C" fn model_line(
     alloc: Global,
-    model: &mut Place,
+    model: &mut CHandle,
     line: &[u8],
     answer: &mut [u8],
 ) -> isize
@@ -102,9 +102,9 @@ pub extern "C" fn model_line(
     }
 }
 
-/// Gives the answer that waits, and answers its length, or a fault.
+/// Puts the answer that waits into the room. Returns its length, or a fault.
 #[unsafe(no_mangle)]
-pub extern "C" fn model_answer(alloc: Global, model: &mut Place, answer: &mut [u8]) -> isize
+pub extern "C" fn model_answer(alloc: Global, model: &mut CHandle, answer: &mut [u8]) -> isize
     ensures { AnswerTold result model.old.handle.value answer.old model.new.handle.value
         answer.new }
 {
@@ -120,9 +120,9 @@ pub extern "C" fn model_answer(alloc: Global, model: &mut Place, answer: &mut [u
     }
 }
 
-/// Answers the length of the answer that waits, or a fault.
+/// Returns the length of the answer that waits, or a fault.
 #[unsafe(no_mangle)]
-pub extern "C" fn model_needs(alloc: Global, model: &mut Place) -> isize
+pub extern "C" fn model_needs(alloc: Global, model: &mut CHandle) -> isize
     ensures { NeedsTold result model.old.handle.value model.new.handle.value }
 {
     if !model.is_made() {
@@ -139,7 +139,7 @@ pub extern "C" fn model_needs(alloc: Global, model: &mut Place) -> isize
 
 /// Frees the model, if there is one.
 #[unsafe(no_mangle)]
-pub extern "C" fn model_free(alloc: Global, model: &mut Place)
+pub extern "C" fn model_free(alloc: Global, model: &mut CHandle)
     ensures { model.new.handle.value ≡ None }
 {
     if model.is_made() {

@@ -4,13 +4,13 @@ ghost use Rattle.model.specs.Stepped.{Stepped};
 ghost use Rattle.model.specs.Held.{held_owns, held_coded};
 
 use crate::line_model::LineModel;
-use crate::loose::Loose;
+use crate::raw_box::RawBox;
 use std::alloc::Global;
 use std::marker::Model;
 use std::mem::replace;
 use std::ptr::null_mut;
 
-/// A boxed model as its pointer, or no model, and then the pointer is null.
+/// A boxed model as its pointer; the pointer is null if there is no model.
 #[repr(C)]
 #[derive(Drop)]
 pub struct Handle {
@@ -33,43 +33,43 @@ impl Handle {
         }
     }
 
-    fn of_parts(parts: Loose<LineModel, Global>) -> Handle
+    fn of_parts(parts: RawBox<LineModel, Global>) -> Handle
         ensures { result.value ≡ Some parts.value }
     {
-        let Loose { at, alloc } = parts;
+        let RawBox { at, alloc } = parts;
         Handle {
             at: at as *mut u8,
             alloc,
         }
     }
 
-    fn into_parts(self) -> Loose<LineModel, Global>
+    fn into_parts(self) -> RawBox<LineModel, Global>
         requires { is_some self.value ≡ true }
         ensures { Some result.value ≡ self.value }
     {
         let Handle { at, alloc } = self;
-        Loose {
+        RawBox {
             at: at as *mut LineModel,
             alloc,
         }
     }
 }
 
-/// The place of a model in C's memory: `struct model` of the header. All zeros, it has none.
+/// The place of a model in C's memory: `struct model` of the header. A place of all zeros has no model.
 #[repr(C)]
 #[derive(Drop)]
-pub struct Place {
+pub struct CHandle {
     made: bool,
     pub handle: Handle,
     pub ghost tied: { made ≡ is_some handle.value },
 }
 
-impl Place {
+impl CHandle {
     /// A place without a model.
-    pub(crate) fn none(alloc: Global) -> Place
+    pub(crate) fn none(alloc: Global) -> CHandle
         ensures { result.handle.value ≡ None }
     {
-        Place {
+        CHandle {
             made: false,
             handle: Handle::none(alloc),
         }
@@ -87,7 +87,7 @@ impl Place {
         ensures model { Some result.value ≡ self.old.handle.value }
         ensures none { self.new.handle.value ≡ None }
     {
-        replace(self, Place::none(alloc))
+        replace(self, CHandle::none(alloc))
             .handle
             .into_parts()
             .into_box()
@@ -97,9 +97,9 @@ impl Place {
     pub(crate) fn put(&mut self, model: Box<LineModel>)
         ensures { self.new.handle.value ≡ Some model.value }
     {
-        *self = Place {
+        *self = CHandle {
             made: true,
-            handle: Handle::of_parts(Loose::of(model)),
+            handle: Handle::of_parts(RawBox::of(model)),
         };
     }
 }

@@ -6,5 +6,5 @@
 pub mod face;
 pub mod handle;
 pub mod line_model;
-mod loose;
+mod raw_box;
 pub(crate) mod writing;

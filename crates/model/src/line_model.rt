@@ -49,7 +49,7 @@ pub enum LineFault {
     Unwritten,
 }
 
-/// Why no answer that waits is given.
+/// Why the answer that waits isn't given.
 #[derive(Clone, Copy, Debug, PartialEq, Eq, Drop)]
 pub enum AnswerFault {
     /// No answer waits.
@@ -61,7 +61,7 @@ pub enum AnswerFault {
 }
 
 impl LineModel {
-    /// A model of these sizes, of which no line was played yet: what `size` makes of them.
+    /// A model of these sizes, on which no line was played yet: `size` makes the same one.
     pub fn new(
         alloc: Global,
         places: usize,
@@ -88,7 +88,7 @@ impl LineModel {
         }
     }
 
-    /// Plays a line, and puts its answer, without a newline, at the front of the room. The length of the answer is answered.
+    /// Plays a line, and puts its answer, without a newline, at the front of the room. Returns the answer's length.
     pub fn line(
         &mut self,
         alloc: Global,
@@ -118,7 +118,7 @@ impl LineModel {
         }
     }
 
-    /// Puts the answer that waits, without a newline, at the front of the room. Then it waits no more, and its length is answered.
+    /// Puts the answer that waits, without a newline, at the front of the room. Returns its length; the answer waits no more.
     pub fn take_answer(&mut self, answer: &mut [u8]) -> Result<usize, AnswerFault>
         ensures given { IfOk result (λ n. Gives self.old.waits (take n answer.new)) }
         ensures taken { OnOk result (self.new ≡ taken self.old) }

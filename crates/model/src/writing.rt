@@ -1,4 +1,4 @@
-// The text of a reply, into room that is lent.
+// Writes the text of a reply into borrowed room.
 ghost use Rattle.std.specs.Prelude.{◌≡◌, ◌++◌, ◌∷◌, ◌≤◌, ◌<◌, ◌^◌, [], Some, IfOk, IfErr, OnOk, OnErr, length, take, drop, vec_capacity};
 ghost use Rattle.replay.specs.Printed.{reply_text};
 ghost use Rattle.model.specs.Stepped.{WhyUnknown, WhyWaits};
@@ -7,7 +7,7 @@ use crate::line_model::AnswerFault;
 use replay::engine::Reply;
 use replay::print::put_reply;
 
-/// Makes the line of text for a reply, and says how long it is without its newline.
+/// Makes the line of text for a reply, and returns its length without its newline.
 pub(crate) fn write_text(text: &mut Vec<u8>, said: &Reply) -> Result<usize, AnswerFault>
     requires room { 128 ≤ vec_capacity text.old }
 
@@ -24,7 +24,7 @@ pub(crate) fn write_text(text: &mut Vec<u8>, said: &Reply) -> Result<usize, Answ
     }
 }
 
-/// Puts the text of a reply at the front of the room, without a newline, and says how long it is.
+/// Puts the text of a reply at the front of the room, without a newline, and returns its length.
 pub(crate) fn write_into(
     text: &mut Vec<u8>,
     said: &Reply,

@@ -1,11 +1,11 @@
 //! The program: lines of events in, lines of answers out; or a script that is checked, or run on threads.
 //! People and scripts run it: `replay`, `check FILE`, `run FILE [--threads N]`.
-//! Read `commands/src/command_line.rt` first, then `docs/start/LINES.md` and `docs/start/SCRIPTS.md`.
+//! Read `cli/src/command_line.rt` first, then `docs/start/LINES.md` and `docs/start/SCRIPTS.md`.
 #![tactic(auto)]
 
 ghost use Rattle.std.specs.Prelude.{◌<◌, ◌≤◌};
 
-use commands::{Fault, Form, OfProcess, check_script, read_code, read_form, read_words, run_with};
+use cli::{Fault, Form, OfProcess, check_script, read_code, read_form, read_words, run_with};
 use replay::device::{FromReader, IntoWriter};
 use replay::stream::replay;
 use std::fs::File;
@@ -14,10 +14,10 @@ use std::sync::Wait;
 use std::thread::Threads;
 use workers::OpenGate;
 
-/// `monitor replay` answers the lines of standard input on standard output. `monitor check FILE` says on standard output
-/// how many methods the script in the file has. `monitor run FILE [--threads N]` runs it on N threads, 1 to 64 and by default 4, and
-/// says there what the run came to. The status is 0 when all is done, 1 for a fault and 2 for bad words, which
-/// are all other command lines. A fault is told on standard error, in one line.
+/// `monitor replay` answers the lines of standard input on standard output. `monitor check FILE` prints how many methods the script in the
+/// file has. `monitor run FILE [--threads N]` runs the script on N threads, 1 to 64 and by default 4, and prints the result of the run. The
+/// status is 0 when all is done, 1 for a fault, and 2 for bad arguments, which are all other command lines. A fault is reported on standard
+/// error, in one line.
 fn main(rt: HostRuntime) -> ExitCode {
     match run(&rt, &rt) {
         Ok(()) => ExitCode::SUCCESS,
@@ -28,7 +28,7 @@ fn main(rt: HostRuntime) -> ExitCode {
     }
 }
 
-// `threads` is the runtime's leave to start threads and to wait.
+// `threads` is the runtime's capability to start threads and to block.
 fn run<R: Threads + Wait + Sync>(rt: &HostRuntime, threads: &R) -> Result<(), Fault> {
     let words = read_words(&OfProcess::new(rt), rt.alloc())?;
     match read_form(&words) {

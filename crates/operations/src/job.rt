@@ -4,12 +4,12 @@ ghost use Rattle.frames.specs.ImageView.{ImageView, IsSettled};
 ghost use Rattle.operations.specs.Asks.{reply};
 
 use crate::Ask;
-pub use errands::Errand;
 use frames::image::Image;
+pub use handshake_ops::HandshakeOp;
 pub use queries::Query;
 pub use runs::Done;
 
-pub mod errands;
+pub mod handshake_ops;
 pub mod queries;
 pub mod runs;
 
@@ -35,11 +35,11 @@ impl Job {
         requires answers { (i : _) (r : _) → IsSettled i.now → Call.post call i r
             → r ≡ reply ask i.now.frames }
 
-        ensures number { ⟦<Job as Errand>⟧.number result ≡ 0 }
-        ensures whom { ⟦<Job as Errand>⟧.whom result ≡ target }
-        ensures asks { ⟦<Job as Errand>⟧.asks result ≡ ask }
+        ensures number { ⟦<Job as HandshakeOp>⟧.number result ≡ 0 }
+        ensures whom { ⟦<Job as HandshakeOp>⟧.whom result ≡ target }
+        ensures asks { ⟦<Job as HandshakeOp>⟧.asks result ≡ ask }
         ensures callback { (image : ImageView) (reply : ℕ)
-            → ⟦<Job as Errand>⟧.may_answer result image reply ↔ ((i : _) × (i.now ≡ image)
+            → ⟦<Job as HandshakeOp>⟧.may_answer result image reply ↔ ((i : _) × (i.now ≡ image)
             × Call.post call i reply) }
     {
         Job {
@@ -52,11 +52,11 @@ impl Job {
 
     /// The job with the number of its operation.
     pub fn numbered(self, op: u64) -> Job
-        ensures number { ⟦<Job as Errand>⟧.number result ≡ op }
-        ensures whom { ⟦<Job as Errand>⟧.whom result ≡ ⟦<Job as Errand>⟧.whom self }
-        ensures asks { ⟦<Job as Errand>⟧.asks result ≡ ⟦<Job as Errand>⟧.asks self }
+        ensures number { ⟦<Job as HandshakeOp>⟧.number result ≡ op }
+        ensures whom { ⟦<Job as HandshakeOp>⟧.whom result ≡ ⟦<Job as HandshakeOp>⟧.whom self }
+        ensures asks { ⟦<Job as HandshakeOp>⟧.asks result ≡ ⟦<Job as HandshakeOp>⟧.asks self }
         ensures callback { (image : ImageView) (reply : ℕ)
-            → ⟦<Job as Errand>⟧.may_answer result image reply ↔ ⟦<Job as Errand>⟧.may_answer self
+            → ⟦<Job as HandshakeOp>⟧.may_answer result image reply ↔ ⟦<Job as HandshakeOp>⟧.may_answer self
             image reply }
     {
         let mut job = self;
@@ -66,20 +66,20 @@ impl Job {
 
     /// The number of its operation, 0 before it has one.
     pub fn op(&self) -> u64
-        ensures { result ≡ ⟦<Job as Errand>⟧.number self.now }
+        ensures { result ≡ ⟦<Job as HandshakeOp>⟧.number self.now }
     {
         self.op
     }
 
     /// The name of the thread that it is for.
     pub fn target(&self) -> u64
-        ensures { result ≡ ⟦<Job as Errand>⟧.whom self.now }
+        ensures { result ≡ ⟦<Job as HandshakeOp>⟧.whom self.now }
     {
         self.target
     }
 
     pub fn ask(&self) -> Ask
-        ensures { result ≡ ⟦<Job as Errand>⟧.asks self.now }
+        ensures { result ≡ ⟦<Job as HandshakeOp>⟧.asks self.now }
     {
         self.ask
     }

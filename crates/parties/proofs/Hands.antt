@@ -3,10 +3,10 @@ use Rattle.std.proofs.Common.{◌≡◌, ℕ, Result, Err, IfErr, inl, inr, subs
 use Rattle.frames.specs.ImageView.{ImageView}
 use Rattle.operations.specs.declared.Ask.{Ask}
 use Rattle.berths.specs.Berths.{Berthing}
-use Rattle.held_threads.specs.Holding.{Holding}
-use Rattle.held_threads.specs.declared.serving.Unserved.{Unserved}
-use Rattle.held_threads.specs.declared.serving.Unserved.TheVariants.{NoJob, NotEntered}
-use Rattle.coordinator_steps.specs.Done.{Leaves}
+use Rattle.stopped_threads.specs.Holding.{Holding}
+use Rattle.stopped_threads.specs.declared.serving.Unserved.{Unserved}
+use Rattle.stopped_threads.specs.declared.serving.Unserved.TheVariants.{NoJob, NotEntered}
+use Rattle.coordinator_core.specs.Done.{Leaves}
 use Rattle.parties.specs.Coordinated.{IsLeft}
 
 left_stays : {J N : Type 0} (number whom : J → ℕ) (asks : J → Ask) (may_answer : J → ImageView → ℕ → Type 0) (old new : Holding) (place : ℕ) (room left : Berthing N) (why : Unserved)

@@ -1,4 +1,5 @@
 pub mod Fits
 pub mod Hands
 pub mod Roles
+pub mod LockSteps
 pub mod Sends

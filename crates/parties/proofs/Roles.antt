@@ -2,9 +2,9 @@
 use Rattle.std.proofs.Common.{◌≡◌, ℕ, Ok, Err, inl, inr, refl, sym, subst}
 use Rattle.berths.specs.Berths.{Moved}
 use Rattle.thread_list.specs.Moves.{Running}
-use Rattle.held_threads.specs.Holding.{Holding}
-use Rattle.held_threads.specs.declared.faults.Reclaimed.{Reclaimed}
-use Rattle.held_threads.specs.declared.faults.Reclaimed.TheVariants as became
+use Rattle.stopped_threads.specs.Holding.{Holding}
+use Rattle.stopped_threads.specs.declared.faults.Reclaimed.{Reclaimed}
+use Rattle.stopped_threads.specs.declared.faults.Reclaimed.TheVariants as became
 use Rattle.parties.specs.Asked.{Told}
 use Rattle.parties.specs.Coordinated.{Weighs as WeighsTold, IsWeighed}
 use Rattle.parties.specs.Weighed.{told_of}

@@ -5,7 +5,7 @@ use denote.Param.Send.{IsSend, IsSync, owning_send, sendable}
 use Rattle.std.proofs.Crossing.{crosses}
 use Rattle.std.proofs.MapsCrossing as maps
 use Rattle.bodies.specs.declared.name.Name as name
-use Rattle.operations.specs.declared.job.errands.Errand as errand
+use Rattle.operations.specs.declared.job.handshake_ops.HandshakeOp as errand
 use Rattle.board.proofs.board.Board.TheSendSync as board
 use Rattle.board.proofs.keeper.Keeper.TheSendSync as keeper
 use Rattle.poll.proofs.row.PollRow.TheSendSync as row
@@ -16,22 +16,22 @@ use Rattle.operations.proofs.queue.Queue.TheSendSync as queue
 use Rattle.desk.proofs.entries.Carried.TheSendSync as carried
 use Rattle.desk.proofs.entries.Opened.TheSendSync as opened
 use Rattle.desk.proofs.replies.Replies.TheSendSync as replies
-use Rattle.tried_lock.proofs.lock.TriedLock.TheSendSync as lock
+use Rattle.parties.proofs.tried_lock.TriedLock.TheSendSync as lock
 use Rattle.method_table.specs.contracts.history.History as History
 use Rattle.method_table.specs.contracts.table.MethodTable as MethodTable
 use Rattle.desk.specs.contracts.codes.Codes as Codes
-use Rattle.desk.specs.contracts.past.Past as Past
+use Rattle.desk.specs.contracts.ghost_history.Past as Past
 use Rattle.desk.specs.contracts.log.Log as Log
 use Rattle.desk.specs.contracts.desk.Desk as Desk
 use Rattle.berths.specs.contracts.room.Holder as Holder
 use Rattle.berths.specs.contracts.room.Room as Room
 use Rattle.berths.specs.contracts.room.BodyReceipt as BodyReceipt
 use Rattle.thread_list.specs.contracts.hints.Hints as Hints
-use Rattle.thread_steps.specs.contracts.body_state.BodyState as BodyState
-use Rattle.thread_steps.specs.contracts.runner.Stepper as Stepper
-use Rattle.thread_steps.specs.contracts.ends.Entered as Entered
-use Rattle.held_threads.specs.contracts.held.Held as Held
-use Rattle.coordinator_steps.specs.contracts.steps.Steps as Steps
+use Rattle.thread_list.specs.contracts.body_state.BodyState as BodyState
+use Rattle.thread_list.specs.contracts.running_thread.RunningThread as RunningThread
+use Rattle.thread_list.specs.contracts.ends.Entered as Entered
+use Rattle.stopped_threads.specs.contracts.held.HeldBodies as HeldBodies
+use Rattle.coordinator_core.specs.contracts.coordinator.CoordinatorCore as CoordinatorCore
 use Rattle.parties.specs.contracts.system.LockedRoom as LockedRoom
 use Rattle.parties.specs.contracts.system.SharedSystem as SharedSystem
 use Rattle.parties.specs.contracts.party.Role as Role
@@ -87,20 +87,20 @@ module _ (N : RattleType) (n : name.Ghosts N.Denot) (sn : IsSend N) where
   body_state_send : IsSend (BodyState.the_field N n).row
   body_state_send = search (sendable, crosses, body.the_send, receipt_send) depth 40
 
-  stepper_send : IsSend (Stepper.the_row N n)
-  stepper_send = search (sendable, crosses, body_state_send, receipt_send) depth 40
+  thread_send : IsSend (RunningThread.the_row N n)
+  thread_send = search (sendable, crosses, body_state_send, receipt_send) depth 40
 
   entered_send : IsSend (Entered.the_row N n)
   entered_send = search (sendable, crosses) depth 40
 
-  held_send : IsSend (Held.the_row N n)
+  held_send : IsSend (HeldBodies.the_row N n)
   held_send = search (sendable, crosses, body.the_send) depth 40
 
-  steps_send : IsSend (Steps.the_row N n)
+  steps_send : IsSend (CoordinatorCore.the_row N n)
   steps_send = search (sendable, crosses, held_send, armer.the_send) depth 40
 
   role_send : IsSend (Role.the_field N n).row
-  role_send = search (sendable, crosses, entered_send, stepper_send, receipt_send, steps_send) depth 40
+  role_send = search (sendable, crosses, entered_send, thread_send, receipt_send, steps_send) depth 40
 
   party_send : IsSend (Party.the_row N n)
   party_send = search (sendable, crosses, system_sync, system_send, role_send) depth 40

@@ -15,19 +15,19 @@ use Rattle.berths.specs.Berths.{Moved, Berthing}
 use Rattle.berths.specs.declared.room.BodyAct.TheVariants as moved
 use Rattle.thread_list.specs.declared.polls.Poll.{Poll}
 use Rattle.thread_list.specs.declared.polls.Poll.TheVariants.{Go, Stop}
-use Rattle.thread_list.specs.declared.mutator.CallFault.TheVariants as call
-use Rattle.thread_list.specs.declared.mutator.ReturnFault.TheVariants as returns
+use Rattle.thread_list.specs.declared.faults.CallFault.TheVariants as call
+use Rattle.thread_list.specs.declared.faults.ReturnFault.TheVariants as returns
 use Rattle.thread_list.specs.Moves.{Running, SameThread, Polls, Leaves, Gives, ComesBack, IsFirst, IsResumed, IsVacated, IsGivenUp, is_running}
-use Rattle.thread_steps.specs.Moves.{Starting, StopsNext, EndsServing, PollsIn}
-use Rattle.thread_steps.specs.Rooms.{StaysStopped}
-use Rattle.thread_steps.specs.Refused.{HasFrames, PollsOn}
+use Rattle.thread_list.specs.Steps.{Starting, StopsNext, EndsServing, PollsIn}
+use Rattle.thread_list.specs.Rooms.{StaysStopped}
+use Rattle.thread_list.specs.Refused.{HasFrames, PollsOn}
 use Rattle.thread_list.specs.Refused.{call_accepted, call_refused, return_refused}
 use Rattle.desk.specs.Finishing.{FinishSeen}
-use Rattle.held_threads.specs.Holding.{Holding}
+use Rattle.stopped_threads.specs.Holding.{Holding}
 use Rattle.desk.specs.declared.entries.Entry.{Entry}
 use Rattle.desk.specs.Fields.{DeskSeen, at}
 use Rattle.desk.specs.Refusals.{start_refused}
-use Rattle.parties.specs.Asked.{Told, IsLegal, WasEntered, WasStarted, Submits, Installs, Invalidates, Begins, FindsReply, FindsNext, Forgets, names_behind}
+use Rattle.parties.specs.Asked.{Told, IsLegal, WasEntered, WasStarted, Submits, Installs, Invalidates, Begins, FindsReply, FindsNext, FindsKind, Forgets, names_behind}
 use Rattle.parties.specs.Pairs.{first_of, or_zero}
 use Rattle.parties.specs.Coordinated as coordinated
 use Rattle.parties.specs.declared.acts.Act.{Act}
@@ -289,6 +289,7 @@ Acts places old (act.Install method) said new = AsksOf (Installs method) old sai
 Acts places old (act.Invalidate serial) said new = AsksOf (Invalidates serial) old said new
 Acts places old (act.Reply op name) said new = AsksOf (FindsReply op name) old said new
 Acts places old (act.LiveAfter name) said new = AsksOf (FindsNext name) old said new
+Acts places old act.OpenKind said new = AsksOf FindsKind old said new
 Acts places old act.Forget said new = AsksOf Forgets old said new
 Acts places old act.Open said new = ActsAs (OfCoordinator Opens) old said new
 Acts places old (act.Tell name) said new = TellsName name old said new

@@ -8,13 +8,15 @@ use Rattle.operations.specs.declared.Ask.{Ask}
 use Rattle.operations.specs.declared.Ask.TheVariants.{CountOf}
 use Rattle.operations.specs.declared.Request.{Request}
 use Rattle.operations.specs.declared.Request.TheVariants.{Handshake, Census}
+use Rattle.operations.specs.declared.Kind.{Kind}
+use Rattle.operations.specs.declared.Kind.TheVariants as kind
 use Rattle.desk.specs.declared.entries.Entry.{Entry}
 use Rattle.desk.specs.declared.faults.AskFault.TheVariants as ask_fault
 use Rattle.desk.specs.declared.faults.ReclaimFault.TheVariants as reclaim_fault
 use Rattle.desk.specs.Fields.{DeskSeen, Enters, EntersInstall, at}
 use Rattle.desk.specs.Machine.{Stands, is_legal, is_taken}
 use Rattle.desk.specs.Replies.{replies_kept}
-use Rattle.desk.specs.Targets.{live_after}
+use Rattle.desk.specs.Targets.{live_after, open_kind}
 use Rattle.desk.specs.Pending.{least_pending}
 use Rattle.desk.specs.Refusals.{ask_refused, install_refused, reclaim_refused, is_idle}
 use Rattle.parties.specs.Pairs.{first_of, or_zero}
@@ -129,6 +131,18 @@ abbrev pub FindsNext : (name : ℕ) → Told → Type 0
 FindsNext name (Ok n) = (d : DeskSeen) × IsLegal d × (n ≡ or_zero (live_after name (at d).live))
 FindsNext name (Err fault.Again) = Unit {0}
 FindsNext name (Err e) = ⊥
+
+-- The number of a kind, 0 for none.
+abbrev pub kind_number : Option Kind → ℕ
+kind_number None = 0
+kind_number (Some kind.Handshake) = 1
+kind_number (Some kind.Census) = 2
+
+-- Of which kind the oldest open request of a desk is, 0 where nothing is open. All that is open is of one kind.
+abbrev pub FindsKind : Told → Type 0
+FindsKind (Ok n) = (d : DeskSeen) × IsLegal d × (n ≡ kind_number (open_kind (at d)))
+FindsKind (Err fault.Again) = Unit {0}
+FindsKind (Err e) = ⊥
 
 -- A desk has forgotten all entries that it had.
 abbrev pub Forgets : Told → Type 0

@@ -18,16 +18,16 @@ use Rattle.desk.specs.Refusals.{MayOperate, close_refused, open_refused}
 use Rattle.desk.specs.Targets.{progress, standing}
 use Rattle.desk.specs.Weighings.{WeighingSeen}
 use Rattle.thread_list.specs.Moves.{IsOperated}
-use Rattle.held_threads.specs.declared.faults.Reclaimed.{Reclaimed}
-use Rattle.held_threads.specs.declared.faults.Reclaimed.TheVariants as became
-use Rattle.held_threads.specs.declared.faults.HoldFault.TheVariants as hold
-use Rattle.held_threads.specs.declared.faults.ReleaseFault.TheVariants as release
-use Rattle.held_threads.specs.declared.faults.ServeFault.TheVariants as serve
-use Rattle.held_threads.specs.Held.{AreEach, is_held}
-use Rattle.held_threads.specs.Holding.{Holding}
-use Rattle.held_threads.specs.Reclaiming.{IsReclaimedFrom}
-use Rattle.coordinator_steps.specs.Done as done
-use Rattle.held_threads.specs.Refused as steps
+use Rattle.stopped_threads.specs.declared.faults.Reclaimed.{Reclaimed}
+use Rattle.stopped_threads.specs.declared.faults.Reclaimed.TheVariants as became
+use Rattle.stopped_threads.specs.declared.faults.HoldFault.TheVariants as hold
+use Rattle.stopped_threads.specs.declared.faults.ReleaseFault.TheVariants as release
+use Rattle.stopped_threads.specs.declared.faults.ServeFault.TheVariants as serve
+use Rattle.stopped_threads.specs.Held.{AreEach, is_held}
+use Rattle.stopped_threads.specs.Holding.{Holding}
+use Rattle.stopped_threads.specs.Reclaiming.{IsReclaimedFrom}
+use Rattle.coordinator_core.specs.Done as done
+use Rattle.stopped_threads.specs.Refused as steps
 use Rattle.parties.specs.declared.acts.Fault.TheVariants as fault
 use Rattle.parties.specs.Asked.{Told, IsLegal, WasEntered}
 

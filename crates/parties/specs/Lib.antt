@@ -1,3 +1,4 @@
+pub mod Locked
 pub mod Systems
 pub mod Asked
 pub mod Coordinated

@@ -1,7 +1,7 @@
 -- What is told of a code that was weighed.
 use Rattle.std.specs.Prelude.{Ok, Err}
-use Rattle.held_threads.specs.declared.faults.Reclaimed.{Reclaimed}
-use Rattle.held_threads.specs.declared.faults.Reclaimed.TheVariants as became
+use Rattle.stopped_threads.specs.declared.faults.Reclaimed.{Reclaimed}
+use Rattle.stopped_threads.specs.declared.faults.Reclaimed.TheVariants as became
 use Rattle.parties.specs.declared.acts.Fault.TheVariants as fault
 use Rattle.parties.specs.Asked.{Told}
 

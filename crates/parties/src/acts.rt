@@ -1,7 +1,7 @@
 //! What a party is asked to do, and why it doesn't.
 ghost use Rattle.std.specs.Prelude.{◌≡◌};
 
-use coordinator_steps::{HoldFault, OperateFault, ReleaseFault, ServeFault, TellFault};
+use coordinator_core::{HoldFault, OperateFault, ReleaseFault, ServeFault, TellFault};
 use desk::{AskFault, CloseFault, CodeFault, OpenFault, ReclaimFault, StartFault};
 use method_table::table::InvalidateFault;
 use operations::Ask;
@@ -38,6 +38,8 @@ pub enum Act {
     Reply(u64, u64),
     /// The least name above this one that is live.
     LiveAfter(u64),
+    /// Of which kind what is open is, as a number.
+    OpenKind,
     Forget,
     Open,
     Tell(u64),

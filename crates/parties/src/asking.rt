@@ -3,9 +3,9 @@ ghost use Rattle.std.specs.Prelude.{◌≡◌, true, Err, IfOk, IfErr, IfSome};
 ghost use Rattle.desk.specs.declared.entries.Entry.{Entry};
 ghost use Rattle.desk.specs.Fields.{at};
 ghost use Rattle.desk.specs.JobsFit.{are_for, jobs_fit};
-ghost use Rattle.desk.specs.Targets.{live_after};
+ghost use Rattle.desk.specs.Targets.{live_after, open_kind};
 ghost use Rattle.operations.specs.declared.Request.{Request as RequestOf};
-ghost use Rattle.parties.specs.Asked.{request_for, reclaiming_for, names_behind, number_in, IsEntry, IsInstall, IsBegun, Submits, Installs, Invalidates, Begins, ReplyAt, FindsReply, FindsNext, Forgets};
+ghost use Rattle.parties.specs.Asked.{request_for, reclaiming_for, names_behind, number_in, kind_number, IsEntry, IsInstall, IsBegun, Submits, Installs, Invalidates, Begins, ReplyAt, FindsReply, FindsNext, FindsKind, Forgets};
 ghost use Rattle.parties.specs.Pairs.{or_zero};
 
 use crate::acts::Fault;
@@ -13,14 +13,14 @@ use crate::pairs::first_of;
 use crate::system::SharedSystem;
 use bodies::Name;
 use desk::{AskFault, Desk, NotReclaimed, Receipt, ReclaimFault, Refused};
-use operations::job::{Errand, Query};
-use operations::{Ask, Request, Targets};
+use operations::job::{HandshakeOp, Query};
+use operations::{Ask, Kind, Request, Targets};
 use std::alloc::{AllocError, Global};
 
 // A job for each name.
 fn queries(alloc: Global, names: &[u64], ask: Ask) -> Result<Vec<Query>, AllocError>
     ensures { IfOk result
-        (λ v. are_for ⟦<Query as Errand>⟧.whom ⟦<Query as Errand>⟧.asks names.now ask v.items
+        (λ v. are_for ⟦<Query as HandshakeOp>⟧.whom ⟦<Query as HandshakeOp>⟧.asks names.now ask v.items
         ≡ true) }
 {
     let mut jobs = Vec::with_capacity(alloc, names.len())?;
@@ -48,7 +48,7 @@ fn request_for(
 ) -> Result<(Request, Vec<Query>), AllocError>
     ensures request { IfOk result (λ r. r.0 ≡ request_for ask names.now) }
     ensures jobs { IfOk result
-        (λ r. jobs_fit ⟦<Query as Errand>⟧.whom ⟦<Query as Errand>⟧.asks
+        (λ r. jobs_fit ⟦<Query as HandshakeOp>⟧.whom ⟦<Query as HandshakeOp>⟧.asks
         (request_for ask names.now) r.1.items ≡ true) }
 {
     let Some(ask) = ask else {
@@ -68,7 +68,7 @@ fn reclaiming_for(
     ensures request { IfOk result (λ r. r.0 ≡ reclaiming_for serial names.now) }
     ensures jobs { IfOk result
         (λ r. (asked : RequestOf) → r.0 ≡ Some asked
-        → jobs_fit ⟦<Query as Errand>⟧.whom ⟦<Query as Errand>⟧.asks asked r.1.items ≡ true) }
+        → jobs_fit ⟦<Query as HandshakeOp>⟧.whom ⟦<Query as HandshakeOp>⟧.asks asked r.1.items ≡ true) }
 {
     let [_, ..] = names else {
         return Ok((None, Vec::new(alloc)));
@@ -251,6 +251,27 @@ pub(crate) fn live_after<N: Name>(system: &SharedSystem<N>, name: u64) -> Result
     };
     desk.value.history_is_legal();
     Ok(next_at(&*desk.value, name))
+}
+
+// Of which kind what is open at the desk is, 0 where nothing is.
+fn kind_at<N: Name>(desk: &Desk<N, Query>) -> u64
+    ensures { result ≡ kind_number (open_kind (at desk.now)) }
+{
+    match desk.open_kind() {
+        None => 0,
+        Some(Kind::Handshake) => 1,
+        Some(Kind::Census) => 2,
+    }
+}
+
+pub(crate) fn open_kind<N: Name>(system: &SharedSystem<N>) -> Result<u64, Fault>
+    ensures { FindsKind result }
+{
+    let Some(desk) = system.try_desk() else {
+        return Err(Fault::Again);
+    };
+    desk.value.history_is_legal();
+    Ok(kind_at(&*desk.value))
 }
 
 pub(crate) fn forget<N: Name>(system: &SharedSystem<N>) -> Result<u64, Fault>

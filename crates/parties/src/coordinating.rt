@@ -2,7 +2,7 @@
 //! its receipt.
 ghost use Rattle.std.specs.Prelude.{◌≡◌, Ok, Err, IfOk, IfErr, IfSome, IfNone};
 ghost use Rattle.desk.specs.declared.entries.Entry.{Entry};
-ghost use Rattle.coordinator_steps.specs.Done as done;
+ghost use Rattle.coordinator_core.specs.Done as done;
 ghost use Rattle.parties.specs.Asked.{IsEntry};
 ghost use Rattle.parties.specs.Coordinated.{Opens, Tells, Arms, IsGone, KeepsHand, Holds, IsHold, Serves, IsServed, Releases, Operates, IsOperate, SameCounts, Closes, IsClose, Weighs, IsWeighed};
 
@@ -10,11 +10,11 @@ use crate::acts::Fault;
 use crate::system::SharedSystem;
 use berths::{BerthReceipt, BodyReceipt};
 use bodies::Name;
-use coordinator_steps::{
-    HoldFault, Reclaimed, ReleaseFault, ServeFault, Steps, weigh as weigh_code,
+use coordinator_core::{
+    CoordinatorCore, HoldFault, Reclaimed, ReleaseFault, ServeFault, weigh as weigh_code,
 };
 use desk::{Closing, Finished, Operating, Receipt};
-use operations::job::{Errand, Query};
+use operations::job::{HandshakeOp, Query};
 use std::alloc::Global;
 
 /// Opens the oldest request that waits: its number.
@@ -35,7 +35,7 @@ pub(crate) fn open<N: Name>(system: &SharedSystem<N>) -> Result<(u64, Receipt<N>
 /// Tells a name: the number that its place is armed with; None where the name is gone.
 pub(crate) fn tell<'s, 'c, 'h, N: Name>(
     system: &'s SharedSystem<N>,
-    keeps: &'c mut Steps<N>,
+    keeps: &'c mut CoordinatorCore<N>,
     name: u64,
     hand: &'h mut Option<Query>,
 ) -> Result<Option<(u64, BerthReceipt<N>)>, Fault>
@@ -44,12 +44,12 @@ pub(crate) fn tell<'s, 'c, 'h, N: Name>(
     ensures refused { IfErr result (λ e. Tells name keeps.old (Err e) keeps.new) }
     ensures hand { IfOk result
         (λ o. IfSome o
-        (λ r. KeepsHand ⟦<Query as Errand>⟧.number ⟦<Query as Errand>⟧.whom name (Ok r.0) hand.old
+        (λ r. KeepsHand ⟦<Query as HandshakeOp>⟧.number ⟦<Query as HandshakeOp>⟧.whom name (Ok r.0) hand.old
         hand.new)) }
     ensures hand_stays { IfOk result (λ o. IfNone o (hand.new ≡ hand.old)) }
 
     ensures hand_kept { IfErr result
-        (λ e. KeepsHand ⟦<Query as Errand>⟧.number ⟦<Query as Errand>⟧.whom name (Err e) hand.old
+        (λ e. KeepsHand ⟦<Query as HandshakeOp>⟧.number ⟦<Query as HandshakeOp>⟧.whom name (Err e) hand.old
         hand.new) }
 {
     let Some(mut desk) = system.try_desk() else {
@@ -80,7 +80,7 @@ pub(crate) fn tell<'s, 'c, 'h, N: Name>(
 /// Holds the thread of a place: the number of the oldest operation that it owes.
 pub(crate) fn hold<'s, 'c, N: Name>(
     system: &'s SharedSystem<N>,
-    keeps: &'c mut Steps<N>,
+    keeps: &'c mut CoordinatorCore<N>,
     place: usize,
 ) -> Result<(u64, BodyReceipt<N>), Fault>
     ensures held { IfOk result (λ r. IsHold place keeps.old r.0 r.1 keeps.new) }
@@ -105,7 +105,7 @@ pub(crate) fn hold<'s, 'c, N: Name>(
 /// Serves the held thread of a place: the number of the operation.
 pub(crate) fn serve<'s, 'c, N: Name>(
     system: &'s SharedSystem<N>,
-    keeps: &'c mut Steps<N>,
+    keeps: &'c mut CoordinatorCore<N>,
     place: usize,
 ) -> Result<(u64, Finished<N>), Fault>
     ensures served { IfOk result (λ r. IsServed place keeps.old r.0 r.1 keeps.new) }
@@ -137,7 +137,7 @@ pub(crate) fn serve<'s, 'c, N: Name>(
 /// The held thread of a place is let go.
 pub(crate) fn release<'s, 'c, N: Name>(
     system: &'s SharedSystem<N>,
-    keeps: &'c mut Steps<N>,
+    keeps: &'c mut CoordinatorCore<N>,
     place: usize,
 ) -> Result<BodyReceipt<N>, Fault>
     ensures released { IfOk result (λ r. done.Releases keeps.old keeps.new place r) }
@@ -166,7 +166,7 @@ pub(crate) fn release<'s, 'c, N: Name>(
 /// Operates the open census over the held threads: its number. What it counted takes the place of the list.
 pub(crate) fn operate<'s, 'c, 'l, N: Name>(
     system: &'s SharedSystem<N>,
-    keeps: &'c mut Steps<N>,
+    keeps: &'c mut CoordinatorCore<N>,
     alloc: Global,
     counts: &'l mut Vec<(u64, u32)>,
 ) -> Result<(u64, Operating<N>), Fault>
@@ -192,7 +192,7 @@ pub(crate) fn operate<'s, 'c, 'l, N: Name>(
 /// Closes the open request of the number, or without one the oldest: its number.
 pub(crate) fn close<'s, 'c, N: Name>(
     system: &'s SharedSystem<N>,
-    keeps: &'c mut Steps<N>,
+    keeps: &'c mut CoordinatorCore<N>,
     number: Option<u64>,
 ) -> Result<(u64, Closing<N>), Fault>
     ensures closed { IfOk result (λ r. IsClose number keeps.old r.0 r.1.stands keeps.new) }

@@ -10,8 +10,7 @@ use crate::system::SharedSystem;
 use berths::BodyReceipt;
 use bodies::Name;
 use desk::{Finished, Receipt};
-use thread_list::Poll;
-use thread_steps::{Entered, ExitFault, Stepper};
+use thread_list::{Entered, ExitFault, Poll, RunningThread, VacateFault};
 
 /// The number of what a poll answered.
 #[inline(always)]
@@ -27,7 +26,7 @@ pub(crate) fn number_of(poll: Poll) -> u64
 #[inline(always)]
 pub(crate) fn to_native<'s, 'r, N: Name>(
     system: &'s SharedSystem<N>,
-    runner: &'r mut Stepper<N>,
+    runner: &'r mut RunningThread<N>,
 ) -> Result<u64, Fault>
     ensures said { IntoNative runner.old result runner.new }
     ensures same { SameThread runner.old runner.new }
@@ -45,7 +44,7 @@ pub(crate) fn to_native<'s, 'r, N: Name>(
 #[inline(always)]
 pub(crate) fn from_native<'s, 'r, N: Name>(
     system: &'s SharedSystem<N>,
-    runner: &'r mut Stepper<N>,
+    runner: &'r mut RunningThread<N>,
 ) -> Result<u64, Fault>
     ensures said { OutOfNative runner.old result runner.new }
     ensures same { SameThread runner.old runner.new }
@@ -63,7 +62,7 @@ pub(crate) fn from_native<'s, 'r, N: Name>(
 
 pub(crate) fn block<'s, 'r, N: Name>(
     system: &'s SharedSystem<N>,
-    runner: &'r mut Stepper<N>,
+    runner: &'r mut RunningThread<N>,
 ) -> Result<u64, Fault>
     ensures said { Blocks runner.old result runner.new }
     ensures same { SameThread runner.old runner.new }
@@ -80,7 +79,7 @@ pub(crate) fn block<'s, 'r, N: Name>(
 
 pub(crate) fn unblock<'s, 'r, N: Name>(
     system: &'s SharedSystem<N>,
-    runner: &'r mut Stepper<N>,
+    runner: &'r mut RunningThread<N>,
 ) -> Result<u64, Fault>
     ensures said { Unblocks runner.old result runner.new }
     ensures same { SameThread runner.old runner.new }
@@ -97,7 +96,7 @@ pub(crate) fn unblock<'s, 'r, N: Name>(
 
 pub(crate) fn stop_next<'s, 'r, N: Name>(
     system: &'s SharedSystem<N>,
-    runner: &'r mut Stepper<N>,
+    runner: &'r mut RunningThread<N>,
 ) -> Result<u64, Fault>
     ensures said { Next N runner.old result runner.new }
     ensures same { SameThread runner.old runner.new }
@@ -114,7 +113,7 @@ pub(crate) fn stop_next<'s, 'r, N: Name>(
 
 pub(crate) fn stop_serve<'s, 'r, N: Name>(
     system: &'s SharedSystem<N>,
-    runner: &'r mut Stepper<N>,
+    runner: &'r mut RunningThread<N>,
 ) -> Result<(u64, Finished<N>), Fault>
     ensures ended { IfOk result (λ r. IsEnded runner.old r.0 r.1 runner.new) }
     ensures refused { IfErr result (λ e. Serves runner.old (Err e) runner.new) }
@@ -152,7 +151,7 @@ pub(crate) fn enter_start<N: Name>(
 pub(crate) fn move_in<N: Name>(
     system: &SharedSystem<N>,
     entered: Entered<N>,
-) -> Result<Stepper<N>, Entered<N>>
+) -> Result<RunningThread<N>, Entered<N>>
     ensures started { IfOk result (Started entered (Ok entered.name)) }
     ensures handed_back { IfErr result (λ e. e ≡ entered) }
 {
@@ -165,8 +164,8 @@ pub(crate) fn move_in<N: Name>(
 /// The thread gives its place up. Else what it is told, with the thread.
 pub(crate) fn vacate<N: Name>(
     system: &SharedSystem<N>,
-    runner: Stepper<N>,
-) -> Result<BodyReceipt<N>, (Result<u64, Fault>, Stepper<N>)>
+    runner: RunningThread<N>,
+) -> Result<BodyReceipt<N>, (Result<u64, Fault>, RunningThread<N>)>
     ensures vacated { IfOk result (GivesUp runner) }
     ensures refused { IfErr result (λ e. StaysOn runner e.0 e.1) }
 {
@@ -177,10 +176,10 @@ pub(crate) fn vacate<N: Name>(
         Ok(vacated) => Ok(vacated),
         Err((fault, runner)) => {
             let said = match fault {
-                ExitFault::Illegal(_) => Err(Fault::Illegal),
-                ExitFault::StackNotEmpty => Err(Fault::StackNotEmpty),
-                ExitFault::Told(Poll::Go) => Err(Fault::Again),
-                ExitFault::Told(Poll::Stop(n)) => Ok(n),
+                VacateFault::Refused(ExitFault::Illegal(_)) => Err(Fault::Illegal),
+                VacateFault::Refused(ExitFault::StackNotEmpty) => Err(Fault::StackNotEmpty),
+                VacateFault::Told(Poll::Go) => Err(Fault::Again),
+                VacateFault::Told(Poll::Stop(n)) => Ok(n),
             };
             Err((said, runner))
         }

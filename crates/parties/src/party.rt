@@ -6,12 +6,12 @@ use crate::acts::{Act, Fault};
 use crate::system::SharedSystem;
 use berths::BodyReceipt;
 use bodies::Name;
-use coordinator_steps::Steps;
+use coordinator_core::CoordinatorCore;
 use operations::job::Query;
 use std::alloc::{AllocError, Global};
 use std::marker::Model;
 use std::sync::Arc;
-use thread_steps::{Entered, Stepper};
+use thread_list::{Entered, RunningThread};
 
 /// What a party is.
 #[derive(Drop)]
@@ -21,13 +21,13 @@ pub enum Role<N: Name> {
     /// A thread whose Start is entered.
     Starts(Entered<N>),
     /// A thread.
-    Runs(Stepper<N>),
+    Runs(RunningThread<N>),
     /// A thread that gave its place up, and whose Exit isn't entered.
     Leaves(BodyReceipt<N>),
     /// A thread that is gone.
     Gone,
     /// The coordinator.
-    Coordinates(Steps<N>),
+    Coordinates(CoordinatorCore<N>),
 }
 
 /// A party, with what it shares. Contracts see what it is, the names of its next request, what its last census counted, and the job in hand.
@@ -76,7 +76,11 @@ impl<N: Name> Party<N> {
     }
 
     /// The coordinator.
-    pub fn coordinator(alloc: Global, system: Arc<SharedSystem<N>>, steps: Steps<N>) -> Party<N>
+    pub fn coordinator(
+        alloc: Global,
+        system: Arc<SharedSystem<N>>,
+        steps: CoordinatorCore<N>,
+    ) -> Party<N>
         ensures { result ≡ party_as (Role.Coordinates steps) }
     {
         Party {
@@ -132,6 +136,7 @@ impl<N: Name> Party<N> {
             Act::Invalidate(serial) => self.invalidate(serial),
             Act::Reply(op, name) => self.reply(op, name),
             Act::LiveAfter(name) => self.live_after(name),
+            Act::OpenKind => self.open_kind(),
             Act::Forget => self.forget(),
             Act::Open => self.open(),
             Act::Tell(name) => self.tell(name),

@@ -76,6 +76,14 @@ impl<N: Name> Party<N> {
         asking::live_after(&self.system, name)
     }
 
+    /// Of which kind what is open is, as a number: 0 where nothing is open, handshakes 1, a census 2.
+    pub fn open_kind(&mut self) -> Result<u64, Fault>
+        ensures { Acts N.board.places self.old Act.OpenKind result self.new }
+    {
+        let _ = &self.role;
+        asking::open_kind(&self.system)
+    }
+
     /// Forgets what was entered so far, and the replies of what comes before all that is open or waits.
     pub fn forget(&mut self) -> Result<u64, Fault>
         ensures { Acts N.board.places self.old Act.Forget result self.new }

@@ -9,9 +9,8 @@ use crate::party::{Party, Role};
 use bodies::{Called, Name};
 use frames::image::Image;
 use std::mem;
-use thread_list::{CallFault, Poll, ReturnFault};
+use thread_list::{CallFault, Entered, Poll, ReturnFault};
 use thread_state::State;
-use thread_steps::Entered;
 
 fn code_of(state: State) -> u64
     ensures { result ≡ code_of state }

@@ -3,6 +3,7 @@ ghost use Rattle.std.specs.Prelude.{◌≡◌, ◌<◌, IfOk, IfSome, length};
 ghost use Rattle.poll.specs.Rows.{full_armer};
 ghost use Rattle.thread_list.specs.Sharing.{places_in};
 
+use crate::tried_lock::{Guard, TriedLock};
 use berths::Room;
 use board::Board;
 use bodies::Name;
@@ -15,7 +16,6 @@ use std::collections::VecDeque;
 use std::marker::Model;
 use std::snapshot::Snapshot;
 use thread_list::{Hints, Parts, Pieces};
-use tried_lock::{Guard, TriedLock};
 
 /// A room under a lock of its own. Contracts see of which place it is.
 #[derive(Drop)]

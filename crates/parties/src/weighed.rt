@@ -4,7 +4,7 @@ ghost use Rattle.parties.specs.Weighed.{told_of};
 
 use crate::acts::Fault;
 use bodies::Name;
-use coordinator_steps::Reclaimed;
+use coordinator_core::Reclaimed;
 
 /// 0 where the code was freed, or how many activations stand, or which place is late.
 pub(crate) fn told_of<N: Name>(reclaimed: Reclaimed<N>) -> Result<u64, Fault>

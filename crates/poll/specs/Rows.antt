@@ -1,5 +1,5 @@
--- A row of poll words as a table: which word is which place's, which view is which seat's, and that they meet the poll rule.
--- The first seat is the armer's, and the pollers are split off in the order of their places.
+-- A row of poll words as a table: which word is which place's, which view is which seat's, and how words and views meet the poll rule. The
+-- first seat is the armer's. The pollers are split off it in the order of their places.
 use Rattle.std.specs.Prelude.{◌≡◌, ◌⊎◌, ℕ, suc, ◌+◌, ◌*◌, ◌<◌, ◌≤◌, ◌==◌, if◌then◌else◌, List, [], ◌∷◌, length, slice_index}
 use mathlib.Core.Option.{Option, none, some}
 use lib.ListN.{get_elem?}
@@ -15,11 +15,11 @@ use Rattle.thread_state.specs.PollRule.{PlaceState, IsPollKept, RowStep, first_a
 
 -- 1. What contracts see
 
--- Which row it is.
+-- The row's identity.
 abbrev pub RowId : Type 0
 RowId = TableId
 
--- An armer and a poller: which row each is of, what it knows, and its stamp, which rises at each of its steps.
+-- An armer and a poller: the row's identity, what the seat knows, and its stamp, which rises at each of its steps.
 pub record ArmerSeen : Type 0 where
   pub table : RowId
   pub seen : Arming
@@ -30,12 +30,12 @@ pub record PollerSeen : Type 0 where
   pub seen : Watching
   pub stamp : ℕ
 
--- What a poller that had cleared a number last may find: 0, or a greater number.
+-- What a poller may find in its word after it last cleared this number: 0, or a greater number.
 abbrev pub IsMet : ℕ → ℕ → Type 0
 IsMet cleared found = (found ≡ 0) ⊎ (cleared < found)
 
--- A poller made one step: there is a row that met the rule and where the poller's place had the number cleared that the poller knew,
--- and the last step that the poller has led to a row that meets the rule and where the place has that cleared which it knows.
+-- A poller made one step. There is a row that met the rule and in which the poller's place had the cleared number of the poller's old view.
+-- The last step of its new view led to a row that meets the rule and in which the place has the cleared number of the new view.
 pub record PollerSteps (old new : Watching) : Type 0 where
   pub places : ℕ
   pub before : ℕ → PlaceState
@@ -46,7 +46,8 @@ pub record PollerSteps (old new : Watching) : Type 0 where
   pub cleared_before : (before old.place).cleared ≡ old.cleared
   pub cleared_after : (after old.place).cleared ≡ new.cleared
 
--- A step of the armer, on a row with as many places as it knows: each is armed with the number that it knows, before and after.
+-- The armer made one step, on a row with as many places as its view has. Before and after, each place is armed with the number in the
+-- armer's view.
 pub record ArmerSteps (old new : Arming) : Type 0 where
   pub places : ℕ
   pub count : length old.armed ≡ places
@@ -59,11 +60,11 @@ pub record ArmerSteps (old new : Arming) : Type 0 where
   pub armed_before : (p : ℕ) → (before p).armed ≡ slice_index old.armed p
   pub armed_after : (p : ℕ) → (after p).armed ≡ slice_index new.armed p
 
--- The place of a poller at the end of a row, whose places were left with these words.
+-- The state of a poller's place at the end of a row, whose places were left with these words.
 abbrev pub place_left : List ℕ → ArmerSeen → PollerSeen → PlaceState
 place_left words armer p = record { word = slice_index words p.seen.place; armed = slice_index armer.seen.armed p.seen.place; cleared = p.seen.cleared }
 
--- The poller of the place p as it is made, and the armer of so many places.
+-- The first view of the poller of the place p, and of the armer of so many places.
 abbrev pub first_poller : RowId → ℕ → PollerSeen
 first_poller row p = record { table = row; seen = first_watching p; stamp = 0 }
 
@@ -102,14 +103,14 @@ stamp_of (Armer a ended t) = t
 stamp_of (Poller w t) = t
 stamp_of Ended = 0
 
--- A seat as contracts see it: which row it is of, and its view.
+-- A seat as contracts see it: the row's identity, and the seat's view.
 abbrev pub of_armer : RowId → Watch → ArmerSeen
 of_armer row v = record { table = row; seen = arming_of v; stamp = stamp_of v }
 
 abbrev pub of_poller : RowId → Watch → PollerSeen
 of_poller row v = record { table = row; seen = watching_of 0 v; stamp = stamp_of v }
 
--- The view of the poller of the place p: the opening one where it isn't split off yet.
+-- The view of the poller of the place p, or its first view if it isn't split off yet.
 abbrev pub watching_or : ℕ → Option Watch → Watching
 watching_or p none = first_watching p
 watching_or p (some v) = watching_of p v
@@ -123,28 +124,28 @@ IsSeatedAt id (Armer a ended t) = id ≡ 0
 IsSeatedAt id (Poller w t) = id ≡ suc w.place
 IsSeatedAt id Ended = 0 < id
 
--- What the poller of the place p cleared last: as it is noted where that poller has ended, otherwise as its view says.
+-- What the poller of the place p cleared last: as noted if that poller has ended, otherwise as its view says.
 abbrev pub cleared_of : List (ℕ × ℕ) → ℕ → ℕ → ℕ
 cleared_of [] p by_view = by_view
 cleared_of (x ∷ xs) p by_view = if x.0 == p then x.1 else cleared_of xs p by_view
 
--- The place p isn't noted among those whose pollers have ended.
+-- The poller of the place p isn't noted as ended.
 abbrev pub IsLive : List (ℕ × ℕ) → ℕ → Type 0
 IsLive ended p = (by_view : ℕ) → cleared_of ended p by_view ≡ by_view
 
--- The place p, as its word and the views of the armer and of its poller tell it.
+-- The state of the place p, from its word and the views of the armer and of its poller.
 abbrev pub place_of : List ℕ → Arming → List (ℕ × ℕ) → List Watch → ℕ → PlaceState
 place_of words arming ended views p
     = record { word = slice_index words (word_at p); armed = slice_index arming.armed p; cleared = cleared_of ended p (watching_at views p).cleared }
 
--- What a deed says of the words as it left them. A seat whose poll word is that of the place p did it.
+-- The words are as the deed left them. The seat of the place p, or the armer, did it.
 abbrev pub IsToldBy : List ℕ → ℕ → Deed → Type 0
 IsToldBy words p Nothing = Unit {0}
 IsToldBy words p (Load found) = slice_index words (word_at p) ≡ found
 IsToldBy words p (Store q n) = slice_index words (word_at q) ≡ n
 IsToldBy words p (Exchange n found) = slice_index words (word_at p) ≡ word_after n found
 
--- The last step of the seat left the words so. Of the armer it isn't said once the row is being closed.
+-- The words are as the seat's last step left them. For the armer of a row that is being closed this says nothing.
 abbrev pub IsTold : List ℕ → Watch → Type 0
 IsTold words (Armer a [] t) = IsToldBy words 0 a.last
 IsTold words (Armer a (x ∷ xs) t) = Unit {0}
@@ -158,13 +159,13 @@ IsLatest views stamp = (id : ℕ) (v : Watch) → get_elem? views id ≡ some v 
 -- 3. The rule of the table
 
 pub record IsRow (places : ℕ) (s : State (Unit {0}) Watch) : Type 0 where
-  -- what the armer knows, and the pollers that have ended
+  -- the armer's view, and the pollers that have ended
   pub arming : Arming
   pub ended : List (ℕ × ℕ)
   pub stamp : ℕ
   pub armer : get_elem? s.views 0 ≡ some (Armer arming ended stamp)
   pub seated : (id : ℕ) (v : Watch) → get_elem? s.views id ≡ some v → IsSeatedAt id v
-  -- there are the armer and the pollers that are split off, at most one a place
+  -- the seats are the armer and the pollers that are split off, at most one for each place
   pub split : (length s.views ≡ suc arming.split) × (arming.split ≤ places)
   pub armed_at : length arming.armed ≡ places
   pub words_at : length s.words ≡ words_of places
@@ -172,10 +173,10 @@ pub record IsRow (places : ℕ) (s : State (Unit {0}) Watch) : Type 0 where
   pub live : (id : ℕ) (w : Watching) (t : ℕ) → get_elem? s.views id ≡ some (Poller w t) → IsLive ended w.place
   -- the words and views meet the poll rule
   pub kept : IsPollKept places (place_of s.words arming ended s.views)
-  -- the seat that stepped last met or left what its word holds
+  -- the last step of all seats found in its word, or left there, the word's present value
   pub told : (id : ℕ) (v : Watch) → get_elem? s.views id ≡ some v → IsLatest s.views (stamp_of v) → IsTold s.words v
 
--- The armer after a poller is split off, and that poller.
+-- The armer's view after a poller is split off, and that poller's view.
 abbrev pub fewer : Arming → Arming
 fewer a = record { armed = a.armed; split = a.split + 1; steps = a.steps; last = a.last }
 
@@ -189,11 +190,11 @@ right_of (Armer a ended t) = Poller (first_watching a.split) 0
 right_of (Poller w t) = Poller w t
 right_of Ended = Ended
 
--- The armer after a poller has ended.
+-- The armer's view after a poller has ended.
 abbrev pub both_of : Watch → Watch → Watch
 both_of v u = Armer (arming_of v) (((watching_of 0 u).place, (watching_of 0 u).cleared) ∷ ended_of v) (stamp_of v + stamp_of u)
 
--- 4. What each kind of step tells the seat that makes it
+-- 4. The view of a seat after each kind of step
 
 abbrev SeatState : Type 0
 SeatState = Me (Unit {0}) Watch
@@ -206,7 +207,7 @@ abbrev pub Clears : Step (Unit {0}) → SeatState → ℕ → SeatState → Type
 Clears st old found new = (new ≡ (Poller (exchanged (watching_of 0 old.0) st.first found) (stamp_of new.0), old.1)) × (stamp_of old.0 < stamp_of new.0) × IsMet (watching_of 0 old.0).cleared found
     × PollerSteps (watching_of 0 old.0) (watching_of 0 new.0)
 
--- A step names a word by its index, so the place is the one whose word it is.
+-- A step names a word by its index: the armed place is the one whose word has this index.
 abbrev pub Arms : Step (Unit {0}) → SeatState → ℕ → SeatState → Type 0
 Arms st old found new = (p : ℕ) × (st.word ≡ word_at p) × (new.0 ≡ Armer (armed_with (arming_of old.0) p st.first) [] (stamp_of new.0)) × (stamp_of old.0 < stamp_of new.0)
     × ArmerSteps (arming_of old.0) (arming_of new.0)

@@ -1,4 +1,4 @@
-//! The rule of a row as the table keeps it, and what each kind of step tells the seat that makes it.
+//! The rule of a row, which its table keeps, and the view of a seat after each kind of step.
 ghost use Rattle.std.specs.Prelude.{[]};
 ghost use Rattle.thread_state.specs.PollRule.{first_arming};
 ghost use Rattle.poll.specs.declared.views.Watch.TheVariants.{Armer as IsArming, Ended as HasEnded};
@@ -8,7 +8,7 @@ ghost use Rattle.poll.specs.Laws.{PollsElsewhereRefused, ClearsElsewhereRefused,
 use crate::views::Watch;
 use atomic_table::{Join, Play, Split, TableRule};
 
-/// The rule of the poll words, over the words of a table and the views of its seats. Its key is the number of places.
+/// The rule of the poll words, stated over the words of a table and the views of its seats. Its key is the number of places.
 pub struct PollLaw;
 
 impl TableRule<(), Watch, usize> for PollLaw {
@@ -17,7 +17,7 @@ impl TableRule<(), Watch, usize> for PollLaw {
     ghost first = { λ places. IsArming (first_arming places) [] 0 };
 }
 
-// The armer's seat is cut, and the new seat is the next place's poller.
+// Splits the armer's seat: the new seat is the poller of the next place.
 pub struct SplitPoller;
 
 impl Split<Watch> for SplitPoller {
@@ -26,7 +26,7 @@ impl Split<Watch> for SplitPoller {
     ghost right = { right_of };
 }
 
-// A poller ends, and the armer takes over what it knew.
+// Ends a poller: the armer's view takes over what the poller's view knew.
 pub struct JoinPoller;
 
 impl Join<Watch> for JoinPoller {
@@ -53,30 +53,30 @@ impl Play<(), Watch> for ArmPlay {
     ghost then = { Arms };
 }
 
-/// A law: the word of a place is 0 exactly where the number that it was armed with last is cleared, between any two steps.
+/// A law: between any two steps, the word of a place is 0 exactly if the number with which the place was last armed is cleared.
 #[tactic(auto, using(crate::proofs::Refused::tell_the_cleared))]
 pub fn words_are_zero_where_cleared()
     ensures { WordsTellTheCleared }
 {}
 
-/// A law: the words of two places are 8 words apart, which is a cache line.
+/// A law: the words of two places are at least 8 words apart, which is a cache line.
 #[tactic(auto, using(crate::proofs::Refused::words_apart))]
 pub fn words_lie_lines_apart()
     ensures { WordsApart }
 {}
 
-/// A law: no step at another word than its own tells a poller that it cleared, or tried to.
+/// A law: no step at another word than its own gives a poller the view that it cleared its word, or tried to.
 pub fn no_clear_is_of_another_word()
     ensures { ClearsElsewhereRefused }
 {}
 
-/// A law: no step at another word than the place's tells the armer that it armed the place.
+/// A law: no step at another word than the place's gives the armer the view that it armed the place.
 pub fn no_arming_is_of_another_word()
     ensures { ArmsElsewhereRefused }
 {}
 
-/// A law: a poller's answer is of the word of its own place. Whatever a `Play` tells, the rule of the row allows no step at
-/// another word after which the poller has polled.
+/// A law: the result of a poll is the word of the poller's own place. Whatever a `Play` says, the rule of the row allows no step at
+/// another word after which the poller's view is that of a poll.
 pub fn no_poll_is_of_another_word()
     ensures { PollsElsewhereRefused }
 {}

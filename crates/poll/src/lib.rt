@@ -1,5 +1,6 @@
-//! Poll words: one word a place, which an armer stores and the place's poller loads and clears, each in one atomic step.
-//! `bodies` polls by it, and `held_threads` and `coordinator_steps` arm by it.
+//! Poll words, one for each place. An armer arms a place by storing into its word. The place's poller loads the word and clears it.
+//! Each is one atomic step.
+//! `bodies` polls with this crate, and `stopped_threads` and `coordinator_core` arm with it.
 //! Read `src/words.rt` first, then `specs/Laws.antt` and the rule in `thread_state/specs/PollRule.antt`.
 #![tactic(auto)]
 

@@ -10,7 +10,7 @@ use atomic_table::{Seat, Table};
 use std::alloc::{AllocError, Global};
 use std::marker::Model;
 
-/// The poll words, one for each place. Contracts see which row it is.
+/// The poll words, one for each place. Contracts see the row's identity.
 #[derive(Drop)]
 pub struct PollRow {
     table: Table<(), Watch, usize, PollLaw, Global>,
@@ -25,8 +25,8 @@ impl Model for PollRow {
         × (r.table.shared.key ≤ 64) × (r.table.shared.table_id.slots ≡ 0) };
 }
 
-/// Stores numbers of operations. Contracts see which row it is of, the number that each place was last armed with, how many
-/// steps it has made, and the last of them.
+/// Arms places with the numbers of operations. Contracts see the row's identity, the number with which each place was last armed,
+/// how many steps the armer has made, and its last step.
 #[derive(Drop)]
 pub struct Armer {
     seat: Seat<(), Watch>,
@@ -42,8 +42,8 @@ impl Model for Armer {
         × (a.seat.table_id.words ≡ words_of (length a.last.items)) };
 }
 
-/// Loads and clears the word of one place. Contracts see which row it is of, its place, the number that it cleared last, how
-/// many steps it has made, and the last of them.
+/// Loads and clears the word of one place. Contracts see the row's identity, the place, the number that the poller cleared last,
+/// how many steps the poller has made, and its last step.
 #[derive(Drop)]
 pub struct Poller {
     seat: Seat<(), Watch>,
@@ -60,8 +60,8 @@ impl Model for Poller {
 }
 
 impl PollRow {
-    /// A row of words that are 0, its armer, and a poller for each place in order. The error is that memory was refused.
-    /// Nothing else in the crate takes memory.
+    /// Makes a row of words that are 0, its armer, and a poller for each place in order. The error is that memory was refused.
+    /// There are 1 to 64 places. Nothing else in the crate takes memory.
     pub fn new(alloc: Global, places: usize) -> Result<(PollRow, Armer, Vec<Poller>), AllocError>
         requires { (0 < places) × (places ≤ 64) }
         ensures armer { IfOk result (λ t. t.1 ≡ full_armer t.0 places) }
@@ -81,7 +81,7 @@ impl PollRow {
         Ok((PollRow { table }, Armer { seat, last }, pollers))
     }
 
-    /// The word of a place as it was a moment ago, 0 past the last place. Nothing is promised of it, and it is no step.
+    /// The recent value of a place's word, 0 past the last place. Nothing is guaranteed about it, and reading it is no step.
     pub fn peek(&self, place: usize) -> u64 {
         if place >= 64 {
             return 0;
@@ -93,8 +93,7 @@ impl PollRow {
         self.table.shared.peek(word)
     }
 
-    /// Ends the row with its armer and all its pollers, in the order of their places, and gives the word that each place was
-    /// left with.
+    /// Ends the row with its armer and all its pollers, in the order of their places. Returns the last value of each place's word.
     pub fn close(self, armer: Armer, mut pollers: Vec<Poller>) -> Vec<u64>
         requires armer { armer.table ≡ self }
         requires count { vec_len pollers ≡ length armer.seen.armed }
@@ -123,8 +122,8 @@ impl PollRow {
 }
 
 impl Poller {
-    /// The number that the place is armed with, 0 where nothing is armed or what was armed last is cleared: one load. It is 0, or above
-    /// all that this poller has cleared.
+    /// Polls: returns the number that the place is armed with, 0 if it isn't armed or its last number is cleared. One load. The
+    /// result is 0, or greater than every number that this poller has cleared.
     #[inline(always)]
     pub fn poll(&mut self, row: &PollRow) -> u64
         requires row { self.old.table ≡ row.now }
@@ -139,8 +138,8 @@ impl Poller {
         row.table.shared.load::<PollPlay>(&mut self.seat, word)
     }
 
-    /// Clears the place where it is armed with `n`, and says whether it did: one compare-exchange of `n` against 0. A greater
-    /// number that was armed meanwhile stays.
+    /// Disarms the place if it is armed with `n`, which isn't 0. Returns whether it was. One compare-exchange of `n` against 0: a
+    /// greater number that was armed meanwhile stays.
     pub fn clear(&mut self, row: &PollRow, n: u64) -> bool
         requires row { self.old.table ≡ row.now }
         requires number { n ≢ 0 }
@@ -161,7 +160,8 @@ impl Poller {
 }
 
 impl Armer {
-    /// Arms the place with the number of an operation: one store.
+    /// Arms the place with the number of an operation: one store. The number is greater than the one with which the place was last
+    /// armed, and below 2^40.
     pub fn arm(&mut self, row: &PollRow, place: usize, n: u64)
         requires row { self.old.table ≡ row.now }
         requires place { place < length self.old.seen.armed }
@@ -179,7 +179,7 @@ impl Armer {
         self.last[place] = n;
     }
 
-    /// How many places the row has that both are of.
+    /// How many places the row of this armer has, at most 64.
     pub fn places(&self, row: &PollRow) -> usize
         requires row { self.now.table ≡ row.now }
         ensures value { result ≡ length self.now.seen.armed }
@@ -190,7 +190,7 @@ impl Armer {
         self.last.len()
     }
 
-    /// The number that the place was last armed with, 0 at first. It makes no step.
+    /// The number with which the place was last armed, 0 at first. This call makes no step.
     pub fn last(&self, place: usize) -> u64
         requires place { place < length self.now.seen.armed }
         ensures { result ≡ slice_index self.now.seen.armed place }

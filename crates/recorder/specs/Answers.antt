@@ -1,4 +1,4 @@
--- Answers as words of a log.
+-- The answers of calls as words of a log.
 use Rattle.std.specs.Prelude.{ℕ, is_some, Option, Some, Result, Ok, Err, if◌then◌else◌}
 use Rattle.call_log.specs.declared.word.Word.TheVariants as word
 use Rattle.thread_state.specs.declared.State.{State}
@@ -8,9 +8,9 @@ use Rattle.thread_list.specs.declared.polls.Poll.{Poll}
 use Rattle.thread_list.specs.declared.polls.Poll.TheVariants as poll
 use Rattle.thread_list.specs.declared.turns.Turn.{Turn}
 use Rattle.thread_list.specs.declared.shared.Exited.{Exited}
-use Rattle.thread_list.specs.declared.mutator.CallFault.{CallFault}
-use Rattle.thread_list.specs.declared.mutator.ReturnFault.{ReturnFault}
-use Rattle.thread_list.specs.declared.waits.ExitFault.{ExitFault}
+use Rattle.thread_list.specs.declared.faults.CallFault.{CallFault}
+use Rattle.thread_list.specs.declared.faults.ReturnFault.{ReturnFault}
+use Rattle.thread_list.specs.declared.faults.ExitFault.{ExitFault}
 use Rattle.method_table.specs.declared.table.InvalidateFault.{InvalidateFault}
 use Rattle.desk.specs.declared.faults.Refused.{Refused}
 use Rattle.desk.specs.declared.faults.NotReclaimed.{NotReclaimed}
@@ -18,15 +18,15 @@ use Rattle.desk.specs.declared.faults.CodeFault.{CodeFault}
 use Rattle.desk.specs.declared.faults.OpenFault.{OpenFault}
 use Rattle.desk.specs.declared.faults.CloseFault.{CloseFault}
 use Rattle.desk.specs.declared.faults.StartFault.{StartFault}
-use Rattle.held_threads.specs.declared.faults.OperateFault.{OperateFault}
-use Rattle.held_threads.specs.declared.faults.Told.{Told}
-use Rattle.held_threads.specs.declared.faults.Told.TheVariants as is_told
-use Rattle.held_threads.specs.declared.faults.TellFault.{TellFault}
-use Rattle.held_threads.specs.declared.faults.HoldFault.{HoldFault}
-use Rattle.held_threads.specs.declared.faults.ReleaseFault.{ReleaseFault}
-use Rattle.held_threads.specs.declared.faults.ServeFault.{ServeFault}
-use Rattle.held_threads.specs.declared.faults.Reclaimed.{Reclaimed}
-use Rattle.held_threads.specs.declared.faults.Reclaimed.TheVariants as is_reclaimed
+use Rattle.stopped_threads.specs.declared.faults.OperateFault.{OperateFault}
+use Rattle.stopped_threads.specs.declared.faults.Told.{Told}
+use Rattle.stopped_threads.specs.declared.faults.Told.TheVariants as is_told
+use Rattle.stopped_threads.specs.declared.faults.TellFault.{TellFault}
+use Rattle.stopped_threads.specs.declared.faults.HoldFault.{HoldFault}
+use Rattle.stopped_threads.specs.declared.faults.ReleaseFault.{ReleaseFault}
+use Rattle.stopped_threads.specs.declared.faults.ServeFault.{ServeFault}
+use Rattle.stopped_threads.specs.declared.faults.Reclaimed.{Reclaimed}
+use Rattle.stopped_threads.specs.declared.faults.Reclaimed.TheVariants as is_reclaimed
 use Rattle.recorder.specs.declared.short.Short.{Short}
 use Rattle.recorder.specs.Short.{only, with_number, refused}
 use Rattle.recorder.specs.Faults as faults
@@ -52,7 +52,7 @@ abbrev pub moves : {U : Type 0} → Result U State → Short
 moves (Ok done) = only word.Ok
 moves (Err state) = only word.Illegal
 
--- Whether a job came out in the last turn.
+-- The word says whether the last turn ran a job.
 abbrev pub stops : {N : Type 0} → Result (Turn N) State → Short
 stops (Ok turn) = only (if is_some turn.finish then word.Served else word.Ok)
 stops (Err state) = only word.Illegal

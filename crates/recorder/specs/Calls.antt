@@ -1,4 +1,4 @@
--- What is called, and with which numbers.
+-- The words and the numbers of calls in a log.
 use Rattle.std.specs.Prelude.{ℕ, List, [], ◌∷◌, ◌++◌, Option, Some, None}
 use Rattle.operations.specs.declared.Ask.{Ask}
 use Rattle.operations.specs.declared.Ask.TheVariants.{Depth, CountOf, Top}
@@ -8,7 +8,7 @@ use Rattle.frames.specs.declared.CodeId.{CodeId}
 use Rattle.call_log.specs.declared.word.Word.{Word}
 use Rattle.call_log.specs.declared.word.Word.TheVariants as word
 
--- The place and the method of a call, and the serial of its hint.
+-- The place and the method of a call, and the serial of its hint if it has one.
 abbrev pub called_with : ℕ → ℕ → Option CodeId → List ℕ
 called_with place method None = place ∷ method ∷ []
 called_with place method (Some code) = place ∷ method ∷ code.serial ∷ []
@@ -22,7 +22,7 @@ abbrev pub submit_word : Request → Word
 submit_word Census = word.SubmitCensus
 submit_word (Handshake targets ask) = submit_word_of ask
 
--- The serial that an ask counts.
+-- The serial that a query counts, if it counts one.
 abbrev pub counted : Ask → List ℕ
 counted Depth = []
 counted Top = []
@@ -46,7 +46,7 @@ abbrev pub handshake_numbers : Option Request → List ℕ
 handshake_numbers None = []
 handshake_numbers (Some request) = request_numbers request
 
--- A list of pairs as numbers.
+-- A list of pairs, flattened to numbers.
 abbrev pub pairs : List (ℕ × ℕ) → List ℕ
 pairs [] = []
 pairs (p ∷ ps) = p.0 ∷ p.1 ∷ pairs ps

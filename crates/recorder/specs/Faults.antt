@@ -1,13 +1,13 @@
--- Why calls are refused, as words of a log.
+-- The faults of calls as words of a log.
 use Rattle.std.specs.Prelude.{Option, Some, None}
 use Rattle.call_log.specs.declared.word.Word.{Word}
 use Rattle.call_log.specs.declared.word.Word.TheVariants as word
-use Rattle.thread_list.specs.declared.mutator.CallFault.{CallFault}
-use Rattle.thread_list.specs.declared.mutator.CallFault.TheVariants as is_call
-use Rattle.thread_list.specs.declared.mutator.ReturnFault.{ReturnFault}
-use Rattle.thread_list.specs.declared.mutator.ReturnFault.TheVariants as is_return
-use Rattle.thread_list.specs.declared.waits.ExitFault.{ExitFault}
-use Rattle.thread_list.specs.declared.waits.ExitFault.TheVariants as is_exit
+use Rattle.thread_list.specs.declared.faults.CallFault.{CallFault}
+use Rattle.thread_list.specs.declared.faults.CallFault.TheVariants as is_call
+use Rattle.thread_list.specs.declared.faults.ReturnFault.{ReturnFault}
+use Rattle.thread_list.specs.declared.faults.ReturnFault.TheVariants as is_return
+use Rattle.thread_list.specs.declared.faults.ExitFault.{ExitFault}
+use Rattle.thread_list.specs.declared.faults.ExitFault.TheVariants as is_exit
 use Rattle.desk.specs.declared.faults.StartFault.{StartFault}
 use Rattle.desk.specs.declared.faults.StartFault.TheVariants as is_start
 use Rattle.desk.specs.declared.faults.AskFault.{AskFault}
@@ -22,19 +22,19 @@ use Rattle.desk.specs.declared.faults.OpenFault.{OpenFault}
 use Rattle.desk.specs.declared.faults.OpenFault.TheVariants as is_open
 use Rattle.desk.specs.declared.faults.CloseFault.{CloseFault}
 use Rattle.desk.specs.declared.faults.CloseFault.TheVariants as is_close
-use Rattle.held_threads.specs.declared.faults.TellFault.{TellFault}
-use Rattle.held_threads.specs.declared.faults.TellFault.TheVariants as is_tell
-use Rattle.held_threads.specs.declared.faults.HoldFault.{HoldFault}
-use Rattle.held_threads.specs.declared.faults.HoldFault.TheVariants as is_hold
-use Rattle.held_threads.specs.declared.faults.ReleaseFault.{ReleaseFault}
-use Rattle.held_threads.specs.declared.faults.ReleaseFault.TheVariants as is_release
-use Rattle.held_threads.specs.declared.faults.ServeFault.{ServeFault}
-use Rattle.held_threads.specs.declared.faults.ServeFault.TheVariants as is_serve
+use Rattle.stopped_threads.specs.declared.faults.TellFault.{TellFault}
+use Rattle.stopped_threads.specs.declared.faults.TellFault.TheVariants as is_tell
+use Rattle.stopped_threads.specs.declared.faults.HoldFault.{HoldFault}
+use Rattle.stopped_threads.specs.declared.faults.HoldFault.TheVariants as is_hold
+use Rattle.stopped_threads.specs.declared.faults.ReleaseFault.{ReleaseFault}
+use Rattle.stopped_threads.specs.declared.faults.ReleaseFault.TheVariants as is_release
+use Rattle.stopped_threads.specs.declared.faults.ServeFault.{ServeFault}
+use Rattle.stopped_threads.specs.declared.faults.ServeFault.TheVariants as is_serve
 use Rattle.desk.specs.declared.faults.ReclaimFault.{ReclaimFault}
 use Rattle.desk.specs.declared.faults.ReclaimFault.TheVariants as is_reclaim
 use Rattle.desk.specs.declared.faults.OperateFault.TheVariants as is_operate
-use Rattle.held_threads.specs.declared.faults.OperateFault.{OperateFault as CensusFault}
-use Rattle.held_threads.specs.declared.faults.OperateFault.TheVariants as is_census
+use Rattle.stopped_threads.specs.declared.faults.OperateFault.{OperateFault as CensusFault}
+use Rattle.stopped_threads.specs.declared.faults.OperateFault.TheVariants as is_census
 
 abbrev pub call_fault : CallFault → Word
 call_fault (is_call.Illegal state) = word.Illegal

@@ -1,4 +1,4 @@
--- The jobs that ran in calls that haven't returned.
+-- The jobs that ran in calls which haven't returned.
 use Rattle.std.specs.Prelude.{Bool, not, ◌&&◌, ◌==◌, List, [], ◌∷◌, if◌then◌else◌}
 use Rattle.call_log.specs.declared.lists.Job.{Job}
 use Rattle.recorder.specs.declared.ran.RanJob.{RanJob}
@@ -18,7 +18,7 @@ abbrev pub taken : Runner → List RanJob → List Job
 taken runner [] = []
 taken runner (ran ∷ jobs) = if is_of runner ran then ran.job ∷ taken runner jobs else taken runner jobs
 
--- All others.
+-- The jobs that another runner ran.
 abbrev pub left : Runner → List RanJob → List RanJob
 left runner [] = []
 left runner (ran ∷ jobs) = if is_of runner ran then left runner jobs else ran ∷ left runner jobs

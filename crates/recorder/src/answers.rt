@@ -1,4 +1,5 @@
-//! Answers as words of a log. Where a call has no answer that the core gives, there is none: the history is full, or memory was refused.
+//! The answers of calls as words of a log. There is None for an answer that the core can't give: the history is full, or memory was
+//! refused.
 ghost use Rattle.std.specs.Prelude.{◌≡◌};
 ghost use Rattle.recorder.specs.Answers as answers;
 ghost use Rattle.recorder.specs.Short as short;
@@ -12,9 +13,11 @@ use crate::short::{Short, only, with};
 use bodies::{Called, Name};
 use call_log::word::Word;
 use desk::{CloseFault, Closing, CodeFault, NotReclaimed, OpenFault, Receipt, Refused, StartFault};
-use held_threads::{HoldFault, OperateFault, Reclaimed, ReleaseFault, ServeFault, TellFault, Told};
 use method_table::table::InvalidateFault;
-use operations::job::Errand;
+use operations::job::HandshakeOp;
+use stopped_threads::{
+    HoldFault, OperateFault, Reclaimed, ReleaseFault, ServeFault, TellFault, Told,
+};
 use thread_list::{CallFault, ExitFault, Exited, Mutator, Poll, ReturnFault, Turn};
 use thread_state::State;
 
@@ -27,7 +30,7 @@ pub fn polled(poll: Poll) -> Short
     }
 }
 
-/// A word for a refusal, where there is one.
+/// The answer of a refusal, if it has a word.
 fn refused(word: Option<Word>) -> Option<Short>
     ensures { result ≡ short.refused word }
 {
@@ -37,7 +40,7 @@ fn refused(word: Option<Word>) -> Option<Short>
     }
 }
 
-/// Of a call that polls.
+/// The answer of a call that polls.
 pub fn crosses(said: Result<Poll, State>) -> Short
     ensures { result ≡ answers.crosses said }
 {
@@ -47,7 +50,7 @@ pub fn crosses(said: Result<Poll, State>) -> Short
     }
 }
 
-/// Of a return.
+/// The answer of a return.
 pub fn leaves(said: Result<Poll, ReturnFault>) -> Short
     ensures { result ≡ answers.leaves said }
 {
@@ -57,7 +60,7 @@ pub fn leaves(said: Result<Poll, ReturnFault>) -> Short
     }
 }
 
-/// Of a call of a method.
+/// The answer of a call of a method.
 pub fn enters(said: Result<Called, CallFault>) -> Short
     ensures { result ≡ answers.enters said }
 {
@@ -68,7 +71,7 @@ pub fn enters(said: Result<Called, CallFault>) -> Short
     }
 }
 
-/// Of a move without a poll, or a publication.
+/// The answer of a transition without a poll, or of a publication.
 pub fn moves(said: Result<(), State>) -> Short
     ensures { result ≡ answers.moves said }
 {
@@ -78,7 +81,7 @@ pub fn moves(said: Result<(), State>) -> Short
     }
 }
 
-/// Of a stop: whether a job came out in its last turn.
+/// The answer of a stop: whether its last turn ran a job.
 pub fn stops<N: Name>(said: &Result<Turn<N>, State>) -> Short
     ensures { result ≡ answers.stops said.now }
 {
@@ -92,8 +95,8 @@ pub fn stops<N: Name>(said: &Result<Turn<N>, State>) -> Short
     }
 }
 
-/// Of an exit of the thread of the name.
-pub fn exits<N: Name, J: Errand>(
+/// The answer of an exit of the thread with this name.
+pub fn exits<N: Name, J: HandshakeOp>(
     name: u64,
     said: &Result<Exited<N>, (ExitFault, Mutator<'_, N, J>)>,
 ) -> Short
@@ -112,7 +115,7 @@ pub fn exits<N: Name, J: Errand>(
     }
 }
 
-/// Of a request.
+/// The answer of a submit.
 pub fn asks<N: Name, J>(said: &Result<(u64, Receipt<N>), Refused<J>>) -> Option<Short>
     ensures { result ≡ answers.asks said.now }
 {
@@ -122,7 +125,7 @@ pub fn asks<N: Name, J>(said: &Result<(u64, Receipt<N>), Refused<J>>) -> Option<
     }
 }
 
-/// Of an install.
+/// The answer of an install.
 pub fn installs<N: Name>(said: &Result<(u64, Receipt<N>), CodeFault>) -> Option<Short>
     ensures { result ≡ answers.installs said.now }
 {
@@ -132,7 +135,7 @@ pub fn installs<N: Name>(said: &Result<(u64, Receipt<N>), CodeFault>) -> Option<
     }
 }
 
-/// Of an invalidation.
+/// The answer of an invalidation.
 pub fn invalidates<N: Name>(said: &Result<Receipt<N>, InvalidateFault>) -> Short
     ensures { result ≡ answers.invalidates said.now }
 {
@@ -142,7 +145,7 @@ pub fn invalidates<N: Name>(said: &Result<Receipt<N>, InvalidateFault>) -> Short
     }
 }
 
-/// Of an open.
+/// The answer of an open.
 pub fn opens<N: Name>(said: &Result<(u64, Receipt<N>), OpenFault>) -> Short
     ensures { result ≡ answers.opens said.now }
 {
@@ -152,7 +155,7 @@ pub fn opens<N: Name>(said: &Result<(u64, Receipt<N>), OpenFault>) -> Short
     }
 }
 
-/// Of a close.
+/// The answer of a close of the oldest request.
 pub fn closes<N: Name>(said: &Result<(u64, Closing<N>), CloseFault>) -> Short
     ensures { result ≡ answers.closes said.now }
 {
@@ -162,7 +165,7 @@ pub fn closes<N: Name>(said: &Result<(u64, Closing<N>), CloseFault>) -> Short
     }
 }
 
-/// Of a close of this number.
+/// The answer of a close of the request with this number.
 pub fn closes_of<N: Name>(number: u64, said: &Result<Closing<N>, CloseFault>) -> Short
     ensures { result ≡ answers.closes_of number said.now }
 {
@@ -172,7 +175,7 @@ pub fn closes_of<N: Name>(number: u64, said: &Result<Closing<N>, CloseFault>) ->
     }
 }
 
-/// Of telling a name.
+/// The answer of a tell, which arms a thread's poll.
 pub fn tells<N: Name>(said: &Result<Told<N>, TellFault>) -> Short
     ensures { result ≡ answers.tells said.now }
 {
@@ -183,7 +186,7 @@ pub fn tells<N: Name>(said: &Result<Told<N>, TellFault>) -> Short
     }
 }
 
-/// Of a hold.
+/// The answer of a hold.
 pub fn holds<T>(said: &Result<T, HoldFault>) -> Short
     ensures { result ≡ answers.holds said.now }
 {
@@ -193,7 +196,7 @@ pub fn holds<T>(said: &Result<T, HoldFault>) -> Short
     }
 }
 
-/// Of a release.
+/// The answer of a release.
 pub fn releases<T>(said: &Result<T, ReleaseFault>) -> Short
     ensures { result ≡ answers.releases said.now }
 {
@@ -203,7 +206,7 @@ pub fn releases<T>(said: &Result<T, ReleaseFault>) -> Short
     }
 }
 
-/// Of serving a held thread.
+/// The answer of serving a held thread.
 pub fn serves<T>(said: &Result<T, ServeFault>) -> Short
     ensures { result ≡ answers.serves said.now }
 {
@@ -213,7 +216,7 @@ pub fn serves<T>(said: &Result<T, ServeFault>) -> Short
     }
 }
 
-/// Of reclaiming a code.
+/// The answer of a reclaim.
 pub fn reclaims<N: Name, J>(said: &Result<Reclaimed<N>, NotReclaimed<J>>) -> Option<Short>
     ensures { result ≡ answers.reclaims said.now }
 {
@@ -225,14 +228,14 @@ pub fn reclaims<N: Name, J>(said: &Result<Reclaimed<N>, NotReclaimed<J>>) -> Opt
     }
 }
 
-/// Of a start that is refused.
+/// The answer of a refused start.
 pub fn start_refusal(fault: StartFault) -> Option<Short>
     ensures { result ≡ answers.start_refusal fault }
 {
     refused(start_fault(fault))
 }
 
-/// Of a census that isn't operated.
+/// The answer of a refused operate.
 pub fn operate_refusal(fault: OperateFault) -> Option<Short>
     ensures { result ≡ answers.operate_refusal fault }
 {

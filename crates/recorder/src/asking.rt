@@ -1,4 +1,4 @@
-//! What any thread asks of what all share, noted in its stream.
+//! The calls that any thread may make on shared state, noted in its stream.
 ghost use Rattle.std.specs.Prelude.{◌≡◌, ◌∷◌, [], ℕ, Some, IfOk, IfErr, OnErr};
 ghost use Rattle.desk.specs.declared.entries.Entry.{Entry};
 ghost use Rattle.desk.specs.Machine.{State as DeskState, Book};
@@ -20,14 +20,14 @@ use call_log::word::Word;
 use desk::{CodeFault, Receipt, Refused};
 use method_table::table::InvalidateFault;
 use operations::Request;
-use operations::job::Errand;
+use operations::job::HandshakeOp;
 use std::alloc::AllocError;
 use std::sync::Wait;
 use thread_list::Shared;
 
 impl<'a> Stream<'a> {
-    /// A request waits from now on, as `Shared::submit`.
-    pub fn submit<N: Name, J: Errand, R: Wait>(
+    /// Submits a request, as `Shared::submit` does.
+    pub fn submit<N: Name, J: HandshakeOp, R: Wait>(
         &mut self,
         shared: &Shared<N, J>,
         rt: &R,
@@ -52,8 +52,8 @@ impl<'a> Stream<'a> {
         said
     }
 
-    /// Installs a code for the method, as `Shared::install`.
-    pub fn install<N: Name, J: Errand, R: Wait>(
+    /// Installs a code for the method, as `Shared::install` does.
+    pub fn install<N: Name, J: HandshakeOp, R: Wait>(
         &mut self,
         shared: &Shared<N, J>,
         rt: &R,
@@ -72,8 +72,8 @@ impl<'a> Stream<'a> {
         said
     }
 
-    /// No thread enters the code of the serial any more, as `Shared::invalidate`.
-    pub fn invalidate<N: Name, J: Errand, R: Wait>(
+    /// Invalidates the code of the serial, as `Shared::invalidate` does: no thread enters it any more.
+    pub fn invalidate<N: Name, J: HandshakeOp, R: Wait>(
         &mut self,
         shared: &Shared<N, J>,
         rt: &R,
@@ -95,8 +95,8 @@ impl<'a> Stream<'a> {
         said
     }
 
-    /// The names of the threads that are live, as `Shared::live`.
-    pub fn live<N: Name, J: Errand, R: Wait>(
+    /// The names of the live threads, as `Shared::live` returns them.
+    pub fn live<N: Name, J: HandshakeOp, R: Wait>(
         &mut self,
         shared: &Shared<N, J>,
         rt: &R,
@@ -119,8 +119,8 @@ impl<'a> Stream<'a> {
         Ok(names)
     }
 
-    /// The names with their replies of an operation, as `Shared::replies`.
-    pub fn replies<N: Name, J: Errand, R: Wait>(
+    /// The names and replies of an operation, as `Shared::replies` returns them.
+    pub fn replies<N: Name, J: HandshakeOp, R: Wait>(
         &mut self,
         shared: &Shared<N, J>,
         rt: &R,

@@ -1,14 +1,14 @@
-//! What is called, and with which numbers.
+//! The words and the numbers of calls in a log.
 ghost use Rattle.std.specs.Prelude.{◌≡◌, ◌++◌, ◌∷◌, IfOk, OnOk, map};
 ghost use Rattle.desk.specs.JobsFit.{request_of};
 ghost use Rattle.recorder.specs.Calls as calls;
 
 use call_log::word::Word;
-use operations::job::Errand;
+use operations::job::HandshakeOp;
 use operations::{Ask, Request};
 use std::alloc::{AllocError, Global};
 
-/// What a submit is called.
+/// The word for a submit of this request.
 pub fn submit_word(request: &Request) -> Word
     ensures { result ≡ calls.submit_word request.now }
 {
@@ -22,7 +22,7 @@ pub fn submit_word(request: &Request) -> Word
     }
 }
 
-/// Puts the serial that an ask counts behind the numbers, where it counts one.
+/// Appends the serial that a query counts, if it counts one.
 fn put_counted(numbers: &mut Vec<u64>, ask: Ask) -> Result<(), AllocError>
     ensures { OnOk result (numbers.new.items ≡ numbers.old.items ++ calls.counted ask) }
 {
@@ -33,7 +33,7 @@ fn put_counted(numbers: &mut Vec<u64>, ask: Ask) -> Result<(), AllocError>
     }
 }
 
-/// The numbers of a submit: the serial that is counted, and the targets.
+/// The numbers of a submit: the serial that its query counts, and the targets.
 pub fn request_numbers(alloc: Global, request: &Request) -> Result<Vec<u64>, AllocError>
     ensures { IfOk result (λ list. list.items ≡ calls.request_numbers request.now) }
 {
@@ -48,8 +48,8 @@ pub fn request_numbers(alloc: Global, request: &Request) -> Result<Vec<u64>, All
     }
 }
 
-/// What a reclaiming with these jobs is called.
-pub fn reclaim_word<J: Errand>(jobs: &[J]) -> Word
+/// The word for a reclaim with these jobs.
+pub fn reclaim_word<J: HandshakeOp>(jobs: &[J]) -> Word
     ensures { result ≡ calls.reclaim_word (request_of J.whom J.asks jobs.now) }
 {
     let Some((first, _)) = jobs.split_first() else {
@@ -62,8 +62,8 @@ pub fn reclaim_word<J: Errand>(jobs: &[J]) -> Word
     }
 }
 
-/// Puts the names of the jobs behind the numbers.
-fn put_names<J: Errand>(numbers: &mut Vec<u64>, jobs: &[J]) -> Result<(), AllocError>
+/// Appends the names of the jobs.
+fn put_names<J: HandshakeOp>(numbers: &mut Vec<u64>, jobs: &[J]) -> Result<(), AllocError>
     ensures { OnOk result (numbers.new.items ≡ numbers.old.items ++ map J.whom jobs.now) }
 {
     for job in jobs {
@@ -72,8 +72,8 @@ fn put_names<J: Errand>(numbers: &mut Vec<u64>, jobs: &[J]) -> Result<(), AllocE
     Ok(())
 }
 
-/// The numbers of a reclaiming: the serial, and those of the handshake of the jobs.
-pub fn reclaim_numbers<J: Errand>(
+/// The numbers of a reclaim: the serial, and the numbers of the jobs' handshake.
+pub fn reclaim_numbers<J: HandshakeOp>(
     alloc: Global,
     serial: u64,
     jobs: &[J],
@@ -90,7 +90,7 @@ pub fn reclaim_numbers<J: Errand>(
     Ok(numbers)
 }
 
-/// Puts pairs behind the numbers.
+/// Appends the pairs.
 fn put_pairs(numbers: &mut Vec<u64>, list: &[(u64, u64)]) -> Result<(), AllocError>
     ensures { OnOk result (numbers.new.items ≡ numbers.old.items ++ calls.pairs list.now) }
 {

@@ -1,12 +1,12 @@
-//! Requests that a coordinator works to their Closes, and codes that it reclaims, noted in its stream with the jobs that it ran.
+//! A coordinator drives requests to their Close and reclaims codes. The stream notes these calls with the jobs that ran in them.
 ghost use Rattle.std.specs.Prelude.{◌≡◌, ◌<◌, ◌∷◌, [], false, IfOk, OnOk, IfErr, IfSome, length};
 ghost use Rattle.desk.specs.declared.entries.Entry.{Entry};
 ghost use Rattle.desk.specs.JobsFit.{request_of};
 ghost use Rattle.coordinator.specs.Driving.{number_of, IsWorked, IsListed, drive_refused};
 ghost use Rattle.coordinator.specs.Refused.{not_reclaimed};
 ghost use Rattle.coordinator.specs.Rounds.{Shaking, Shakes, IsReclaimedBehind};
-ghost use Rattle.held_threads.specs.Holding.{ArmsOn};
-ghost use Rattle.held_threads.specs.Reclaiming.{IsReclaimed};
+ghost use Rattle.stopped_threads.specs.Holding.{ArmsOn};
+ghost use Rattle.stopped_threads.specs.Reclaiming.{IsReclaimed};
 ghost use Rattle.recorder.specs.Answers as answers;
 ghost use Rattle.recorder.specs.Calls as calls;
 ghost use Rattle.recorder.specs.Drives.{drive_refusal, drove, drove_numbers, NotesRefused};
@@ -20,11 +20,11 @@ use bodies::Name;
 use call_log::word::Word;
 use coordinator::{Coordinator, DriveFault, Driven, Worked};
 use desk::NotReclaimed;
-use held_threads::Reclaimed;
-use operations::job::Errand;
+use operations::job::HandshakeOp;
 use std::sync::Wait;
+use stopped_threads::Reclaimed;
 
-// A drive that is refused, as an answer.
+// The answer of a drive that is refused; None if memory was refused.
 fn drive_refusal(fault: DriveFault) -> Option<Short>
     ensures { result ≡ drive_refusal fault }
 {
@@ -35,7 +35,7 @@ fn drive_refusal(fault: DriveFault) -> Option<Short>
 }
 
 impl<'a> Stream<'a> {
-    // Notes a request that was worked to its Close, with the jobs that ran.
+    // Notes a request that was driven to its Close, with the jobs that ran.
     fn note_driven<R: Wait>(&mut self, rt: &R, begun: Begun, driven: &Driven)
         requires { IfSome begun.before (λ t. self.old.last < t) }
         ensures { AddsRun self.old self.new Word.Drive [] (drove driven.now)
@@ -57,7 +57,7 @@ impl<'a> Stream<'a> {
         }
     }
 
-    // A refusal of driving: where memory was refused the stream is lost, since a census may be open.
+    // Notes a refused drive. If memory was refused the stream is lost, since a census may be open.
     fn note_undriven(&mut self, begun: Begun, called: Word, fault: DriveFault)
         requires { IfSome begun.before (λ t. self.old.last < t) }
         ensures { NotesRefused self.old self.new called fault }
@@ -68,8 +68,8 @@ impl<'a> Stream<'a> {
         }
     }
 
-    /// Works the oldest request to its Close, as `Coordinator::drive`.
-    pub fn drive<N: Name, J: Errand, R: Wait>(
+    /// Drives the oldest request to its Close, as `Coordinator::drive` does.
+    pub fn drive<N: Name, J: HandshakeOp, R: Wait>(
         &mut self,
         by: &mut Coordinator<'_, N, J>,
         rt: &R,
@@ -95,8 +95,8 @@ impl<'a> Stream<'a> {
         said
     }
 
-    /// Works up to four handshakes at once to their Closes, as `Coordinator::drive_four`.
-    pub fn drive_four<N: Name, J: Errand, R: Wait>(
+    /// Drives up to four handshakes at once to their Close, as `Coordinator::drive_four` does.
+    pub fn drive_four<N: Name, J: HandshakeOp, R: Wait>(
         &mut self,
         by: &mut Coordinator<'_, N, J>,
         rt: &R,
@@ -121,8 +121,8 @@ impl<'a> Stream<'a> {
         said
     }
 
-    /// Reclaims a code, as `Coordinator::reclaim`.
-    pub fn reclaim<N: Name, J: Errand, R: Wait>(
+    /// Reclaims a code, as `Coordinator::reclaim` does.
+    pub fn reclaim<N: Name, J: HandshakeOp, R: Wait>(
         &mut self,
         by: &mut Coordinator<'_, N, J>,
         rt: &R,

@@ -1,11 +1,11 @@
-//! Why calls are refused, as words of a log. What the core doesn't refuse so has no word: the history is full, or memory was refused.
+//! The faults of calls as words of a log. A fault that the core doesn't have gets no word: the history is full, or memory was refused.
 ghost use Rattle.std.specs.Prelude.{◌≡◌};
 ghost use Rattle.recorder.specs.Faults as faults;
 
 use call_log::word::Word;
 use desk::{AskFault, CloseFault, CodeFault, OpenFault, ReclaimFault, StartFault};
-use held_threads::{HoldFault, OperateFault, ReleaseFault, ServeFault, TellFault};
 use method_table::table::{InstallFault, InvalidateFault, RetireFault};
+use stopped_threads::{HoldFault, OperateFault, ReleaseFault, ServeFault, TellFault};
 use thread_list::{CallFault, ExitFault, ReturnFault};
 
 pub fn call_fault(fault: CallFault) -> Word

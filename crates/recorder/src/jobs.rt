@@ -8,29 +8,29 @@ use crate::recorder::Recorder;
 use call_log::lists::Job;
 use frames::image::Image;
 use operations::Ask;
-use operations::job::{Done, Errand};
+use operations::job::{Done, HandshakeOp};
 use std::sync::Wait;
 use std::sync::atomic::{AtomicU64, Ordering};
 
-/// A job that notes, where it runs, its operation, its thread, what it answered and a ticket.
+/// A job that records its run: its operation, its thread, its reply and a ticket.
 ///
-/// It knows who runs it by what it is asked after it got its number: the berth of a thread that serves itself asks the job what it asks, for
-/// the receipt; a coordinator that holds the thread doesn't.
+/// It finds out who runs it by whether it is asked for its query once it has its number. The berth of a thread that serves itself asks for
+/// the query, for the receipt; a coordinator that holds the thread doesn't.
 #[derive(Drop)]
-pub struct RecordedJob<'a, J: Errand, R: Wait> {
+pub struct RecordedJob<'a, J: HandshakeOp, R: Wait> {
     job: J,
     recorder: &'a Recorder,
     rt: &'a R,
-    // 1 once it was asked what it asks.
+    // 1 once the job was asked for its query.
     asked: AtomicU64,
 }
 
-impl<'a, J: Errand, R: Wait> RecordedJob<'a, J, R> {
-    /// Wraps a job, so that it notes where it runs.
+impl<'a, J: HandshakeOp, R: Wait> RecordedJob<'a, J, R> {
+    /// Wraps a job so that it records its run.
     pub fn new(recorder: &'a Recorder, rt: &'a R, job: J) -> RecordedJob<'a, J, R>
-        ensures number { ⟦<RecordedJob<'a, J, R> as Errand>⟧.number result ≡ J.number job }
-        ensures whom { ⟦<RecordedJob<'a, J, R> as Errand>⟧.whom result ≡ J.whom job }
-        ensures asks { ⟦<RecordedJob<'a, J, R> as Errand>⟧.asks result ≡ J.asks job }
+        ensures number { ⟦<RecordedJob<'a, J, R> as HandshakeOp>⟧.number result ≡ J.number job }
+        ensures whom { ⟦<RecordedJob<'a, J, R> as HandshakeOp>⟧.whom result ≡ J.whom job }
+        ensures asks { ⟦<RecordedJob<'a, J, R> as HandshakeOp>⟧.asks result ≡ J.asks job }
     {
         RecordedJob {
             job,
@@ -41,7 +41,7 @@ impl<'a, J: Errand, R: Wait> RecordedJob<'a, J, R> {
     }
 }
 
-/// What a job answered, as a log has it.
+/// The log's record of a job that ran.
 fn ran_job(done: &Done, ticket: u64, is_own: bool) -> RanJob
     ensures { result ≡ record {
       job = record { op = done.now.op; name = done.now.target; reply = done.now.reply; ticket = ticket };
@@ -57,7 +57,7 @@ fn ran_job(done: &Done, ticket: u64, is_own: bool) -> RanJob
     RanJob { job, is_own }
 }
 
-impl<'a, J: Errand, R: Wait> Errand for RecordedJob<'a, J, R> {
+impl<'a, J: HandshakeOp, R: Wait> HandshakeOp for RecordedJob<'a, J, R> {
     ghost number = { λ r. J.number r.job };
 
     ghost whom = { λ r. J.whom r.job };

@@ -1,6 +1,6 @@
-//! Recorders of the calls of running threads: each call with a ticket before it and one after, its arguments and its answer.
-//! Programs whose runs are checked make their calls through a `Stream` of each of their threads, and write all streams at the end.
-//! Read `src/stream.rt` first, then `src/threads.rt` and `specs/Streams.antt`; the log is of `call_log`.
+//! Recorders of the calls of running threads. Each call has a ticket before it and one after it, its arguments and its answer.
+//! A program whose runs are checked makes its calls through a `Stream` for each of its threads, and writes all streams at the end.
+//! Read `src/stream.rt` first, then `src/threads.rt` and `specs/Streams.antt`. `call_log` defines the log.
 #![tactic(auto)]
 
 mod answers;

@@ -1,4 +1,4 @@
-//! The jobs that ran in calls that haven't returned.
+//! The jobs that ran in calls which haven't returned.
 ghost use Rattle.std.specs.Prelude.{◌≡◌, ◌⊎◌, ◌++◌, ◌∷◌, [], true, false, IfOk, IfSome, IfNone};
 ghost use Rattle.recorder.specs.Ran.{is_of, taken, left};
 ghost use Rattle.recorder.specs.Streams.{are_of};
@@ -8,21 +8,21 @@ use call_log::lists::Job;
 use std::alloc::{AllocError, Global};
 use std::marker::Model;
 
-/// A job that ran, and whether its thread ran it on itself.
+/// A job that ran, and whether its own thread ran it.
 #[derive(Clone, Copy, Debug, PartialEq, Eq, Drop)]
 pub struct RanJob {
     pub job: Job,
     pub is_own: bool,
 }
 
-/// Who ran a job: the thread of the name on itself, or the coordinator on a thread that it held.
+/// Who ran a job: the thread of this name, on itself, or the coordinator, on a thread that it held.
 #[derive(Clone, Copy, Debug, PartialEq, Eq, Drop)]
 pub enum Runner {
     Thread(u64),
     Coordinator,
 }
 
-/// Jobs that ran and aren't part of an entry yet, in the order in which they ran; and whether one was lost for want of memory.
+/// The jobs that ran and aren't part of an entry yet, in the order of their runs, and whether one was lost for want of memory.
 #[derive(Drop)]
 pub struct Ran {
     alloc: Global,
@@ -61,7 +61,7 @@ fn taken(alloc: Global, runner: Runner, jobs: &[RanJob]) -> Result<Vec<Job>, All
     Ok(list)
 }
 
-/// All others.
+/// The jobs that another runner ran.
 fn left(alloc: Global, runner: Runner, jobs: &[RanJob]) -> Result<Vec<RanJob>, AllocError>
     ensures { IfOk result (λ list. list.items ≡ left runner jobs.now) }
 {
@@ -85,7 +85,7 @@ impl Ran {
         }
     }
 
-    /// A job ran.
+    /// Adds a job that ran. If memory is refused, it notes that a job is lost.
     pub fn note(&mut self, ran: RanJob)
         ensures { (self.new ≡ record self.old { jobs = self.old.jobs ++ ran ∷ [] })
             ⊎ (self.new ≡ record self.old { lost = true }) }
@@ -95,7 +95,7 @@ impl Ran {
         }
     }
 
-    /// The jobs that the runner ran, which are part of an entry from now on. None where one was lost.
+    /// Takes the jobs that the runner ran; an entry contains them from now on. None if a job was lost.
     pub fn take(&mut self, runner: Runner) -> Option<Vec<Job>>
         ensures some { IfSome result (λ jobs. (jobs.items ≡ taken runner self.old.jobs)
             × (self.new ≡ record self.old { jobs = left runner self.old.jobs })
@@ -114,7 +114,7 @@ impl Ran {
         }
     }
 
-    /// Those that the thread of the name ran on itself.
+    /// Takes the jobs that the thread of this name ran on itself. None if a job was lost.
     #[tactic(auto, using(crate::proofs::Owned::taken_are_of))]
     pub fn take_own(&mut self, name: u64) -> Option<Vec<Job>>
         ensures taken { IfSome result (λ jobs. (jobs.items ≡ taken (IsThread name) self.old.jobs)

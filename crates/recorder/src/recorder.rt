@@ -1,4 +1,4 @@
-//! What all streams of a run share.
+//! The state that all streams of a run share.
 ghost use Rattle.std.specs.Prelude.{◌≡◌, [], true, false, IfSome};
 ghost use Rattle.recorder.specs.Streams.{are_of};
 
@@ -9,7 +9,7 @@ use std::alloc::Global;
 use std::sync::atomic::{AtomicU64, Ordering};
 use std::sync::{Mutex, Wait};
 
-/// The counter whose draws are the tickets, and the jobs that ran in calls that haven't returned.
+/// The counter from which tickets are drawn, and the jobs that ran in calls which haven't returned.
 #[derive(Drop)]
 pub struct Recorder {
     next: AtomicU64,
@@ -26,7 +26,7 @@ impl Recorder {
         }
     }
 
-    /// An empty stream, for one thread of the machine. Each has a number of its own, from 0 on.
+    /// An empty stream for one machine thread. The streams are numbered from 0 on.
     pub fn stream(&self, alloc: Global) -> Stream<'_>
         ensures { (result.calls ≡ []) × (result.last ≡ 0) × (result.lost ≡ false) }
     {
@@ -34,22 +34,22 @@ impl Recorder {
         Stream::new(self, number, alloc)
     }
 
-    // The next ticket.
+    // Draws the next ticket.
     pub(crate) fn draw(&self) -> u64 {
         self.next.fetch_add(1, Ordering::SeqCst)
     }
 
-    // A job ran.
+    // Adds a job that ran.
     pub(crate) fn note_job<R: Wait>(&self, rt: &R, ran: RanJob) {
         self.ran.lock(rt).note(ran);
     }
 
-    // The jobs that the runner ran and that are part of no entry yet, in their order. None where one was lost for want of memory.
+    // Takes the jobs that the runner ran and that no entry contains yet, in their order. None if one was lost for want of memory.
     pub(crate) fn take_jobs<R: Wait>(&self, rt: &R, runner: Runner) -> Option<Vec<Job>> {
         self.ran.lock(rt).take(runner)
     }
 
-    // Those that the thread of the name ran on itself.
+    // Takes those that the thread of this name ran on itself. None if one was lost.
     pub(crate) fn take_own<R: Wait>(&self, rt: &R, name: u64) -> Option<Vec<Job>>
         ensures { IfSome result (λ jobs. are_of name jobs.items ≡ true) }
     {

@@ -1,24 +1,24 @@
-//! Answers with one number at most.
+//! Answers with at most one number.
 ghost use Rattle.std.specs.Prelude.{◌≡◌};
 ghost use Rattle.recorder.specs.Short.{only, with_number};
 
 use call_log::word::Word;
 
-/// An answer with one number at most.
+/// An answer with at most one number.
 #[derive(Clone, Copy, Debug, PartialEq, Eq, Drop)]
 pub struct Short {
     pub word: Word,
     pub value: Option<u64>,
 }
 
-/// The word alone.
+/// An answer that is only a word.
 pub fn only(word: Word) -> Short
     ensures { result ≡ only word }
 {
     Short { word, value: None }
 }
 
-/// The word with a number.
+/// An answer of a word and a number.
 pub fn with(word: Word, value: u64) -> Short
     ensures { result ≡ with_number word value }
 {

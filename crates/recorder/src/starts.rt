@@ -1,4 +1,4 @@
-//! Threads that start, stop and exit, noted in their streams with the jobs that they ran.
+//! Threads start, stop and exit. Their streams note these calls with the jobs that the threads ran.
 ghost use Rattle.std.specs.Prelude.{◌≡◌, ◌≢◌, ◌⊎◌, ◌<◌, ◌∷◌, [], true, Some, None, IfOk, IfErr, IfSome, IfNone};
 ghost use Rattle.thread_state.specs.declared.Back.{Back as WayBack};
 ghost use Rattle.thread_state.specs.declared.State.TheVariants.{InJava as IsInJava, AtPoll as IsAtPoll, Serving as IsServing};
@@ -21,14 +21,14 @@ use crate::stream::{Begun, Stream};
 use bodies::Name;
 use call_log::word::Word;
 use desk::{Receipt, StartFault};
-use operations::job::Errand;
+use operations::job::HandshakeOp;
 use std::alloc::Global;
 use std::sync::Wait;
 use thread_list::{ExitFault, Exited, Mutator, Shared, Turn};
 use thread_state::State;
 
 impl<'a> Stream<'a> {
-    // Notes a call of the thread of the name, which ran jobs on itself.
+    // Notes a call in which the thread of this name ran jobs on itself.
     fn note_ended<R: Wait>(
         &mut self,
         rt: &R,
@@ -48,8 +48,8 @@ impl<'a> Stream<'a> {
         }
     }
 
-    /// Starts a thread in the least vacant place, as `Shared::start`.
-    pub fn start<'s, N: Name, J: Errand, R: Wait>(
+    /// Starts a thread in the least vacant place, as `Shared::start` does.
+    pub fn start<'s, N: Name, J: HandshakeOp, R: Wait>(
         &mut self,
         shared: &'s Shared<N, J>,
         rt: &R,
@@ -85,8 +85,8 @@ impl<'a> Stream<'a> {
         }
     }
 
-    /// The thread stops after a poll that said so, as `Mutator::stop`.
-    pub fn stop<N: Name, J: Errand, R: Wait>(
+    /// Stops the thread after a poll that said so, as `Mutator::stop` does.
+    pub fn stop<N: Name, J: HandshakeOp, R: Wait>(
         &mut self,
         thread: &mut Mutator<'_, N, J>,
         rt: &R,
@@ -114,8 +114,8 @@ impl<'a> Stream<'a> {
         said
     }
 
-    /// The thread ends, as `Mutator::exit`.
-    pub fn exit<'m, N: Name, J: Errand, R: Wait>(
+    /// Ends the thread, as `Mutator::exit` does.
+    pub fn exit<'m, N: Name, J: HandshakeOp, R: Wait>(
         &mut self,
         thread: Mutator<'m, N, J>,
         rt: &R,

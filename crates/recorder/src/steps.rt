@@ -1,16 +1,16 @@
-//! A coordinator's steps by hand, noted in its stream.
+//! The single steps of a coordinator, noted in its stream.
 ghost use Rattle.std.specs.Prelude.{◌≡◌, ◌∷◌, [], true, false, ℕ, Some, None, IfOk, OnOk, IfErr};
 ghost use Rattle.bodies.specs.Bodies.{BodyView};
 ghost use Rattle.bodies.specs.Census.{IsCensus};
 ghost use Rattle.desk.specs.declared.entries.Entry.{Entry};
 ghost use Rattle.desk.specs.Machine.{State as DeskState};
 ghost use Rattle.desk.specs.Refusals.{open_refused, MayOperate};
-ghost use Rattle.held_threads.specs.Held.{StandsAt, AreEach, is_held};
-ghost use Rattle.held_threads.specs.Holding.{ArmsOn};
+ghost use Rattle.stopped_threads.specs.Held.{StandsAt, AreEach, is_held};
+ghost use Rattle.stopped_threads.specs.Holding.{ArmsOn};
 ghost use Rattle.thread_list.specs.Moves.{IsOperated};
 ghost use Rattle.coordinator.specs.Receipts.{Releases};
 ghost use Rattle.coordinator.specs.Refused.{Serves};
-ghost use Rattle.held_threads.specs.Refused.{Holds, HasNoHeld, IsServeFault, MayClose, census_refused, hold_refused, not_closed, serve_refused, tell_said};
+ghost use Rattle.stopped_threads.specs.Refused.{Holds, HasNoHeld, IsServeFault, MayClose, census_refused, hold_refused, not_closed, serve_refused, tell_said};
 ghost use Rattle.recorder.specs.Answers as answers;
 ghost use Rattle.recorder.specs.Calls.{pairs};
 ghost use Rattle.recorder.specs.Streams.{Adds, Notes, NotesRun};
@@ -23,13 +23,13 @@ use bodies::Name;
 use call_log::word::Word;
 use coordinator::Coordinator;
 use desk::{CloseFault, Closing, OpenFault, Operating, Receipt};
-use held_threads::{HoldFault, OperateFault, ReleaseFault, ServeFault, TellFault, Told};
-use operations::job::Errand;
+use operations::job::HandshakeOp;
 use std::sync::Wait;
+use stopped_threads::{HoldFault, OperateFault, ReleaseFault, ServeFault, TellFault, Told};
 
 impl<'a> Stream<'a> {
-    /// Opens the oldest request, as `Coordinator::open`.
-    pub fn open<N: Name, J: Errand, R: Wait>(
+    /// Opens the oldest waiting request, as `Coordinator::open` does.
+    pub fn open<N: Name, J: HandshakeOp, R: Wait>(
         &mut self,
         by: &mut Coordinator<'_, N, J>,
         rt: &R,
@@ -45,8 +45,8 @@ impl<'a> Stream<'a> {
         said
     }
 
-    /// Closes the oldest open request, as `Coordinator::close`.
-    pub fn close<N: Name, J: Errand, R: Wait>(
+    /// Closes the oldest open request, as `Coordinator::close` does.
+    pub fn close<N: Name, J: HandshakeOp, R: Wait>(
         &mut self,
         by: &mut Coordinator<'_, N, J>,
         rt: &R,
@@ -64,8 +64,8 @@ impl<'a> Stream<'a> {
         said
     }
 
-    /// Closes the open request of the number, as `Coordinator::close_of`.
-    pub fn close_of<N: Name, J: Errand, R: Wait>(
+    /// Closes the open request with this number, as `Coordinator::close_of` does.
+    pub fn close_of<N: Name, J: HandshakeOp, R: Wait>(
         &mut self,
         by: &mut Coordinator<'_, N, J>,
         rt: &R,
@@ -89,8 +89,8 @@ impl<'a> Stream<'a> {
         said
     }
 
-    /// Tells a name, as `Coordinator::tell`.
-    pub fn tell<N: Name, J: Errand, R: Wait>(
+    /// Arms the poll of the thread with this name, as `Coordinator::tell` does.
+    pub fn tell<N: Name, J: HandshakeOp, R: Wait>(
         &mut self,
         by: &mut Coordinator<'_, N, J>,
         rt: &R,
@@ -108,8 +108,8 @@ impl<'a> Stream<'a> {
         said
     }
 
-    /// Holds the thread of a place, as `Coordinator::hold`.
-    pub fn hold<N: Name, J: Errand, R: Wait>(
+    /// Holds the thread of a place, as `Coordinator::hold` does.
+    pub fn hold<N: Name, J: HandshakeOp, R: Wait>(
         &mut self,
         by: &mut Coordinator<'_, N, J>,
         rt: &R,
@@ -127,8 +127,8 @@ impl<'a> Stream<'a> {
         said
     }
 
-    /// Brings the body of a held thread back, as `Coordinator::release`.
-    pub fn release<N: Name, J: Errand, R: Wait>(
+    /// Gives the body of a held thread back, as `Coordinator::release` does.
+    pub fn release<N: Name, J: HandshakeOp, R: Wait>(
         &mut self,
         by: &mut Coordinator<'_, N, J>,
         rt: &R,
@@ -150,8 +150,8 @@ impl<'a> Stream<'a> {
         said
     }
 
-    /// Serves the held thread of a place, as `Coordinator::serve`.
-    pub fn serve<N: Name, J: Errand, R: Wait>(
+    /// Serves the held thread of a place, as `Coordinator::serve` does.
+    pub fn serve<N: Name, J: HandshakeOp, R: Wait>(
         &mut self,
         by: &mut Coordinator<'_, N, J>,
         rt: &R,
@@ -172,8 +172,8 @@ impl<'a> Stream<'a> {
         said
     }
 
-    /// Operates the open census, as `Coordinator::operate`.
-    pub fn operate<N: Name, J: Errand, R: Wait>(
+    /// Operates the open census, as `Coordinator::operate` does.
+    pub fn operate<N: Name, J: HandshakeOp, R: Wait>(
         &mut self,
         by: &mut Coordinator<'_, N, J>,
         rt: &R,

@@ -1,4 +1,4 @@
-//! The calls of one thread of the machine, in the order of its program.
+//! The calls of one machine thread, in program order.
 ghost use Rattle.std.specs.Prelude.{◌≡◌, ◌<◌, ℕ, [], true, false, Some, None, IfSome, IfOk};
 ghost use Rattle.recorder.specs.Short.{values};
 ghost use Rattle.recorder.specs.Streams.{Adds, Notes, AddsOwn, AddsRun, NotesRun, IsLost, logged, rise, jobs_rise, are_of};
@@ -14,8 +14,8 @@ use std::alloc::{AllocError, Global};
 use std::marker::Model;
 use std::sync::Wait;
 
-/// The calls that one thread of the machine made. Their tickets rise, with those of the jobs that ran in each. Where a call couldn't be
-/// noted, for want of memory or of tickets, the stream is lost: it says so, and no log is written of it.
+/// The calls of one machine thread. Their tickets rise, and so do those of the jobs that ran in each. If a call can't be noted, for want of
+/// memory or of tickets, the stream is lost: it says so, and `write` writes no log.
 #[derive(Drop)]
 pub struct Stream<'a> {
     pub(crate) recorder: &'a Recorder,
@@ -43,13 +43,13 @@ impl<'a> Model for Stream<'a> {
     ghost invariant = { λ s. rise 0 s.calls.items s.last ≡ true };
 }
 
-/// A call that a stream notes: the ticket that was drawn before it. None where there was none.
+/// A call that has begun, with the ticket drawn before it; None if no ticket was left.
 #[derive(Clone, Copy, Debug, Drop)]
 pub struct Begun {
     pub before: Option<u64>,
 }
 
-/// The entry of a call, with numbers and jobs of its own.
+/// The entry of a call, with its own copies of the numbers.
 fn entry_of(
     alloc: Global,
     stream: u64,
@@ -73,7 +73,7 @@ fn entry_of(
     })
 }
 
-/// Whether the tickets of the jobs rise between the two.
+/// Whether the tickets of the jobs rise, above `above` and below `end`.
 fn jobs_rise(above: u64, jobs: &[Job], end: u64) -> bool
     ensures { result ≡ jobs_rise above jobs.now end }
 {
@@ -102,14 +102,14 @@ impl<'a> Stream<'a> {
         }
     }
 
-    /// Whether a call couldn't be noted.
+    /// Whether the stream is lost, since a call couldn't be noted.
     pub fn is_lost(&self) -> bool
         ensures { result ≡ self.now.lost }
     {
         self.lost
     }
 
-    /// The calls in their order.
+    /// The noted calls, in their order.
     pub fn calls(&self) -> &[Entry]
         ensures calls { result.now ≡ self.now.calls }
         ensures rise { rise 0 result.now self.now.last ≡ true }
@@ -117,14 +117,14 @@ impl<'a> Stream<'a> {
         self.calls.as_slice()
     }
 
-    /// The stream is lost from now on.
+    /// Marks the stream as lost.
     pub fn lose(&mut self)
         ensures { IsLost self.old self.new }
     {
         self.lost = true;
     }
 
-    // The next ticket, where it is above this one and is one of a log.
+    // Draws the next ticket; None unless it is above this one and at most the last ticket of a log.
     fn ticket_above(&self, above: u64) -> Option<u64>
         ensures { IfSome result (λ t. above < t) }
     {
@@ -145,7 +145,7 @@ impl<'a> Stream<'a> {
         }
     }
 
-    // Draws the ticket after a call, and answers both where those of the jobs rise between them.
+    // Draws the ticket after a call. Answers both tickets if those of the jobs rise between them.
     fn end(&self, begun: Begun, jobs: &[Job]) -> Option<(u64, u64)>
         requires { IfSome begun.before (λ t. self.now.last < t) }
         ensures above { IfSome result (λ t. self.now.last < t.0) }
@@ -160,8 +160,8 @@ impl<'a> Stream<'a> {
         }
     }
 
-    /// Draws the ticket after a call that has returned, and notes what was called with which numbers, what it answered, and the jobs that
-    /// ran in it.
+    /// Draws the ticket after a call that has returned, and notes the call with its numbers, its answer, and the jobs that ran in it. If it
+    /// can't, the stream is lost.
     #[tactic(auto, using(crate::proofs::Rise::rise_behind))]
     pub fn note(
         &mut self,
@@ -189,7 +189,7 @@ impl<'a> Stream<'a> {
         }
     }
 
-    // Notes a call in which no job ran and which answered one number at most; nothing where the core has no such answer.
+    // Notes a call in which no job ran and whose answer has at most one number. It notes nothing if the core has no such answer.
     pub(crate) fn note_short(&mut self, begun: Begun, called: (Word, &[u64]), said: Option<Short>)
         requires { IfSome begun.before (λ t. self.old.last < t) }
         ensures { Notes self.old self.new called.entry.0 called.entry.1.now said }
@@ -202,7 +202,7 @@ impl<'a> Stream<'a> {
         }
     }
 
-    // Notes a call in which the thread of the name ran jobs on itself.
+    // Notes a call in which the thread of this name ran jobs on itself.
     pub(crate) fn note_own<R: Wait>(
         &mut self,
         rt: &R,
@@ -239,8 +239,8 @@ impl<'a> Stream<'a> {
         }
     }
 
-    // Notes a call in which the coordinator ran jobs on threads that it held, and which answered one number at most; nothing where the core
-    // has no such answer.
+    // Notes a call in which the coordinator ran jobs on threads that it held, and whose answer has at most one number. It notes nothing if
+    // the core has no such answer.
     pub(crate) fn note_run_short<R: Wait>(
         &mut self,
         rt: &R,

@@ -1,11 +1,11 @@
-//! What a thread calls while it runs, noted in its stream.
+//! The calls of a running thread, noted in its stream.
 ghost use Rattle.std.specs.Prelude.{◌≡◌, ◌≢◌, ◌<◌, ◌∷◌, [], true, false, Some, None, IfOk, OnOk, IfErr, IfSome};
 ghost use Rattle.thread_state.specs.declared.Back.{Back as WayBack};
 ghost use Rattle.thread_state.specs.declared.State.TheVariants.{InJava as IsInJava, InVm as IsInVm, InNative as IsInNative, Blocked as IsBlocked, NativeTrans as IsNativeTrans, BlockedTrans as IsBlockedTrans};
 ghost use Rattle.thread_state.specs.declared.Move.TheVariants as movement;
 ghost use Rattle.thread_state.specs.States as table;
-ghost use Rattle.bodies.specs.Bodies.{BodyView, IsCalled, IsPublished};
-ghost use Rattle.thread_list.specs.Moves.{SameThread, Polls, Leaves, ComesBack, Gives, IsResumed, is_running};
+ghost use Rattle.bodies.specs.Bodies.{BodyView, IsPublished};
+ghost use Rattle.thread_list.specs.Moves.{SameThread, Calls, Polls, Leaves, ComesBack, Gives, IsResumed, is_running};
 ghost use Rattle.thread_list.specs.Refused.{call_accepted, call_refused, return_refused};
 ghost use Rattle.recorder.specs.Answers as answers;
 ghost use Rattle.recorder.specs.Calls.{called_with};
@@ -17,13 +17,13 @@ use crate::stream::{Begun, Stream};
 use bodies::{Called, Name};
 use call_log::word::Word;
 use frames::CodeId;
-use operations::job::Errand;
+use operations::job::HandshakeOp;
 use std::sync::Wait;
 use thread_list::{CallFault, Mutator, Poll, ReturnFault};
 use thread_state::State;
 
 impl<'a> Stream<'a> {
-    // Notes that the thread of the place called the method, by the hint where there is one.
+    // Notes that the thread of the place called the method, with its hint if there is one.
     fn note_call(&mut self, begun: Begun, called: (u64, u32), hint: Option<CodeId>, said: Short)
         requires { IfSome begun.before (λ t. self.old.last < t) }
         ensures { Notes self.old self.new Word.Call (called_with called.0 called.1 hint)
@@ -39,8 +39,8 @@ impl<'a> Stream<'a> {
         }
     }
 
-    /// Enters a method, as `Mutator::call`.
-    pub fn call<N: Name, J: Errand>(
+    /// Enters a method, as `Mutator::call` does.
+    pub fn call<N: Name, J: HandshakeOp>(
         &mut self,
         thread: &mut Mutator<'_, N, J>,
         method: u32,
@@ -51,10 +51,7 @@ impl<'a> Stream<'a> {
         ensures noted { Notes self.old self.new Word.Call
             (called_with thread.old.place method hint) (Some (answers.enters result)) }
         ensures accepted { OnOk result (call_accepted thread.old method) }
-        ensures step { IfOk result (λ said. (old : BodyView) × (new : BodyView)
-            × (thread.old.body ≡ Some old) × (thread.new.body ≡ Some new)
-            × IsCalled old new method hint said × (new.name ≡ old.name)
-            × (new.poller ≡ old.poller)) }
+        ensures step { IfOk result (Calls thread.old thread.new method hint) }
         ensures state { thread.new.state ≡ thread.old.state }
         ensures same { SameThread thread.old thread.new }
 
@@ -68,8 +65,8 @@ impl<'a> Stream<'a> {
         said
     }
 
-    /// Returns from the method of the top frame and polls, as `Mutator::ret`.
-    pub fn ret<N: Name, J: Errand>(
+    /// Returns from the method of the top frame and polls, as `Mutator::ret` does.
+    pub fn ret<N: Name, J: HandshakeOp>(
         &mut self,
         thread: &mut Mutator<'_, N, J>,
     ) -> Result<Poll, ReturnFault>
@@ -88,8 +85,8 @@ impl<'a> Stream<'a> {
         said
     }
 
-    /// A back edge of a loop, where the thread polls, as `Mutator::back_edge`.
-    pub fn back_edge<N: Name, J: Errand>(
+    /// Polls at the back edge of a loop, as `Mutator::back_edge` does.
+    pub fn back_edge<N: Name, J: HandshakeOp>(
         &mut self,
         thread: &mut Mutator<'_, N, J>,
     ) -> Result<Poll, State>
@@ -108,8 +105,8 @@ impl<'a> Stream<'a> {
         said
     }
 
-    /// Publishes the stack, as `Mutator::publish`.
-    pub fn publish<N: Name, J: Errand>(
+    /// Publishes the stack, as `Mutator::publish` does.
+    pub fn publish<N: Name, J: HandshakeOp>(
         &mut self,
         thread: &mut Mutator<'_, N, J>,
     ) -> Result<(), State>
@@ -131,8 +128,11 @@ impl<'a> Stream<'a> {
         said
     }
 
-    /// From Java into the VM, as `Mutator::to_vm`.
-    pub fn to_vm<N: Name, J: Errand>(&mut self, thread: &mut Mutator<'_, N, J>) -> Result<(), State>
+    /// Goes from Java into the VM, as `Mutator::to_vm` does.
+    pub fn to_vm<N: Name, J: HandshakeOp>(
+        &mut self,
+        thread: &mut Mutator<'_, N, J>,
+    ) -> Result<(), State>
         ensures noted { Notes self.old self.new Word.ToVm (thread.old.place ∷ [])
             (Some (answers.moves result)) }
         ensures ok { OnOk result ((thread.old.state ≡ IsInJava)
@@ -147,8 +147,8 @@ impl<'a> Stream<'a> {
         said
     }
 
-    /// From the VM back into Java, as `Mutator::from_vm`.
-    pub fn from_vm<N: Name, J: Errand>(
+    /// Returns from the VM into Java, as `Mutator::from_vm` does.
+    pub fn from_vm<N: Name, J: HandshakeOp>(
         &mut self,
         thread: &mut Mutator<'_, N, J>,
     ) -> Result<Poll, State>
@@ -167,8 +167,8 @@ impl<'a> Stream<'a> {
         said
     }
 
-    /// From Java or the VM into native code, as `Mutator::to_native`.
-    pub fn to_native<N: Name, J: Errand, R: Wait>(
+    /// Goes from Java or the VM into native code, as `Mutator::to_native` does.
+    pub fn to_native<N: Name, J: HandshakeOp, R: Wait>(
         &mut self,
         thread: &mut Mutator<'_, N, J>,
         rt: &R,
@@ -189,8 +189,8 @@ impl<'a> Stream<'a> {
         said
     }
 
-    /// Back from native code, as `Mutator::from_native`.
-    pub fn from_native<N: Name, J: Errand, R: Wait>(
+    /// Returns from native code, as `Mutator::from_native` does.
+    pub fn from_native<N: Name, J: HandshakeOp, R: Wait>(
         &mut self,
         thread: &mut Mutator<'_, N, J>,
         rt: &R,
@@ -211,8 +211,8 @@ impl<'a> Stream<'a> {
         said
     }
 
-    /// From the VM into a wait, as `Mutator::block`.
-    pub fn block<N: Name, J: Errand, R: Wait>(
+    /// Blocks in the VM, as `Mutator::block` does.
+    pub fn block<N: Name, J: HandshakeOp, R: Wait>(
         &mut self,
         thread: &mut Mutator<'_, N, J>,
         rt: &R,
@@ -232,8 +232,8 @@ impl<'a> Stream<'a> {
         said
     }
 
-    /// Back from a wait, as `Mutator::unblock`.
-    pub fn unblock<N: Name, J: Errand, R: Wait>(
+    /// Returns from a wait, as `Mutator::unblock` does.
+    pub fn unblock<N: Name, J: HandshakeOp, R: Wait>(
         &mut self,
         thread: &mut Mutator<'_, N, J>,
         rt: &R,

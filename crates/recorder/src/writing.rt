@@ -1,4 +1,4 @@
-//! How the streams of a run are written as a log.
+//! Writes the streams of a run as a log.
 ghost use Rattle.std.specs.Prelude.{◌≡◌, ◌++◌, true, false, OnOk, IfOk, map};
 ghost use Rattle.std.specs.List.{flat_map};
 ghost use Rattle.call_log.specs.Spelled.{calls_text, header_text};
@@ -17,7 +17,7 @@ pub enum Unwritten {
     NoMemory,
 }
 
-/// Puts the lines of the calls behind the text.
+/// Appends the lines of the calls to the text.
 fn put_calls(text: &mut Vec<u8>, calls: &[Entry]) -> Result<(), AllocError>
     ensures { OnOk result (text.new.items ≡ text.old.items ++ calls_text calls.now) }
 {
@@ -28,7 +28,7 @@ fn put_calls(text: &mut Vec<u8>, calls: &[Entry]) -> Result<(), AllocError>
     Ok(())
 }
 
-/// Puts the calls of a stream behind the text, where it isn't lost.
+/// Appends the calls of a stream to the text, unless it is lost.
 fn put_stream(text: &mut Vec<u8>, stream: &Stream<'_>) -> Result<(), Unwritten>
     ensures { OnOk result ((stream.now.lost ≡ false)
         × (text.new.items ≡ text.old.items ++ calls_text stream.now.calls)) }
@@ -42,7 +42,7 @@ fn put_stream(text: &mut Vec<u8>, stream: &Stream<'_>) -> Result<(), Unwritten>
     }
 }
 
-/// Puts the calls of the streams behind the text, one stream after the other.
+/// Appends the calls of the streams to the text, one stream after the other.
 fn put_streams(text: &mut Vec<u8>, streams: &[Stream<'_>]) -> Result<(), Unwritten>
     ensures { OnOk result ((are_whole streams.now ≡ true)
         × (text.new.items ≡ text.old.items ++ texts streams.now)) }
@@ -53,7 +53,7 @@ fn put_streams(text: &mut Vec<u8>, streams: &[Stream<'_>]) -> Result<(), Unwritt
     Ok(())
 }
 
-/// The log of a run of a system of these sizes, whose calls are those of the streams. There is none where a stream is lost.
+/// The log of a run of a system with these sizes. Its calls are those of the streams. Fails if a stream is lost.
 pub fn write(
     alloc: Global,
     sizes: (u64, u64, u64),

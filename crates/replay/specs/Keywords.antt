@@ -67,7 +67,7 @@ abbrev pub begun : List (List ℕ) → Option (Word × List (List ℕ))
 begun [] = None
 begun (first ∷ args) = option_map (λ word. (word, args)) (word_of first)
 
--- What may stand behind `ask`.
+-- The words that may follow `ask`.
 abbrev pub ask_text : AskWord → List ℕ
 ask_text ask.Depth = codes "depth"
 ask_text ask.Top = codes "top"

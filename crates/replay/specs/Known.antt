@@ -1,4 +1,4 @@
--- What a sink got, where it tells that.
+-- The bytes that a sink got, if it makes them known.
 use Rattle.std.specs.Prelude.{◌≡◌, ℕ, List, ◌++◌, take, Option, Some, None}
 
 -- Known bytes grow by a beginning of bs.
@@ -7,7 +7,7 @@ AppendsPart None new bs = Unit {0}
 AppendsPart (Some xs) None bs = ⊥
 AppendsPart (Some xs) (Some ys) bs = (n : ℕ) × (ys ≡ xs ++ take n bs)
 
--- The first bytes stay and more come behind them. With what waits then, these are what waited before and bs.
+-- The first bytes stay, and more are added after them. These and the bytes that wait then are the bytes that waited before, and bs.
 pub record GrowsBy (xs waits ys waits' bs : List ℕ) : Type 0 where
   pub more : List ℕ
   pub got : ys ≡ xs ++ more

@@ -15,7 +15,7 @@ pub record WroteAll (left left' got got' : Option (List ℕ)) : Type 0 where
   pub at_end : IsAtEnd left'
   pub written : Appends got got' (text read)
 
--- Of what was read, the text of the whole lines was written; a rest without a newline was not answered.
+-- The text for the whole lines that were read was written; a rest without a newline was not answered.
 pub record WroteLines (left left' got got' : Option (List ℕ)) : Type 0 where
   pub read : List ℕ
   pub lines : List (List ℕ)
@@ -30,7 +30,7 @@ pub record WrotePart (left left' got got' : Option (List ℕ)) : Type 0 where
   pub consumed : Consumes left left' read
   pub written : AppendsPart got got' (text read)
 
--- Behind these lines of what was read the next is this one: a whole line, or the last one, where the end was reached.
+-- After these lines of what was read, this is the next line: a whole line, or the last one if the end was reached.
 abbrev pub Reaches : Option (List ℕ) → List ℕ → List (List ℕ) → List ℕ → Type 0
 Reaches left' read lines line = ((rest : List ℕ) × Front read (lines ++ line ∷ []) rest) ⊎ (Splits read lines line × IsAtEnd left')
 
@@ -49,14 +49,14 @@ pub record WroteNothing (left left' got got' : Option (List ℕ)) : Type 0 where
   pub unread : left' ≡ left
   pub unwritten : got' ≡ got
 
--- What was read and written, by what is answered.
+-- What was read and written, by the call's result.
 abbrev pub Wrote : {A : Type 0} → Result A ReplayFault → Option (List ℕ) → Option (List ℕ) → Option (List ℕ) → Option (List ℕ) → Type 0
 Wrote (Ok x) left left' got got' = WroteAll left left' got got'
 Wrote (Err ReadFailed) left left' got got' = WroteLines left left' got got'
 Wrote (Err WriteFailed) left left' got got' = WrotePart left left' got got'
 Wrote (Err NoMemory) left left' got got' = WroteNothing left left' got got' ⊎ WroteBefore left left' got got'
 
--- Which calls failed, by what is answered; and how many reads gave bytes, where none failed and the end wasn't reached.
+-- Which calls failed, by the call's result; and how many reads gave bytes, if none failed and the end wasn't reached.
 abbrev pub FailedCalls : {A : Type 0} → Result A ReplayFault → ℕ → ℕ → ℕ → Type 0
 FailedCalls (Ok x) reads failed_reads failed_writes = (failed_reads ≡ 0) × (failed_writes ≡ 0)
 FailedCalls (Err ReadFailed) reads failed_reads failed_writes = ((failed_reads ≡ 1) ⊎ (reads ≡ 2 ^ 40 - 1)) × (failed_writes ≡ 0)

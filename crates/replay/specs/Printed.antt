@@ -116,7 +116,7 @@ reply_text reply.BadLine = codes "bad line"
 reply_text reply.BadSize = codes "refused BadSize"
 reply_text (reply.Answered said) = answer_text said
 
--- What is missing of a line, behind the words that were put.
+-- The part of a line that is missing after the words that were put.
 abbrev pub ending_text : Ending → List ℕ
 ending_text ending.Whole = []
 ending_text (ending.Number n) = decimal n ++ 10 ∷ []

@@ -1,4 +1,4 @@
--- Which lines take memory. An answer of a few bytes finds room in the buffers that were made before.
+-- Which lines take memory. An answer of a few bytes fits into the buffers that were made before.
 use Rattle.std.specs.Prelude.{◌≡◌, ◌⊎◌, Bool, true, false, List, ℕ, Option, Some, None}
 use Rattle.operations.specs.declared.Request.TheVariants.{Handshake}
 use Rattle.system.specs.declared.answers.Answer.{Answer}

@@ -19,12 +19,12 @@ abbrev pub given_numbers : Option ℕ → List ℕ
 given_numbers None = []
 given_numbers (Some n) = n ∷ []
 
--- What stands behind the place of an act.
+-- The words after the place of an act.
 abbrev pub act_numbers : Act → List ℕ
 act_numbers (Enter method code) = method ∷ given_numbers code
 act_numbers other = []
 
--- The words of what is asked, but the targets.
+-- The words of a request, without its targets.
 abbrev pub ask_words : AskKind → List (List ℕ)
 ask_words Depth = codes "depth" ∷ []
 ask_words (CountOf serial) = codes "count" ∷ decimal serial ∷ []

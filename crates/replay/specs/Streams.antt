@@ -1,4 +1,4 @@
--- A stream of bytes, cut into lines as it comes.
+-- A stream of bytes, cut into lines as the bytes arrive.
 use Rattle.std.specs.Prelude.{◌≡◌, ℕ, List, [], ◌∷◌, ◌++◌, length, take, Option, Result, Ok, Err}
 use Rattle.std.specs.List.{flat_map, AllByRecursion}
 use Rattle.std.specs.Io.KnownBytes.{Appends}
@@ -12,7 +12,7 @@ use Rattle.replay.specs.Known.{AppendsPart, Grows}
 use Rattle.replay.specs.Room.{LineTakes}
 use Rattle.replay.specs.Text.{SystemView, IsAt, line_text, after_line, told}
 
--- No newline stands in the bytes.
+-- The bytes have no newline.
 abbrev pub IsPiece : List ℕ → Type 0
 IsPiece bytes = first_at 10 bytes ≡ length bytes
 
@@ -34,20 +34,20 @@ abbrev pub after_lines : Option World → List (List ℕ) → Option World
 after_lines world [] = world
 after_lines world (line ∷ lines) = after_lines (after_line world line) lines
 
--- Where a stream stands: the system, as much as matters of the beginning of a line that is held, the answers that wait to be
--- written, and what the sink got, where it tells that.
+-- The state of a stream: the system, the held beginning of a line as far as it matters, the answers that wait to be written, and the bytes
+-- that the sink got, if it makes them known.
 pub record Point : Type 0 where
   pub system : Option SystemView
   pub held : List ℕ
   pub waits : List ℕ
   pub got : Option (List ℕ)
 
--- A line was answered: its answer waits behind the others.
+-- A line was answered: its answer waits after the others.
 abbrev pub Turned : Option SystemView → List ℕ → List ℕ → List ℕ → Option SystemView → Type 0
 Turned old line waits waits' new = (world : Option World) → IsAt old world → (waits' ≡ waits ++ line_text world line) × IsAt new (after_line world line)
 
--- A stream that was at this world behind the beginning `tail` of a line, with these answers waiting and got, was fed the bytes, and
--- stands at `new`: tail and bytes are whole lines, each answered, and less than a line, of which as much is held as matters.
+-- A stream was at this world, after the beginning `tail` of a line, with these answers waiting and got. It was fed the bytes, and its state
+-- is `new`: tail and bytes are whole lines, each answered, and then less than a line, which is held as far as it matters.
 pub record FedTo (world : Option World) (tail bytes waits : List ℕ) (got : Option (List ℕ)) (new : Point) : Type 0 where
   pub lines : List (List ℕ)
   pub rest : List ℕ
@@ -80,7 +80,7 @@ ForEachStart old P = (world : Option World) → IsAt old.system world → (tail 
 abbrev pub Fed : Point → List ℕ → Point → Type 0
 Fed old bytes new = ForEachStart old (λ world tail. FedTo world tail bytes old.waits old.got new)
 
--- What is so after bytes were fed, by how that ended: all was fed, memory was refused at a line, or a write failed.
+-- What holds after bytes were fed, by how the feeding ended: all was fed, memory was refused at a line, or a write failed.
 abbrev pub FedBy : {A : Type 0} → Result A Halt → Point → List ℕ → Point → Type 0
 FedBy (Ok x) old bytes new = Fed old bytes new
 FedBy (Err halt.NoMemory) old bytes new = ForEachStart old (λ world tail. StoppedIn world (tail ++ bytes) old.waits old.got new.waits new.got)
@@ -102,7 +102,7 @@ abbrev pub last_of : List ℕ → List (List ℕ)
 last_of [] = []
 last_of (b ∷ bytes) = (b ∷ bytes) ∷ []
 
--- What is so after the last line, by how that ended. Nothing waited before.
+-- What holds after the last line, by how its answering ended. Nothing waited before.
 abbrev pub Finished : {A : Type 0} → Result A ReplayFault → Option SystemView → List ℕ → Option (List ℕ) → Option (List ℕ) → Type 0
 Finished (Ok x) old held got got' = (world : Option World) → IsAt old world → Appends got got' (told world (last_of held))
 Finished (Err WriteFailed) old held got got' = (world : Option World) → IsAt old world → AppendsPart got got' (told world (last_of held))

@@ -49,7 +49,7 @@ told world (line ∷ lines) = line_text world line ++ told (after_line world lin
 abbrev pub text : List ℕ → List ℕ
 text bytes = told None (lines bytes)
 
--- The system stands for events that lead to the world.
+-- The system represents events that lead to the world.
 abbrev pub IsAt : Option SystemView → Option World → Type 0
 IsAt None None = Unit {0}
 IsAt None (Some world) = ⊥

@@ -11,7 +11,7 @@ abbrev pub lines : List ℕ → List (List ℕ)
 lines [] = []
 lines (b ∷ bytes) = if b == 10 then [] ∷ lines bytes else onto_first b (lines bytes)
 
--- Words: cut at each space. So a space too many makes an empty word, which is no keyword and no number.
+-- Words: cut at each space. An extra space makes an empty word, which is no keyword and no number.
 abbrev pub words : List ℕ → List (List ℕ)
 words [] = [] ∷ []
 words (b ∷ bytes) = if b == 32 then [] ∷ words bytes else onto_first b (words bytes)
@@ -29,7 +29,7 @@ abbrev pub are_digits : List ℕ → Bool
 are_digits [] = true
 are_digits (b ∷ bytes) = is_digit b && are_digits bytes
 
--- There is a digit, and the first isn't a 0 with more behind it.
+-- There is a digit, and the first digit isn't a 0 with more digits after it.
 abbrev pub starts_well : List ℕ → Bool
 starts_well [] = false
 starts_well (b ∷ []) = true
@@ -51,7 +51,7 @@ value word = value_from 0 word
 abbrev pub number : List ℕ → Option ℕ
 number word = if is_numeral word && nat_lt (value word) (2 ^ 40) then Some (value word) else None
 
--- What stands after a word: nothing, or a space and more words.
+-- The rest after a word: nothing, or a space and more words.
 abbrev pub words_after : List ℕ → List (List ℕ)
 words_after [] = []
 words_after (space ∷ bytes) = words bytes

@@ -1,4 +1,4 @@
-// What lines are read from, and what answers are written to.
+// The source of lines and the sink of answers.
 ghost use Rattle.std.specs.Prelude.{◌≡◌, ◌==◌, ◌+◌, ◌-◌, ◌^◌, ◌<◌, ◌≤◌, ℕ, List, None, Option, length, IfOk, MatchResult, cond, if◌then◌else◌, false};
 ghost use Rattle.std.specs.Io.KnownBytes.{ReadConsumes, WriteAppends};
 
@@ -8,9 +8,9 @@ use std::io::{Read, Write};
 #[derive(Clone, Copy, Debug, PartialEq, Eq, Drop)]
 pub struct Failed;
 
-/// Gives bytes. A call that failed is counted, and none may be made after it.
+/// Gives bytes. A failed call is counted, and no call may follow it.
 pub trait Source {
-    // The bytes that are left to read, where it tells them.
+    // The bytes that are left to read, if the source makes them known.
     ghost left: { Self → Option (List ℕ) };
 
     // How many reads gave bytes. There are at most 2^40 - 1.
@@ -19,7 +19,7 @@ pub trait Source {
     // How many calls failed.
     ghost failures: { Self → ℕ };
 
-    /// Reads some bytes into the buffer, and says how many; 0 is the end.
+    /// Reads some bytes into the buffer, and returns how many; 0 is the end.
     fn read(&mut self, buf: &mut [u8]) -> Result<usize, Failed>
         requires fresh { failures self.old ≡ 0 }
         requires few { reads self.old < 2 ^ 40 - 1 }
@@ -32,15 +32,15 @@ pub trait Source {
             (λ _. failures self.new ≡ 1) };
 }
 
-/// Takes bytes. A call that failed is counted, and none may be made after it.
+/// Takes bytes. A failed call is counted, and no call may follow it.
 pub trait Sink {
-    // The bytes that it got, where it tells them.
+    // The bytes that the sink got, if it makes them known.
     ghost got: { Self → Option (List ℕ) };
 
     // How many calls failed, or took nothing.
     ghost failures: { Self → ℕ };
 
-    /// Takes some of the bytes, at least one, and says how many.
+    /// Takes some of the bytes, at least one, and returns how many.
     fn write(&mut self, bytes: &[u8]) -> Result<usize, Failed>
         requires fresh { failures self.old ≡ 0 }
         requires some { 0 < length bytes.now }
@@ -59,7 +59,7 @@ pub struct FromReader<R> {
 }
 
 impl<R: Read> FromReader<R> {
-    /// A source of the bytes that the reader has left, of which nothing was read yet.
+    /// A source of the bytes that the reader has left. None of them is read yet.
     pub fn new(inner: R) -> FromReader<R>
         ensures left { ⟦<FromReader<R> as Source>⟧.left result ≡ R.remaining inner }
         ensures reads { ⟦<FromReader<R> as Source>⟧.reads result ≡ 0 }
@@ -103,7 +103,7 @@ pub struct IntoWriter<W> {
 }
 
 impl<W: Write> IntoWriter<W> {
-    /// A sink that writes behind what the writer has.
+    /// A sink that appends to what the writer has.
     pub fn new(inner: W) -> IntoWriter<W>
         ensures got { ⟦<IntoWriter<W> as Sink>⟧.got result ≡ W.contents inner }
         ensures failures { ⟦<IntoWriter<W> as Sink>⟧.failures result ≡ 0 }

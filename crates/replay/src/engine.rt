@@ -18,9 +18,9 @@ pub enum Reply {
     Answered(Answer),
 }
 
-/// Does what a line says, and replies. Before the first size that is accepted there is no system.
+/// Does what a line says, and replies. There is no system before the first size that is accepted.
 ///
-/// It stands in the caller, so that neither the event nor the answer goes through memory.
+/// It is inlined into its caller, so that neither the event nor the answer goes through memory.
 #[inline(always)]
 pub fn obey(
     system: &mut Option<System>,

@@ -21,10 +21,10 @@ pub enum Command {
 /// The longest line, without its newline.
 const LONGEST: usize = 1024;
 
-/// The most names for which there is room before any is read: no handshake has more.
+/// The most names for which room is reserved before any is read. No handshake has more.
 const LISTED: usize = 64;
 
-/// The command that the line spells. The names of a handshake take memory, nothing else does.
+/// The command that the line spells. Only the names of a handshake take memory.
 pub fn parse(alloc: Global, line: &[u8]) -> Result<Option<Command>, AllocError>
     ensures command { IfOk result (λ command. command ≡ command_of line.now) }
     ensures no_memory { OnErr result (is_handshake (command_of line.now) ≡ true) }
@@ -150,7 +150,7 @@ fn handshake(alloc: Global, ask: Ask, tail: &[u8]) -> Result<Option<Command>, Al
     }
 }
 
-/// All words as numbers. Memory is refused only where all are.
+/// All words as numbers. Memory is refused only if every word is a number.
 fn numbers(alloc: Global, tail: &[u8]) -> Result<Option<Vec<u64>>, AllocError>
     ensures read { IfOk result
         (λ read. option_map (λ names. names.items) read ≡ numbers (words_after tail.now)) }
@@ -175,7 +175,7 @@ fn numbers(alloc: Global, tail: &[u8]) -> Result<Option<Vec<u64>>, AllocError>
     Ok(Some(names))
 }
 
-/// What words spell for whose numbers there is no memory: nothing where one isn't a number.
+/// The result for words when memory for their numbers is refused: no command if a word isn't a number, and else the refusal.
 #[cold]
 fn without_memory(tail: &[u8]) -> Result<Option<Vec<u64>>, AllocError>
     ensures bad { IfOk result (λ read. (read ≡ None) × (numbers (words_after tail.now) ≡ None)) }

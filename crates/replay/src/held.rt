@@ -51,7 +51,7 @@ impl Held {
         self.len = 0;
     }
 
-    /// Adds bytes to a line of which a beginning is held.
+    /// Adds bytes to a line whose beginning is held.
     pub fn join(&mut self, piece: &[u8])
         ensures { self.new
             ≡ (if length self.old == 0 then self.old else take 1025 (self.old ++ piece.now)) }
@@ -61,7 +61,7 @@ impl Held {
         }
     }
 
-    /// The line that the piece ends: what is held, where anything is, and else the piece alone.
+    /// The line that the piece ends: the held bytes, or the piece if none are held.
     pub fn line<'a>(&'a self, piece: &'a [u8]) -> &'a [u8]
         ensures { result.now ≡ (if length self.now == 0 then piece.now else self.now) }
     {

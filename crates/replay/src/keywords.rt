@@ -6,7 +6,7 @@ ghost use Rattle.replay.specs.Keywords.{word_of, begun, ask_of};
 use crate::words::find;
 use system::events::Act;
 
-/// What a line begins with. An act that needs nothing but its place is its own keyword.
+/// The keyword that begins a line. An act whose only argument is its place is its own keyword.
 #[derive(Clone, Copy, Debug, PartialEq, Eq, Drop)]
 pub(crate) enum Word {
     Size,
@@ -29,7 +29,7 @@ pub(crate) enum Word {
     Resolve,
 }
 
-/// What stands behind `ask`.
+/// The word after `ask`.
 #[derive(Clone, Copy, Debug, PartialEq, Eq, Drop)]
 pub(crate) enum AskWord {
     Depth,
@@ -38,8 +38,8 @@ pub(crate) enum AskWord {
     Census,
 }
 
-/// The keyword that begins the line, and where it ends. Most have three to seven letters and a space behind them, so those places
-/// are looked at before any space is searched.
+/// The keyword that begins the line, and where it ends. Most keywords have three to seven letters and then a space: the function tests
+/// these positions before it searches for a space.
 #[inline(always)]
 pub(crate) fn first_word(line: &[u8]) -> Option<(Word, usize)>
     ensures begun { option_map (λ it. (it.0, words_after (drop it.1 line.now))) result
@@ -74,7 +74,7 @@ pub(crate) fn first_word(line: &[u8]) -> Option<(Word, usize)>
     any_word(line)
 }
 
-/// The word at the beginning, of any length, also where nothing stands behind it.
+/// The first word, of any length, also where nothing follows it.
 #[inline(always)]
 fn any_word(line: &[u8]) -> Option<(Word, usize)>
     ensures begun { option_map (λ it. (it.0, words_after (drop it.1 line.now))) result
@@ -88,7 +88,7 @@ fn any_word(line: &[u8]) -> Option<(Word, usize)>
     }
 }
 
-/// The keyword of the text. Each length has a function of its own, which looks at a byte once.
+/// The keyword of the text. Each length has a function of its own, which reads a byte once.
 #[inline(always)]
 fn word_of(text: &[u8]) -> Option<Word>
     ensures { result ≡ word_of text.now }
@@ -208,7 +208,7 @@ fn of_ten(text: &[u8]) -> Option<Word>
     }
 }
 
-/// What the word behind `ask` asks for.
+/// The request that the word after `ask` names.
 pub(crate) fn ask_of(text: &[u8]) -> Option<AskWord>
     ensures { result ≡ ask_of text.now }
 {

@@ -1,5 +1,5 @@
 //! Lines to events, and answers to text.
-//! `commands` answers lines by it, `model` steps it for C, and `run_lanes` reads with it.
+//! `cli` answers lines by it, `model` steps it for C, and `run_lanes` reads with it.
 //! Read `src/stream.rt` first, then `specs/Spelling.antt` and `docs/start/LINES.md`.
 #![tactic(auto)]
 

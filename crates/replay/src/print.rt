@@ -15,13 +15,14 @@ use std::alloc::AllocError;
 use system::answers::{Answer, CodeCount, Refusal};
 use thread_state::{Back, State};
 
-/// Bytes that a line of an answer that is no list takes at most.
+/// The most bytes that the line of an answer takes, unless the answer is a list.
 const MOST: usize = 97;
 
-/// Bytes that a frame takes at most, and a code with its count.
+/// The most bytes that a frame takes, or a code with its count.
 const FRAME: usize = 82;
 
-/// A text of a few bytes, for which there is room. Where it is known, as mostly here, its bytes are put one by one, without a call.
+/// Puts a text of a few bytes, for which there is room. If the compiler knows the text, as it mostly does here, the bytes are put one by
+/// one, without a call.
 #[inline(always)]
 fn put_text(text: &mut Vec<u8>, word: &[u8])
     requires room { vec_len text.old + length word.now ≤ vec_capacity text.old }
@@ -34,7 +35,7 @@ fn put_text(text: &mut Vec<u8>, word: &[u8])
     }
 }
 
-/// A number. Most have few digits, and those go without a buffer between.
+/// Puts a number. Most numbers have few digits, and need no buffer between.
 #[inline(always)]
 fn put_number(text: &mut Vec<u8>, n: u64)
     requires room { vec_len text.old + 40 ≤ vec_capacity text.old }
@@ -135,7 +136,7 @@ fn put_digits(text: &mut Vec<u8>, n: u64)
     put_text(text, buffer.format(n).as_bytes());
 }
 
-/// A number that ends a line.
+/// Puts a number that ends a line.
 #[inline(always)]
 fn put_last_number(text: &mut Vec<u8>, n: u64)
     requires room { vec_len text.old + 41 ≤ vec_capacity text.old }
@@ -162,7 +163,7 @@ fn put_last_digit(text: &mut Vec<u8>, n: u64)
     put_text(text, &[b'0' + n as u8, b'\n'])
 }
 
-/// A word, and a number behind it.
+/// Puts a word, and a number after it.
 #[inline(always)]
 fn put_counted(text: &mut Vec<u8>, word: &[u8], n: u64)
     requires room { vec_len text.old + (length word.now + 40) ≤ vec_capacity text.old }
@@ -174,7 +175,7 @@ fn put_counted(text: &mut Vec<u8>, word: &[u8], n: u64)
     put_number(text, n)
 }
 
-/// A line of a word and a number.
+/// Puts a line of a word and a number.
 #[inline(always)]
 fn put_counted_line(text: &mut Vec<u8>, word: &[u8], n: u64)
     requires room { vec_len text.old + (length word.now + 41) ≤ vec_capacity text.old }
@@ -218,7 +219,7 @@ fn put_state(text: &mut Vec<u8>, state: State)
     }
 }
 
-/// A name, and the way back in round brackets.
+/// Puts a name, and the way back in round brackets.
 fn put_with_back(text: &mut Vec<u8>, name: &[u8], back: Back)
     requires room { vec_len text.old + (length name.now + 6) ≤ vec_capacity text.old }
     ensures text { text.new.items ≡ text.old.items ++ with_back name.now back }
@@ -340,7 +341,7 @@ fn put_thread(text: &mut Vec<u8>, name: u64)
     put_text(text, b" place ")
 }
 
-/// The words of a line of a change, up to the number behind its sign.
+/// The words of a line of a change, up to the number after its sign.
 #[inline(always)]
 fn put_change(text: &mut Vec<u8>, serial: u64, by: i32)
     requires room { vec_len text.old + 49 ≤ vec_capacity text.old }
@@ -388,7 +389,7 @@ fn put_code_state(text: &mut Vec<u8>, state: CodeState)
     }
 }
 
-/// A line of a refusal. It stands apart, so that the lines that come often stay in one function.
+/// Puts the line of a refusal. This is a function of its own, so that the frequent lines stay in one function.
 #[inline(never)]
 fn put_refused(text: &mut Vec<u8>, why: Refusal)
     requires room { vec_len text.old + 41 ≤ vec_capacity text.old }
@@ -402,18 +403,18 @@ fn put_refused(text: &mut Vec<u8>, why: Refusal)
     put_text(text, b"\n");
 }
 
-/// What is missing of a line behind the words that were put.
+/// The part of a line that is missing after the words that were put.
 #[derive(Clone, Copy, Debug, PartialEq, Eq, Drop)]
 pub(crate) enum Ending {
     /// Nothing: the words were the line.
     Whole,
     /// A number.
     Number(u64),
-    /// All: it is a list, and nothing was put.
+    /// All: the answer is a list, and nothing was put.
     List,
 }
 
-/// Puts the words of an answer up to its last number, which all lines of one number put at one place.
+/// Puts the words of an answer up to its last number. All lines with one number put that number at one place.
 #[inline(always)]
 fn put_words(text: &mut Vec<u8>, answer: &Answer) -> Ending
     requires room { vec_len text.old + 56 ≤ vec_capacity text.old }
@@ -489,7 +490,7 @@ fn put_words(text: &mut Vec<u8>, answer: &Answer) -> Ending
     Ending::Whole
 }
 
-/// Puts the line of an answer that is no list, for which there is room. Of a list nothing is put, and the result is `false`.
+/// Puts the line of an answer that is no list, for which there is room. For a list it puts nothing and returns `false`.
 #[inline(always)]
 fn put_answer(text: &mut Vec<u8>, answer: &Answer) -> bool
     requires room { vec_len text.old + 97 ≤ vec_capacity text.old }
@@ -511,7 +512,7 @@ fn put_answer(text: &mut Vec<u8>, answer: &Answer) -> bool
     }
 }
 
-/// Puts the line of a reply that is no list, for which there is room. Of a list nothing is put, and the result is `false`.
+/// Puts the line of a reply that is no list, for which there is room. For a list it puts nothing and returns `false`.
 #[inline(always)]
 pub(crate) fn put_short(text: &mut Vec<u8>, reply: &Reply) -> bool
     requires room { vec_len text.old + 97 ≤ vec_capacity text.old }
@@ -565,7 +566,7 @@ fn put_list(text: &mut Vec<u8>, reply: &Reply) -> Result<(), AllocError>
     }
 }
 
-/// Puts the line of text for a reply behind the text.
+/// Appends the line of text for a reply to the text.
 #[inline(always)]
 pub fn put_reply(text: &mut Vec<u8>, reply: &Reply) -> Result<(), AllocError>
     ensures text { OnOk result (text.new.items ≡ text.old.items

@@ -23,10 +23,10 @@ use std::mem::forget;
 use system::System;
 use system::answers::{Answer, CountList, FrameList};
 
-/// Bytes that are read at a time, and that wait at most, but for one answer, before they are written.
+/// How many bytes one read asks for. At most so many bytes wait to be written, besides one answer.
 const BLOCK: usize = 65_536;
 
-/// The reads of one call.
+/// The most reads of one call.
 const READS: u64 = 1_099_511_627_775;
 
 /// Why not all was read, or not all was answered.
@@ -36,7 +36,7 @@ pub enum ReplayFault {
     ReadFailed,
     /// A write failed, or took nothing. A beginning of the text is written.
     WriteFailed,
-    /// Memory was refused at a line that takes memory, and the lines before it are answered; or before anything was read.
+    /// Memory was refused: at a line that takes memory, and the lines before it are answered; or before anything was read.
     NoMemory,
 }
 
@@ -59,7 +59,7 @@ pub(crate) enum Halt {
     NoMemory,
 }
 
-/// Writes all that waits. No call that failed is made again.
+/// Writes all that waits. A failed call isn't repeated.
 pub fn flush<W: Sink>(waits: &mut Vec<u8>, sink: &mut W) -> Result<(), Failed>
     requires { W.failures sink.old ≡ 0 }
     ensures done { OnOk result (Appends (W.got sink.old) (W.got sink.new) waits.old.items
@@ -97,7 +97,7 @@ fn relieve<W: Sink>(waits: &mut Vec<u8>, sink: &mut W) -> Result<(), Failed>
     }
 }
 
-/// Puts the frames of a stack behind what waits, once their text is whole.
+/// Appends the frames of a stack to what waits, once their text is complete.
 #[cold]
 fn put_stack(text: &mut Vec<u8>, waits: &mut Vec<u8>, frames: FrameList) -> Result<(), AllocError>
     ensures text { OnOk result (waits.new.items
@@ -111,7 +111,7 @@ fn put_stack(text: &mut Vec<u8>, waits: &mut Vec<u8>, frames: FrameList) -> Resu
     waits.extend_from_slice(text)
 }
 
-/// Puts the counts of a census behind what waits, once their text is whole.
+/// Appends the counts of a census to what waits, once their text is complete.
 #[cold]
 fn put_counts(text: &mut Vec<u8>, waits: &mut Vec<u8>, counts: CountList) -> Result<(), AllocError>
     ensures text { OnOk result (waits.new.items
@@ -125,7 +125,7 @@ fn put_counts(text: &mut Vec<u8>, waits: &mut Vec<u8>, counts: CountList) -> Res
     waits.extend_from_slice(text)
 }
 
-/// Answers a line. It stands in the one loop that calls it.
+/// Answers a line. It is inlined into the one loop that calls it.
 #[inline(always)]
 fn turn(
     system: &mut Option<System>,
@@ -149,7 +149,7 @@ fn turn(
     let command = parse(alloc, line)?;
     let said = obey(system, alloc, command)?;
     if put_short(waits, &said) {
-        // It owns nothing, which its drop would look for again.
+        // The reply owns nothing. Its drop would test that again.
         forget(said);
         return Ok(());
     }
@@ -239,7 +239,7 @@ fn feed<W: Sink>(
 /// Reads all there is, and answers each line.
 ///
 /// A last line without a newline is a line. A line that spells nothing is answered `bad line`, and the run goes on. What is
-/// read and written doesn't change how much memory the call takes; no call that failed is made again.
+/// read and written doesn't change how much memory the call takes. A failed call isn't repeated.
 pub fn replay<R: Source, W: Sink>(
     alloc: Global,
     source: &mut R,
@@ -326,7 +326,7 @@ fn answer_all<R: Source, W: Sink>(
     Err(ReplayFault::ReadFailed)
 }
 
-/// Says which fault stops the call. For want of memory, the answers before that event are written first.
+/// Returns the fault that stops the call. If memory was refused, it first writes the answers before that event.
 fn give_up<W: Sink>(halt: Halt, waits: &mut Vec<u8>, sink: &mut W) -> ReplayFault
     requires { W.failures sink.old ≡ failed_writes halt }
     ensures { GaveUp halt result waits.old.items (W.got sink.old) (W.got sink.new)
@@ -341,7 +341,7 @@ fn give_up<W: Sink>(halt: Halt, waits: &mut Vec<u8>, sink: &mut W) -> ReplayFaul
     }
 }
 
-/// Answers a last line without an end, as one with an end, and writes all.
+/// Answers a last line without a newline like one with a newline, and writes all.
 fn finish<W: Sink>(
     system: &mut Option<System>,
     held: &mut Held,

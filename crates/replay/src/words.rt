@@ -9,10 +9,10 @@ use frames::LAST;
 use memchr::memchr_iter;
 use std::simd::prelude::*;
 
-/// The bytes that are looked at first for the end of a line.
+/// How many bytes are tested first for the end of a line.
 const NEAR: usize = 16;
 
-/// Where the byte stands first, or the length.
+/// The index of the first such byte, or the length.
 pub(crate) fn find(byte: u8, bytes: &[u8]) -> usize
     ensures at { result ≡ first_at byte bytes.now }
     ensures bound { result ≤ length bytes.now }
@@ -25,7 +25,7 @@ pub(crate) fn find(byte: u8, bytes: &[u8]) -> usize
     bytes.len()
 }
 
-/// Where the line that begins the bytes ends, or the length. Mostly that is within the first 16 bytes, which are looked at at once.
+/// The index where the first line of the bytes ends, or the length. Mostly it is among the first 16 bytes, which are tested together.
 #[inline(always)]
 #[tactic(auto, using(crate::proofs::Ends::end_near))]
 pub(crate) fn find_end(bytes: &[u8]) -> usize
@@ -39,7 +39,7 @@ pub(crate) fn find_end(bytes: &[u8]) -> usize
     if near < NEAR { near } else { far_end(bytes) }
 }
 
-/// How many of the first 16 bytes stand before a newline.
+/// How many of the first 16 bytes precede a newline.
 #[inline(always)]
 fn near_end(bytes: &[u8]) -> usize
     requires { 16 ≤ length bytes.now }
@@ -55,7 +55,7 @@ fn near_end(bytes: &[u8]) -> usize
     }
 }
 
-/// What `find_end` finds, for a line of any length.
+/// The result of `find_end`, for a line of any length.
 #[inline(never)]
 fn far_end(bytes: &[u8]) -> usize
     ensures at { result ≡ first_at 10 bytes.now }
@@ -67,7 +67,7 @@ fn far_end(bytes: &[u8]) -> usize
     }
 }
 
-/// The first word, and what stands after it: nothing, or a space and more words.
+/// The first word, and the rest after it: nothing, or a space and more words.
 #[tactic(auto, using(crate::proofs::Cuts::words_cut))]
 pub(crate) fn cut(bytes: &[u8]) -> (&[u8], &[u8])
     ensures { words bytes.now ≡ result.0.now ∷ words_after result.1.now }
@@ -75,7 +75,7 @@ pub(crate) fn cut(bytes: &[u8]) -> (&[u8], &[u8])
     bytes.split_at(find(b' ', bytes))
 }
 
-/// No word stands after.
+/// No word follows.
 #[tactic(auto, using(crate::proofs::Cuts::none_left))]
 pub(crate) fn is_end(tail: &[u8]) -> bool
     ensures { result ≡ is_nil (words_after tail.now) }
@@ -83,7 +83,7 @@ pub(crate) fn is_end(tail: &[u8]) -> bool
     tail.is_empty()
 }
 
-/// The digits up to a space, and what stands from the space on.
+/// The digits up to a space, and the rest from the space on.
 #[inline(always)]
 fn digits(bytes: &[u8]) -> Option<(u64, &[u8])>
     ensures taken { option_map (λ taken. (taken.0, taken.1.now)) result ≡ digits_from 0 bytes.now }
@@ -106,7 +106,7 @@ fn digits(bytes: &[u8]) -> Option<(u64, &[u8])>
     Some((value, &[]))
 }
 
-/// A number may begin the bytes: there is a word, and it doesn't begin with a 0 that more follows.
+/// Whether a number may begin the bytes: there is a word, which is 0 or doesn't begin with a 0.
 fn begins_well(bytes: &[u8]) -> bool
     ensures { result ≡ begins_well bytes.now }
 {
@@ -124,7 +124,7 @@ fn is_digit(b: u8) -> bool
     b'0' <= b && b <= b'9'
 }
 
-/// The number of the two bytes behind the first, where they spell one.
+/// The number that the two bytes after the first spell, if they spell one.
 #[inline(always)]
 fn two_digits(tail: &[u8]) -> Option<u64>
     requires { 2 < length tail.now }
@@ -137,7 +137,7 @@ fn two_digits(tail: &[u8]) -> Option<u64>
     }
 }
 
-/// The number of the three bytes behind the first, where they spell one.
+/// The number that the three bytes after the first spell, if they spell one.
 #[inline(always)]
 fn three_digits(tail: &[u8]) -> Option<u64>
     requires { 3 < length tail.now }
@@ -151,7 +151,7 @@ fn three_digits(tail: &[u8]) -> Option<u64>
     }
 }
 
-/// The number of the four bytes behind the first, where they spell one.
+/// The number that the four bytes after the first spell, if they spell one.
 #[inline(always)]
 fn four_digits(tail: &[u8]) -> Option<u64>
     requires { 4 < length tail.now }
@@ -171,7 +171,8 @@ fn four_digits(tail: &[u8]) -> Option<u64>
     }
 }
 
-/// The number that is the next word, and what stands after it. One of at most four digits with more words behind it is read at once.
+/// The number that the next word spells, and the rest after it. If more words follow, a number of at most four digits is read without a
+/// loop.
 #[inline(always)]
 pub(crate) fn next(tail: &[u8]) -> Option<(u64, &[u8])>
     ensures taken { option_map (λ taken. (taken.0, words_after taken.1.now)) result
@@ -199,7 +200,7 @@ pub(crate) fn next(tail: &[u8]) -> Option<(u64, &[u8])>
     next_number(tail)
 }
 
-/// The number of any length that is the next word, and what stands after it.
+/// The number, of any length, that the next word spells, and the rest after it.
 #[inline(always)]
 pub(crate) fn next_number(tail: &[u8]) -> Option<(u64, &[u8])>
     ensures taken { option_map (λ taken. (taken.0, words_after taken.1.now)) result
@@ -216,7 +217,8 @@ pub(crate) fn next_number(tail: &[u8]) -> Option<(u64, &[u8])>
     }
 }
 
-/// The number that is the next and last word. It is a call, since what reads a line must stay small to be inlined into the loop over lines.
+/// The number that is the next and last word. The function isn't inlined: its caller must stay small to be inlined into the loop over
+/// lines.
 #[inline(never)]
 pub(crate) fn last(tail: &[u8]) -> Option<u64>
     ensures { result ≡ last_number (words_after tail.now) }
@@ -224,7 +226,7 @@ pub(crate) fn last(tail: &[u8]) -> Option<u64>
     short_last(tail)
 }
 
-/// What `last` answers, for a number of any length. One of four digits is read at once.
+/// The result of `last`, for a number of any length. A number of four digits is read without a loop.
 #[inline(never)]
 fn long_last(tail: &[u8]) -> Option<u64>
     ensures { result ≡ last_number (words_after tail.now) }
@@ -238,7 +240,7 @@ fn long_last(tail: &[u8]) -> Option<u64>
     if is_end(rest) { Some(n) } else { None }
 }
 
-/// What `last` answers, without a call where the number has at most three digits, as most have.
+/// The result of `last`, without a call for a number of at most three digits, as most are.
 #[inline(always)]
 pub(crate) fn short_last(tail: &[u8]) -> Option<u64>
     ensures { result ≡ last_number (words_after tail.now) }

@@ -1,4 +1,4 @@
--- Words for events and answers, near those of the lines, and what it is that a row of them holds.
+-- Words for events and answers, close to those of the lines, and what it means that a row of them holds.
 use Rattle.std.specs.Prelude.{◌≡◌, ℕ, ℤ, List, map, Some, None}
 use Rattle.frames.specs.declared.Frame.{Frame}
 use Rattle.method_table.specs.declared.CodeState.TheVariants.{InUse, NotEntrant, Zombie, Freed}

@@ -6,7 +6,7 @@ use Rattle.system.specs.declared.answers.Refusal.TheVariants.{NoSuchPlace, Illeg
 use Rattle.system.specs.Log.{Entry}
 use Rattle.rows.specs.Lines.{◌⇒◌, begin, change, end, wake, cross, enter, enter_code, leave, edge, to_vm, from_vm, to_native, block, exit, take, finish, clear, hold, release, stack, start, install, invalidate, round, look, weigh, free, ask_depth, ask_top, ask_count, ask_census, open_oldest, tell, operate, close, close_of, count, state, resolve, ok, thread, exited, changes, no_change, go, stop, entered, wrong_method, reply, frames, interpreted, compiled, code, none, is_clear, late, not_looked, used, retired, asked, open_handshake, open_census, closed, told, gone, census, counted, counts, in_use, not_entrant, zombie, freed, refused}
 
--- A publication can't end while a code is left to change; the count moves with the change. (1 place, 4 slots, 2 methods)
+-- A publication can't end while a code still has to change; a count changes with its Change. (1 place, 4 slots, 2 methods)
 abbrev pub one_publication : List Entry
 one_publication =
     start ⇒ thread 1 0 ∷ begin 0 ⇒ ok ∷ end 0 ⇒ ok ∷ wake 0 ⇒ ok ∷ cross 0 ⇒ go ∷ install 0 ⇒ code 1 ∷
@@ -19,7 +19,8 @@ cancelled_push =
     start ⇒ thread 1 0 ∷ begin 0 ⇒ ok ∷ end 0 ⇒ ok ∷ wake 0 ⇒ ok ∷ cross 0 ⇒ go ∷ install 0 ⇒ code 1 ∷
     enter_code 0 0 1 ⇒ entered ∷ leave 0 ⇒ go ∷ begin 0 ⇒ ok ∷ change 0 ⇒ no_change ∷ end 0 ⇒ ok ∷ count 1 ⇒ counts 0 ∷ []
 
--- In the middle of a publication the changed codes count as in the stack, the others as shown. (1 place, 4 slots, 2 methods)
+-- In the middle of a publication, the changed codes count as on the stack, and the others as published before.
+-- (1 place, 4 slots, 2 methods)
 abbrev pub publication_code_by_code : List Entry
 publication_code_by_code =
     start ⇒ thread 1 0 ∷ begin 0 ⇒ ok ∷ end 0 ⇒ ok ∷ wake 0 ⇒ ok ∷ cross 0 ⇒ go ∷ install 0 ⇒ code 1 ∷ install 1 ⇒ code 2 ∷
@@ -27,7 +28,8 @@ publication_code_by_code =
     count 1 ⇒ counts 1 ∷ count 2 ⇒ counts 0 ∷ enter 0 1 ⇒ refused Publishing ∷ change 0 ⇒ changes 2 (pos 1) ∷ end 0 ⇒ ok ∷
     count 2 ⇒ counts 1 ∷ []
 
--- A look without a round after the invalidation is late, and code that is in use somewhere isn't weighed by its count alone. (1 place, 4 slots, 2 methods)
+-- A look without a round after the invalidation is late. A count of 0 makes no zombie before each place was looked at.
+-- (1 place, 4 slots, 2 methods)
 abbrev pub look_before_a_round : List Entry
 look_before_a_round =
     start ⇒ thread 1 0 ∷ begin 0 ⇒ ok ∷ end 0 ⇒ ok ∷ wake 0 ⇒ ok ∷ cross 0 ⇒ go ∷ install 0 ⇒ code 1 ∷
@@ -51,7 +53,7 @@ publication_begun_before_the_round =
     invalidate 1 ⇒ ok ∷ round ⇒ ok ∷ end 0 ⇒ ok ∷ look 1 0 ⇒ late ∷ begin 0 ⇒ ok ∷ end 0 ⇒ ok ∷ look 1 0 ⇒ is_clear ∷
     weigh 1 ⇒ retired ∷ []
 
--- A freed slot is used again, and the old serial is sent away at its entry. (1 place, 1 slot, 1 method)
+-- A freed slot is used again, and an entry with the old serial is answered `wrong method`. (1 place, 1 slot, 1 method)
 abbrev pub slot_used_again : List Entry
 slot_used_again =
     start ⇒ thread 1 0 ∷ begin 0 ⇒ ok ∷ end 0 ⇒ ok ∷ wake 0 ⇒ ok ∷ cross 0 ⇒ go ∷ install 0 ⇒ code 1 ∷
@@ -59,7 +61,8 @@ slot_used_again =
     end 0 ⇒ ok ∷ look 1 0 ⇒ is_clear ∷ weigh 1 ⇒ retired ∷ free 1 ⇒ ok ∷ install 0 ⇒ code 2 ∷
     enter_code 0 0 1 ⇒ wrong_method ∷ enter_code 0 0 2 ⇒ entered ∷ enter_code 0 0 3 ⇒ refused Unknown ∷ resolve 0 ⇒ code 2 ∷ []
 
--- A method has its next code while a frame of the old one stands; a call of the old code is sent away. (1 place, 4 slots, 2 methods)
+-- A method gets its next code while a frame of the old one is on a stack; an entry of the old code is answered `wrong method`.
+-- (1 place, 4 slots, 2 methods)
 abbrev pub next_code_of_a_method : List Entry
 next_code_of_a_method =
     start ⇒ thread 1 0 ∷ begin 0 ⇒ ok ∷ end 0 ⇒ ok ∷ wake 0 ⇒ ok ∷ cross 0 ⇒ go ∷ install 0 ⇒ code 1 ∷
@@ -74,7 +77,7 @@ place_used_again =
     exit 0 ⇒ exited 1 ∷ start ⇒ thread 2 0 ∷ open_oldest ⇒ open_handshake 1 ∷ tell 1 ⇒ gone ∷ tell 2 ⇒ refused NotOf ∷
     close ⇒ closed 1 ∷ []
 
--- Two handshakes are open, told and served one after the other by the thread itself. (1 place, 4 slots, 2 methods)
+-- Two handshakes are open: both are armed, and the thread serves them itself, one after the other. (1 place, 4 slots, 2 methods)
 abbrev pub two_operations_in_turn : List Entry
 two_operations_in_turn =
     start ⇒ thread 1 0 ∷ begin 0 ⇒ ok ∷ end 0 ⇒ ok ∷ wake 0 ⇒ ok ∷ cross 0 ⇒ go ∷ ask_depth (1 ∷ []) ⇒ asked 1 ∷
@@ -84,7 +87,7 @@ two_operations_in_turn =
     cross 0 ⇒ go ∷ close ⇒ closed 1 ∷ open_oldest ⇒ refused QueueEmpty ∷ tell 1 ⇒ told ∷ edge 0 ⇒ stop 2 ∷ take 0 ⇒ ok ∷
     finish 0 ⇒ reply 0 ∷ clear 0 ⇒ ok ∷ cross 0 ⇒ go ∷ close ⇒ closed 2 ∷ []
 
--- A thread in native code is held, published and served, and can't wake meanwhile. (1 place, 4 slots, 2 methods)
+-- A thread in native code is held, its stack is published, and it is served; it can't wake meanwhile. (1 place, 4 slots, 2 methods)
 abbrev pub held_in_native : List Entry
 held_in_native =
     start ⇒ thread 1 0 ∷ begin 0 ⇒ ok ∷ end 0 ⇒ ok ∷ wake 0 ⇒ ok ∷ cross 0 ⇒ go ∷ install 0 ⇒ code 1 ∷
@@ -124,7 +127,7 @@ safepoint_of_two_threads =
     operate ⇒ census (counted 1 3 ∷ []) ∷ operate ⇒ refused AlreadyDone ∷ close ⇒ refused Held ∷ clear 0 ⇒ ok ∷ clear 1 ⇒ ok ∷
     release 0 ⇒ ok ∷ release 1 ⇒ ok ∷ close ⇒ closed 1 ∷ take 1 ⇒ ok ∷ cross 1 ⇒ go ∷ start ⇒ thread 3 2 ∷ []
 
--- 256 frames fit, one more doesn't, and nobody leaves with frames. (1 place, 4 slots, 2 methods)
+-- 256 frames fit, and one more doesn't. No thread exits with frames. (1 place, 4 slots, 2 methods)
 abbrev pub depth_full : List Entry
 depth_full =
     start ⇒ thread 1 0 ∷ begin 0 ⇒ ok ∷ end 0 ⇒ ok ∷ wake 0 ⇒ ok ∷ cross 0 ⇒ go ∷ enter 0 0 ⇒ entered ∷ enter 0 0 ⇒ entered ∷
@@ -181,14 +184,14 @@ depth_full =
     enter 0 0 ⇒ entered ∷ enter 0 0 ⇒ entered ∷ enter 0 0 ⇒ entered ∷ enter 0 0 ⇒ entered ∷ enter 0 0 ⇒ refused DepthFull ∷
     exit 0 ⇒ refused StackNotEmpty ∷ []
 
--- Places, methods and targets that can't be, and requests that aren't there. (64 places, 1024 slots, 256 methods)
+-- Places, methods and targets that can't exist, and requests that don't. (64 places, 1024 slots, 256 methods)
 abbrev pub numbers_out_of_range : List Entry
 numbers_out_of_range =
     begin 64 ⇒ refused NoSuchPlace ∷ wake 63 ⇒ refused (Illegal Vacant) ∷ install 256 ⇒ refused NoSuchMethod ∷
     ask_depth [] ⇒ refused NoTargets ∷ ask_depth (7 ∷ 7 ∷ []) ⇒ refused BadTargets ∷ open_oldest ⇒ refused QueueEmpty ∷
     close ⇒ refused NothingOpen ∷ []
 
--- A thread leaves only once what it left is published. (1 place, 4 slots, 2 methods)
+-- A thread exits only once it has published the frames that it left. (1 place, 4 slots, 2 methods)
 abbrev pub exit_after_publishing : List Entry
 exit_after_publishing =
     start ⇒ thread 1 0 ∷ begin 0 ⇒ ok ∷ end 0 ⇒ ok ∷ wake 0 ⇒ ok ∷ cross 0 ⇒ go ∷ install 0 ⇒ code 1 ∷
@@ -196,7 +199,7 @@ exit_after_publishing =
     exit 0 ⇒ refused Unpublished ∷ begin 0 ⇒ ok ∷ change 0 ⇒ changes 1 (negsuc 0) ∷ end 0 ⇒ ok ∷ exit 0 ⇒ exited 1 ∷
     count 1 ⇒ counts 0 ∷ []
 
--- A thread that is stopped on its way out of the VM. (1 place, 4 slots, 2 methods)
+-- A thread stops on its way out of the VM. (1 place, 4 slots, 2 methods)
 abbrev pub stopped_in_the_vm : List Entry
 stopped_in_the_vm =
     start ⇒ thread 1 0 ∷ begin 0 ⇒ ok ∷ end 0 ⇒ ok ∷ wake 0 ⇒ ok ∷ cross 0 ⇒ go ∷ block 0 ⇒ refused (Illegal InJava) ∷
@@ -218,7 +221,7 @@ blocked_and_native =
     to_native 0 ⇒ ok ∷ leave 0 ⇒ refused (Illegal (InNative Vm)) ∷ wake 0 ⇒ ok ∷ cross 0 ⇒ go ∷ from_vm 0 ⇒ go ∷
     enter 0 1 ⇒ entered ∷ stack 0 ⇒ frames (interpreted 1 ∷ []) ∷ []
 
--- Code that isn't entrant is sent away at its entry; the method gets new code. (1 place, 4 slots, 2 methods)
+-- An entry of code that isn't entrant is answered `wrong method`; the method gets new code. (1 place, 4 slots, 2 methods)
 abbrev pub entry_of_invalidated_code : List Entry
 entry_of_invalidated_code =
     start ⇒ thread 1 0 ∷ begin 0 ⇒ ok ∷ end 0 ⇒ ok ∷ wake 0 ⇒ ok ∷ cross 0 ⇒ go ∷ install 0 ⇒ code 1 ∷
@@ -275,14 +278,15 @@ asks_of_a_stack =
     open_oldest ⇒ open_handshake 8 ∷ tell 1 ⇒ told ∷ edge 0 ⇒ stop 8 ∷ take 0 ⇒ ok ∷ finish 0 ⇒ reply 0 ∷ clear 0 ⇒ ok ∷
     cross 0 ⇒ go ∷ close ⇒ closed 8 ∷ []
 
--- A listed thread that starts after the opening is no live target. (1 place, 4 slots, 2 methods)
+-- A listed thread that starts after Open is no live target. (1 place, 4 slots, 2 methods)
 abbrev pub started_after_open : List Entry
 started_after_open =
     start ⇒ thread 1 0 ∷ begin 0 ⇒ ok ∷ end 0 ⇒ ok ∷ wake 0 ⇒ ok ∷ cross 0 ⇒ go ∷ ask_depth (1 ∷ 2 ∷ []) ⇒ asked 1 ∷
     open_oldest ⇒ open_handshake 1 ∷ tell 1 ⇒ told ∷ edge 0 ⇒ stop 1 ∷ take 0 ⇒ ok ∷ finish 0 ⇒ reply 0 ∷ clear 0 ⇒ ok ∷
     cross 0 ⇒ go ∷ exit 0 ⇒ exited 1 ∷ start ⇒ thread 2 0 ∷ tell 2 ⇒ gone ∷ close ⇒ closed 1 ∷ []
 
--- Four handshakes are open; the least told one is done and cleared first, each closes for itself. (1 place, 4 slots, 2 methods)
+-- Four handshakes are open: the least pending one is served and cleared first, and each one closes on its own.
+-- (1 place, 4 slots, 2 methods)
 abbrev pub four_handshakes : List Entry
 four_handshakes =
     start ⇒ thread 1 0 ∷ begin 0 ⇒ ok ∷ end 0 ⇒ ok ∷ wake 0 ⇒ ok ∷ cross 0 ⇒ go ∷ enter 0 1 ⇒ entered ∷
@@ -295,7 +299,7 @@ four_handshakes =
     close ⇒ closed 2 ∷ close_of 1 ⇒ refused NotOf ∷ tell 1 ⇒ refused NotOf ∷ tell 2 ⇒ gone ∷ close ⇒ closed 4 ∷
     open_oldest ⇒ open_census 5 ∷ []
 
--- A handshake of a name that is yet to start doesn't keep the next one waiting. (1 place, 4 slots, 2 methods)
+-- A handshake that lists a name of no thread yet doesn't keep the next one waiting. (1 place, 4 slots, 2 methods)
 abbrev pub second_told_alone : List Entry
 second_told_alone =
     start ⇒ thread 1 0 ∷ begin 0 ⇒ ok ∷ end 0 ⇒ ok ∷ wake 0 ⇒ ok ∷ cross 0 ⇒ go ∷ ask_depth (2 ∷ []) ⇒ asked 1 ∷

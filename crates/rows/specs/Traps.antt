@@ -1,4 +1,4 @@
--- Cases that are easily taken for others: events and the answers to them, line by line.
+-- Cases that are easily confused: events and the answers to them, line by line.
 use Rattle.std.specs.Prelude.{pos, negsuc, List, [], ◌∷◌}
 use Rattle.thread_state.specs.declared.Back.TheVariants.{Java, Vm}
 use Rattle.thread_state.specs.declared.State.TheVariants.{Vacant, New, NewTrans, InJava, InVm, InNative, NativeTrans, Blocked, BlockedTrans, AtPoll, Serving}
@@ -6,7 +6,7 @@ use Rattle.system.specs.declared.answers.Refusal.TheVariants.{NoSuchPlace, Illeg
 use Rattle.system.specs.Log.{Entry}
 use Rattle.rows.specs.Lines.{◌⇒◌, begin, change, end, wake, cross, enter, enter_code, leave, edge, to_vm, from_vm, to_native, block, exit, take, finish, clear, hold, release, stack, start, install, invalidate, round, look, weigh, free, ask_depth, ask_top, ask_count, ask_census, open_oldest, tell, operate, close, close_of, count, state, resolve, ok, thread, exited, changes, no_change, go, stop, entered, wrong_method, reply, frames, interpreted, compiled, code, none, is_clear, late, not_looked, used, retired, asked, open_handshake, open_census, closed, told, gone, census, counted, counts, freed, refused}
 
--- A full queue is named before targets; no targets before bad ones. (1 place, 1 slot, 1 method)
+-- A full queue is reported before any fault of the targets; no targets are reported before bad ones. (1 place, 1 slot, 1 method)
 abbrev pub ask_order : List Entry
 ask_order =
     ask_depth [] ⇒ refused NoTargets ∷ ask_count 1 [] ⇒ refused NoTargets ∷ ask_top (1 ∷ 1 ∷ []) ⇒ refused BadTargets ∷
@@ -28,7 +28,7 @@ ask_order =
     ask_depth (1 ∷ 1 ∷ []) ⇒ refused QueueFull ∷ open_oldest ⇒ open_handshake 1 ∷ ask_depth [] ⇒ refused NoTargets ∷
     ask_census ⇒ asked 65 ∷ []
 
--- A stop keeps where the thread goes on, in Java or in the VM. (1 place, 4 slots, 2 methods)
+-- A stop keeps where the thread resumes, in Java or in the VM. (1 place, 4 slots, 2 methods)
 abbrev pub way_back_to_the_vm : List Entry
 way_back_to_the_vm =
     start ⇒ thread 1 0 ∷ begin 0 ⇒ ok ∷ end 0 ⇒ ok ∷ wake 0 ⇒ ok ∷ cross 0 ⇒ go ∷ to_vm 0 ⇒ ok ∷ to_native 0 ⇒ ok ∷
@@ -45,7 +45,8 @@ left_and_entered_again =
     enter_code 0 0 1 ⇒ entered ∷ begin 0 ⇒ ok ∷ change 0 ⇒ changes 1 (pos 1) ∷ end 0 ⇒ ok ∷ leave 0 ⇒ go ∷
     enter_code 0 0 1 ⇒ entered ∷ begin 0 ⇒ ok ∷ change 0 ⇒ no_change ∷ end 0 ⇒ ok ∷ []
 
--- An untold thread may leave while a census is open; refusals of Operate and Close in their order. (2 places, 4 slots, 2 methods)
+-- A thread whose poll isn't armed may exit while a census is open; the refusals of Operate and Close in their order.
+-- (2 places, 4 slots, 2 methods)
 abbrev pub exit_in_an_open_census : List Entry
 exit_in_an_open_census =
     start ⇒ thread 1 0 ∷ begin 0 ⇒ ok ∷ end 0 ⇒ ok ∷ wake 0 ⇒ ok ∷ cross 0 ⇒ go ∷ start ⇒ thread 2 1 ∷ begin 1 ⇒ ok ∷
@@ -56,7 +57,7 @@ exit_in_an_open_census =
     finish 1 ⇒ refused NotOf ∷ clear 1 ⇒ ok ∷ start ⇒ refused SafepointOpen ∷ release 1 ⇒ ok ∷ close ⇒ closed 1 ∷
     start ⇒ thread 3 0 ∷ []
 
--- A thread that was released uncleared after a census clears for itself. (1 place, 4 slots, 2 methods)
+-- A thread that is released after a census, before its poll is cleared, clears it itself. (1 place, 4 slots, 2 methods)
 abbrev pub clear_after_a_census : List Entry
 clear_after_a_census =
     start ⇒ thread 1 0 ∷ begin 0 ⇒ ok ∷ end 0 ⇒ ok ∷ wake 0 ⇒ ok ∷ cross 0 ⇒ go ∷ ask_census ⇒ asked 1 ∷
@@ -64,7 +65,7 @@ clear_after_a_census =
     take 0 ⇒ refused Held ∷ clear 0 ⇒ refused NotDone ∷ operate ⇒ census [] ∷ release 0 ⇒ ok ∷ close ⇒ refused NotDone ∷
     take 0 ⇒ ok ∷ clear 0 ⇒ ok ∷ cross 0 ⇒ go ∷ exit 0 ⇒ exited 1 ∷ start ⇒ refused SafepointOpen ∷ close ⇒ closed 1 ∷ []
 
--- Changes come in rising serial, whatever the order of the frames. (1 place, 4 slots, 2 methods)
+-- Changes have ascending serials, whatever the order of the frames. (1 place, 4 slots, 2 methods)
 abbrev pub change_order : List Entry
 change_order =
     start ⇒ thread 1 0 ∷ begin 0 ⇒ ok ∷ end 0 ⇒ ok ∷ wake 0 ⇒ ok ∷ cross 0 ⇒ go ∷ install 0 ⇒ code 1 ∷ install 1 ⇒ code 2 ∷
@@ -84,7 +85,7 @@ clear_order =
     ask_depth (1 ∷ []) ⇒ asked 3 ∷ open_oldest ⇒ open_handshake 3 ∷ clear 0 ⇒ refused NotTold ∷ finish 0 ⇒ refused NotTold ∷
     tell 1 ⇒ told ∷ clear 0 ⇒ refused NotDone ∷ finish 0 ⇒ reply 0 ∷ clear 0 ⇒ ok ∷ []
 
--- A full stack is named before code that isn't entrant, and before code of another method. (1 place, 4 slots, 2 methods)
+-- A full stack is reported before code that isn't entrant, and before code of another method. (1 place, 4 slots, 2 methods)
 abbrev pub depth_full_before_wrong_method : List Entry
 depth_full_before_wrong_method =
     start ⇒ thread 1 0 ∷ begin 0 ⇒ ok ∷ end 0 ⇒ ok ∷ wake 0 ⇒ ok ∷ cross 0 ⇒ go ∷ install 0 ⇒ code 1 ∷ invalidate 1 ⇒ ok ∷
@@ -150,7 +151,7 @@ enter_order =
     enter 0 0 ⇒ refused Unpublished ∷ begin 0 ⇒ ok ∷ enter_code 0 9 9 ⇒ refused Publishing ∷ end 0 ⇒ ok ∷
     enter_code 0 1 1 ⇒ refused NotOf ∷ enter_code 0 0 0 ⇒ refused Unknown ∷ []
 
--- The refusals of Exit: frames, then what isn't published. (1 place, 4 slots, 2 methods)
+-- The refusals of Exit: frames first, then unpublished changes. (1 place, 4 slots, 2 methods)
 abbrev pub exit_order : List Entry
 exit_order =
     start ⇒ thread 1 0 ∷ begin 0 ⇒ ok ∷ end 0 ⇒ ok ∷ wake 0 ⇒ ok ∷ cross 0 ⇒ go ∷ install 0 ⇒ code 1 ∷
@@ -158,7 +159,7 @@ exit_order =
     exit 0 ⇒ refused StackNotEmpty ∷ begin 0 ⇒ ok ∷ change 0 ⇒ changes 1 (pos 1) ∷ end 0 ⇒ ok ∷ leave 0 ⇒ stop 1 ∷
     take 0 ⇒ ok ∷ finish 0 ⇒ refused Unpublished ∷ cross 0 ⇒ stop 1 ∷ exit 0 ⇒ refused (Illegal (AtPoll Java)) ∷ []
 
--- The refusals of Exit: what isn't published, then an operation that was told. (1 place, 4 slots, 2 methods)
+-- The refusals of Exit: unpublished changes first, then a pending operation. (1 place, 4 slots, 2 methods)
 abbrev pub exit_unpublished_before_pending : List Entry
 exit_unpublished_before_pending =
     start ⇒ thread 1 0 ∷ begin 0 ⇒ ok ∷ end 0 ⇒ ok ∷ wake 0 ⇒ ok ∷ cross 0 ⇒ go ∷ install 0 ⇒ code 1 ∷
@@ -166,20 +167,20 @@ exit_unpublished_before_pending =
     ask_depth (1 ∷ []) ⇒ asked 1 ∷ open_oldest ⇒ open_handshake 1 ∷ tell 1 ⇒ told ∷ exit 0 ⇒ refused Unpublished ∷
     begin 0 ⇒ ok ∷ change 0 ⇒ changes 1 (negsuc 0) ∷ end 0 ⇒ ok ∷ exit 0 ⇒ refused OperationPending ∷ []
 
--- A thread that never published leaves with an empty stack. (1 place, 1 slot, 1 method)
+-- A thread that never published exits with an empty stack. (1 place, 1 slot, 1 method)
 abbrev pub exit_without_a_publication : List Entry
 exit_without_a_publication =
     start ⇒ thread 1 0 ∷ exit 0 ⇒ refused (Illegal New) ∷ wake 0 ⇒ ok ∷ cross 0 ⇒ go ∷ exit 0 ⇒ exited 1 ∷
     start ⇒ thread 2 0 ∷ []
 
--- A target that leaves before it is told is gone, and its operation closes. (1 place, 4 slots, 2 methods)
+-- A target that exits before its poll is armed is gone, and its operation closes. (1 place, 4 slots, 2 methods)
 abbrev pub exit_before_being_told : List Entry
 exit_before_being_told =
     start ⇒ thread 1 0 ∷ begin 0 ⇒ ok ∷ end 0 ⇒ ok ∷ wake 0 ⇒ ok ∷ cross 0 ⇒ go ∷ ask_depth (1 ∷ []) ⇒ asked 1 ∷
     open_oldest ⇒ open_handshake 1 ∷ exit 0 ⇒ exited 1 ∷ start ⇒ thread 2 0 ∷ tell 1 ⇒ gone ∷ tell 2 ⇒ refused NotOf ∷
     hold 0 ⇒ refused NotOf ∷ close ⇒ closed 1 ∷ []
 
--- A new thread that is held is served without having published. (1 place, 1 slot, 1 method)
+-- A new thread that is held is served although it has never published. (1 place, 1 slot, 1 method)
 abbrev pub finish_of_a_new_thread : List Entry
 finish_of_a_new_thread =
     start ⇒ thread 1 0 ∷ ask_top (1 ∷ []) ⇒ asked 1 ∷ open_oldest ⇒ open_handshake 1 ∷ finish 0 ⇒ refused (Illegal New) ∷
@@ -187,7 +188,7 @@ finish_of_a_new_thread =
     close ⇒ refused Held ∷ end 0 ⇒ ok ∷ release 0 ⇒ ok ∷ hold 0 ⇒ ok ∷ clear 0 ⇒ ok ∷ hold 0 ⇒ refused AlreadyDone ∷
     release 0 ⇒ ok ∷ hold 0 ⇒ refused AlreadyDone ∷ wake 0 ⇒ ok ∷ cross 0 ⇒ go ∷ []
 
--- A target that starts after the opening is gone for it, and is told of the next. (1 place, 1 slot, 1 method)
+-- A target that starts after Open is gone for that operation; its poll is armed for the next one. (1 place, 1 slot, 1 method)
 abbrev pub target_started_later : List Entry
 target_started_later =
     ask_depth (1 ∷ []) ⇒ asked 1 ∷ open_oldest ⇒ open_handshake 1 ∷ start ⇒ thread 1 0 ∷ tell 1 ⇒ gone ∷
@@ -202,14 +203,14 @@ hold_order =
     hold 0 ⇒ refused NotSafe ∷ edge 0 ⇒ stop 1 ∷ take 0 ⇒ ok ∷ hold 0 ⇒ refused NotSafe ∷ finish 0 ⇒ reply 0 ∷
     hold 0 ⇒ refused NotSafe ∷ clear 0 ⇒ ok ∷ hold 0 ⇒ refused AlreadyDone ∷ []
 
--- No slot is left besides that of the code in use; a zombie still takes its slot. (1 place, 2 slots, 2 methods)
+-- A full table refuses an install although it would replace a code in use; a zombie still takes its slot. (1 place, 2 slots, 2 methods)
 abbrev pub install_order : List Entry
 install_order =
     install 0 ⇒ code 1 ∷ install 1 ⇒ code 2 ∷ install 0 ⇒ refused TableFull ∷ invalidate 1 ⇒ ok ∷
     install 0 ⇒ refused TableFull ∷ look 1 0 ⇒ is_clear ∷ weigh 1 ⇒ retired ∷ install 0 ⇒ refused TableFull ∷
     resolve 0 ⇒ none ∷ free 1 ⇒ ok ∷ install 0 ⇒ code 3 ∷ resolve 0 ⇒ code 3 ∷ []
 
--- A pair that was looked at stays so, although a later look is late. (1 place, 1 slot, 1 method)
+-- A place that was looked at for a code stays looked at, although a later look is late. (1 place, 1 slot, 1 method)
 abbrev pub look_for_good : List Entry
 look_for_good =
     install 0 ⇒ code 1 ∷ invalidate 1 ⇒ ok ∷ look 1 0 ⇒ is_clear ∷ start ⇒ thread 1 0 ∷ begin 0 ⇒ ok ∷ end 0 ⇒ ok ∷
@@ -221,7 +222,7 @@ look_before_the_first_end =
     install 0 ⇒ code 1 ∷ invalidate 1 ⇒ ok ∷ start ⇒ thread 1 0 ∷ look 1 0 ⇒ is_clear ∷ begin 0 ⇒ ok ∷ look 1 0 ⇒ is_clear ∷
     end 0 ⇒ ok ∷ look 1 0 ⇒ late ∷ weigh 1 ⇒ retired ∷ []
 
--- Names that were never given out are gone in a handshake that lists them, and not of a census. (1 place, 4 slots, 2 methods)
+-- Names that were never given out are gone in a handshake that lists them, and no targets of a census. (1 place, 4 slots, 2 methods)
 abbrev pub names_never_given : List Entry
 names_never_given =
     start ⇒ thread 1 0 ∷ begin 0 ⇒ ok ∷ end 0 ⇒ ok ∷ wake 0 ⇒ ok ∷ cross 0 ⇒ go ∷ ask_depth (0 ∷ 99 ∷ []) ⇒ asked 1 ∷
@@ -247,7 +248,7 @@ open_order =
     open_oldest ⇒ refused AlreadyOpen ∷ operate ⇒ census [] ∷ close_of 2 ⇒ closed 2 ∷ open_oldest ⇒ open_handshake 3 ∷
     close_of 2 ⇒ refused NotOf ∷ close_of 3 ⇒ closed 3 ∷ close_of 3 ⇒ refused NothingOpen ∷ []
 
--- The common tests in their order: place, vacancy, publication, state. (2 places, 1 slot, 1 method)
+-- The common tests in their order: place, vacant place, open publication, state. (2 places, 1 slot, 1 method)
 abbrev pub publishing_before_state : List Entry
 publishing_before_state =
     stack 0 ⇒ refused (Illegal Vacant) ∷ change 0 ⇒ refused (Illegal Vacant) ∷ hold 0 ⇒ refused (Illegal Vacant) ∷
@@ -272,7 +273,7 @@ stopped_until_cleared =
     clear 0 ⇒ refused AlreadyDone ∷ finish 0 ⇒ refused AlreadyDone ∷ close ⇒ closed 1 ∷ finish 0 ⇒ refused NothingOpen ∷
     cross 0 ⇒ go ∷ []
 
--- A freed code is unknown, but to its state and its entry. (1 place, 1 slot, 1 method)
+-- A freed code is unknown to each call but those of its state and its entry. (1 place, 1 slot, 1 method)
 abbrev pub freed_is_unknown : List Entry
 freed_is_unknown =
     install 0 ⇒ code 1 ∷ invalidate 1 ⇒ ok ∷ look 1 0 ⇒ is_clear ∷ weigh 1 ⇒ retired ∷ count 1 ⇒ counts 0 ∷
@@ -280,7 +281,7 @@ freed_is_unknown =
     free 1 ⇒ refused Unknown ∷ weigh 1 ⇒ refused Unknown ∷ look 1 9 ⇒ refused Unknown ∷ invalidate 1 ⇒ refused Unknown ∷
     count 1 ⇒ refused Unknown ∷ state 1 ⇒ freed ∷ state 2 ⇒ refused Unknown ∷ []
 
--- A place that wasn't looked at is named before the count. (2 places, 4 slots, 2 methods)
+-- A place that wasn't looked at is reported before the count. (2 places, 4 slots, 2 methods)
 abbrev pub not_looked_before_used : List Entry
 not_looked_before_used =
     start ⇒ thread 1 0 ∷ begin 0 ⇒ ok ∷ end 0 ⇒ ok ∷ wake 0 ⇒ ok ∷ cross 0 ⇒ go ∷ start ⇒ thread 2 1 ∷ begin 1 ⇒ ok ∷
@@ -289,7 +290,7 @@ not_looked_before_used =
     end 1 ⇒ ok ∷ look 1 1 ⇒ is_clear ∷ weigh 1 ⇒ not_looked 0 ∷ begin 0 ⇒ ok ∷ end 0 ⇒ ok ∷ look 1 0 ⇒ is_clear ∷
     weigh 1 ⇒ used 1 ∷ []
 
--- A weighing goes by the count, which moves with the changes of an open publication. (1 place, 4 slots, 2 methods)
+-- Weigh tests the count, which already includes the Changes of an open publication. (1 place, 4 slots, 2 methods)
 abbrev pub weighed_while_publishing : List Entry
 weighed_while_publishing =
     start ⇒ thread 1 0 ∷ begin 0 ⇒ ok ∷ end 0 ⇒ ok ∷ wake 0 ⇒ ok ∷ cross 0 ⇒ go ∷ install 0 ⇒ code 1 ∷
@@ -297,7 +298,7 @@ weighed_while_publishing =
     change 0 ⇒ changes 1 (pos 1) ∷ count 1 ⇒ counts 1 ∷ end 0 ⇒ ok ∷ look 1 0 ⇒ is_clear ∷ leave 0 ⇒ go ∷ weigh 1 ⇒ used 1 ∷
     begin 0 ⇒ ok ∷ weigh 1 ⇒ used 1 ∷ change 0 ⇒ changes 1 (negsuc 0) ∷ weigh 1 ⇒ retired ∷ end 0 ⇒ ok ∷ []
 
--- Code that isn't in use is sent away, whatever method it was for. (1 place, 4 slots, 2 methods)
+-- An entry of code that isn't in use is answered `wrong method`, whichever method the code was for. (1 place, 4 slots, 2 methods)
 abbrev pub wrong_method_of_any_method : List Entry
 wrong_method_of_any_method =
     start ⇒ thread 1 0 ∷ begin 0 ⇒ ok ∷ end 0 ⇒ ok ∷ wake 0 ⇒ ok ∷ cross 0 ⇒ go ∷ install 0 ⇒ code 1 ∷ invalidate 1 ⇒ ok ∷
@@ -305,7 +306,7 @@ wrong_method_of_any_method =
     enter_code 0 1 1 ⇒ wrong_method ∷ free 1 ⇒ ok ∷ enter_code 0 1 1 ⇒ wrong_method ∷ enter_code 0 0 1 ⇒ wrong_method ∷
     stack 0 ⇒ frames [] ∷ []
 
--- No place is left; an open census is named before that. (1 place, 1 slot, 1 method)
+-- No place is left; an open census is reported before that. (1 place, 1 slot, 1 method)
 abbrev pub start_order : List Entry
 start_order =
     start ⇒ thread 1 0 ∷ start ⇒ refused PlacesFull ∷ ask_census ⇒ asked 1 ∷ open_oldest ⇒ open_census 1 ∷
@@ -313,7 +314,7 @@ start_order =
     start ⇒ refused SafepointOpen ∷ close ⇒ closed 1 ∷ start ⇒ refused PlacesFull ∷ wake 0 ⇒ ok ∷ cross 0 ⇒ go ∷
     exit 0 ⇒ exited 1 ∷ start ⇒ thread 2 0 ∷ []
 
--- Who is held isn't held again, and who isn't held isn't released. (1 place, 1 slot, 1 method)
+-- A held thread can't be held again, and a thread that isn't held can't be released. (1 place, 1 slot, 1 method)
 abbrev pub hold_and_release : List Entry
 hold_and_release =
     release 1 ⇒ refused NoSuchPlace ∷ release 0 ⇒ refused (Illegal Vacant) ∷ start ⇒ thread 1 0 ∷ release 0 ⇒ refused NotHeld ∷
@@ -326,7 +327,7 @@ look_order =
     look 1 2 ⇒ refused Unknown ∷ install 0 ⇒ code 1 ∷ look 1 2 ⇒ refused NotNotEntrant ∷ invalidate 1 ⇒ ok ∷
     look 1 2 ⇒ refused NoSuchPlace ∷ look 1 1 ⇒ is_clear ∷ weigh 1 ⇒ not_looked 0 ∷ look 1 0 ⇒ is_clear ∷ weigh 1 ⇒ retired ∷ []
 
--- The refusals of Tell in their order; a thread that was told and is gone is gone. (1 place, 4 slots, 2 methods)
+-- The refusals of Tell in their order. A thread that exited after its poll was armed is gone. (1 place, 4 slots, 2 methods)
 abbrev pub tell_order : List Entry
 tell_order =
     tell 1 ⇒ refused NothingOpen ∷ start ⇒ thread 1 0 ∷ begin 0 ⇒ ok ∷ end 0 ⇒ ok ∷ wake 0 ⇒ ok ∷ cross 0 ⇒ go ∷
@@ -336,13 +337,13 @@ tell_order =
     tell 1 ⇒ refused NothingOpen ∷ ask_census ⇒ asked 2 ∷ open_oldest ⇒ open_census 2 ∷ tell 1 ⇒ gone ∷ tell 2 ⇒ refused NotOf ∷
     []
 
--- Each method that there is has its code in use, or none. (1 place, 4 slots, 2 methods)
+-- Each existing method has its code in use, or none. (1 place, 4 slots, 2 methods)
 abbrev pub resolve_by_method : List Entry
 resolve_by_method =
     resolve 2 ⇒ refused NoSuchMethod ∷ resolve 1 ⇒ none ∷ install 1 ⇒ code 1 ∷ resolve 1 ⇒ code 1 ∷ resolve 0 ⇒ none ∷
     invalidate 1 ⇒ ok ∷ resolve 1 ⇒ none ∷ resolve 2 ⇒ refused NoSuchMethod ∷ []
 
--- A thread that stopped waits for a census only once that was told to it. (1 place, 4 slots, 2 methods)
+-- A stopped thread waits for a census only once its poll is armed for it. (1 place, 4 slots, 2 methods)
 abbrev pub take_beside_an_untold_census : List Entry
 take_beside_an_untold_census =
     start ⇒ thread 1 0 ∷ begin 0 ⇒ ok ∷ end 0 ⇒ ok ∷ wake 0 ⇒ ok ∷ cross 0 ⇒ go ∷ ask_depth (1 ∷ []) ⇒ asked 1 ∷
@@ -350,7 +351,7 @@ take_beside_an_untold_census =
     release 0 ⇒ ok ∷ close ⇒ closed 1 ∷ ask_census ⇒ asked 2 ∷ open_oldest ⇒ open_census 2 ∷ take 0 ⇒ ok ∷ cross 0 ⇒ go ∷
     tell 1 ⇒ told ∷ edge 0 ⇒ stop 2 ∷ take 0 ⇒ refused NotDone ∷ []
 
--- The refusals of Close in their order; a live target that wasn't told isn't done. (1 place, 4 slots, 2 methods)
+-- The refusals of Close in their order. A live target whose poll wasn't armed isn't done. (1 place, 4 slots, 2 methods)
 abbrev pub close_order : List Entry
 close_order =
     close ⇒ refused NothingOpen ∷ start ⇒ thread 1 0 ∷ begin 0 ⇒ ok ∷ end 0 ⇒ ok ∷ wake 0 ⇒ ok ∷ cross 0 ⇒ go ∷
@@ -358,7 +359,7 @@ close_order =
     close ⇒ refused NotDone ∷ to_native 0 ⇒ ok ∷ hold 0 ⇒ ok ∷ close ⇒ refused Held ∷ finish 0 ⇒ reply 0 ∷ release 0 ⇒ ok ∷
     close ⇒ refused NotDone ∷ hold 0 ⇒ ok ∷ clear 0 ⇒ ok ∷ close ⇒ refused Held ∷ release 0 ⇒ ok ∷ close ⇒ closed 1 ∷ []
 
--- A census that wasn't operated isn't done, although nobody lives. (1 place, 1 slot, 1 method)
+-- A census without its Operate isn't done, even if no thread is live. (1 place, 1 slot, 1 method)
 abbrev pub census_of_nobody : List Entry
 census_of_nobody =
     ask_census ⇒ asked 1 ∷ open_oldest ⇒ open_census 1 ∷ close ⇒ refused NotDone ∷ operate ⇒ census [] ∷
@@ -374,7 +375,7 @@ operate_order =
     operate ⇒ census [] ∷ release 0 ⇒ ok ∷ operate ⇒ refused AlreadyDone ∷ close ⇒ refused NotDone ∷ take 0 ⇒ ok ∷
     clear 0 ⇒ ok ∷ close ⇒ closed 2 ∷ []
 
--- Wake and Take name the state before they name that the thread is held. (1 place, 4 slots, 2 methods)
+-- Wake and Take report a wrong state before they report that the thread is held. (1 place, 4 slots, 2 methods)
 abbrev pub state_before_held : List Entry
 state_before_held =
     start ⇒ thread 1 0 ∷ begin 0 ⇒ ok ∷ end 0 ⇒ ok ∷ wake 0 ⇒ ok ∷ cross 0 ⇒ go ∷ ask_depth (1 ∷ []) ⇒ asked 1 ∷
@@ -383,7 +384,7 @@ state_before_held =
     to_native 0 ⇒ ok ∷ ask_depth (1 ∷ []) ⇒ asked 2 ∷ open_oldest ⇒ open_handshake 2 ∷ tell 1 ⇒ told ∷ hold 0 ⇒ ok ∷
     take 0 ⇒ refused (Illegal (InNative Java)) ∷ wake 0 ⇒ refused Held ∷ []
 
--- A census leaves out a code that is no longer on a stack, and one that never was. (1 place, 4 slots, 3 methods)
+-- A census omits a code that is no longer on a stack, and one that never was. (1 place, 4 slots, 3 methods)
 abbrev pub census_without_zeros : List Entry
 census_without_zeros =
     start ⇒ thread 1 0 ∷ begin 0 ⇒ ok ∷ end 0 ⇒ ok ∷ wake 0 ⇒ ok ∷ cross 0 ⇒ go ∷ install 0 ⇒ code 1 ∷ install 1 ⇒ code 2 ∷
@@ -393,7 +394,7 @@ census_without_zeros =
     ask_census ⇒ asked 1 ∷ open_oldest ⇒ open_census 1 ∷ tell 1 ⇒ told ∷ to_native 0 ⇒ ok ∷ hold 0 ⇒ ok ∷
     operate ⇒ census (counted 2 2 ∷ []) ∷ []
 
--- In each state those acts are illegal that the tables of states and of events leave out. (1 place, 1 slot, 1 method)
+-- In each state, the acts that the tables of states and of events leave out are illegal. (1 place, 1 slot, 1 method)
 abbrev pub acts_by_state : List Entry
 acts_by_state =
     start ⇒ thread 1 0 ∷ cross 0 ⇒ refused (Illegal New) ∷ enter 0 0 ⇒ refused (Illegal New) ∷ leave 0 ⇒ refused (Illegal New) ∷
@@ -481,7 +482,7 @@ acts_by_state =
     clear 0 ⇒ refused (Illegal Vacant) ∷ change 0 ⇒ refused (Illegal Vacant) ∷ end 0 ⇒ refused (Illegal Vacant) ∷
     hold 0 ⇒ refused (Illegal Vacant) ∷ release 0 ⇒ refused (Illegal Vacant) ∷ stack 0 ⇒ refused (Illegal Vacant) ∷ []
 
--- An open publication leaves Change, End and Stack alone. (1 place, 1 slot, 1 method)
+-- While a thread's publication is open, only Change, End and Stack of that thread are accepted. (1 place, 1 slot, 1 method)
 abbrev pub acts_while_publishing : List Entry
 acts_while_publishing =
     start ⇒ thread 1 0 ∷ begin 0 ⇒ ok ∷ end 0 ⇒ ok ∷ wake 0 ⇒ ok ∷ cross 0 ⇒ go ∷ begin 0 ⇒ ok ∷ begin 0 ⇒ refused Publishing ∷
@@ -492,7 +493,7 @@ acts_while_publishing =
     release 0 ⇒ refused Publishing ∷ stack 0 ⇒ frames [] ∷ change 0 ⇒ no_change ∷ end 0 ⇒ ok ∷ end 0 ⇒ refused NotBegun ∷
     release 0 ⇒ refused NotHeld ∷ []
 
--- Four are open, and a handshake is closed by its number. (1 place, 1 slot, 1 method)
+-- Four operations are open, and a handshake is closed by its number. (1 place, 1 slot, 1 method)
 abbrev pub open_order_of_four : List Entry
 open_order_of_four =
     ask_depth (1 ∷ []) ⇒ asked 1 ∷ ask_depth (1 ∷ []) ⇒ asked 2 ∷ ask_depth (1 ∷ []) ⇒ asked 3 ∷
@@ -501,7 +502,7 @@ open_order_of_four =
     operate ⇒ refused NotOf ∷ close_of 4 ⇒ closed 4 ∷ open_oldest ⇒ refused QueueEmpty ∷ close ⇒ closed 1 ∷ close ⇒ closed 2 ∷
     close ⇒ closed 3 ∷ ask_census ⇒ asked 5 ∷ open_oldest ⇒ open_census 5 ∷ open_oldest ⇒ refused AlreadyOpen ∷ []
 
--- A held thread keeps open those alone that it is a target of. (2 places, 4 slots, 2 methods)
+-- A held thread keeps open only those operations that it is a target of. (2 places, 4 slots, 2 methods)
 abbrev pub held_target_of_another : List Entry
 held_target_of_another =
     start ⇒ thread 1 0 ∷ begin 0 ⇒ ok ∷ end 0 ⇒ ok ∷ wake 0 ⇒ ok ∷ cross 0 ⇒ go ∷ start ⇒ thread 2 1 ∷ begin 1 ⇒ ok ∷
@@ -518,7 +519,7 @@ held_target_started_later =
     tell 1 ⇒ told ∷ tell 2 ⇒ told ∷ edge 0 ⇒ stop 1 ∷ take 0 ⇒ ok ∷ finish 0 ⇒ reply 0 ∷ clear 0 ⇒ ok ∷ hold 1 ⇒ ok ∷
     close_of 1 ⇒ refused Held ∷ []
 
--- Finish and Clear go by the least number that is told. (1 place, 4 slots, 2 methods)
+-- Finish and Clear take the pending operation with the least number. (1 place, 4 slots, 2 methods)
 abbrev pub least_first : List Entry
 least_first =
     start ⇒ thread 1 0 ∷ begin 0 ⇒ ok ∷ end 0 ⇒ ok ∷ wake 0 ⇒ ok ∷ cross 0 ⇒ go ∷ ask_depth (1 ∷ []) ⇒ asked 1 ∷

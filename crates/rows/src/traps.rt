@@ -1,13 +1,13 @@
-// Cases that are easily taken for others: the definitions give these answers, by computation.
+// Cases that are easily confused: the definitions give these answers, by computation.
 ghost use Rattle.rows.specs.Lines.{Plays};
 ghost use Rattle.rows.specs.Traps;
 
-/// A full queue is named before targets; no targets before bad ones.
+/// A full queue is reported before any fault of the targets; no targets are reported before bad ones.
 pub fn ask_order()
     ensures { Plays 1 1 1 Traps.ask_order }
 {}
 
-/// A stop keeps where the thread goes on, in Java or in the VM.
+/// A stop keeps where the thread resumes, in Java or in the VM.
 pub fn way_back_to_the_vm()
     ensures { Plays 1 4 2 Traps.way_back_to_the_vm }
 {}
@@ -17,17 +17,17 @@ pub fn left_and_entered_again()
     ensures { Plays 1 4 2 Traps.left_and_entered_again }
 {}
 
-/// An untold thread may leave while a census is open; refusals of Operate and Close in their order.
+/// A thread whose poll isn't armed may exit while a census is open; the refusals of Operate and Close in their order.
 pub fn exit_in_an_open_census()
     ensures { Plays 2 4 2 Traps.exit_in_an_open_census }
 {}
 
-/// A thread that was released uncleared after a census clears for itself.
+/// A thread that is released after a census, before its poll is cleared, clears it itself.
 pub fn clear_after_a_census()
     ensures { Plays 1 4 2 Traps.clear_after_a_census }
 {}
 
-/// Changes come in rising serial, whatever the order of the frames.
+/// Changes have ascending serials, whatever the order of the frames.
 pub fn change_order()
     ensures { Plays 1 4 2 Traps.change_order }
 {}
@@ -37,7 +37,7 @@ pub fn clear_order()
     ensures { Plays 2 4 2 Traps.clear_order }
 {}
 
-/// A full stack is named before code that isn't entrant, and before code of another method.
+/// A full stack is reported before code that isn't entrant, and before code of another method.
 pub fn depth_full_before_wrong_method()
     ensures { Plays 1 4 2 Traps.depth_full_before_wrong_method }
 {}
@@ -47,32 +47,32 @@ pub fn enter_order()
     ensures { Plays 1 2 2 Traps.enter_order }
 {}
 
-/// The refusals of Exit: frames, then what isn't published.
+/// The refusals of Exit: frames first, then unpublished changes.
 pub fn exit_order()
     ensures { Plays 1 4 2 Traps.exit_order }
 {}
 
-/// The refusals of Exit: what isn't published, then an operation that was told.
+/// The refusals of Exit: unpublished changes first, then a pending operation.
 pub fn exit_unpublished_before_pending()
     ensures { Plays 1 4 2 Traps.exit_unpublished_before_pending }
 {}
 
-/// A thread that never published leaves with an empty stack.
+/// A thread that never published exits with an empty stack.
 pub fn exit_without_a_publication()
     ensures { Plays 1 1 1 Traps.exit_without_a_publication }
 {}
 
-/// A target that leaves before it is told is gone, and its operation closes.
+/// A target that exits before its poll is armed is gone, and its operation closes.
 pub fn exit_before_being_told()
     ensures { Plays 1 4 2 Traps.exit_before_being_told }
 {}
 
-/// A new thread that is held is served without having published.
+/// A new thread that is held is served although it has never published.
 pub fn finish_of_a_new_thread()
     ensures { Plays 1 1 1 Traps.finish_of_a_new_thread }
 {}
 
-/// A target that starts after the opening is gone for it, and is told of the next.
+/// A target that starts after Open is gone for that operation; its poll is armed for the next one.
 pub fn target_started_later()
     ensures { Plays 1 1 1 Traps.target_started_later }
 {}
@@ -82,12 +82,12 @@ pub fn hold_order()
     ensures { Plays 1 4 2 Traps.hold_order }
 {}
 
-/// No slot is left besides that of the code in use; a zombie still takes its slot.
+/// A full table refuses an install although it would replace a code in use; a zombie still takes its slot.
 pub fn install_order()
     ensures { Plays 1 2 2 Traps.install_order }
 {}
 
-/// A pair that was looked at stays so, although a later look is late.
+/// A place that was looked at for a code stays looked at, although a later look is late.
 pub fn look_for_good()
     ensures { Plays 1 1 1 Traps.look_for_good }
 {}
@@ -97,7 +97,7 @@ pub fn look_before_the_first_end()
     ensures { Plays 1 1 1 Traps.look_before_the_first_end }
 {}
 
-/// Names that were never given out are gone in a handshake that lists them, and not of a census.
+/// Names that were never given out are gone in a handshake that lists them, and no targets of a census.
 pub fn names_never_given()
     ensures { Plays 1 4 2 Traps.names_never_given }
 {}
@@ -112,7 +112,7 @@ pub fn open_order()
     ensures { Plays 1 1 1 Traps.open_order }
 {}
 
-/// The common tests in their order: place, vacancy, publication, state.
+/// The common tests in their order: place, vacant place, open publication, state.
 pub fn publishing_before_state()
     ensures { Plays 2 1 1 Traps.publishing_before_state }
 {}
@@ -127,32 +127,32 @@ pub fn stopped_until_cleared()
     ensures { Plays 1 4 2 Traps.stopped_until_cleared }
 {}
 
-/// A freed code is unknown, but to its state and its entry.
+/// A freed code is unknown to each call but those of its state and its entry.
 pub fn freed_is_unknown()
     ensures { Plays 1 1 1 Traps.freed_is_unknown }
 {}
 
-/// A place that wasn't looked at is named before the count.
+/// A place that wasn't looked at is reported before the count.
 pub fn not_looked_before_used()
     ensures { Plays 2 4 2 Traps.not_looked_before_used }
 {}
 
-/// A weighing goes by the count, which moves with the changes of an open publication.
+/// Weigh tests the count, which already includes the Changes of an open publication.
 pub fn weighed_while_publishing()
     ensures { Plays 1 4 2 Traps.weighed_while_publishing }
 {}
 
-/// Code that isn't in use is sent away, whatever method it was for.
+/// An entry of code that isn't in use is answered `wrong method`, whichever method the code was for.
 pub fn wrong_method_of_any_method()
     ensures { Plays 1 4 2 Traps.wrong_method_of_any_method }
 {}
 
-/// No place is left; an open census is named before that.
+/// No place is left; an open census is reported before that.
 pub fn start_order()
     ensures { Plays 1 1 1 Traps.start_order }
 {}
 
-/// Who is held isn't held again, and who isn't held isn't released.
+/// A held thread can't be held again, and a thread that isn't held can't be released.
 pub fn hold_and_release()
     ensures { Plays 1 1 1 Traps.hold_and_release }
 {}
@@ -162,27 +162,27 @@ pub fn look_order()
     ensures { Plays 2 1 1 Traps.look_order }
 {}
 
-/// The refusals of Tell in their order; a thread that was told and is gone is gone.
+/// The refusals of Tell in their order. A thread that exited after its poll was armed is gone.
 pub fn tell_order()
     ensures { Plays 1 4 2 Traps.tell_order }
 {}
 
-/// Each method that there is has its code in use, or none.
+/// Each existing method has its code in use, or none.
 pub fn resolve_by_method()
     ensures { Plays 1 4 2 Traps.resolve_by_method }
 {}
 
-/// A thread that stopped waits for a census only once that was told to it.
+/// A stopped thread waits for a census only once its poll is armed for it.
 pub fn take_beside_an_untold_census()
     ensures { Plays 1 4 2 Traps.take_beside_an_untold_census }
 {}
 
-/// The refusals of Close in their order; a live target that wasn't told isn't done.
+/// The refusals of Close in their order. A live target whose poll wasn't armed isn't done.
 pub fn close_order()
     ensures { Plays 1 4 2 Traps.close_order }
 {}
 
-/// A census that wasn't operated isn't done, although nobody lives.
+/// A census without its Operate isn't done, even if no thread is live.
 pub fn census_of_nobody()
     ensures { Plays 1 1 1 Traps.census_of_nobody }
 {}
@@ -192,32 +192,32 @@ pub fn operate_order()
     ensures { Plays 1 4 2 Traps.operate_order }
 {}
 
-/// Wake and Take name the state before they name that the thread is held.
+/// Wake and Take report a wrong state before they report that the thread is held.
 pub fn state_before_held()
     ensures { Plays 1 4 2 Traps.state_before_held }
 {}
 
-/// A census leaves out a code that is no longer on a stack, and one that never was.
+/// A census omits a code that is no longer on a stack, and one that never was.
 pub fn census_without_zeros()
     ensures { Plays 1 4 3 Traps.census_without_zeros }
 {}
 
-/// In each state those acts are illegal that the tables of states and of events leave out.
+/// In each state, the acts that the tables of states and of events leave out are illegal.
 pub fn acts_by_state()
     ensures { Plays 1 1 1 Traps.acts_by_state }
 {}
 
-/// An open publication leaves Change, End and Stack alone.
+/// While a thread's publication is open, only Change, End and Stack of that thread are accepted.
 pub fn acts_while_publishing()
     ensures { Plays 1 1 1 Traps.acts_while_publishing }
 {}
 
-/// Four are open, and one is closed by its number.
+/// Four operations are open, and one is closed by its number.
 pub fn open_order_of_four()
     ensures { Plays 1 1 1 Traps.open_order_of_four }
 {}
 
-/// A held thread keeps open those operations alone that it is a target of.
+/// A held thread keeps open only those operations that it is a target of.
 pub fn held_target_of_another()
     ensures { Plays 2 4 2 Traps.held_target_of_another }
 {}
@@ -227,7 +227,7 @@ pub fn held_target_started_later()
     ensures { Plays 2 4 2 Traps.held_target_started_later }
 {}
 
-/// Finish and Clear go by the least number that is told.
+/// Finish and Clear take the pending operation with the least number.
 pub fn least_first()
     ensures { Plays 1 4 2 Traps.least_first }
 {}

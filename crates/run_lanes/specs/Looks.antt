@@ -5,7 +5,7 @@ use Rattle.thread_state.specs.declared.State.TheVariants as state
 use Rattle.run_lanes.specs.declared.looks.Paint.{Paint}
 use Rattle.run_lanes.specs.declared.looks.Paint.TheVariants as paint
 
--- The colour of a thread's state: one for all ways into a stop, and none for a vacant place.
+-- The colour of a thread's state: one colour for all ways into a stop, and none for a vacant place.
 abbrev pub paint_of : State → Option Paint
 paint_of state.Vacant = None
 paint_of state.New = Some paint.New

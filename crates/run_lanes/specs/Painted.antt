@@ -1,4 +1,4 @@
--- What is kept of bars and names: that which reaches beyond the first line that is drawn, from there on.
+-- Which bars and names are kept: those that reach beyond the first drawn line, cut to begin there.
 use Rattle.std.specs.Prelude.{ℕ, List, [], ◌∷◌, nat_le, max, if◌then◌else◌}
 use Rattle.run_lanes.specs.declared.painted.Span.{Span}
 use Rattle.run_lanes.specs.declared.painted.Life.{Life}

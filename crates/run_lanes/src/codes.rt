@@ -19,7 +19,7 @@ struct Kept {
     is_in_use: bool,
 }
 
-/// The codes that aren't freed, in rising serial, each on the least lane that was vacant.
+/// The codes that aren't freed, by rising serial. Each is on the first lane that was vacant at its Install.
 #[derive(Drop)]
 pub(crate) struct Codes {
     rows: Rows,
@@ -36,7 +36,7 @@ impl Codes {
         }
     }
 
-    // Where the code of this serial stands.
+    // The position in the list of the code with this serial.
     fn find(&self, serial: u64) -> Option<usize>
         ensures { IfSome result
             (λ at. option_map (λ code. code.serial) (slice_get self.now.kept.items at)
@@ -50,7 +50,7 @@ impl Codes {
         }
     }
 
-    /// The lane of the code of this serial, if it isn't freed.
+    /// The lane of the code with this serial, if it isn't freed.
     pub(crate) fn lane(&self, serial: u64) -> Option<Lane> {
         let code = self.kept.get(self.find(serial)?)?;
         Some(self.rows.lane(code.row))
@@ -72,7 +72,7 @@ impl Codes {
         self.lane(self.current(method)?)
     }
 
-    /// The method gets this code. The one that was in use for it isn't entrant from then on.
+    /// Installs this code for the method. The code that was in use for it becomes not entrant.
     pub(crate) fn install(
         &mut self,
         painted: &mut Painted,
@@ -96,7 +96,7 @@ impl Codes {
         Ok(self.rows.lane(row))
     }
 
-    // The code is in use no more.
+    // The code is no longer in use.
     fn leave(&mut self, painted: &mut Painted, serial: u64, at: u64) -> Result<(), AllocError> {
         let Some(place) = self.find(serial) else {
             return Ok(());
@@ -109,7 +109,7 @@ impl Codes {
         self.rows.turn(painted, row, Some(Paint::NotEntrant), at)
     }
 
-    // The lane of the code at this place of the list is free again.
+    // Frees the lane of the code at this position of the list.
     fn end(&mut self, painted: &mut Painted, place: usize, at: u64) -> Result<(), AllocError> {
         if place >= self.kept.len() {
             return Ok(());
@@ -129,7 +129,7 @@ impl Codes {
         self.rows.turn(painted, code.row, None, at)
     }
 
-    /// This was done to the code, and answered so.
+    /// Shows what the event did to the code, by its answer.
     pub(crate) fn follow(
         &mut self,
         painted: &mut Painted,
@@ -159,7 +159,7 @@ impl Codes {
         }
     }
 
-    /// The lines end.
+    /// Ends the bars and names after the last line.
     pub(crate) fn finish(&mut self, painted: &mut Painted, at: u64) -> Result<(), AllocError> {
         for _ in 0..self.kept.len() {
             self.end(painted, 0, at)?;

@@ -1,4 +1,4 @@
-// All lanes of a run, line by line, and where the mark of a line stands.
+// All lanes of a run, line by line, and the position of each line's mark.
 ghost use Rattle.std.specs.Prelude.{◌≡◌, ℕ, true, false, None, IfOk};
 ghost use Rattle.system.specs.declared.answers.Answer.TheVariants.{Stop, Told};
 ghost use Rattle.run_lanes.specs.declared.subject.Subject.TheVariants.{Tell};
@@ -25,12 +25,12 @@ pub struct Sizes {
     pub methods: u64,
 }
 
-/// Where a mark is drawn, and to which lane a thin line leads from there.
+/// Where a mark is drawn, and to which lane a thin line leads from it.
 #[derive(Clone, Copy, Drop)]
 pub struct Spot {
     pub lane: Lane,
     pub tie: Option<Lane>,
-    /// How many frames the thread has, where the line changed that.
+    /// The thread's number of frames, if the line changed it.
     pub depth: Option<u32>,
 }
 
@@ -38,14 +38,14 @@ pub struct Spot {
 #[derive(Drop)]
 pub struct Lanes {
     pub painted: Painted,
-    /// None before the first size that is accepted.
+    /// None before the first accepted size.
     pub sizes: Option<Sizes>,
     threads: Threads,
     operations: Operations,
     codes: Codes,
 }
 
-// A mark alone.
+// A mark without a thin line.
 fn on(lane: Lane) -> Spot
     ensures { result ≡ record { lane = lane; tie = None; depth = None } }
 {
@@ -70,7 +70,7 @@ fn or_lines(lane: Option<Lane>) -> Lane {
 }
 
 impl Lanes {
-    /// The lanes before the first line. Lines are painted from this one on.
+    /// The lanes before the first line. Painting starts with the line of number `first`.
     pub fn new(alloc: Global, first: u64) -> Lanes {
         Lanes {
             painted: Painted::new(alloc, first),
@@ -81,14 +81,14 @@ impl Lanes {
         }
     }
 
-    /// The lines that are painted end before this one.
+    /// Ends the painting before this line.
     pub fn finish(&mut self, at: u64) -> Result<(), AllocError> {
         self.threads.finish(&mut self.painted, at)?;
         self.operations.finish(&mut self.painted, at)?;
         self.codes.finish(&mut self.painted, at)
     }
 
-    /// What the line of this number changes in the lanes, and where its mark stands.
+    /// Updates the lanes for the line of this number. Answers where its mark goes.
     pub fn follow(&mut self, subject: Subject, reply: &Reply, at: u64) -> Result<Spot, AllocError>
         ensures untouched { is_accepted reply.now ≡ false → self.new ≡ self.old }
         ensures untied { is_accepted reply.now ≡ false
@@ -101,7 +101,7 @@ impl Lanes {
         }
     }
 
-    // The lane of what a line is about, if it has one yet.
+    // The lane of the line's subject, if it has one yet.
     fn lane_of(&self, subject: &Subject) -> Lane {
         or_lines(match subject {
             Subject::Place(place, _) => self.threads.lane(*place),
@@ -114,7 +114,7 @@ impl Lanes {
         })
     }
 
-    // The lane of the oldest open operation that lists a thread, or else of the thread.
+    // The lane of the oldest open operation that lists a thread, or else the lane of the thread.
     fn lane_of_target(&self, name: u64) -> Option<Lane> {
         match self.operations.listing(name) {
             Some(lane) => Some(lane),
@@ -253,7 +253,7 @@ impl Lanes {
         }
     }
 
-    // The thread of this name is told an operation, whose lane this is.
+    // A Tell arms the poll of the thread with this name. Answers the lane of the operation.
     fn tell(&mut self, name: u64) -> Option<Lane>
         ensures { self.new.threads ≡ self.old.threads }
     {
@@ -261,7 +261,7 @@ impl Lanes {
         self.operations.tell(place, name)
     }
 
-    // A thread is told, or nothing changes.
+    // The spot of a Tell, which arms a thread's poll or changes nothing, or of a line that changes no lane.
     fn told(&mut self, subject: &Subject, answer: &Answer) -> Result<Spot, AllocError>
         ensures told { (name : ℕ) → subject.now ≡ Tell name → answer.now ≡ Told
             → IfOk result (λ spot. spot.tie ≡ lane_in self.old.threads.threads name) }

@@ -1,5 +1,5 @@
 //! What the lanes of a run show: the states of threads, the operations and the codes, line by line.
-//! `run_picture` draws what it shows.
+//! `run_picture` draws these lanes.
 //! Read `src/lanes.rt` first, then `specs/Lanes.antt`.
 #![tactic(auto)]
 

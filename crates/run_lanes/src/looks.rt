@@ -1,4 +1,4 @@
-// Lanes, and the colours of what they show.
+// Lanes, and the colours of the spans on them.
 ghost use Rattle.std.specs.Prelude.{◌≡◌};
 ghost use Rattle.run_lanes.specs.Looks.{paint_of};
 
@@ -7,10 +7,10 @@ use thread_state::State;
 /// A group of lanes.
 #[derive(Clone, Copy, PartialEq, Eq, Drop)]
 pub enum Group {
-    /// The one lane of lines that are about no thread, operation or code.
+    /// The single lane for lines that are about no thread, operation or code.
     Lines,
     Operations,
-    /// A lane a place.
+    /// One lane for each place.
     Places,
     Codes,
 }
@@ -22,13 +22,13 @@ pub struct Lane {
     pub row: usize,
 }
 
-/// The lane of lines that are about nothing else.
+/// The lane for lines that are about no thread, operation or code.
 pub const LINES: Lane = Lane {
     group: Group::Lines,
     row: 0,
 };
 
-/// What a span shows.
+/// The meaning of a span, which decides its colour.
 #[derive(Clone, Copy, PartialEq, Eq, Drop)]
 pub enum Paint {
     New,
@@ -50,7 +50,7 @@ pub enum Paint {
 }
 
 impl Paint {
-    /// The colour of a thread's state; none for a vacant place.
+    /// The colour of a thread's state, or None for a vacant place.
     pub fn of_state(state: State) -> Option<Paint>
         ensures { result ≡ paint_of state }
     {
@@ -69,7 +69,7 @@ impl Paint {
         }
     }
 
-    /// Its class in the style sheet.
+    /// The class of this colour in the style sheet.
     pub fn class(self) -> &'static str {
         match self {
             Paint::New => "new",

@@ -1,4 +1,4 @@
-// What was painted of the lines that are drawn: spans of colours, and what lived on a lane.
+// The painted parts of the drawn lines: coloured spans, and the lives of threads, operations and codes on lanes.
 ghost use Rattle.std.specs.Prelude.{◌≡◌, ◌++◌, [], OnOk};
 ghost use Rattle.run_lanes.specs.Painted.{drawn_span, drawn_life};
 
@@ -15,7 +15,7 @@ pub struct Span {
     pub to: u64,
 }
 
-/// What a lane shows for a while.
+/// The thread, operation or code that a lane shows for a while.
 #[derive(Drop)]
 pub enum Name {
     Thread(u64),
@@ -23,7 +23,7 @@ pub enum Name {
     Code {
         serial: u64,
         method: u64,
-        /// The code that it replaced.
+        /// The serial of the code that it replaced.
         replaced: Option<u64>,
     },
 }
@@ -37,7 +37,7 @@ pub struct Life {
     pub to: u64,
 }
 
-/// What was painted so far, from the first line that is drawn on.
+/// The parts painted so far, from the first drawn line on.
 #[derive(Drop)]
 pub struct Painted {
     pub first: u64,
@@ -58,7 +58,7 @@ impl Painted {
         }
     }
 
-    /// A span that is drawn as far as its lines are.
+    /// Adds a span, cut to the drawn lines.
     pub fn add_span(&mut self, span: Span) -> Result<(), AllocError>
         ensures first { self.new.first ≡ self.old.first }
         ensures spans { OnOk result (self.new.spans.items ≡ self.old.spans.items
@@ -73,7 +73,7 @@ impl Painted {
         Ok(())
     }
 
-    /// A life that is named as far as its lines are drawn.
+    /// Adds a life with its name, cut to the drawn lines.
     pub fn add_life(&mut self, lane: Lane, name: Name, from: u64, to: u64) -> Result<(), AllocError>
         ensures first { self.new.first ≡ self.old.first }
         ensures spans { self.new.spans.items ≡ self.old.spans.items }

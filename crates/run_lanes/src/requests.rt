@@ -1,4 +1,4 @@
-// What the lanes of the operations show.
+// The lanes of the operations.
 ghost use Rattle.std.specs.Prelude.{◌≡◌, ◌++◌, ◌∷◌, ℕ, [], OnOk, IfOk, None, Some, option_and_then, slice_get, slice_set};
 ghost use Rattle.run_lanes.specs.declared.served.Served.{Served as ServedOf};
 ghost use Rattle.run_lanes.specs.Rows.{vacant_row};
@@ -13,17 +13,17 @@ use crate::served::{AllServed, Served};
 use operations::{Kind, Request};
 use std::alloc::{AllocError, Global};
 
-/// A request that waits or is open.
+/// A request that is waiting or open.
 #[derive(Drop)]
 struct Asked {
     number: u64,
     request: Request,
-    /// The last name that was given out when it was opened; None while it waits.
+    /// The last name given out before its Open; None while it is waiting.
     newest: Option<u64>,
 }
 
 impl Asked {
-    // Whether it is open, and the thread of this name was live then.
+    // Whether it is open and the thread of this name is a target of it that had started before its Open.
     fn is_of(&self, name: u64) -> bool
         ensures { result ≡ is_for name self.now }
     {
@@ -33,7 +33,7 @@ impl Asked {
         }
     }
 
-    // Whether it is of the name, and its number is above this. (The number tells mostly, so it comes first.)
+    // Whether the thread of this name is a target and the number is above this. (The number mostly decides, so it comes first.)
     fn is_above(&self, above: u64, name: u64) -> bool
         ensures { result ≡ is_above above name self.now }
     {
@@ -47,14 +47,14 @@ impl Asked {
     }
 }
 
-// The number, where it isn't above the last.
+// The number, if it isn't above the last one.
 fn up_to(last: u64, number: u64) -> Option<u64>
     ensures { result ≡ up_to last number }
 {
     if number <= last { Some(number) } else { None }
 }
 
-/// The operations that wait, and those that are open, the oldest first.
+/// The operations that are waiting, and those that are open, the oldest first.
 #[derive(Drop)]
 pub(crate) struct Operations {
     rows: Rows,
@@ -81,7 +81,7 @@ impl Operations {
         Some(self.rows.lane(self.rows.find(number)?))
     }
 
-    /// The lane of the operation of this number, or without one of the oldest that is open.
+    /// The lane of the operation of this number, or without a number that of the oldest open operation.
     pub(crate) fn chosen(&self, number: Option<u64>) -> Option<Lane> {
         match number {
             Some(number) => self.lane_of(number),
@@ -111,7 +111,7 @@ impl Operations {
         Some(found.number)
     }
 
-    /// A request waits.
+    /// Adds a waiting request.
     pub(crate) fn ask(
         &mut self,
         painted: &mut Painted,
@@ -143,7 +143,7 @@ impl Operations {
         self.asked.iter().position(|asked| asked.number == number)
     }
 
-    /// The request of this number is open. Threads up to the newest name are of it.
+    /// The request of this number is opened. Threads up to the newest name are its possible targets.
     pub(crate) fn open(
         &mut self,
         painted: &mut Painted,
@@ -167,14 +167,14 @@ impl Operations {
         self.rows.turn(painted, row, Some(paint), at)
     }
 
-    /// A thread starts at the place.
+    /// A thread starts at the place: its progress is fresh.
     pub(crate) fn start(&mut self, place: usize) -> Result<(), AllocError>
         ensures asked { self.new.asked ≡ self.old.asked }
     {
         self.served.start(place)
     }
 
-    // The oldest operation that is of the thread of a name and above a number.
+    // The oldest operation of the thread of this name with a number above this.
     fn first_above(&self, above: u64, name: u64) -> Option<u64>
         ensures { result ≡ first_above above name self.now.asked.items }
     {
@@ -182,7 +182,7 @@ impl Operations {
         Some(found.number)
     }
 
-    // The number, where it isn't above the last one told.
+    // The number, if a Tell has armed the thread's poll for it: it isn't above the last such number.
     fn undone(&self, served: Served, name: u64) -> Option<u64>
         ensures { result ≡ undone served name self.now.asked.items }
     {
@@ -195,7 +195,8 @@ impl Operations {
         up_to(served.told, self.first_above(served.cleared, name)?)
     }
 
-    /// The thread of this name at this place is told the oldest open operation that is of it and new to it, whose lane this is.
+    /// A Tell arms the poll of the thread with this name at this place for its oldest open operation that isn't told to it yet. Answers
+    /// that operation's lane.
     pub(crate) fn tell(&mut self, place: usize, name: u64) -> Option<Lane>
         ensures lane { result
             ≡ option_and_then (lane_in self.old.rows)
@@ -215,14 +216,14 @@ impl Operations {
         self.lane_of(told)
     }
 
-    /// The lane of the oldest operation that the thread was told, and of which it isn't cleared.
+    /// The lane of the oldest operation that was told to the thread (a Tell armed its poll) and that isn't cleared for it.
     pub(crate) fn next(&self, place: usize, name: u64) -> Option<Lane>
         ensures { result ≡ uncleared_of self.now place name }
     {
         self.lane_of(self.uncleared(self.served.at(place), name)?)
     }
 
-    /// The callback of the thread ran; the lane of which operation.
+    /// The thread's callback ran. Answers the lane of its operation.
     pub(crate) fn finish_of(&mut self, place: usize, name: u64) -> Option<Lane>
         ensures lane { result ≡ undone_of self.old place name }
         ensures done { (number : ℕ) (kept : ServedOf)
@@ -239,7 +240,7 @@ impl Operations {
         self.lane_of(done)
     }
 
-    /// The thread is cleared; the lane of which operation.
+    /// The thread is cleared. Answers the lane of the operation that was cleared.
     pub(crate) fn clear_of(&mut self, place: usize, name: u64) -> Option<Lane>
         ensures lane { result ≡ uncleared_of self.old place name }
         ensures cleared { (number : ℕ) (kept : ServedOf)
@@ -256,7 +257,7 @@ impl Operations {
         self.lane_of(cleared)
     }
 
-    /// The operation of this number is open no more.
+    /// The operation of this number is closed.
     pub(crate) fn close(
         &mut self,
         painted: &mut Painted,
@@ -271,7 +272,7 @@ impl Operations {
         self.end(painted, place, at)
     }
 
-    // The lane of the operation at this place of the list is free again.
+    // Frees the lane of the operation at this position of the list.
     fn end(&mut self, painted: &mut Painted, place: usize, at: u64) -> Result<(), AllocError>
         ensures { self.new.served ≡ self.old.served }
     {
@@ -291,7 +292,7 @@ impl Operations {
         self.rows.turn(painted, row, None, at)
     }
 
-    /// The lines end.
+    /// Ends the bars and names after the last line.
     pub(crate) fn finish(&mut self, painted: &mut Painted, at: u64) -> Result<(), AllocError> {
         for _ in 0..self.asked.len() {
             self.end(painted, 0, at)?;

@@ -1,4 +1,4 @@
-// Rows of one group of lanes.
+// The rows of one group of lanes.
 ghost use Rattle.std.specs.Prelude.{◌≡◌, ◌≢◌, ◌++◌, [], length, OnOk, Some, option_map, option_and_then, unwrap_or, slice_get, slice_set};
 ghost use Rattle.std.specs.List.{flat_map, position};
 ghost use Rattle.run_lanes.specs.declared.rows.Row.{Row as RowOf};
@@ -9,16 +9,16 @@ use crate::looks::{Group, Lane, Paint};
 use crate::painted::{Painted, Span};
 use std::alloc::{AllocError, Global};
 
-/// So many lines lie between the beginnings of two names on one row, so that names have room.
+/// The least distance, in lines, between the beginnings of two names on one row, so that names have room.
 const APART: u64 = 8;
 
-/// What a row shows now: of which thread, operation or code, in which colour, from which line on.
+/// The current content of a row: the number of a thread, operation or code, its colour, and the line at which the colour began.
 #[derive(Clone, Copy, Drop)]
 struct Row {
     number: u64,
     paint: Option<Paint>,
     since: u64,
-    /// The line at which the number came.
+    /// The line at which the row began to show the number.
     begun: u64,
 }
 
@@ -30,7 +30,7 @@ const BLANK: Row = Row {
 };
 
 impl Row {
-    // Whether it shows nothing, and a name that begins at the line has room on it.
+    // Whether the row shows nothing and has room for a name that begins at this line.
     fn is_vacant(&self, at: u64) -> bool
         ensures { result ≡ is_vacant at self.now }
     {
@@ -56,7 +56,7 @@ impl Rows {
         }
     }
 
-    /// How many rows were used.
+    /// The number of rows that were ever used.
     pub(crate) fn len(&self) -> usize
         ensures { result ≡ length self.now.rows.items }
     {
@@ -72,7 +72,7 @@ impl Rows {
         }
     }
 
-    /// The row that shows the thread, the operation or the code of this number.
+    /// The row that shows the thread, operation or code of this number.
     pub(crate) fn find(&self, number: u64) -> Option<usize>
         ensures { result ≡ position (λ row. shows row number) self.now.rows.items }
     {
@@ -87,7 +87,7 @@ impl Rows {
         self.rows.iter().position(|row| row.is_vacant(at))
     }
 
-    /// The least row that shows nothing, and on which a name that begins at the line has room.
+    /// The first row that shows nothing and has room for a name that begins at this line.
     pub(crate) fn vacant(&self, at: u64) -> usize
         ensures { result ≡ vacant_row at self.now.rows.items }
     {
@@ -108,7 +108,7 @@ impl Rows {
         Some(row.number)
     }
 
-    /// The line at which the row began to show what it shows.
+    /// The line at which the row began to show its current number.
     pub(crate) fn begun(&self, row: usize) -> u64
         ensures { result
             ≡ unwrap_or (option_map (λ row. row.begun) (slice_get self.now.rows.items row)) 0 }
@@ -119,7 +119,7 @@ impl Rows {
         }
     }
 
-    /// From this line on the row shows this. What it showed till then is a span.
+    /// From this line on the row shows this. Its bar before the line becomes a span.
     pub(crate) fn begin(
         &mut self,
         painted: &mut Painted,
@@ -155,7 +155,7 @@ impl Rows {
         end_bar(painted, lane, before, at)
     }
 
-    /// From this line on the row is in this colour, or shows nothing. What it showed till then is a span.
+    /// From this line on the row has this colour, or shows nothing. Its bar before the line becomes a span.
     pub(crate) fn turn(
         &mut self,
         painted: &mut Painted,
@@ -196,7 +196,7 @@ impl Rows {
         end_bar(painted, lane, before, at)
     }
 
-    /// The lines end: what the rows show is spans.
+    /// Ends all bars after the last line: they become spans.
     pub(crate) fn finish(&mut self, painted: &mut Painted, at: u64) -> Result<(), AllocError>
         ensures lives { painted.new.lives.items ≡ painted.old.lives.items }
     {
@@ -207,7 +207,7 @@ impl Rows {
     }
 }
 
-// There is this row.
+// Extends the rows so that this row exists.
 fn widen(rows: &mut Vec<Row>, row: usize) -> Result<(), AllocError>
     ensures { OnOk result (rows.new.items ≡ wide row rows.old.items) }
 {
@@ -220,7 +220,7 @@ fn widen(rows: &mut Vec<Row>, row: usize) -> Result<(), AllocError>
     }
 }
 
-// What the row showed ends before this line.
+// Ends the bar of the row before this line.
 fn end_bar(painted: &mut Painted, lane: Lane, row: Row, at: u64) -> Result<(), AllocError>
     ensures first { painted.new.first ≡ painted.old.first }
     ensures lives { painted.new.lives.items ≡ painted.old.lives.items }

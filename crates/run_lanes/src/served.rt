@@ -1,11 +1,13 @@
-// How far each thread is with the operations that are open. They are told, done and cleared in the order of their numbers.
+// The progress of each thread with the open operations. For each thread, Tells, Finishes and Clears come in the order of the operations'
+// numbers.
 ghost use Rattle.std.specs.Prelude.{◌≡◌, ℕ, [], Some, OnOk, slice_get, slice_set};
 ghost use Rattle.run_lanes.specs.declared.served.Served.{Served as ServedOf};
 ghost use Rattle.run_lanes.specs.Served.{fresh, served_at, wide};
 
 use std::alloc::{AllocError, Global};
 
-/// The greatest numbers of operations that a thread was told, whose callback it ran, and of which it is cleared; 0 before the first.
+/// For one thread the greatest numbers of the operations that were told to it (a Tell armed its poll), whose callback ran, and that were
+/// cleared for it; 0 before the first.
 #[derive(Clone, Copy, Drop)]
 pub(crate) struct Served {
     pub(crate) told: u64,
@@ -19,7 +21,7 @@ const FRESH: Served = Served {
     cleared: 0,
 };
 
-/// What the threads at all places were told and did.
+/// The progress of the threads at all places.
 #[derive(Drop)]
 pub(crate) struct AllServed {
     places: Vec<Served>,
@@ -34,7 +36,7 @@ impl AllServed {
         }
     }
 
-    /// How far the thread at a place is.
+    /// The progress of the thread at a place.
     pub(crate) fn at(&self, place: usize) -> Served
         ensures { result ≡ served_at self.now.places.items place }
     {
@@ -44,7 +46,7 @@ impl AllServed {
         }
     }
 
-    /// A thread starts at the place.
+    /// A thread starts at the place: its progress is fresh.
     pub(crate) fn start(&mut self, place: usize) -> Result<(), AllocError>
         ensures { OnOk result ((kept : ServedOf)
             → slice_get (wide place self.old.places.items) place ≡ Some kept
@@ -55,7 +57,7 @@ impl AllServed {
         Ok(())
     }
 
-    /// The thread at the place is so far.
+    /// Sets the progress of the thread at the place.
     pub(crate) fn set(&mut self, place: usize, served: Served)
         ensures { (kept : ServedOf) → slice_get self.old.places.items place ≡ Some kept
             → self.new.places.items ≡ slice_set self.old.places.items place served }
@@ -66,7 +68,7 @@ impl AllServed {
     }
 }
 
-// There is this place.
+// Extends the places so that this place exists.
 fn widen(places: &mut Vec<Served>, place: usize) -> Result<(), AllocError>
     ensures { OnOk result (places.new.items ≡ wide place places.old.items) }
 {

@@ -1,27 +1,27 @@
-// What a line is about.
+// The subject of a line.
 use operations::Request;
 use replay::grammar::Command;
 use std::alloc::{AllocError, Global};
 use system::events::{Act, Event};
 
-/// What is done to a code.
+/// What a line does to a code.
 #[derive(Clone, Copy, Drop)]
 pub enum Touch {
     Invalidate,
-    /// By place.
+    /// A Look at this place.
     Look(usize),
     Weigh,
     Free,
-    /// It is only asked for.
+    /// The line only reads the code's state or count.
     Read,
 }
 
-/// What a line is about.
+/// The subject of a line.
 #[derive(Drop)]
 pub enum Subject {
     /// No thread, operation or code.
     Whole,
-    /// Places, slots and methods.
+    /// The numbers of places, slots and methods.
     Size(u64, u64, u64),
     Place(usize, Act),
     Start,
@@ -36,12 +36,12 @@ pub enum Subject {
     /// By the thread's name.
     Tell(u64),
     Operate,
-    /// By number, or the oldest.
+    /// By number, or None for the oldest.
     Close(Option<u64>),
 }
 
 impl Subject {
-    /// What a command is about. The names of a request take memory.
+    /// The subject of a command. The names of a request take memory.
     pub fn of(alloc: Global, command: &Option<Command>) -> Result<Subject, AllocError> {
         match command {
             None => Ok(Subject::Whole),

@@ -1,4 +1,4 @@
-// What the lanes of the places show.
+// The lanes of the places.
 ghost use Rattle.std.specs.Prelude.{◌≡◌, ◌<◌, ◌^◌, ◌-◌, [], OnOk, IfOk, IfSome, Some, None, option_map, option_and_then, unwrap_or, slice_get};
 ghost use Rattle.std.specs.List.{position};
 ghost use Rattle.run_lanes.specs.Rows.{shows};
@@ -18,7 +18,7 @@ use thread_state::{Move, State, cross, step};
 #[derive(Clone, Copy, Drop)]
 struct Thread {
     state: State,
-    /// The frames on its stack.
+    /// The number of frames on its stack.
     depth: u32,
 }
 
@@ -51,7 +51,7 @@ impl Threads {
         }
     }
 
-    /// The lane of a place, if it ever had a thread.
+    /// The lane of a place, if the place ever had a thread.
     pub(crate) fn lane(&self, place: usize) -> Option<Lane>
         ensures { IfSome result
             (λ lane. lane ≡ record { group = self.now.threads.group; row = place }) }
@@ -84,7 +84,7 @@ impl Threads {
         self.threads.number(place)
     }
 
-    /// How many frames the thread at a place has.
+    /// The number of frames of the thread at a place.
     pub(crate) fn depth(&self, place: usize) -> u32
         ensures { result
             ≡ unwrap_or (option_map
@@ -103,7 +103,7 @@ impl Threads {
         self.newest
     }
 
-    /// A thread starts.
+    /// A thread starts at the place.
     pub(crate) fn start(
         &mut self,
         painted: &mut Painted,
@@ -126,7 +126,7 @@ impl Threads {
         Ok(self.threads.lane(place))
     }
 
-    /// The thread at the place did this, and it was answered so.
+    /// Shows an act of the thread at the place, by its answer.
     pub(crate) fn follow(
         &mut self,
         painted: &mut Painted,
@@ -148,7 +148,7 @@ impl Threads {
         }
     }
 
-    // The thread at the place did this, and is in another state, or has another stack.
+    // Updates the state and the number of frames of the thread at the place after this act.
     fn go(
         &mut self,
         painted: &mut Painted,
@@ -173,7 +173,7 @@ impl Threads {
         self.threads.turn(painted, place, paint, at)
     }
 
-    // The thread at the place ends.
+    // The thread at the place exits.
     fn exit(&mut self, painted: &mut Painted, place: usize, at: u64) -> Result<(), AllocError> {
         let Some(name) = self.threads.number(place) else {
             return Ok(());
@@ -186,7 +186,7 @@ impl Threads {
         self.threads.turn(painted, place, None, at)
     }
 
-    /// The lines end.
+    /// Ends the bars and names after the last line.
     pub(crate) fn finish(&mut self, painted: &mut Painted, at: u64) -> Result<(), AllocError> {
         for place in 0..self.threads.len() {
             self.exit(painted, place, at)?;
@@ -216,7 +216,7 @@ fn state_after(state: State, act: Act, answer: &Answer) -> State
     }
 }
 
-// The frames after an act with its answer.
+// The number of frames after an act with its answer.
 fn depth_after(depth: u32, act: Act, answer: &Answer) -> u32
     ensures { depth < 2 ^ 32 - 1 → result ≡ depth_after depth act answer.now }
 {

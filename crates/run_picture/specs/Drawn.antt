@@ -1,4 +1,4 @@
--- The text of a picture, as far as marks go.
+-- The text of a picture, as far as its marks are concerned.
 use Rattle.std.specs.Prelude.{◌≡◌, ℕ, List, [], ◌∷◌, ◌++◌, codes, decimal}
 use Rattle.run_picture.specs.declared.shapes.Outcome.{Outcome}
 use Rattle.run_picture.specs.declared.shapes.Outcome.TheVariants as outcome
@@ -43,7 +43,7 @@ shape_text shape.Counted = codes "counted"
 shape_text shape.Count = codes "count"
 shape_text shape.State = codes "state"
 
--- What stands before and behind the title of the mark of a line: its classes say what came of the line, and the kind of the answer.
+-- The text before and after the title of a line's mark. Its classes name the outcome of the line and the kind of the answer.
 abbrev pub mark_head : ℕ → Outcome → Shape → List ℕ
 mark_head line outcome shape =
     codes "<g id='line" ++ (decimal line ++ (codes "' class='" ++ (outcome_text outcome ++ (codes " " ++ (shape_text shape ++ codes "'><title>")))))
@@ -51,13 +51,13 @@ mark_head line outcome shape =
 abbrev pub mark_tail : Shape → ℕ → ℕ → List ℕ
 mark_tail shape x y = codes "</title><use href='#" ++ (shape_text shape ++ (codes "' x='" ++ (decimal x ++ (codes "' y='" ++ (decimal y ++ codes "'/></g>\n")))))
 
--- The mark of a line, at some place.
+-- The mark of a line, at any position.
 pub record IsMark (shown : Shown) (text : List ℕ) : Type 0 where
   pub x : ℕ
   pub y : ℕ
   pub spelled : text ≡ mark_head shown.line shown.told.outcome shown.told.shape ++ shown.told.title ++ mark_tail shown.told.shape x y
 
--- The mark of a line, and what follows it.
+-- The mark of a line, followed by the rest.
 pub record MarkThen (shown : Shown) (Rest : List ℕ → Type 0) (text : List ℕ) : Type 0 where
   pub mark : List ℕ
   pub more : List ℕ
@@ -70,19 +70,19 @@ abbrev pub AreMarks : List Shown → List ℕ → Type 0
 AreMarks [] text = text ≡ []
 AreMarks (shown ∷ all) text = MarkThen shown (λ more. AreMarks all more) text
 
--- The text grows by the mark.
+-- The mark is appended to the text.
 pub record AddsMark (shown : Shown) (old new : List ℕ) : Type 0 where
   pub mark : List ℕ
   pub is : IsMark shown mark
   pub whole : new ≡ old ++ mark
 
--- The text grows by these marks.
+-- These marks are appended to the text.
 pub record AddsMarks (all : List Shown) (old new : List ℕ) : Type 0 where
   pub marks : List ℕ
   pub are : AreMarks all marks
   pub whole : new ≡ old ++ marks
 
--- A picture: what stands behind the marks, the marks, and the end.
+-- A picture: the background text, the marks, and the end.
 pub record IsPicture (all : List Shown) (text : List ℕ) : Type 0 where
   pub behind : List ℕ
   pub marks : List ℕ

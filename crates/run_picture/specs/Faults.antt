@@ -1,4 +1,4 @@
--- How faults are told.
+-- The texts of faults.
 use Rattle.std.specs.Prelude.{ℕ, codes, List}
 use Rattle.replay.specs.declared.stream.ReplayFault.{ReplayFault}
 use Rattle.replay.specs.declared.stream.ReplayFault.TheVariants as replay_fault

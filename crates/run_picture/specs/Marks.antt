@@ -1,4 +1,4 @@
--- What the mark of a line tells.
+-- The content of a line's mark.
 use Rattle.std.specs.Prelude.{ℕ, List, [], ◌∷◌, ◌++◌, map, Option, None, Some, ◌&&◌, nat_le, ◌==◌, if◌then◌else◌, take, codes}
 use Rattle.std.specs.List.{flat_map}
 use Rattle.system.specs.declared.answers.Answer.{Answer}
@@ -23,14 +23,14 @@ use Rattle.run_picture.specs.declared.shapes.Deed.{Deed}
 use Rattle.run_picture.specs.declared.shapes.Deed.TheVariants as deed
 use Rattle.run_picture.specs.Told.{Told}
 
--- What came of a line with this reply.
+-- The outcome of a line with this reply.
 abbrev pub outcome_of : Reply → Outcome
 outcome_of BadLine = outcome.Bad
 outcome_of BadSize = outcome.Refused
 outcome_of (Answered (answer.Refused why)) = outcome.Refused
 outcome_of (Answered other) = outcome.Accepted
 
--- What a line asks for, where the kind of its answer isn't in the answer alone.
+-- What the act of a line asks for, where the answer alone doesn't determine its kind.
 abbrev pub deed_of_act : Act → Deed
 deed_of_act act.Clear = deed.Clear
 deed_of_act act.Leave = deed.Leave
@@ -45,13 +45,13 @@ deed_of None = deed.Other
 deed_of (Some (Size x y z)) = deed.Other
 deed_of (Some (Do event)) = deed_of_event event
 
--- A Clear is a kind of its own among what is done.
+-- Among the answers that something is done, Clear has a kind of its own.
 abbrev pub done_shape : Deed → Shape
 done_shape deed.Clear = shape.Cleared
 done_shape deed.Leave = shape.Step
 done_shape deed.Other = shape.Step
 
--- A Leave that goes on is one among what goes on.
+-- Among the answers to go on, Leave has a kind of its own.
 abbrev pub go_shape : Deed → Shape
 go_shape deed.Clear = shape.Go
 go_shape deed.Leave = shape.Left
@@ -100,22 +100,22 @@ escaped_byte b =
     if b == 62 then codes "&gt;" else
     if nat_le 32 b && nat_le b 126 then b ∷ [] else 63 ∷ []
 
--- A line, and the line that answers it.
+-- The line, and the line of its answer.
 abbrev pub title_of : List ℕ → Reply → List ℕ
 title_of line reply = flat_map escaped_byte line ++ 10 ∷ (reply_text reply ++ 10 ∷ [])
 
 abbrev pub told_by : List ℕ → Deed → Reply → Told
 told_by line deed reply = record { outcome = outcome_of reply; shape = shape_of deed reply; title = title_of line reply }
 
--- What the mark of a line tells, in the world of the lines before.
+-- The content of a line's mark, in the world after the lines before.
 abbrev pub told_line : Option World → List ℕ → Told
 told_line world line = told_by line (deed_of (command_of line)) (reply_to world (command_of line))
 
--- A line as far as it matters: one of more than 1024 bytes is bad.
+-- The part of a line that matters: 1025 bytes are enough to see that it is too long, which makes it bad.
 abbrev pub enough : List ℕ → List ℕ
 enough line = take 1025 line
 
--- What each line tells, in their order.
+-- The content of each line's mark, in order.
 abbrev pub told_lines : Option World → List (List ℕ) → List Told
 told_lines world [] = []
 told_lines world (line ∷ lines) = told_line world (enough line) ∷ told_lines (after_line world (enough line)) lines

@@ -1,4 +1,4 @@
--- What a whole call read and wrote.
+-- What a whole call has read and written.
 use Rattle.std.specs.Prelude.{◌≡◌, ◌++◌, ℕ, List, Option, Result, Ok, Err, string_bytes}
 use Rattle.std.specs.Io.KnownBytes.{Appends}
 use Rattle.replay.specs.declared.stream.ReplayFault.{ReplayFault}
@@ -11,7 +11,7 @@ use Rattle.run_picture.specs.Told.{Shown}
 use Rattle.run_picture.specs.Reading.{Marked}
 use Rattle.run_picture.specs.Drawn.{IsPicture}
 
--- A page holds a picture: something stands before it, and something behind it.
+-- The page contains the picture, with some text before and after it.
 pub record HoldsPicture (picture page : List ℕ) : Type 0 where
   pub head : List ℕ
   pub tail : List ℕ
@@ -27,7 +27,7 @@ abbrev pub IsForm : Form → List Shown → List ℕ → Type 0
 IsForm Picture shown text = IsPicture shown text
 IsForm Page shown text = IsPage shown text
 
--- All was read, and the part that was asked for, which has a mark for each line of it, was written as it was asked for.
+-- The input was read to its end, and the requested part was written in the requested form, with a mark for each line of the part.
 pub record DrewAll (asked : Asked) (left left' got got' : Option (List ℕ)) : Type 0 where
   pub shown : List Shown
   pub text : List ℕ
@@ -35,7 +35,7 @@ pub record DrewAll (asked : Asked) (left left' got got' : Option (List ℕ)) : T
   pub picture : IsForm asked.form shown text
   pub written : Appends got got' text
 
--- All was read, and a beginning of that was written.
+-- The input was read to its end, and a prefix of that text was written.
 pub record DrewSome (asked : Asked) (left left' got got' : Option (List ℕ)) : Type 0 where
   pub shown : List Shown
   pub text : List ℕ
@@ -43,7 +43,7 @@ pub record DrewSome (asked : Asked) (left left' got got' : Option (List ℕ)) : 
   pub picture : IsForm asked.form shown text
   pub written : AppendsPart got got' text
 
--- What was written, by what is answered: all, a beginning, or nothing.
+-- What was written, by the call's result: all of the text, a prefix, or nothing.
 abbrev pub Drew : {A : Type 0} → Asked → Result A ReplayFault → Option (List ℕ) → Option (List ℕ) → Option (List ℕ) → Option (List ℕ) → Type 0
 Drew asked (Ok x) left left' got got' = DrewAll asked left left' got got'
 Drew asked (Err WriteFailed) left left' got got' = DrewSome asked left left' got got'

@@ -1,4 +1,4 @@
--- What contracts see of a run.
+-- The view of a run in contracts.
 use Rattle.std.specs.Prelude.{List, map}
 use Rattle.run_picture.specs.declared.marks.Mark.{Mark}
 use Rattle.run_picture.specs.declared.run.Run.{Run}

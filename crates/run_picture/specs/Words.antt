@@ -6,7 +6,7 @@ use Rattle.run_picture.specs.declared.picture.Asked.{Asked}
 use Rattle.run_picture.specs.declared.picture.Form.{Form}
 use Rattle.run_picture.specs.declared.picture.Form.TheVariants.{Picture, Page}
 
--- The number of a line that a word spells, as lines spell numbers, from 1 on.
+-- The number of a line that a word spells, from 1 on, spelled as numbers in lines.
 abbrev pub line_of : List ℕ → Option ℕ
 line_of word = option_and_then (λ n. if nat_le 1 n then Some n else None) (number word)
 
@@ -14,11 +14,11 @@ line_of word = option_and_then (λ n. if nat_le 1 n then Some n else None) (numb
 abbrev pub since : ℕ → Part
 since first = record { from = first; end = None }
 
--- From one line to another, which isn't before it.
+-- From one line to another, which must not be before it.
 abbrev pub between : ℕ → ℕ → Option Part
 between first last = if nat_le first last then Some (record { from = first; end = Some (last + 1) }) else None
 
--- The part that the words behind the form ask for; None where they are bad.
+-- The part that the words after the form ask for; None if they are bad.
 abbrev pub part_of : List (List ℕ) → Option Part
 part_of [] = Some (since 1)
 part_of (flag ∷ []) = None
@@ -35,7 +35,7 @@ part_of (flag ∷ line ∷ second ∷ last ∷ more ∷ words) = None
 abbrev pub asked_as : Form → Option Part → Option Asked
 asked_as form part = option_map (λ (lines : Part). record { form = form; part = lines }) part
 
--- The words behind the program's name; None where they are bad.
+-- The request of the words after the program's name; None if they are bad.
 abbrev pub asked_of : List (List ℕ) → Option Asked
 asked_of [] = asked_as Picture (part_of [])
 asked_of (word ∷ words) =

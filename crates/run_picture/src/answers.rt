@@ -1,17 +1,17 @@
-// The texts of lines with their answers, under the lanes, and the depths of stacks under the bars of threads.
+// The text of each line with its answer, below the lanes; and the stack depths below the bars of threads.
 use crate::layout::Layout;
 use crate::marks::Mark;
 use crate::painting::put;
 use run_lanes::looks::Group;
 use std::alloc::{AllocError, Global};
 
-/// So many letters of a line are written, and of an answer.
+/// The greatest number of letters that is written of a line, and likewise of an answer.
 const LETTERS: u64 = 26;
 
-/// So far apart are the beginnings of two texts.
+/// The distance between the beginnings of two texts.
 const APART: u64 = 10;
 
-// The line and its answer, of the title of a mark: what stands before its first newline, and between that and the second.
+// The line and its answer in the title of a mark: the text before the first newline, and the text between that and the second.
 fn parts_of(title: &[u8]) -> (&[u8], &[u8]) {
     let Some(end) = title.iter().position(|byte| *byte == b'\n') else {
         return (title, b"");
@@ -29,7 +29,7 @@ fn before_newline(text: &[u8]) -> &[u8] {
     }
 }
 
-// How many letters the text of XML has, where it isn't longer than what is written of it, and where that ends.
+// The number of letters of an XML text, at most as many as are written, and the position after the last of them.
 fn measured(text: &[u8]) -> (u64, usize) {
     let mut letters = 0u64;
     let mut is_named = false;
@@ -58,7 +58,7 @@ fn put_cut(text: &mut Vec<u8>, piece: &[u8]) -> Result<(), AllocError> {
     Ok(())
 }
 
-/// How many letters the longest text of a line has.
+/// The number of letters of the longest text of a line.
 pub fn longest(marks: &[Mark]) -> u64 {
     let mut most = 0u64;
     for mark in marks {
@@ -89,7 +89,7 @@ fn put_text(
     put(text, "</tspan></text>\n")
 }
 
-/// The lines with their answers, under their marks, where there is room behind the one before.
+/// Writes the lines with their answers below their marks, where the text before leaves room.
 pub fn put_texts(
     alloc: Global,
     text: &mut Vec<u8>,
@@ -108,7 +108,7 @@ pub fn put_texts(
     Ok(())
 }
 
-// How wide a number is.
+// The width of a number.
 fn width(number: u32) -> u64 {
     if number < 10 {
         7
@@ -119,7 +119,7 @@ fn width(number: u32) -> u64 {
     }
 }
 
-/// Where the next depth has room, by place.
+/// For each place the position from which the next depth has room.
 #[derive(Drop)]
 struct Free {
     places: Vec<u64>,
@@ -134,7 +134,7 @@ impl Free {
         Ok(Free { places: all })
     }
 
-    // Whether there is room from here on for so much. Then it is taken.
+    // Whether there is room for this width from this position on. If so, takes it.
     fn take(&mut self, place: usize, x: u64, width: u64) -> bool {
         match self.places.get_mut(place) {
             Some(free) if *free <= x => {
@@ -159,7 +159,7 @@ fn put_depth(
     put(text, piece.as_str())
 }
 
-/// How many frames a thread has, under its bar, where a line changes that and there is room.
+/// Writes the number of frames below the bar of a thread, where a line changes it and there is room.
 pub fn put_depths(
     alloc: Global,
     text: &mut Vec<u8>,

@@ -13,21 +13,21 @@ use crate::run::Run;
 use crate::shapes::{Outcome, Shape};
 use std::alloc::{AllocError, Global};
 
-// What stands before the title of a line's mark.
+// The text before the title of a line's mark.
 fn head_of(alloc: Global, line: u64, outcome: Outcome, shape: Shape) -> Result<String, AllocError>
     ensures { IfOk result (λ head. string_bytes head ≡ mark_head line outcome shape) }
 {
     format!(in alloc; "<g id='line{line}' class='{outcome} {shape}'><title>")
 }
 
-// What stands behind it.
+// The text after it.
 fn tail_of(alloc: Global, shape: Shape, x: u64, y: u64) -> Result<String, AllocError>
     ensures { IfOk result (λ tail. string_bytes tail ≡ mark_tail shape x y) }
 {
     format!(in alloc; "</title><use href='#{shape}' x='{x}' y='{y}'/></g>\n")
 }
 
-// Changes are drawn on the bar of the publication.
+// The vertical position of a mark. The mark of a Change is on the bar of the publication.
 fn height_of(layout: &Layout, mark: &Mark) -> u64 {
     let middle = layout.mark(mark.spot.lane);
     match mark.shape {
@@ -70,7 +70,7 @@ fn put_marks(
     Ok(())
 }
 
-// All that is drawn behind the marks.
+// Everything that is drawn before the marks and lies behind them.
 fn put_behind(
     alloc: Global,
     text: &mut Vec<u8>,

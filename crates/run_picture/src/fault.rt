@@ -1,11 +1,11 @@
-// Why the program ends with another status than 0.
+// Why the program ends with a status other than 0.
 ghost use Rattle.std.specs.Prelude.{◌≡◌, Some};
 ghost use Rattle.run_picture.specs.Faults.{fault_text, status_of, of_replay};
 
 use replay::stream::ReplayFault;
 use std::fmt;
 
-/// A fault. `{}` is what is told on standard error, behind the program's name; the texts and the status are those of `monitor`.
+/// A fault. `{}` is the text on standard error after the program's name. The texts and the status are those of `monitor`.
 #[derive(Clone, Copy, Drop)]
 pub enum Fault {
     BadWords,

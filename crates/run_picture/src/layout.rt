@@ -1,4 +1,4 @@
-// Where things stand in a picture, in pixels. It is made of panels side by side, each with the names of lanes at its left.
+// The positions of all parts of a picture, in pixels. It has panels side by side, each with the names of lanes at its left.
 ghost use Rattle.std.specs.Prelude.{◌<◌};
 
 use crate::run::Run;
@@ -8,7 +8,7 @@ use run_lanes::painted::Painted;
 /// The width of a panel.
 pub const PANEL: u64 = 1200;
 
-/// Where the first lane begins, under the title, the legend and the numbers of the lines.
+/// The top of the first lane, below the title, the legend and the numbers of the lines.
 pub const TOP: u64 = 156;
 
 /// The room for the names of lanes.
@@ -17,15 +17,15 @@ pub const LEFT: u64 = 104;
 /// The room right of the last line of a panel.
 const RIGHT: u64 = 8;
 
-/// Up to so many lines the marks stand apart enough for all texts.
+/// Up to this many lines, the marks are far enough apart for all texts.
 const FEW: u64 = 200;
 
-/// Up to so many lines the marks stand apart enough to be told by their shapes without a magnifier.
+/// Up to this many lines, the marks are far enough apart to see their shapes without zooming in.
 const SOME: u64 = 600;
 
 const GAP: u64 = 10;
 
-/// How much the lanes of a group take each.
+/// The height of one lane of a group.
 pub fn pitch(group: Group) -> u64 {
     match group {
         Group::Lines => 26,
@@ -34,7 +34,7 @@ pub fn pitch(group: Group) -> u64 {
     }
 }
 
-/// How many lanes the groups have.
+/// The number of lanes in each group.
 #[derive(Clone, Copy, Drop)]
 pub struct Extent {
     pub operations: u64,
@@ -43,7 +43,7 @@ pub struct Extent {
 }
 
 impl Extent {
-    // There is this lane.
+    // Extends the group so that this lane exists.
     fn cover(&mut self, lane: Lane) {
         let lanes = (lane.row as u64).saturating_add(1);
         match lane.group {
@@ -79,7 +79,7 @@ impl Extent {
         }
     }
 
-    /// How many lanes a group has.
+    /// The number of lanes in a group.
     pub fn lanes(&self, group: Group) -> u64 {
         match group {
             Group::Lines => 1,
@@ -90,20 +90,20 @@ impl Extent {
     }
 }
 
-/// The sizes that say where all else stands.
+/// The sizes that determine all positions.
 #[derive(Clone, Copy, Drop)]
 pub struct Layout {
     /// The number of the first line that is drawn.
     pub first: u64,
-    /// How many lines are drawn.
+    /// The number of drawn lines.
     pub lines: u64,
     pub extent: Extent,
-    /// The room for the texts of lines.
+    /// The room for the texts of the lines.
     texts: u64,
 }
 
 impl Layout {
-    /// The layout of a run, whose longest text of a line has so many letters.
+    /// The layout of a run whose longest text of a line has this many letters.
     pub fn of(run: &Run, letters: u64) -> Layout {
         let first = match run.marks.first() {
             Some(mark) => mark.line,
@@ -117,7 +117,7 @@ impl Layout {
         }
     }
 
-    /// How far the marks of two lines stand apart.
+    /// The distance between the marks of two successive lines.
     pub fn step(&self) -> u64
         ensures { 0 < result }
     {
@@ -130,14 +130,14 @@ impl Layout {
         }
     }
 
-    /// How many lines one number of a line stands for.
+    /// The distance, in lines, between two numbers of lines.
     pub fn numbered(&self) -> u64
         ensures { 0 < result }
     {
         if self.lines <= SOME { 10 } else { 20 }
     }
 
-    /// How many lines a panel has.
+    /// The number of lines in a panel.
     pub fn columns(&self) -> u64
         ensures { 0 < result }
     {
@@ -150,7 +150,7 @@ impl Layout {
         }
     }
 
-    // How many lines stand before this one.
+    // The number of drawn lines before this one.
     fn before(&self, line: u64) -> u64 {
         line.saturating_sub(self.first)
     }
@@ -160,7 +160,7 @@ impl Layout {
         self.before(line) / self.columns()
     }
 
-    /// How many panels there are.
+    /// The number of panels.
     pub fn panels(&self) -> u64 {
         let last = self.lines.saturating_sub(1);
         (last / self.columns()).saturating_add(1)
@@ -173,7 +173,7 @@ impl Layout {
             .saturating_add(self.first)
     }
 
-    /// Where a line's mark stands.
+    /// The horizontal position of a line's mark.
     pub fn x(&self, line: u64) -> u64 {
         let column = self.before(line) % self.columns();
         let left = self.panel(line).saturating_mul(PANEL);
@@ -183,12 +183,12 @@ impl Layout {
             .saturating_add(LEFT)
     }
 
-    /// Where what ends at a line ends: one step behind the line before it.
+    /// The right end of a bar that ends at this line: one step after the mark of the line before.
     pub fn end(&self, line: u64) -> u64 {
         self.x(line.saturating_sub(1)).saturating_add(self.step())
     }
 
-    /// Where the lines of a panel end.
+    /// The right end of the lines of a panel.
     pub fn right(&self, panel: u64) -> u64 {
         panel
             .saturating_add(1)
@@ -196,14 +196,14 @@ impl Layout {
             .saturating_sub(RIGHT)
     }
 
-    /// Where a lane begins.
+    /// The top of a lane.
     pub fn y(&self, lane: Lane) -> u64 {
         let row = lane.row as u64;
         self.top(lane.group)
             .saturating_add(row.saturating_mul(pitch(lane.group)))
     }
 
-    /// The height of a mark on a lane.
+    /// The vertical position of a mark on a lane.
     pub fn mark(&self, lane: Lane) -> u64 {
         let down = match lane.group {
             Group::Lines => 12,
@@ -213,7 +213,7 @@ impl Layout {
         self.y(lane).saturating_add(down)
     }
 
-    // Where a group begins: below the groups before it.
+    // The top of a group: below the groups before it.
     fn top(&self, group: Group) -> u64 {
         let operations = below(TOP, 1, Group::Lines);
         let places = below(operations, self.extent.operations, Group::Operations);
@@ -225,7 +225,7 @@ impl Layout {
         }
     }
 
-    /// Where the last lane ends.
+    /// The bottom of the last lane.
     pub fn bottom(&self) -> u64 {
         below(self.top(Group::Codes), self.extent.codes, Group::Codes)
     }
@@ -239,7 +239,7 @@ impl Layout {
     }
 }
 
-/// The lane of this number of a group.
+/// The lane with this number in a group.
 pub fn lane(group: Group, row: u64) -> Lane {
     match usize::try_from(row) {
         Ok(row) => Lane { group, row },
@@ -247,7 +247,7 @@ pub fn lane(group: Group, row: u64) -> Lane {
     }
 }
 
-// Where the next group begins after a group of so many lanes.
+// The top of the next group, below a group with this many lanes.
 fn below(top: u64, lanes: u64, group: Group) -> u64 {
     if lanes == 0 {
         return top;

@@ -1,4 +1,4 @@
-// The head of a picture: its style, its title, what colours and shapes mean, and the numbers of the lines.
+// The head of a picture: its style, its title, the legend of colours and shapes, and the numbers of the lines.
 use crate::layout::{Layout, PANEL, TOP};
 use crate::marks::Mark;
 use crate::painting::put;
@@ -7,7 +7,7 @@ use crate::shapes::Outcome;
 use run_lanes::lanes::Sizes;
 use std::alloc::{AllocError, Global};
 
-/// Colours, by the classes of spans. The greys of each group of lanes differ, and no two colours differ in red and green alone.
+/// The colours, by the classes of spans. The greys of the groups differ, and no two colours differ only in red and green.
 const STYLE: &str = "<style>
 text { font: 11px sans-serif; fill: #222 }
 .title { font-size: 16px; font-weight: bold }
@@ -33,7 +33,7 @@ text.bad .answer, text.refused .answer { font-weight: bold; fill: #000 } .answer
 </style>
 ";
 
-/// Shapes, by the names of marks, and what fills the bars of operations and codes.
+/// The shapes, by the names of marks, and the fills for the bars of operations and codes.
 const DEFS: &str = "<defs>
 <marker id='end' viewBox='-3 -3 6 6' markerWidth='6' markerHeight='6'><circle r='2.4' fill='#777'/></marker>
 <path id='step' class='fill' d='M-1-5h2v10h-2z'/>
@@ -74,7 +74,7 @@ const DEFS: &str = "<defs>
 <pattern id='zombie-fill' width='6' height='6' patternUnits='userSpaceOnUse'><rect width='6' height='6' fill='#6b5848'/><path d='M0 0L6 6M0 6L6 0' stroke='#e8dccf' stroke-width='.9' fill='none'/></pattern>
 ";
 
-/// Classes of spans with what they show, a row of the legend each.
+/// The classes of spans with their meanings, one row of the legend each.
 const STATES: [(&str, &str); 10] = [
     ("new", "new"),
     ("java", "in Java"),
@@ -97,7 +97,7 @@ const OTHERS: [(&str, &str); 6] = [
     ("zombie", "zombie"),
 ];
 
-/// Shapes of marks with the answers that they stand for, three rows of the legend.
+/// The shapes of marks with the answers that they stand for, in three rows of the legend.
 const SHAPES: [[(&str, &str); 10]; 3] = [
     [
         ("step", "done"),
@@ -177,7 +177,7 @@ fn put_shapes(
     Ok(())
 }
 
-// What colours and shapes mean, to be shown above each panel.
+// The legend of colours and shapes, which is shown above each panel.
 fn put_legend(alloc: Global, text: &mut Vec<u8>) -> Result<(), AllocError> {
     put(text, "<symbol id='legend' overflow='visible'>\n")?;
     put_colours(alloc, text, &STATES, 38)?;
@@ -190,12 +190,12 @@ fn put_legend(alloc: Global, text: &mut Vec<u8>) -> Result<(), AllocError> {
     put(text, "</symbol>\n</defs>\n")
 }
 
-// How many lines came to this.
+// The number of marks with this outcome.
 fn count(marks: &[Mark], outcome: Outcome) -> usize {
     marks.iter().filter(|mark| mark.outcome == outcome).count()
 }
 
-// Which lines are drawn, of how many.
+// Which lines are drawn, and of how many.
 fn put_lines(alloc: Global, text: &mut Vec<u8>, run: &Run) -> Result<(), AllocError> {
     let lines = run.lines;
     let piece = match (run.marks.first(), run.marks.last()) {
@@ -269,7 +269,7 @@ fn put_legends(alloc: Global, text: &mut Vec<u8>, layout: &Layout) -> Result<(),
     Ok(())
 }
 
-/// All that stands above the lanes and behind them.
+/// Everything above the lanes, and the background of the lanes.
 pub fn put_head(
     alloc: Global,
     text: &mut Vec<u8>,

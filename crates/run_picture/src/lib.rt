@@ -1,5 +1,5 @@
-//! A picture of a run: lines of events in, an SVG or a page out, over the caller's devices.
-//! `timeline` is the program over it.
+//! A picture of a run: it reads lines of events and writes an SVG or a page, over the caller's devices.
+//! `timeline` is the program that calls it.
 //! Read `src/picture.rt` first, then `specs/Drawn.antt` and `docs/start/TIMELINE.md`.
 #![tactic(auto)]
 

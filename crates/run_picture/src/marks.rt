@@ -1,4 +1,4 @@
-// A mark for each line that is drawn: what came of it, its text, and where it stands.
+// A mark for each drawn line: the outcome of the line, its text, and its position.
 ghost use Rattle.std.specs.Prelude.{◌≡◌, ◌++◌, ◌∷◌, [], OnOk, IfOk};
 ghost use Rattle.replay.specs.Printed.{reply_text};
 ghost use Rattle.run_picture.specs.Marks.{escaped_byte, title_of};
@@ -9,7 +9,7 @@ use replay::print::put_reply;
 use run_lanes::lanes::Spot;
 use std::alloc::{AllocError, Global};
 
-/// The mark of a line. Its title is the line and the line that answers it, as text of XML.
+/// The mark of a line. Its title is the line and the line of its answer, as XML text.
 #[derive(Drop)]
 pub struct Mark {
     pub line: u64,
@@ -19,7 +19,7 @@ pub struct Mark {
     pub spot: Spot,
 }
 
-/// Puts a byte into the text of XML; one that isn't printable ASCII is a question mark there.
+/// Appends a byte to the XML text. A byte that isn't printable ASCII becomes a question mark.
 fn put_escaped(text: &mut Vec<u8>, byte: u8) -> Result<(), AllocError>
     ensures { OnOk result (text.new.items ≡ text.old.items ++ escaped_byte byte) }
 {
@@ -36,7 +36,7 @@ fn put_escaped(text: &mut Vec<u8>, byte: u8) -> Result<(), AllocError>
     }
 }
 
-/// The title of a line with its reply.
+/// The title for a line with its reply.
 pub fn title_of(alloc: Global, line: &[u8], reply: &Reply) -> Result<Vec<u8>, AllocError>
     ensures { IfOk result (λ title. title.items ≡ title_of line.now reply.now) }
 {

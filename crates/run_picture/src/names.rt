@@ -1,4 +1,4 @@
-// The names of threads, operations and codes, on their lanes, where they have room.
+// The names of threads, operations and codes, written on their lanes where there is room.
 use crate::layout::Layout;
 use crate::painting::put;
 use operations::Request;
@@ -6,10 +6,10 @@ use run_lanes::looks::{Group, Lane};
 use run_lanes::painted::{Life, Name};
 use std::alloc::{AllocError, Global};
 
-/// How wide a letter of a name is, at most on average.
+/// The width of a letter in a name, at most on average.
 const LETTER: u64 = 5;
 
-/// So many targets of a handshake are named.
+/// How many targets of a handshake are named.
 const TARGETS: usize = 4;
 
 /// A name in three lengths.
@@ -20,7 +20,7 @@ struct Label {
     number: String,
 }
 
-// The targets of a handshake, the first of them by name.
+// The targets of a handshake, the first few of them by name.
 fn targets_of(alloc: Global, names: &[u64]) -> Result<String, AllocError> {
     let mut text = String::new(alloc);
     for (i, name) in names.iter().enumerate() {
@@ -90,7 +90,7 @@ fn fits(text: &String, room: u64) -> bool {
     (text.len() as u64).saturating_mul(LETTER) <= room
 }
 
-// The longest form for which there is room.
+// The longest form of the name that fits.
 fn chosen(label: &Label, room: u64) -> &str {
     if fits(&label.long, room) {
         label.long.as_str()
@@ -120,7 +120,7 @@ fn put_label(
     put(text, piece.as_str())
 }
 
-/// The first line at which each lane of a group has another name, as lives are gone through from the last to the first.
+/// For each lane of a group the first line at which another name begins, while lives are visited from the last to the first.
 #[derive(Drop)]
 struct Next {
     operations: Vec<u64>,
@@ -145,7 +145,7 @@ impl Next {
         })
     }
 
-    // The next line at which the lane has another name. From now on that is this one.
+    // The next line at which another name begins on the lane. From now on that is this line.
     fn replace(&mut self, lane: Lane, line: u64) -> u64 {
         match lane.group {
             Group::Lines => u64::MAX,
@@ -156,7 +156,7 @@ impl Next {
     }
 }
 
-// What stood in a row, where this stands now.
+// The line recorded for the row, which is replaced by this line.
 fn replaced(lines: &mut Vec<u64>, row: usize, line: u64) -> u64 {
     match lines.get_mut(row) {
         None => u64::MAX,
@@ -168,7 +168,7 @@ fn replaced(lines: &mut Vec<u64>, row: usize, line: u64) -> u64 {
     }
 }
 
-// The room for a name that begins at a line, up to the next name on the lane, or to the end of the panel.
+// The room for a name that begins at a line: up to the next name on the lane, or to the end of the panel.
 fn room(layout: &Layout, line: u64, next: u64) -> u64 {
     let panel = layout.panel(line);
     let end = if layout.panel(next) == panel {
@@ -179,7 +179,7 @@ fn room(layout: &Layout, line: u64, next: u64) -> u64 {
     end.saturating_sub(layout.x(line))
 }
 
-// A life is named where it begins, and again in each panel.
+// Writes the name of a life where it begins, and again in each later panel.
 fn put_life(
     alloc: Global,
     text: &mut Vec<u8>,
@@ -197,7 +197,7 @@ fn put_life(
     Ok(())
 }
 
-/// The threads, operations and codes, named where they begin and in each panel.
+/// Writes the names of threads, operations and codes where they begin, and again in each later panel.
 pub fn put_lives(
     alloc: Global,
     text: &mut Vec<u8>,

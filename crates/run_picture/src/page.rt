@@ -1,6 +1,6 @@
-// A page around a picture, which needs nothing else: the picture zoomed and dragged, and the list of its lines beside it.
+// A self-contained page around a picture: it lets the reader zoom and drag the picture, and lists its lines beside it.
 
-/// What stands before the picture.
+/// The text before the picture.
 pub const HEAD: &str = "<!DOCTYPE html>
 <html lang='en'>
 <head>
@@ -33,7 +33,7 @@ body { display: flex; font: 13px sans-serif; color: #222; background: #fff }
 <div id='view' tabindex='0' role='img' aria-label='the picture of the run'>
 ";
 
-/// What stands behind it.
+/// The text after the picture.
 pub const TAIL: &str = "</div>
 <script>
 'use strict';

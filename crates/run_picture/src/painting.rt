@@ -1,16 +1,16 @@
-// The spans, the names of lanes and the lines between lanes, as text of SVG.
+// The spans, the names of lanes and the thin lines between lanes, as SVG text.
 use crate::layout::{LEFT, Layout, PANEL, TOP, lane};
 use crate::marks::Mark;
 use run_lanes::looks::{Group, Lane, Paint};
 use run_lanes::painted::Span;
 use std::alloc::{AllocError, Global};
 
-/// Puts a piece behind the text.
+/// Appends a piece to the text.
 pub fn put(text: &mut Vec<u8>, piece: &str) -> Result<(), AllocError> {
     text.extend_from_slice(piece.as_bytes())
 }
 
-// How far below the beginning of its lane a span begins, and how high it is.
+// The distance of a span from the top of its lane, and its height.
 fn band(group: Group, paint: Paint) -> (u64, u64) {
     match (group, paint) {
         (_, Paint::Held) => (11, 4),
@@ -20,7 +20,7 @@ fn band(group: Group, paint: Paint) -> (u64, u64) {
     }
 }
 
-// A bar from the mark of a line to where another line ends it.
+// A bar from the mark of a line to the line that ends it.
 fn put_span(
     alloc: Global,
     text: &mut Vec<u8>,
@@ -41,7 +41,7 @@ fn put_span(
     put(text, piece.as_str())
 }
 
-/// What the lanes show, in colours.
+/// Draws the spans of the lanes in their colours.
 pub fn put_spans(
     alloc: Global,
     text: &mut Vec<u8>,
@@ -70,7 +70,7 @@ fn put_tie(
     put(text, piece.as_str())
 }
 
-/// The thin lines from marks to other lanes.
+/// Draws the thin lines from marks to other lanes.
 pub fn put_ties(
     alloc: Global,
     text: &mut Vec<u8>,
@@ -85,7 +85,8 @@ pub fn put_ties(
     Ok(())
 }
 
-// The name of a lane, at the left of a panel. Operations and codes are named on their lanes, and their group once.
+// Writes the name of a lane at the left of a panel. Operations and codes have their names on their lanes, and the name of their group here
+// once.
 fn put_name(
     alloc: Global,
     text: &mut Vec<u8>,
@@ -123,7 +124,7 @@ fn put_names_of(
     Ok(())
 }
 
-/// The left of each panel: nothing of the bars, and the names of the lanes.
+/// Draws the left margin of each panel: it covers the bars, and has the names of the lanes.
 pub fn put_names(alloc: Global, text: &mut Vec<u8>, layout: &Layout) -> Result<(), AllocError> {
     let top = TOP.saturating_sub(2);
     let height = layout.bottom().saturating_sub(top);

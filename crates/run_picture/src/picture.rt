@@ -1,4 +1,4 @@
-// Lines in, a picture out, or a page with it.
+// Reads lines, and writes a picture or a page with it.
 ghost use Rattle.std.specs.Prelude.{◌≡◌, ◌++◌, IfOk};
 ghost use Rattle.replay.specs.Outcome.{FailedCalls};
 ghost use Rattle.run_picture.specs.Runs.{shown_by};
@@ -14,23 +14,24 @@ use replay::device::{Sink, Source};
 use replay::stream::{ReplayFault, flush};
 use std::alloc::{AllocError, Global};
 
-/// How a run is shown.
+/// The form in which a run is shown.
 #[derive(Clone, Copy, Debug, PartialEq, Eq, Drop)]
 pub enum Form {
     /// SVG alone.
     Picture,
-    /// A page of HTML with the picture, and the list of the lines that are drawn beside it.
+    /// An HTML page with the picture, and beside it the list of the drawn lines.
     Page,
 }
 
-/// What is to be drawn.
+/// The request: a part of the run, in a form.
 #[derive(Clone, Copy, Drop)]
 pub struct Asked {
     pub form: Form,
     pub part: Part,
 }
 
-/// Reads all there is, and writes the picture of the part that is asked for, in the form that is asked for. Memory grows with the part and not beyond it; no call that failed is made again.
+/// Reads the source to its end, and writes the picture of the requested part in the requested form. Memory grows with the part and not
+/// beyond it. A call that failed isn't repeated.
 pub fn draw_run<R: Source, W: Sink>(
     alloc: Global,
     source: &mut R,
@@ -55,7 +56,7 @@ pub fn draw_run<R: Source, W: Sink>(
     }
 }
 
-// The run in a form.
+// The text of the run in this form.
 fn text_of(alloc: Global, run: Run, form: Form) -> Result<Vec<u8>, AllocError>
     ensures { IfOk result (λ text. IsForm form (shown_by run.marks.items) text.items) }
 {
@@ -73,7 +74,7 @@ fn picture_of(alloc: Global, mut run: Run) -> Result<Vec<u8>, AllocError>
     draw(alloc, &run)
 }
 
-// The page with a picture.
+// The page that contains the picture.
 fn page_of(alloc: Global, picture: &[u8]) -> Result<Vec<u8>, AllocError>
     ensures { IfOk result (λ page. HoldsPicture picture.now page.items) }
 {

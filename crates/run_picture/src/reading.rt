@@ -1,4 +1,4 @@
-// Bytes in, a run out: cut into lines, each done and answered by the core, as `monitor replay` does.
+// Turns bytes into a run: cuts them into lines, and lets the core do and answer each line, as `monitor replay` does.
 ghost use Rattle.std.specs.Prelude.{◌≡◌, ◌<◌, ◌≤◌, ◌+◌, ◌^◌, ◌∷◌, [], None, length, vec_len, IfOk, OnOk};
 ghost use Rattle.run_picture.specs.Runs.{seen, shown_by};
 ghost use Rattle.run_picture.specs.Reading.{Read, Noted, Finished, Marked, FailedReads};
@@ -15,13 +15,13 @@ use run_lanes::subject::Subject;
 use std::alloc::{AllocError, Global};
 use system::System;
 
-/// Bytes that are read at a time.
+/// How many bytes are read at a time.
 const BLOCK: usize = 65_536;
 
-/// The reads of one call.
+/// The greatest number of reads in one call.
 const READS: u64 = 1_099_511_627_775;
 
-/// A run that is being read: the core, the line whose end wasn't read yet as far as it matters, and what was read before.
+/// A run that is being read: the core, the part that matters of the line whose end wasn't read yet, and the run before that line.
 #[derive(Drop)]
 struct Reading {
     system: Option<System>,
@@ -44,7 +44,7 @@ impl Reading {
         }
     }
 
-    /// One byte more.
+    /// Takes one more byte.
     fn take(&mut self, alloc: Global, byte: u8) -> Result<(), AllocError>
         requires few { self.old.run.lines < 2 ^ 62 }
         ensures read { OnOk result (Read self.old.system self.old.held (seen self.old.run) (byte
@@ -59,7 +59,7 @@ impl Reading {
         Ok(())
     }
 
-    /// The line that is held has ended.
+    /// Ends the held line.
     fn end_line(&mut self, alloc: Global) -> Result<(), AllocError>
         requires few { self.old.run.lines < 2 ^ 62 }
         ensures noted { OnOk result
@@ -78,7 +78,7 @@ impl Reading {
         Ok(())
     }
 
-    /// The bytes, one after another.
+    /// Takes the bytes, one after another.
     fn take_all(&mut self, alloc: Global, bytes: &[u8]) -> Result<(), AllocError>
         requires few { self.old.run.lines + length bytes.now < 2 ^ 62 }
         ensures read { OnOk result
@@ -92,7 +92,7 @@ impl Reading {
         Ok(())
     }
 
-    /// The input has ended. A last line without a newline is a line.
+    /// Ends the input. A last line without a newline is a line too.
     fn finish(mut self, alloc: Global) -> Result<Run, AllocError>
         requires few { self.run.lines < 2 ^ 62 }
         ensures { IfOk result (λ run. Finished self.system self.held (seen self.run) (seen run)) }
@@ -105,7 +105,7 @@ impl Reading {
     }
 }
 
-/// Reads all there is, and keeps the marks of a part. Of a line that is too long only the beginning is kept.
+/// Reads the source to its end, and keeps the marks of a part. Only the beginning of a line that is too long is kept.
 pub fn read_run<R: Source>(alloc: Global, source: &mut R, part: Part) -> Result<Run, ReplayFault>
     requires source { R.failures source.old ≡ 0 }
     requires unread { R.reads source.old ≡ 0 }

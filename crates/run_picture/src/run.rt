@@ -1,4 +1,4 @@
-// A run, line by line: the marks of the lines that are drawn, and what the lanes show.
+// A run, line by line: the marks of the drawn lines, and the lanes.
 ghost use Rattle.std.specs.Prelude.{◌≡◌, ◌++◌, ◌∷◌, ◌+◌, ◌<◌, ◌^◌, [], OnOk};
 ghost use Rattle.run_picture.specs.Told.{grown};
 ghost use Rattle.run_picture.specs.Marks.{told_by};
@@ -12,7 +12,7 @@ use run_lanes::lanes::{Lanes, Spot};
 use run_lanes::subject::Subject;
 use std::alloc::{AllocError, Global};
 
-/// The lines of a run so far, a mark for each that is drawn.
+/// The lines of a run so far, with a mark for each drawn line.
 #[derive(Drop)]
 pub struct Run {
     pub part: Part,
@@ -35,7 +35,7 @@ impl Run {
         }
     }
 
-    /// One line more, with its reply.
+    /// Takes one more line, with its reply.
     pub fn note(
         &mut self,
         alloc: Global,
@@ -62,7 +62,7 @@ impl Run {
         Ok(())
     }
 
-    // The last line has this mark.
+    // Adds the mark of the last line.
     fn mark(
         &mut self,
         alloc: Global,
@@ -87,7 +87,7 @@ impl Run {
         Ok(())
     }
 
-    /// The lines have ended.
+    /// Ends the run after its last line.
     pub fn finish(&mut self) -> Result<(), AllocError>
         ensures { self.new.marks.items ≡ self.old.marks.items }
     {

@@ -1,4 +1,4 @@
-// What came of lines, and the shapes of their marks: one for each kind of answer.
+// The outcomes of lines, and the shapes of their marks: one for each kind of answer.
 ghost use Rattle.std.specs.Prelude.{◌≡◌, Some};
 ghost use Rattle.run_picture.specs.Drawn.{outcome_text, shape_text};
 ghost use Rattle.run_picture.specs.Marks.{deed_of, deed_of_event, deed_of_act, outcome_of, shape_of, shape_of_answer, done_shape, go_shape};
@@ -9,10 +9,10 @@ use std::fmt;
 use system::answers::Answer;
 use system::events::{Act, Event};
 
-/// What came of a line.
+/// The outcome of a line.
 #[derive(Clone, Copy, PartialEq, Eq, Drop)]
 pub enum Outcome {
-    /// It is no line.
+    /// It is not a valid line.
     Bad,
     Refused,
     Accepted,
@@ -30,7 +30,7 @@ impl fmt::Display for Outcome {
     }
 }
 
-/// The shape of a mark: the kind of the answer to its line.
+/// The shape of a mark, which is the kind of the line's answer.
 #[derive(Clone, Copy, Drop)]
 pub enum Shape {
     BadLine,
@@ -104,7 +104,7 @@ impl fmt::Display for Shape {
     }
 }
 
-/// What a line asks for, as far as the shape of its mark depends on it beside the answer.
+/// What a line asks for, as far as it decides the shape of the line's mark together with the answer.
 #[derive(Clone, Copy, Drop)]
 pub enum Deed {
     Clear,
@@ -112,7 +112,7 @@ pub enum Deed {
     Other,
 }
 
-/// What the line of a command asks for.
+/// What the command of a line asks for.
 pub fn deed_of(command: &Option<Command>) -> Deed
     ensures { result ≡ deed_of command.now }
 {
@@ -142,7 +142,7 @@ fn deed_of_act(act: Act) -> Deed
     }
 }
 
-/// What came of a line with this reply.
+/// The outcome of a line with this reply.
 pub fn outcome_of(reply: &Reply) -> Outcome
     ensures { result ≡ outcome_of reply.now }
 {
@@ -154,7 +154,7 @@ pub fn outcome_of(reply: &Reply) -> Outcome
     }
 }
 
-/// The shape for a line that asks for this and has this reply.
+/// The shape for a line that asks for this deed and has this reply.
 pub fn shape_of(deed: Deed, reply: &Reply) -> Shape
     ensures { result ≡ shape_of deed reply.now }
 {
@@ -165,7 +165,7 @@ pub fn shape_of(deed: Deed, reply: &Reply) -> Shape
     }
 }
 
-// The shape where the answer is that it is done.
+// The shape for the answer that the deed is done.
 fn done_shape(deed: Deed) -> Shape
     ensures { result ≡ done_shape deed }
 {
@@ -175,7 +175,7 @@ fn done_shape(deed: Deed) -> Shape
     }
 }
 
-// The shape where the answer is to go on.
+// The shape for the answer to go on.
 fn go_shape(deed: Deed) -> Shape
     ensures { result ≡ go_shape deed }
 {

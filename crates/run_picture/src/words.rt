@@ -6,10 +6,10 @@ use crate::part::{Part, WHOLE};
 use crate::picture::{Asked, Form};
 use itoa::Buffer;
 
-/// The greatest number of a line.
+/// The greatest line number.
 const GREATEST: u64 = 1_099_511_627_775;
 
-/// What the words behind the program's name ask for; None where they are bad. They are bad where the last line is before the first.
+/// The request of the words after the program's name; None if they are bad, which they also are if the last line is before the first.
 pub fn read_words(words: &[String]) -> Option<Asked>
     ensures { result ≡ asked_of (map string_bytes words.now) }
 {
@@ -25,7 +25,7 @@ pub fn read_words(words: &[String]) -> Option<Asked>
     }
 }
 
-// A part in a form.
+// A part in this form.
 fn shown_as(form: Form, part: Option<Part>) -> Option<Asked>
     ensures { result ≡ asked_as form part }
 {
@@ -61,7 +61,7 @@ fn read_part(words: &[String]) -> Option<Part>
     }
 }
 
-// From one line to another, which isn't before it.
+// The part from one line to another, which must not be before it.
 fn between(first: u64, last: u64) -> Option<Part>
     requires { last < 2 ^ 40 }
     ensures { result ≡ between first last }
@@ -76,7 +76,7 @@ fn between(first: u64, last: u64) -> Option<Part>
     }
 }
 
-// A number of a line, from 1 on, without a sign and without a zero before it.
+// The number of a line, from 1 on, without a sign and without leading zeros.
 fn read_number(word: &str) -> Option<u64>
     ensures value { result ≡ line_of word.now }
     ensures bound { IfSome result (λ n. n < 2 ^ 40) }

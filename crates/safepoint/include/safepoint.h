@@ -79,6 +79,9 @@ enum {
    serial, the serial of its top frame's code. */
 enum { SP_DEPTH = 0, SP_COUNT_OF = 1, SP_TOP = 2 };
 
+/* What is open: nothing, up to four handshakes, or one census. */
+enum { SP_NONE = 0, SP_HANDSHAKE = 1, SP_CENSUS = 2 };
+
 /* SYSTEMS (*). sp_make makes a system of up to 64 threads at a time (places), 1024 codes (slots) and
    256 methods, which are numbered from 0. It returns 0; SP_MADE if the party is made already,
    SP_BAD_SIZE, SP_NO_MEMORY. */
@@ -141,9 +144,11 @@ int64_t sp_census(struct sp_party *party);
 int64_t sp_install(struct sp_party *party, uint32_t method);
 int64_t sp_invalidate(struct sp_party *party, uint64_t serial);
 /* sp_reply returns what the name answered in an operation; SP_NOT_ANSWERED, SP_NO_MEMORY.
-   sp_live_after returns the least live name above this one, or 0 for none. */
+   sp_live_after returns the least live name above this one, or 0 for none. sp_open_kind returns of
+   which kind the open requests are: SP_HANDSHAKE or SP_CENSUS, or SP_NONE if nothing is open. */
 int64_t sp_reply(struct sp_party *party, uint64_t operation, uint64_t name);
 int64_t sp_live_after(struct sp_party *party, uint64_t name);
+int64_t sp_open_kind(struct sp_party *party);
 /* Forgets all entries so far, and the replies of all operations before the first one that is open or
    waits: 0. A history of a million entries is full. */
 int64_t sp_forget(struct sp_party *party);

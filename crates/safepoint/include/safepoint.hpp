@@ -82,6 +82,11 @@ public:
         while ((name = wait([&] { return sp_live_after(&party_, name); }))) names.push_back(name);
         return names;
     }
+    enum class Kind { none = SP_NONE, handshake = SP_HANDSHAKE, census = SP_CENSUS };
+    /* Of which kind the open requests are. */
+    Kind open_kind() {
+        return static_cast<Kind>(wait([&] { return sp_open_kind(&party_); }));
+    }
     void forget() {
         wait([&] { return sp_forget(&party_); });
     }

@@ -9,9 +9,9 @@
    makes it makes no other call in between, but those that drive its handshake; an sp_reclaim_end
    alone is a reclaiming too, and isn't noted where it is late. Behind a call stand
    the callbacks that ran in it, each with its reply. Looks that change nothing (sp_reply,
-   sp_live_after, sp_counted) aren't noted, nor is a refusal that the core doesn't have
-   (SP_NOT_THIS, SP_NO_MEMORY, SP_HISTORY_FULL, SP_BAD_ASK). sp_forget forgets nothing. One system
-   is recorded: that of the first sp_make. */
+   sp_live_after, sp_open_kind, sp_counted) aren't noted, nor is a refusal that the core doesn't
+   have (SP_NOT_THIS, SP_NO_MEMORY, SP_HISTORY_FULL, SP_BAD_ASK). sp_forget forgets nothing. One
+   system is recorded: that of the first sp_make. */
 #ifndef SAFEPOINT_RECORD_H
 #define SAFEPOINT_RECORD_H
 

@@ -1,4 +1,4 @@
--- The machine values of a `Loose`, and of a pair. Assumes `Logic`.
+-- The machine values of a `RawBox`, and of a pair. Assumes `Logic`.
 use Rattle.std.proofs.Common.{◌≡◌, List, [], ◌∷◌, ◌++◌, refl, subst}
 use mathlib.Core.Bool.{Bool, true, false, ◌&&◌}
 use lib.Dec.{T}
@@ -24,7 +24,7 @@ use Rattle.std.specs.Prelude.{Option, Some, None, is_some, true as yes_it_is}
 use Rattle.std.proofs.lemmas.Bool.{false≢true}
 use Rattle.std.proofs.Common.{lit<}
 use Rattle.safepoint.specs.Boxed.{maybe_owns}
-use Rattle.safepoint.specs.contracts.loose.Loose as loose
+use Rattle.safepoint.specs.contracts.raw_box.RawBox as loose
 
 abbrev pub both : Val → Val → Val
 both v w = vstruct (vcons v (vcons w vnil))
@@ -39,8 +39,8 @@ ptr_good (block_ptr b o) = (tt, tt)
 ptr_good null_ptr = (tt, record { fits = lit< tt })
 
 module _ (R Z : RattleType) (L : Laws Z) (g : Ghosts Z.Denot) where
-  abbrev pub Loose : RattleType
-  Loose = loose.the_row R Z g
+  abbrev pub RawBox : RattleType
+  RawBox = loose.the_row R Z g
 
   abbrev al : Al
   al = record { row = Z; laws = L; g = g; d = impl [] tnil dnil; drops = impl [] tnil dnil }
@@ -49,15 +49,15 @@ module _ (R Z : RattleType) (L : Laws Z) (g : Ghosts Z.Denot) where
   loose_good p h fits = (both_tt (has_ty mir.Syntax.ty_ptr (ptr_val p)) (has_ty (layout Z) h) (ptr_good p).0 fits.0, ((ptr_good p).1, (fits.1, tt)))
 
   module _ {M : Type 1} {𝓤 : Ura M} {𝓛 : Logic 𝓤} {K : Type 0} {Γ : List (Item 𝓤)} {G : Goal 𝓤 𝓛.H} where
-    pub loose_out : K → (d : Loose.Denot) (vs : List Val)
+    pub loose_out : K → (d : RawBox.Denot) (vs : List Val)
         → ((h : Val) → vs ≡ both (ptr_val d.at) h ∷ [] → Good (layout Z) h → Seq K 𝓛 (‵ (maybe_owns (g.dealloc_token d.alloc) R d.at d.value) ∷ ‵ (Z.own_val d.alloc (h ∷ [])) ∷ Γ) G)
-        → Seq K 𝓛 (‵ (Loose.own_val d vs) ∷ Γ) G
+        → Seq K 𝓛 (‵ (RawBox.own_val d vs) ∷ Γ) G
     loose_out t d vs k =
         fsplit t $ fpick t (λ vss. fsplit t $ feq_l t (λ ev. fsplit t $ feq_l t (λ ep. fsplit t $ handle_tells al t d.alloc vss.1.0 (λ h ea fits. move t (1 ∷ []) $ drop t $ move t (1 ∷ []) $ k h
         (subst (λ (ws : List Val). vs ≡ vstruct (of_list (ptr_val d.at ∷ (ws ++ []))) ∷ []) ea (subst (λ (ps : List Val). vs ≡ vstruct (of_list (ps ++ (vss.1.0 ++ []))) ∷ []) ep ev)) fits))))
 
     pub loose_in : K → (p : Ptr) (h : Val) (a : Z.Denot) (x : Option R.Denot)
-        → Step K 𝓛 (‵ (Loose.own_val (record { at = p; alloc = a; value = x }) (both (ptr_val p) h ∷ [])) ∷ Γ) G (‵ (maybe_owns (g.dealloc_token a) R p x) ∷ ‵ (Z.own_val a (h ∷ [])) ∷ Γ) G
+        → Step K 𝓛 (‵ (RawBox.own_val (record { at = p; alloc = a; value = x }) (both (ptr_val p) h ∷ [])) ∷ Γ) G (‵ (maybe_owns (g.dealloc_token a) R p x) ∷ ‵ (Z.own_val a (h ∷ [])) ∷ Γ) G
     loose_in t p h a x = step (λ s. let v : Val = both (ptr_val p) h in
         nothing t $ move t (2 ∷ 0 ∷ []) $ fjoin t $ feq_i t (List Val) (ptr_val p ∷ []) (ptr_val p ∷ []) refl $ fjoin t $ feq_i t (List Val) (v ∷ []) (v ∷ []) refl $ fjoin t $
         fpack t (Valss (RawPtr ∷ Z ∷ [])) (within (shape (loose.the_type R Z g)) (p, (a, tt)) (v ∷ [])) (ptr_val p ∷ [], (h ∷ [], tt)) $ fjoin t $ s)

@@ -15,14 +15,14 @@ use Rattle.method_table.specs.declared.table.RetireFault.{RetireFault}
 use Rattle.method_table.specs.declared.table.RetireFault.TheVariants as retire_fault
 use Rattle.desk.specs.declared.faults.OpenFault.{OpenFault}
 use Rattle.desk.specs.declared.faults.OpenFault.TheVariants as open_fault
-use Rattle.held_threads.specs.declared.faults.TellFault.{TellFault}
-use Rattle.held_threads.specs.declared.faults.TellFault.TheVariants as tell_fault
-use Rattle.held_threads.specs.declared.faults.HoldFault.{HoldFault}
-use Rattle.held_threads.specs.declared.faults.HoldFault.TheVariants as hold_fault
-use Rattle.held_threads.specs.declared.faults.ServeFault.{ServeFault}
-use Rattle.held_threads.specs.declared.faults.ServeFault.TheVariants as serve_fault
-use Rattle.held_threads.specs.declared.faults.ReleaseFault.{ReleaseFault}
-use Rattle.held_threads.specs.declared.faults.ReleaseFault.TheVariants as release_fault
+use Rattle.stopped_threads.specs.declared.faults.TellFault.{TellFault}
+use Rattle.stopped_threads.specs.declared.faults.TellFault.TheVariants as tell_fault
+use Rattle.stopped_threads.specs.declared.faults.HoldFault.{HoldFault}
+use Rattle.stopped_threads.specs.declared.faults.HoldFault.TheVariants as hold_fault
+use Rattle.stopped_threads.specs.declared.faults.ServeFault.{ServeFault}
+use Rattle.stopped_threads.specs.declared.faults.ServeFault.TheVariants as serve_fault
+use Rattle.stopped_threads.specs.declared.faults.ReleaseFault.{ReleaseFault}
+use Rattle.stopped_threads.specs.declared.faults.ReleaseFault.TheVariants as release_fault
 use Rattle.desk.specs.declared.faults.OperateFault.{OperateFault as Census}
 use Rattle.desk.specs.declared.faults.OperateFault.TheVariants as census_fault
 use Rattle.desk.specs.declared.faults.CloseFault.{CloseFault}
@@ -31,8 +31,8 @@ use Rattle.desk.specs.declared.faults.CodeFault.{CodeFault}
 use Rattle.desk.specs.declared.faults.CodeFault.TheVariants as code_fault
 use Rattle.desk.specs.declared.faults.ReclaimFault.{ReclaimFault}
 use Rattle.desk.specs.declared.faults.ReclaimFault.TheVariants as reclaim_fault
-use Rattle.held_threads.specs.declared.faults.OperateFault.{OperateFault}
-use Rattle.held_threads.specs.declared.faults.OperateFault.TheVariants as operate_fault
+use Rattle.stopped_threads.specs.declared.faults.OperateFault.{OperateFault}
+use Rattle.stopped_threads.specs.declared.faults.OperateFault.TheVariants as operate_fault
 
 abbrev pub start_code : StartFault → ℤ
 start_code start_fault.SafepointOpen = negsuc 8

@@ -8,7 +8,7 @@ use Rattle.parties.specs.declared.party.Role.TheVariants as role
 use Rattle.parties.specs.declared.acts.Fault.TheVariants as fault
 use Rattle.board.specs.Boards.{BoardId}
 use Rattle.poll.specs.Rows.{RowId}
-use Rattle.held_threads.specs.Holding.{held_nothing}
+use Rattle.stopped_threads.specs.Holding.{held_nothing}
 use Rattle.parties.specs.Acted.{Acts, PartySeen, party_as}
 use Rattle.parties.specs.Asked.{Told}
 use Rattle.safepoint.specs.Codes.{code_of}

@@ -2,7 +2,7 @@
 ghost use Rattle.std.specs.Prelude.{◌≡◌, Ok};
 ghost use Rattle.safepoint.specs.Codes.{code_of, fault_code};
 
-use coordinator_steps::{HoldFault, OperateFault, ReleaseFault, ServeFault, TellFault};
+use coordinator_core::{HoldFault, OperateFault, ReleaseFault, ServeFault, TellFault};
 use desk::{AskFault, CloseFault, CodeFault, OpenFault, ReclaimFault, StartFault};
 use method_table::table::{InstallFault, InvalidateFault, RetireFault};
 use parties::acts::Fault;

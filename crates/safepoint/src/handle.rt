@@ -2,14 +2,14 @@
 ghost use Rattle.std.specs.Prelude.{◌≡◌, ℕ, OnOk, OnErr, IfOk, Option, Some, None, is_some, true, false};
 ghost use Rattle.board.specs.Boards.{BoardId};
 ghost use Rattle.poll.specs.Rows.{RowId};
-ghost use Rattle.held_threads.specs.Holding.{held_nothing};
+ghost use Rattle.stopped_threads.specs.Holding.{held_nothing};
 ghost use Rattle.parties.specs.Acted.{party_as};
 ghost use Rattle.safepoint.specs.Held.{Seen, held_owns, board_coded, row_coded, held_coded};
 ghost use Rattle.safepoint.specs.Told.{Obeys, Answers, Forks, Arises, Begins, IsBegun, IsFresh};
 
-use crate::loose::Loose;
+use crate::raw_box::RawBox;
 use bodies::Name;
-use coordinator_steps::Steps;
+use coordinator_core::CoordinatorCore;
 use parties::acts::{Act, Fault};
 use parties::party::{Party, Role};
 use parties::system::SharedSystem;
@@ -37,70 +37,70 @@ impl Model for Handle {
 
 // Another party to the same system, and whether there was memory for it.
 fn fork<N: Name>(
-    parts: Loose<Party<N>, Global>,
-) -> (Loose<Party<N>, Global>, (Loose<Party<N>, Global>, bool))
+    parts: RawBox<Party<N>, Global>,
+) -> (RawBox<Party<N>, Global>, (RawBox<Party<N>, Global>, bool))
     requires { is_some parts.value ≡ true }
     ensures { Forks parts.value result.0.value result.1.0.value result.1.1 }
 {
     let party = parts.into_box();
     let other = fork_box(&party);
-    (Loose::of(party), other)
+    (RawBox::of(party), other)
 }
 
-fn fork_box<N: Name>(party: &Party<N>) -> (Loose<Party<N>, Global>, bool)
+fn fork_box<N: Name>(party: &Party<N>) -> (RawBox<Party<N>, Global>, bool)
     ensures { Arises result.0.value result.1 }
 {
     let alloc = party.alloc();
     match party.fork() {
         Ok(other) => boxed(alloc, other),
-        Err(_) => (Loose::none(alloc), false),
+        Err(_) => (RawBox::none(alloc), false),
     }
 }
 
-fn boxed<N: Name>(alloc: Global, party: Party<N>) -> (Loose<Party<N>, Global>, bool)
+fn boxed<N: Name>(alloc: Global, party: Party<N>) -> (RawBox<Party<N>, Global>, bool)
     requires { party ≡ party_as Role.Shares }
     ensures { Arises result.0.value result.1 }
 {
     match Box::new(alloc, party) {
-        Ok(boxed) => (Loose::of(boxed), true),
-        Err(_) => (Loose::none(alloc), false),
+        Ok(boxed) => (RawBox::of(boxed), true),
+        Err(_) => (RawBox::none(alloc), false),
     }
 }
 
 // The coordinator of a new system over these parts, and whether there was memory for it.
-fn make<N: Name>(alloc: Global, parts: Parts) -> (Loose<Party<N>, Global>, bool)
+fn make<N: Name>(alloc: Global, parts: Parts) -> (RawBox<Party<N>, Global>, bool)
     requires { (parts.board ≡ N.board) × (parts.row ≡ N.poll_row) }
     ensures { Begins N.board N.poll_row result.0.value result.1 }
 {
     let Ok((system, armer)) = SharedSystem::<N>::new(alloc, parts) else {
-        return (Loose::none(alloc), false);
+        return (RawBox::none(alloc), false);
     };
-    let Ok(steps) = Steps::new(alloc, armer, system.row()) else {
-        return (Loose::none(alloc), false);
+    let Ok(steps) = CoordinatorCore::new(alloc, armer, system.row()) else {
+        return (RawBox::none(alloc), false);
     };
     match Arc::new(alloc, system) {
         Ok(shared) => begun(alloc, shared, steps),
-        Err(_) => (Loose::none(alloc), false),
+        Err(_) => (RawBox::none(alloc), false),
     }
 }
 
 fn begun<N: Name>(
     alloc: Global,
     system: Arc<SharedSystem<N>>,
-    steps: Steps<N>,
-) -> (Loose<Party<N>, Global>, bool)
+    steps: CoordinatorCore<N>,
+) -> (RawBox<Party<N>, Global>, bool)
     requires { steps ≡ held_nothing N.poll_row N.board.places }
     ensures { Begins N.board N.poll_row result.0.value result.1 }
 {
     let party = Party::coordinator(alloc, system, steps);
     match Box::new(alloc, party) {
-        Ok(boxed) => (Loose::of(boxed), true),
-        Err(_) => (Loose::none(alloc), false),
+        Ok(boxed) => (RawBox::of(boxed), true),
+        Err(_) => (RawBox::none(alloc), false),
     }
 }
 
 // The party goes.
-fn free<N: Name>(parts: Loose<Party<N>, Global>) -> bool
+fn free<N: Name>(parts: RawBox<Party<N>, Global>) -> bool
     requires { is_some parts.value ≡ true }
     ensures { result ≡ true }
 {
@@ -111,7 +111,7 @@ fn free<N: Name>(parts: Loose<Party<N>, Global>) -> bool
 impl Handle {
     // Does an act of the party, where it lies.
     #[inline(always)]
-    fn obey(&mut self, act: Act) -> Result<u64, Fault>
+    fn dispatch(&mut self, act: Act) -> Result<u64, Fault>
         requires { is_some self.old.value ≡ true }
         ensures { Obeys self.old.board.places self.old.value act result self.new.value
             × (self.new.board ≡ self.old.board)
@@ -129,17 +129,17 @@ impl Handle {
             × (result.1.0.board ≡ self.board) × (result.1.0.row ≡ self.row) }
     {
         let Handle { at, alloc } = self;
-        let (parts, more) = fork::<Brand>(Loose {
+        let (parts, more) = fork::<Brand>(RawBox {
             at: at as *mut Party<Brand>,
             alloc,
         });
         let (other, made) = more;
-        let Loose { at, alloc } = parts;
+        let RawBox { at, alloc } = parts;
         let back = Handle {
             at: at as *mut u8,
             alloc,
         };
-        let Loose { at, alloc } = other;
+        let RawBox { at, alloc } = other;
         let kept = Handle {
             at: at as *mut u8,
             alloc,
@@ -152,7 +152,7 @@ impl Handle {
             × (result.0.board ≡ parts.board) }
     {
         let (other, made) = make::<Brand>(alloc, parts);
-        let Loose { at, alloc } = other;
+        let RawBox { at, alloc } = other;
         let kept = Handle {
             at: at as *mut u8,
             alloc,
@@ -165,7 +165,7 @@ impl Handle {
         ensures { result ≡ true }
     {
         let Handle { at, alloc } = self;
-        free::<Brand>(Loose {
+        free::<Brand>(RawBox {
             at: at as *mut Party<Brand>,
             alloc,
         })
@@ -184,13 +184,13 @@ impl Handle {
 /// The place of a party in C's memory. All zeros, it has none.
 #[repr(C)]
 #[derive(Drop)]
-pub struct Place {
+pub struct CHandle {
     made: bool,
     pub handle: Handle,
     pub ghost tied: { made ≡ is_some handle.value },
 }
 
-impl Place {
+impl CHandle {
     pub(crate) fn is_made(&self) -> bool
         ensures { result ≡ is_some self.now.handle.value }
     {
@@ -198,10 +198,10 @@ impl Place {
     }
 
     #[inline(always)]
-    fn none(alloc: Global) -> Place
+    fn none(alloc: Global) -> CHandle
         ensures { result.handle.value ≡ None }
     {
-        Place {
+        CHandle {
             made: false,
             handle: Handle::none(alloc),
         }
@@ -213,7 +213,7 @@ impl Place {
             × (result.board ≡ self.old.handle.board) × (result.row ≡ self.old.handle.row) }
         ensures none { self.new.handle.value ≡ None }
     {
-        replace(self, Place::none(alloc)).handle
+        replace(self, CHandle::none(alloc)).handle
     }
 
     #[inline(always)]
@@ -222,12 +222,12 @@ impl Place {
         ensures { (self.new.handle.value ≡ handle.value) × (self.new.handle.board ≡ handle.board)
             × (self.new.handle.row ≡ handle.row) }
     {
-        *self = Place { made, handle };
+        *self = CHandle { made, handle };
     }
 
     /// Does an act of the party that is here.
     #[inline(always)]
-    pub(crate) fn obey(&mut self, act: Act) -> Result<u64, Fault>
+    pub(crate) fn dispatch(&mut self, act: Act) -> Result<u64, Fault>
         ensures said { Answers self.old.handle.board.places self.old.handle.value act result
             self.new.handle.value }
         ensures same { (self.new.handle.board ≡ self.old.handle.board)
@@ -236,11 +236,11 @@ impl Place {
         if !self.made {
             return Err(Fault::NotThis);
         }
-        self.handle.obey(act)
+        self.handle.dispatch(act)
     }
 
     /// Puts another party to the same system into the other place.
-    pub(crate) fn fork(&mut self, alloc: Global, other: &mut Place) -> Result<u64, Fault>
+    pub(crate) fn fork(&mut self, alloc: Global, other: &mut CHandle) -> Result<u64, Fault>
         requires { is_some other.old.handle.value ≡ false }
 
         ensures kept { self.new.handle.value ≡ self.old.handle.value }

@@ -7,6 +7,6 @@ pub mod asks;
 mod codes;
 pub mod coordinators;
 pub mod handle;
-mod loose;
+mod raw_box;
 pub mod systems;
 pub mod threads;

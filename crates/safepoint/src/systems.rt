@@ -3,7 +3,7 @@ ghost use Rattle.std.specs.Prelude.{◌≡◌, ◌≢◌, None, pos};
 ghost use Rattle.safepoint.specs.Told.{IsBegun, IsFresh};
 
 use crate::codes::{BAD_SIZE, MADE, NO_MEMORY, code_of};
-use crate::handle::Place;
+use crate::handle::CHandle;
 use std::alloc::Global;
 use thread_list::{Parts, PartsFault};
 
@@ -11,7 +11,7 @@ use thread_list::{Parts, PartsFault};
 #[unsafe(no_mangle)]
 pub extern "C" fn sp_make(
     alloc: Global,
-    coordinator: &mut Place,
+    coordinator: &mut CHandle,
     places: usize,
     slots: usize,
     methods: usize,
@@ -35,7 +35,7 @@ pub extern "C" fn sp_make(
 
 /// Another party to the same system.
 #[unsafe(no_mangle)]
-pub extern "C" fn sp_fork(alloc: Global, party: &mut Place, other: &mut Place) -> i64
+pub extern "C" fn sp_fork(alloc: Global, party: &mut CHandle, other: &mut CHandle) -> i64
     ensures same { party.new.handle.value ≡ party.old.handle.value }
     ensures fresh { result ≡ pos 0 → IsFresh other.new.handle.value
         × (other.new.handle.board ≡ party.old.handle.board)
@@ -50,7 +50,7 @@ pub extern "C" fn sp_fork(alloc: Global, party: &mut Place, other: &mut Place) -
 
 /// The party goes.
 #[unsafe(no_mangle)]
-pub extern "C" fn sp_free(alloc: Global, party: &mut Place)
+pub extern "C" fn sp_free(alloc: Global, party: &mut CHandle)
     ensures { party.new.handle.value ≡ None }
 {
     party.free(alloc)

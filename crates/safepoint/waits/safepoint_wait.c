@@ -363,13 +363,14 @@ static int64_t work_handshake(struct drive *it) {
 
 /* Works the oldest open request to its Close, once all are told. */
 static int64_t work_told(struct drive *it) {
-    int64_t kind;
-    SP_WAIT(kind, sp_operate(it->coordinator));
-    if (kind == SP_NOT_OF) return work_handshake(it);
-    if (kind == SP_NOT_ALL_HELD) kind = work_census(it);
-    if (kind < 0 && kind != SP_ALREADY_DONE) return kind;
-    SP_WAIT(kind, sp_close(it->coordinator));
-    return kind;
+    int64_t answer;
+    SP_WAIT(answer, sp_open_kind(it->coordinator));
+    if (answer == SP_NONE) return SP_NOTHING_OPEN;
+    if (answer == SP_HANDSHAKE) return work_handshake(it);
+    if (answer == SP_CENSUS) answer = work_census(it);
+    if (answer < 0 && answer != SP_ALREADY_DONE) return answer;
+    SP_WAIT(answer, sp_close(it->coordinator));
+    return answer;
 }
 
 /* Works the oldest open request, and all others that are open too, as far as they are wanted: the number of the one, or why not. The number that

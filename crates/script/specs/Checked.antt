@@ -3,7 +3,8 @@ use Rattle.std.specs.Prelude.{ℕ, ◌+◌, ◌<◌, ◌≤◌, List, [], ◌∷
 use Rattle.script.specs.Body.{Body, finish, act, loop}
 use Rattle.script.specs.Layout.{IsActionInRange}
 
--- in a script of so many methods and inside so many loops, each call is of a method that is there, and each loop has 1 to 1,000,000 turns and stands in less than 8 others
+-- in a script of so many methods and inside so many loops, each call is of a method that exists, and each loop has 1 to 1,000,000 turns and
+-- is nested in fewer than 8 others
 abbrev pub IsChecked : ℕ → ℕ → Body → Type 0
 IsChecked methods level finish = ⊤
 IsChecked methods level (act a rest) = IsActionInRange methods a × IsChecked methods level rest

@@ -30,7 +30,7 @@ abbrev pub method_count : Option Items → ℕ
 method_count None = 0
 method_count (Some ds) = count (outline ds)
 
--- those of the methods from number m on
+-- the faults of the methods from number m on
 abbrev pub methods_faults : ℕ → ℕ → Items → List ScriptFault
 methods_faults m before no_items = []
 methods_faults m before (item d ds) = method_faults m before (as_array d) ++ methods_faults (m + 1) (before + method_count (as_array d)) ds
@@ -44,7 +44,7 @@ abbrev pub document_faults_of : Option Items → List ScriptFault
 document_faults_of None = Refused BadShape [] ∷ []
 document_faults_of (Some ds) = number_faults (items_len ds) ++ methods_faults 0 0 ds
 
--- those of a JSON value
+-- the faults of a JSON value
 abbrev pub document_faults : Data → List ScriptFault
 document_faults d = document_faults_of (methods_in d)
 

@@ -23,7 +23,8 @@ IsActionInRange methods Block = ⊤
 IsActionInRange methods Tick = ⊤
 IsActionInRange methods (Call m) = m < methods
 
--- a step of a script of so many methods: a call is of one of them, and a loop starts at its end or before, has 1 to 1,000,000 turns, and stands in less than 8 others
+-- a step of a script of so many methods: a call is of one of them; a loop starts at its end or before, has 1 to 1,000,000 turns, and is
+-- nested in fewer than 8 others
 abbrev pub IsInRange : ℕ → ℕ → Op → Type 0
 IsInRange methods at (op.Action a) = IsActionInRange methods a
 IsInRange methods at (op.Edge turns start level) = (start ≤ at) × (0 < turns) × (turns ≤ 1000000) × (level < 8)

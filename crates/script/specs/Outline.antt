@@ -1,4 +1,4 @@
--- What a JSON array is as a body: as a body, but that it also has the places of values that are no items.
+-- What a JSON array is as a body: a body that also keeps the places of values that are no items.
 use Rattle.std.specs.Prelude.{ℕ, suc, ◌+◌}
 use Rattle.script.specs.declared.items.Action.{Action}
 use Rattle.script.specs.Body.{Body, finish, act, loop}

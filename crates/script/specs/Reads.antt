@@ -19,7 +19,7 @@ Spells d bs = option_map method_outlines (methods_in d) ≡ Some (map some_sound
 abbrev pub longest : ℕ
 longest = 1048576
 
--- the script that a JSON value is, which has no fault, or its first fault, or a want of memory
+-- the script that a faultless JSON value is, or the value's first fault, or that memory was refused
 abbrev pub ReadsDocument : Data → Result Script ScriptFault → Type 0
 ReadsDocument d (Ok s) = Spells d (bodies s) × (document_faults d ≡ [])
 ReadsDocument d (Err e) = IsFirst (document_faults d) e
@@ -31,7 +31,7 @@ IsJson text d = IsUtf8 text × (read text ≡ Some d)
 abbrev pub IsNoJson : List ℕ → Type 0
 IsNoJson text = IsUtf8 text → read text ≡ None
 
--- the script that a text is, which has no fault, or the text's first fault, or a want of memory
+-- the script that a faultless text is, or the text's first fault, or that memory was refused
 abbrev pub Reads : List ℕ → Result Script ScriptFault → Type 0
 Reads text (Ok s) = (d : Data) × IsJson text d × Spells d (bodies s) × (document_faults d ≡ [])
 Reads text (Err e) =

@@ -1,4 +1,4 @@
--- How a fault and its place are told.
+-- How a fault and its place are printed.
 use Rattle.std.specs.Prelude.{ℕ, codes, decimal, List, [], ◌∷◌, ◌++◌}
 use Rattle.std.specs.List.{flat_map}
 use Rattle.script.specs.declared.fault.Fault.{Fault}

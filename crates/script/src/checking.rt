@@ -15,10 +15,10 @@ use std::alloc::Global;
 /// The most turns of a loop.
 pub const MAX_TURNS: u64 = 1_000_000;
 
-/// A loop stands in less than so many others.
+/// A loop is nested in fewer than so many others.
 pub const MAX_LEVELS: usize = 8;
 
-/// A script as flat code, or its first fault. `NoMemory` comes only where a growth was refused.
+/// A script as flat code, or its first fault. `NoMemory` is returned only if a growth was refused.
 pub fn check(alloc: Global, script: &Script) -> Result<Code, ScriptFault>
     ensures code { IfOk result (λ code. code ≡ map routine (bodies script.now)) }
     ensures clean { OnOk result (script_faults (bodies script.now) ≡ []) }

@@ -7,8 +7,8 @@ use std::marker::Model;
 #[derive(Clone, Copy, Debug, PartialEq, Eq)]
 pub enum Op {
     Action(Action),
-    /// The end of a turn of a loop of so many turns, whose body starts at that step of the method, and
-    /// which stands in so many other loops.
+    /// The end of a turn of a loop of so many turns. The loop's body starts at that step of the method, and
+    /// the loop is nested in so many others.
     Edge {
         turns: u64,
         start: usize,
@@ -48,8 +48,8 @@ impl Routine {
 
 /// A checked script as flat code. Contracts see it as its methods' lists of steps.
 ///
-/// It can be run without a test: each call is of a method that is there, and each loop starts at its end or
-/// before, has 1 to 1,000,000 turns, and stands in less than 8 others.
+/// It can be run without a test: each call is of a method that exists, and each loop starts at its end or
+/// before, has 1 to 1,000,000 turns, and is nested in fewer than 8 others.
 #[derive(Debug, Drop)]
 pub struct Code {
     methods: Vec<Routine>,
@@ -84,7 +84,7 @@ impl Code {
         self.methods.len()
     }
 
-    /// The step of that number of a method; none at the method's end.
+    /// The step of that number in a method; none at the method's end.
     pub fn op(&self, method: usize, at: usize) -> Option<Op>
         ensures value { result ≡ option_and_then (λ r. slice_get r at) (slice_get self.now method) }
         ensures in_range { IfSome result (IsInRange (length self.now) at) }

@@ -10,7 +10,7 @@ pub enum Fault {
     TooLong,
     /// The text isn't one JSON value.
     NotJson,
-    /// No script, method or item is written so.
+    /// The value spells no script, method or item.
     BadShape,
     /// There is no method.
     NoMethods,
@@ -26,7 +26,7 @@ pub enum Fault {
     TooDeep,
 }
 
-/// Why a text isn't read as a script, or a script isn't code.
+/// Why a text is no script, or a script can't become code.
 #[derive(Debug, Drop)]
 pub enum ScriptFault {
     /// The first fault in the order of the document, and where it is.

@@ -1,4 +1,4 @@
-/// What one item does that isn't a loop.
+/// The action of an item that isn't a loop.
 #[derive(Clone, Copy, Debug, PartialEq, Eq)]
 pub enum Action {
     /// Into native code and back.
@@ -7,7 +7,7 @@ pub enum Action {
     Vm,
     /// A wait, from inside the VM.
     Block,
-    /// A tick for whoever watches the run.
+    /// A tick for an observer of the run.
     Tick,
     /// A call of the method of this number.
     Call(u64),
@@ -26,7 +26,7 @@ pub struct Method {
     pub items: Vec<Item>,
 }
 
-/// A script as its text says it. Running starts with method 0. Nothing is checked of calls and loops.
+/// A script as its text spells it. A run starts with method 0. Calls and loops aren't checked yet.
 #[derive(Debug, Drop)]
 pub struct Script {
     pub methods: Vec<Method>,

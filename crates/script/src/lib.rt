@@ -1,5 +1,5 @@
-//! Scripts for threads: what a text of JSON says as a script, and that script as checked code.
-//! `commands` checks scripts by it, and `interp` and `workers` run what it checked.
+//! Scripts for threads: reads a text of JSON as a script, and checks the script into flat code.
+//! `cli` checks scripts with it, and `interp` and `workers` run the code that it checked.
 //! Read `src/reading.rt` first, then `specs/Checks.antt` and `docs/start/SCRIPTS.md`.
 #![tactic(auto)]
 

@@ -59,7 +59,7 @@ impl Place {
         Ok(())
     }
 
-    /// Goes back to what this place is in; from the document, nowhere.
+    /// Goes back to the place that this one is in. The document's place doesn't change.
     pub fn leave(&mut self)
         ensures { self.new ≡ take (length self.old - 1) self.old }
     {

@@ -26,7 +26,8 @@ pub const MAX_METHODS: usize = 256;
 /// The most items of a script, those of loops' bodies among them.
 pub const MAX_ITEMS: usize = 65_536;
 
-/// The script that a text of JSON is, or its first fault. `NoMemory` comes only where a growth was refused.
+/// The script that a text of JSON is, or its first fault. `NoMemory` is returned only if a growth was
+/// refused.
 pub fn read_script(alloc: Global, text: &[u8]) -> Result<Script, ScriptFault>
     ensures too_long { longest < length text.now → result ≡ Err (Refused TooLong []) }
     ensures reads { length text.now ≤ longest → Reads text.now result }

@@ -13,7 +13,7 @@ pub enum Shape<'a> {
     Loop { turns: u64, body: &'a Vec<Value> },
 }
 
-/// The item that a JSON value is; none where no item is written so.
+/// The item that a JSON value spells; none if it spells no item.
 pub fn shape_of(value: &Value) -> Option<Shape<'_>>
     ensures { option_map shape_view result ≡ shape (view value.now) }
 {

@@ -5,7 +5,7 @@ use crate::place::Place;
 use std::alloc::Global;
 use std::mem;
 
-/// Where a reader stands in the document, and how many items it has read.
+/// The place of a reader in the document, and how many items it has read.
 #[derive(Drop)]
 pub struct Walk {
     pub alloc: Global,

@@ -1,5 +1,5 @@
 //! What the safepoint and handshake coordinator does: its events, its answers, and the system that answers them.
-//! `replay` feeds it lines, and `tie` and `side_schedule` hold the running layer against it.
+//! `replay` feeds it lines, and `tie` and `differential_schedule` hold the running layer against it.
 //! Read `crates/system/README.md` first, then `src/machine.rt` (`run`) and `specs/Step.antt`.
 #![tactic(auto)]
 

@@ -5,7 +5,7 @@ use denote.Param.Send.{IsSend, IsSync, owning_send, sendable}
 use Rattle.std.proofs.Crossing.{crosses}
 use Rattle.std.proofs.MapsCrossing as maps
 use Rattle.bodies.specs.declared.name.Name as name
-use Rattle.operations.specs.declared.job.errands.Errand as errand
+use Rattle.operations.specs.declared.job.handshake_ops.HandshakeOp as errand
 use Rattle.board.proofs.board.Board.TheSendSync as board
 use Rattle.board.proofs.keeper.Keeper.TheSendSync as keeper
 use Rattle.poll.proofs.row.PollRow.TheSendSync as row
@@ -18,7 +18,7 @@ use Rattle.desk.proofs.replies.Replies.TheSendSync as replies
 use Rattle.method_table.specs.contracts.history.History as History
 use Rattle.method_table.specs.contracts.table.MethodTable as MethodTable
 use Rattle.desk.specs.contracts.codes.Codes as Codes
-use Rattle.desk.specs.contracts.past.Past as Past
+use Rattle.desk.specs.contracts.ghost_history.Past as Past
 use Rattle.desk.specs.contracts.log.Log as Log
 use Rattle.desk.specs.contracts.desk.Desk as Desk
 use Rattle.berths.specs.contracts.room.Holder as Holder

@@ -4,3 +4,4 @@ pub mod Turned
 pub mod Made
 pub mod Crosses
 pub mod InOrder
+pub mod Answering

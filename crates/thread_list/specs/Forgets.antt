@@ -3,12 +3,13 @@ use Rattle.std.specs.Prelude.{◌≡◌, length, ◌+◌}
 use Rattle.desk.specs.Fields.{DeskSeen, at}
 use Rattle.desk.specs.Pending.{least_pending}
 
--- The desk before and behind.
+-- The desk before and after.
 pub record Forgetting : Type 0 where
   pub before : DeskSeen
   pub after : DeskSeen
 
--- No entry is stored any more, no reply of what comes before all that is open or waits, and the desk is as it was otherwise.
+-- No entry is stored any more, nor a reply of any operation before the first that is open or queued. All else of the desk is
+-- unchanged.
 pub record Forgets (f : Forgetting) : Type 0 where
   pub history : f.after.book.history ≡ f.before.book.history
   pub reserved : f.after.book.reserved ≡ f.before.book.reserved

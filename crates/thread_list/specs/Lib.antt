@@ -1,6 +1,8 @@
 pub mod Forgets
 pub mod Hinted
 pub mod Moves
+pub mod Steps
+pub mod Rooms
 pub mod Refused
 pub mod Sized
 pub mod Sharing

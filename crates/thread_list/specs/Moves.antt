@@ -1,4 +1,4 @@
--- What contracts see of a mutator, what its type keeps, and what a poll leads to.
+-- What contracts see of a running thread, and what a poll leads to.
 use Rattle.std.specs.Prelude.{◌≡◌, ◌≢◌, ◌⊎◌, ◌<◌, ◌==◌, ◌++◌, ◌∷◌, [], ℕ, Option, Some, None, Bool, true, false, if◌then◌else◌, IfSome}
 use Rattle.thread_state.specs.declared.State.{State}
 use Rattle.thread_state.specs.declared.State.TheVariants.{InJava, InVm, AtPoll}
@@ -19,9 +19,9 @@ use Rattle.berths.specs.declared.room.BodyAct.TheVariants.{MovedIn, Given, Resum
 use Rattle.thread_list.specs.declared.polls.Poll.{Poll}
 use Rattle.thread_list.specs.declared.polls.Poll.TheVariants.{Go, Stop}
 
--- What contracts see of a mutator: its name and place, its state, its body where it has it in hand, how many methods there are, and how its
--- body last went: into its berth on the way into native code or a wait, or out of it from there, at its start, or where an exit was
--- refused after it had served.
+-- What contracts see of a running thread: its name and place, its state, its body while it has that in hand, how many methods
+-- there are, and how its body last moved. It went into its berth on the way into native code or a wait, or in a stop by steps; or
+-- it came out again from there, at the start, or where an exit was refused after the thread had served.
 pub record Running : Type 0 where
   pub name : ℕ
   pub place : ℕ
@@ -30,7 +30,7 @@ pub record Running : Type 0 where
   pub body : Option BodyView
   pub crossed : Moved
 
--- The thread has its body in hand in these states. In all others that a mutator is in, the body is in its berth or held.
+-- The states in which a thread owns itself between its calls.
 abbrev pub owns : State → Bool
 owns InJava = true
 owns InVm = true
@@ -52,7 +52,7 @@ abbrev pub is_there : Option BodyView → Bool
 is_there None = false
 is_there (Some p) = true
 
--- A thread that hasn't its body in hand has the receipt that its berth took it.
+-- A thread without its body in hand has the receipt that its berth took the body.
 abbrev pub IsGiven : ℕ → ℕ → Option BodyView → Moved → Type 0
 IsGiven name place (Some p) crossed = Unit {0}
 IsGiven name place None crossed = Went place name Given crossed
@@ -63,38 +63,26 @@ pub record IsFirst (name : ℕ) (seat : SpareView) (body : BodyView) : Type 0 wh
   pub empty : image.frames ≡ []
   pub published : IsPublished (record { name = name; image = image; seat = seat.seat; poller = seat.poller }) body
 
--- What a mutator keeps: a body is the thread's own, the thread has it in hand in the states in which it owns itself, its name and its
--- first body, with an empty stack and published once, went into its berth when it started, and a body that it hasn't in hand went there since.
-pub record IsRunning (places name place : ℕ) (state : State) (body : Option BodyView) (seat : SpareView) (moved_in crossed : Moved) : Type 0 where
-  pub own : IsOf name place body
-  pub there : owns state ≡ true → is_there body ≡ true
-  pub named : 0 < name
-  pub seated : place < places
-  pub moved_in_there : Went place name MovedIn moved_in
-  pub moved_in_empty : moved_in.body.image.frames ≡ []
-  pub moved_in_first : IsFirst name seat moved_in.body
-  pub given_there : IsGiven name place body crossed
-
 -- It is the same thread: what no call changes.
 abbrev pub SameThread : Running → Running → Type 0
 SameThread old new = (new.name ≡ old.name) × (new.place ≡ old.place) × (new.methods ≡ old.methods)
 
--- A frame of the method goes on the stack, by the code of the hint where that is found in use.
+-- A frame of the method goes on the stack, by the hint's code if that is found in use.
 abbrev pub Calls : Running → Running → ℕ → Option CodeId → Called → Type 0
 Calls old new method hint said
     = (before : BodyView) × (after : BodyView) × (old.body ≡ Some before) × (new.body ≡ Some after)
     × IsCalled before after method hint said × (after.name ≡ before.name) × (after.poller ≡ before.poller)
 
--- A frame of the method goes on the stack, by a hint whose slot is one of so many, or by none.
+-- A frame of the method goes on the stack, by a hint whose slot is below `slots`, or by none.
 abbrev pub CallsByHint : ℕ → Running → Running → ℕ → Called → Type 0
 CallsByHint slots old new method said
     = (hint : Option CodeId) × IfSome hint (λ c. c.slot < slots) × Calls old new method hint said
 
--- What a poll answers that found this number: go on at 0, otherwise stop for it.
+-- The answer of a poll that found this number: go on at 0, otherwise stop for it.
 abbrev pub poll_of : ℕ → Poll
 poll_of n = if n == 0 then Go else Stop n
 
--- A thread polls on its way from a state: where the poll leads by what it found, and what it answers.
+-- A thread polls on its way from a state: the state to which the poll leads by the number found, and the poll's answer.
 abbrev pub Crosses : State → ℕ → Poll → State → Type 0
 Crosses from found said to = (cross from (found == 0) ≡ Some to) × (said ≡ poll_of found)
 
@@ -126,33 +114,33 @@ IsCleared op old new
 abbrev pub IsOperated : ℕ → BodyView → BodyView → Type 0
 IsOperated op old new = (published : BodyView) × IsPublished old published × IsCleared op published new
 
--- A body was answered for: it was published, what a job of the number answered on it was entered, by its frames and by what the operation
--- asks, and then the operation was cleared for it.
+-- The body has a Finish: it was published, the answer of the job of this number was entered (by the body's frames and the
+-- operation's ask), and then the operation was cleared for it.
 pub record IsAnswered (number : ℕ) (old : BodyView) (finish : FinishSeen) (new : BodyView) : Type 0 where
   pub published : IsPublished old finish.body
   pub entered : finish.stands.entry ≡ Entry.Finish number old.name (reply finish.ask old.image.frames)
   pub cleared : IsCleared number finish.body new
 
--- A turn of a thread that has stopped: its body came out of its berth to serve and was published, and where a job came with it, the
--- body was answered for, by what that job asks.
+-- A turn of a stopped thread: its body came out of its berth to serve and was published. Where a job came with it, the body got a
+-- Finish with the answer to that job's ask.
 abbrev pub IsTurn : ℕ → ℕ → Moved → Option FinishSeen → BodyView → Type 0
 IsTurn place name out None after = Went place name (Served None) out × IsPublished out.body after
 IsTurn place name out (Some finish) after
     = (job : ToldJob) × (0 < job.number) × Went place name (Served (Some job)) out × (finish.ask ≡ job.ask) × IsAnswered job.number out.body finish after
 
--- Of a stop's turns the first, which is the last where there was one alone.
+-- The first turn of a stop, which is also the last if there was only one.
 abbrev pub first_of : Option Outed → Outed → Outed
 first_of None last = last
 first_of (Some first) last = first
 
--- A thread that has stopped, behind a turn: how its body went in its first turn and in its last, what it entered there, and the body.
+-- A stopped thread after a turn: how its body moved in the first turn and in the last, the Finish entered there, and the body.
 pub record Stopping : Type 0 where
   pub first : Outed
   pub last : Outed
   pub finish : Option FinishSeen
   pub body : BodyView
 
--- Behind a turn that began with this body.
+-- The state after a turn that began with this body.
 abbrev pub TakesTurn : BodyView → Stopping → Type 0
 TakesTurn before t = (t.last.given ≡ moved before Given) × IsTurn before.seat.place before.name t.last.out t.finish t.body
 
@@ -169,12 +157,12 @@ IsLastTurn place name last finish new
 abbrev pub Gives : Running → Running → Type 0
 Gives old new = (before : BodyView) × (old.body ≡ Some before) × (new.body ≡ None) × (new.crossed ≡ moved before Given)
 
--- A thread that has this body back polls, and goes on where its way back leads, or stops there.
+-- A thread that got this body back polls, and continues where `back` leads, or stops there.
 abbrev pub GoesBack : BodyView → Running → Back → Poll → Type 0
 GoesBack body new back said
     = (found : ℕ) × (new.body ≡ Some (as_polled body found)) × (either (found == 0) (state_of back) back ≡ Some new.state) × (said ≡ poll_of found)
 
--- As `GoesBack`, said of the state in which the thread polls.
+-- As `GoesBack`, by the state in which the thread polls.
 abbrev pub ComesBack : BodyView → Running → State → Poll → Type 0
 ComesBack body new from said
     = (found : ℕ) × (new.body ≡ Some (as_polled body found)) × (cross from (found == 0) ≡ Some new.state) × (said ≡ poll_of found)
@@ -188,7 +176,7 @@ abbrev pub HasServed : ℕ → ℕ → Moved → BodyView → Type 0
 HasServed place name out body
     = (given : Moved) × (finish : Option FinishSeen) × IsLastTurn place name (record { given = given; out = out }) finish body
 
--- The body came out of its berth for its thread to go on, and a poll let it; or it came out to serve, and a poll after that did.
+-- The body came out of its berth for its thread to continue, and a poll let it; or it came out to serve, and a later poll let it.
 abbrev pub GoesOn : ℕ → ℕ → Moved → BodyView → Type 0
 GoesOn place name out body
     = (Went place name Resumed out × (body ≡ as_polled out.body 0)) ⊎ HasServed place name out body
@@ -201,7 +189,7 @@ IsStarted new body = GoesOn new.place new.name new.crossed body
 abbrev pub IsVacated : ℕ → ℕ → Moved → Type 0
 IsVacated place name m = Went place name Vacated m × (m.body.image.frames ≡ []) × IsSettled m.body.image
 
--- A thread that served and whose stack has frames then goes on with the body that came out of its berth.
+-- A thread that served, and whose stack then has frames, continues with the body that came out of its berth.
 abbrev pub IsKept : ℕ → ℕ → Moved → Option BodyView → Type 0
 IsKept place name out None = true ≡ false
 IsKept place name out (Some body) = HasServed place name out body

@@ -1,14 +1,20 @@
 -- Why a call of a mutator is refused: its own test holds, and those before it don't.
 use Rattle.std.specs.Prelude.{◌≡◌, ◌≢◌, ◌<◌, ◌≤◌, ℕ, true, false, [], Option, Some, None, length}
 use Rattle.thread_state.specs.declared.State.TheVariants.{InJava}
-use Rattle.bodies.specs.Bodies.{BodyView}
-use Rattle.thread_list.specs.Moves.{Running, is_running}
-use Rattle.thread_list.specs.declared.mutator.CallFault.{CallFault}
-use Rattle.thread_list.specs.declared.mutator.CallFault.TheVariants as call
-use Rattle.thread_list.specs.declared.waits.ExitFault.{ExitFault}
-use Rattle.thread_list.specs.declared.waits.ExitFault.TheVariants as exit
-use Rattle.thread_list.specs.declared.mutator.ReturnFault.{ReturnFault}
-use Rattle.thread_list.specs.declared.mutator.ReturnFault.TheVariants as returns
+use Rattle.thread_state.specs.declared.Back.TheVariants.{Java}
+use Rattle.bodies.specs.Bodies.{BodyView, IsPublished}
+use Rattle.berths.specs.Berths.{Berthing}
+use Rattle.thread_list.specs.Moves.{Running, GoesBack, is_running}
+use Rattle.thread_list.specs.Rooms.{KeepsName}
+use Rattle.thread_list.specs.declared.ends.VacateFault.{VacateFault}
+use Rattle.thread_list.specs.declared.ends.VacateFault.TheVariants as vacate
+use Rattle.thread_list.specs.declared.polls.Poll.{Poll}
+use Rattle.thread_list.specs.declared.faults.CallFault.{CallFault}
+use Rattle.thread_list.specs.declared.faults.CallFault.TheVariants as call
+use Rattle.thread_list.specs.declared.faults.ExitFault.{ExitFault}
+use Rattle.thread_list.specs.declared.faults.ExitFault.TheVariants as exit
+use Rattle.thread_list.specs.declared.faults.ReturnFault.{ReturnFault}
+use Rattle.thread_list.specs.declared.faults.ReturnFault.TheVariants as returns
 
 -- The stack has no room for a frame.
 abbrev pub IsDeep : Option BodyView → Type 0
@@ -45,3 +51,14 @@ HasFrames (Some p) = 0 < length p.image.frames
 abbrev pub exit_refused : Running → ExitFault → Type 0
 exit_refused m (exit.Illegal s) = (s ≡ m.state) × (is_running m.state ≡ false)
 exit_refused m exit.StackNotEmpty = (is_running m.state ≡ true) × HasFrames m.body
+
+-- A thread published its empty stack, and polled on its way into Java.
+abbrev pub PollsOn : Running → Running → Poll → Type 0
+PollsOn old new said
+    = (new.crossed ≡ old.crossed)
+    × ((before : BodyView) × (published : BodyView) × (old.body ≡ Some before) × (before.image.frames ≡ []) × IsPublished before published × GoesBack published new Java said)
+
+-- Why a thread doesn't give its place up, and what it is then: as it was, or it has polled, since its room doesn't let it go.
+abbrev pub vacate_refused : {N : Type 0} → Berthing N → Running → Running → VacateFault → Type 0
+vacate_refused room m n (vacate.Refused fault) = exit_refused m fault × (n ≡ m)
+vacate_refused room m n (vacate.Told said) = (is_running m.state ≡ true) × KeepsName room m.name m.place × PollsOn m n said

@@ -1,15 +1,15 @@
--- How faults are told.
+-- The texts of faults.
 use Rattle.std.specs.Prelude.{ℕ, List, ◌++◌, codes}
 use Rattle.thread_state.specs.declared.State.{State}
 use Rattle.thread_state.specs.StateText.{state_text}
-use Rattle.thread_list.specs.declared.mutator.CallFault.{CallFault}
-use Rattle.thread_list.specs.declared.mutator.CallFault.TheVariants as call
-use Rattle.thread_list.specs.declared.mutator.ReturnFault.{ReturnFault}
-use Rattle.thread_list.specs.declared.mutator.ReturnFault.TheVariants as returns
+use Rattle.thread_list.specs.declared.faults.CallFault.{CallFault}
+use Rattle.thread_list.specs.declared.faults.CallFault.TheVariants as call
+use Rattle.thread_list.specs.declared.faults.ReturnFault.{ReturnFault}
+use Rattle.thread_list.specs.declared.faults.ReturnFault.TheVariants as returns
 use Rattle.thread_list.specs.declared.parts.PartsFault.{PartsFault}
 use Rattle.thread_list.specs.declared.parts.PartsFault.TheVariants.{BadSize, NoMemory}
-use Rattle.thread_list.specs.declared.waits.ExitFault.{ExitFault}
-use Rattle.thread_list.specs.declared.waits.ExitFault.TheVariants as exit
+use Rattle.thread_list.specs.declared.faults.ExitFault.{ExitFault}
+use Rattle.thread_list.specs.declared.faults.ExitFault.TheVariants as exit
 
 -- A thread isn't in Java, but in this state.
 abbrev pub not_in_java : State → List ℕ

@@ -6,7 +6,7 @@ use std::alloc::{AllocError, Global};
 use std::marker::Model;
 use std::sync::atomic::{AtomicU64, Ordering};
 
-// A word is the serial and the slot below it. A board has at most 1024 slots: so the last of these stands for no hint.
+// A word packs the serial above the slot. A board has at most 1024 slots, so the last slot number of a word means no hint.
 const SLOTS: u64 = 2048;
 
 const NO_HINT: u64 = SLOTS - 1;
@@ -31,7 +31,7 @@ impl Model for Hints {
 }
 
 impl Hints {
-    /// No hint for any method. The error is that memory was refused.
+    /// Makes hints that are empty for each method. The error is that memory was refused.
     pub fn new(alloc: Global, methods: u32, slots: u32) -> Result<Hints, AllocError>
         ensures { IfOk result (λ h. (h.methods ≡ methods) × (h.slots ≡ slots)) }
     {
@@ -62,7 +62,7 @@ impl Hints {
         self.slots
     }
 
-    /// The words as a thread has them.
+    /// The words, as a thread keeps them.
     #[inline(always)]
     pub(crate) fn words(&self) -> HintWords<'_>
         ensures { result ≡ self.now.methods }
@@ -72,8 +72,8 @@ impl Hints {
         }
     }
 
-    /// The code that was set last for the method, None without one, and where its slot isn't one of the board's. None without such a
-    /// method.
+    /// The code that was set last for the method: `None` if there is no such method, `Some(None)` if no code was set or its slot
+    /// isn't one of the board's.
     #[inline(always)]
     pub fn of(&self, method: u32) -> Option<Option<CodeId>>
         ensures there { OnSome result (method < self.now.methods) }
@@ -83,7 +83,7 @@ impl Hints {
         self.words().of(method, self.slots)
     }
 
-    /// The method's calls try this code first from now on.
+    /// From now on, calls of the method try this code first.
     pub fn set(&self, method: u32, code: CodeId) {
         if let Some(word) = self.words.get(method as usize) {
             word.store(
@@ -96,8 +96,8 @@ impl Hints {
     }
 }
 
-/// The words of the hints as a thread has them, by value: where they lie and how many they are can stand in registers while it calls.
-/// Contracts see how many they are.
+/// The hints' words as a thread keeps them, by value: their address and length can stay in registers while it calls. Contracts
+/// see how many they are.
 #[derive(Drop)]
 pub(crate) struct HintWords<'a> {
     words: &'a [AtomicU64],
@@ -112,7 +112,8 @@ impl<'a> Model for HintWords<'a> {
 }
 
 impl<'a> HintWords<'a> {
-    /// The code that was set last for the method, None without one, and where its slot isn't one of so many. None without such a method.
+    /// The code that was set last for the method: `None` if there is no such method, `Some(None)` if no code was set or its slot
+    /// isn't below `slots`.
     #[inline(always)]
     pub(crate) fn of(&self, method: u32, slots: u32) -> Option<Option<CodeId>>
         ensures there { OnSome result (method < self.now) }

@@ -1,66 +1,49 @@
-//! A thread's own part: what it calls while it runs, and waits for nobody.
+//! A thread's own part: the calls that it makes while it runs, which wait for nobody.
 ghost use Rattle.std.specs.Prelude.{◌≡◌, ◌≢◌, ◌<◌, ◌==◌, ◌++◌, ◌∷◌, [], ℕ, true, false, Some, None, IfOk, OnOk, OnErr, IfErr, IfSome, length, if◌then◌else◌};
 ghost use Rattle.thread_state.specs.declared.State.TheVariants.{InJava as IsInJava, InVm as IsInVm};
 ghost use Rattle.bodies.specs.Bodies.{BodyView, IsPublished};
 ghost use Rattle.thread_list.specs.Moves.{SameThread, Calls, CallsByHint, Polls, Leaves, is_running};
 ghost use Rattle.thread_list.specs.Refused.{call_accepted, call_refused, return_refused};
 
+use crate::faults::{CallFault, ReturnFault};
 use crate::hints::HintWords;
-use crate::own_part::OwnPart;
 use crate::polls::Poll;
+use crate::running_thread::RunningThread;
 use crate::shared::Shared;
 use bodies::{Called, Name};
 use frames::CodeId;
-use operations::job::Errand;
+use operations::job::HandshakeOp;
 use std::marker::Model;
 use thread_state::State;
 
-/// A running thread, as itself: its name, its state and, while it owns itself, its body. One that is dropped leaves its place
-/// taken.
+/// A running thread: its name, its state and, while it owns itself, its body. If it is dropped, its place stays taken.
 #[derive(Drop)]
-pub struct Mutator<'a, N: Name, J: Errand> {
+pub struct Mutator<'a, N: Name, J: HandshakeOp> {
     pub(crate) shared: &'a Shared<N, J>,
-    /// Its own words of what is shared, so that a call by a hint doesn't look there where they lie.
+    /// Its own copy of the hints' address and length, so that a call by a hint doesn't read them from the shared state.
     pub(crate) hints: HintWords<'a>,
-    pub(crate) own_part: OwnPart<N>,
+    pub(crate) thread: RunningThread<N>,
 }
 
-impl<'a, N: Name, J: Errand> Model for Mutator<'a, N, J> {
-    ghost use Rattle.std.specs.Prelude.{◌≡◌};
-    ghost use Rattle.thread_list.specs.Moves.{Running};
+impl<'a, N: Name, J: HandshakeOp> Model for Mutator<'a, N, J> {
+    ghost use Rattle.std.specs.Prelude.{◌≡◌, true};
+    ghost use Rattle.thread_list.specs.Moves.{Running, is_there, owns};
 
     ghost Value = { Running };
 
-    ghost view = { λ m. m.own_part };
+    ghost view = { λ m. m.thread };
 
-    ghost invariant = { λ m. (m.own_part.methods ≡ m.shared.now.methods)
-        × (m.hints ≡ m.shared.now.methods) };
+    ghost invariant = { λ m. (m.thread.methods ≡ m.shared.now.methods)
+        × (m.hints ≡ m.shared.now.methods)
+        × (owns m.thread.state ≡ true → is_there m.thread.body ≡ true) };
 }
 
-/// Why a thread doesn't enter a method, in the order of the tests.
-#[derive(Clone, Copy, PartialEq, Eq, Debug, Drop)]
-pub enum CallFault {
-    /// It isn't in Java.
-    Illegal(State),
-    NoSuchMethod,
-    /// Its stack has 256 frames.
-    DepthFull,
-}
-
-/// Why a thread doesn't return from a method, in the order of the tests.
-#[derive(Clone, Copy, PartialEq, Eq, Debug, Drop)]
-pub enum ReturnFault {
-    /// It isn't in Java.
-    Illegal(State),
-    EmptyStack,
-}
-
-impl<'a, N: Name, J: Errand> Mutator<'a, N, J> {
+impl<'a, N: Name, J: HandshakeOp> Mutator<'a, N, J> {
     /// The thread's name.
     pub fn name(&self) -> u64
         ensures { result ≡ self.now.name }
     {
-        self.own_part.name()
+        self.thread.name()
     }
 
     /// The place whose words are the thread's.
@@ -68,18 +51,18 @@ impl<'a, N: Name, J: Errand> Mutator<'a, N, J> {
         ensures value { result ≡ self.now.place }
         ensures bound { result < N.board.places }
     {
-        self.own_part.place()
+        self.thread.place()
     }
 
     /// The thread's state.
     pub fn state(&self) -> State
         ensures { result ≡ self.now.state }
     {
-        self.own_part.state()
+        self.thread.state()
     }
 
-    /// Enters a method: by the code of the hint where its entry is found in use, by one load, and otherwise, or without a
-    /// hint, as an interpreted frame.
+    /// Enters a method: by the code of the hint if one load finds its entry in use; otherwise, or without a hint, as an
+    /// interpreted frame.
     #[inline(always)]
     pub fn call(&mut self, method: u32, hint: Option<CodeId>) -> Result<Called, CallFault>
         requires slot { IfSome hint (λ c. c.slot < N.board.slots) }
@@ -90,11 +73,11 @@ impl<'a, N: Name, J: Errand> Mutator<'a, N, J> {
         ensures same { SameThread self.old self.new }
         ensures err { IfErr result (λ e. (self.new ≡ self.old) × call_refused self.old method e) }
     {
-        self.own_part.call(self.shared.board(), method, hint)
+        self.thread.call(self.shared.board(), method, hint)
     }
 
-    /// Enters a method by its hint, the code that was installed for it last, as `call` does: by that code where its entry is found in
-    /// use, by one load, and otherwise, or without a hint, as an interpreted frame.
+    /// Enters a method by its hint, the code that was installed for it last. As with `call`, it enters that code if one load
+    /// finds its entry in use; otherwise, or without a hint, it pushes an interpreted frame.
     #[inline(always)]
     pub fn call_by_hint(&mut self, method: u32) -> Result<Called, CallFault>
         ensures accepted { OnOk result (call_accepted self.old method) }
@@ -104,8 +87,7 @@ impl<'a, N: Name, J: Errand> Mutator<'a, N, J> {
         ensures err { IfErr result (λ e. (self.new ≡ self.old) × call_refused self.old method e) }
     {
         let (board, slots) = (self.shared.board(), self.shared.slots());
-        self.own_part
-            .call_by_hint(board, &self.hints, slots, method)
+        self.thread.call_by_hint(board, &self.hints, slots, method)
     }
 
     /// Returns from the method of the top frame, and polls: one load.
@@ -116,7 +98,7 @@ impl<'a, N: Name, J: Errand> Mutator<'a, N, J> {
         ensures same { SameThread self.old self.new }
         ensures err { IfErr result (λ e. (self.new ≡ self.old) × return_refused self.old e) }
     {
-        self.own_part.ret(self.shared.row())
+        self.thread.ret(self.shared.row())
     }
 
     /// A back edge of a loop: the thread polls, by one load. A thread that isn't in Java is refused with its state.
@@ -128,7 +110,7 @@ impl<'a, N: Name, J: Errand> Mutator<'a, N, J> {
         ensures err { IfErr result (λ s. (s ≡ self.old.state) × (s ≢ IsInJava)
             × (self.new ≡ self.old)) }
     {
-        self.own_part.back_edge(self.shared.row())
+        self.thread.back_edge(self.shared.row())
     }
 
     /// Publishes the stack: one load of the moment, a step for each code whose counts differ, and a store of the moment that was
@@ -143,20 +125,20 @@ impl<'a, N: Name, J: Errand> Mutator<'a, N, J> {
         ensures err { IfErr result (λ s. (s ≡ self.old.state) × (is_running s ≡ false)
             × (self.new ≡ self.old)) }
     {
-        self.own_part.publish(self.shared.board())
+        self.thread.publish(self.shared.board())
     }
 
-    /// From Java into the VM, without a poll. A thread that isn't in Java is refused with its state.
+    /// Crosses from Java into the VM, without a poll. A thread that isn't in Java is refused with its state.
     pub fn to_vm(&mut self) -> Result<(), State>
         ensures ok { OnOk result ((self.old.state ≡ IsInJava)
             × (self.new ≡ record self.old { state = IsInVm })) }
         ensures err { IfErr result (λ s. (s ≡ self.old.state) × (s ≢ IsInJava)
             × (self.new ≡ self.old)) }
     {
-        self.own_part.to_vm()
+        self.thread.to_vm()
     }
 
-    /// From the VM back into Java: the thread polls, by one load. A thread that isn't in the VM is refused with its state.
+    /// Crosses from the VM back into Java and polls, by one load. A thread that isn't in the VM is refused with its state.
     pub fn from_vm(&mut self) -> Result<Poll, State>
         ensures ok { IfOk result (λ said. (self.old.state ≡ IsInVm)
             × Polls self.old self.new IsInVm said) }
@@ -164,6 +146,6 @@ impl<'a, N: Name, J: Errand> Mutator<'a, N, J> {
         ensures err { IfErr result (λ s. (s ≡ self.old.state) × (s ≢ IsInVm)
             × (self.new ≡ self.old)) }
     {
-        self.own_part.from_vm(self.shared.row())
+        self.thread.from_vm(self.shared.row())
     }
 }

@@ -1,4 +1,4 @@
-//! What a system of running threads is made of.
+//! The parts of a system of running threads.
 ghost use Rattle.std.specs.Prelude.{◌≡◌, ◌≤◌, ◌<◌, ℕ, [], ◌∷◌, Some, length, slice_get, vec_len, vec_capacity, All, IfOk, IfErr, OnOk};
 ghost use Rattle.board.specs.Boards.{first_keeper};
 ghost use Rattle.poll.specs.Rows.{full_armer};
@@ -13,7 +13,7 @@ use board::{Board, Keeper, ThreadSeat};
 use bodies::{Name, Seats, SpareSeat};
 use desk::Desk;
 use method_table::table::MethodTable;
-use operations::job::Errand;
+use operations::job::HandshakeOp;
 use poll::{Armer, PollRow, Poller};
 use std::alloc::{AllocError, Global};
 use std::collections::VecDeque;
@@ -36,8 +36,8 @@ pub enum PartsFault {
     NoMemory,
 }
 
-/// The words of a system with the seats that step on them, before anything shares them. Contracts see which board and which row
-/// they are, and how many methods there are.
+/// The words of a system and the seats that access them, before anything shares them. Contracts see which board and row they are,
+/// and how many methods there are.
 #[derive(Drop)]
 pub struct Parts {
     board: Board,
@@ -101,7 +101,7 @@ impl Parts {
     }
 }
 
-// Whether a size is one that a system can have.
+// Whether a system can have this size.
 fn fits(size: usize, most: usize) -> bool
     ensures { result ≡ Rattle.thread_list.specs.Sized.fits size most }
 {
@@ -109,7 +109,7 @@ fn fits(size: usize, most: usize) -> bool
 }
 
 // Empty lists with room for the jobs of a place each, and room for as many rooms.
-fn job_lists<N: Name, J: Errand>(
+fn job_lists<N: Name, J: HandshakeOp>(
     alloc: Global,
     places: usize,
 ) -> Result<(Vec<Vec<J>>, Vec<Room<N, J>>), AllocError>
@@ -125,7 +125,8 @@ fn job_lists<N: Name, J: Errand>(
     Ok((lists, rooms))
 }
 
-// Each seat with its poller, in order, in a box each: one after another, so that the boxes lie beside one another.
+// Each seat with its poller, in order, each pair in its own box. The boxes are allocated one after another, so that they lie side
+// by side.
 fn seats_of(
     alloc: Global,
     seats: Vec<ThreadSeat>,
@@ -149,7 +150,7 @@ fn seats_of(
 }
 
 // A room for each place's seats, without a name.
-fn rooms_of<N: Name, J: Errand>(
+fn rooms_of<N: Name, J: HandshakeOp>(
     seats: Vec<Seats>,
     lists: Vec<Vec<J>>,
     room: Vec<Room<N, J>>,
@@ -178,7 +179,7 @@ fn rooms_of<N: Name, J: Errand>(
 }
 
 // Each room in a berth of its own, in order.
-fn berths_of<N: Name, J: Errand>(
+fn berths_of<N: Name, J: HandshakeOp>(
     rooms: Vec<Room<N, J>>,
     berths: Vec<Berth<N, J>>,
 ) -> Vec<Berth<N, J>>
@@ -193,9 +194,9 @@ fn berths_of<N: Name, J: Errand>(
     berths
 }
 
-/// What threads share, before any of it lies under a lock: the words, a room for each place in order, a new desk, the hints, and the
-/// armer of the poll words.
-pub struct Pieces<N: Name, J: Errand> {
+/// The threads' shared state before any of it is under a lock: the words, a room for each place in order, a new desk, the hints,
+/// and the armer of the poll words.
+pub struct Pieces<N: Name, J: HandshakeOp> {
     pub board: Board,
     pub row: PollRow,
     pub rooms: Vec<Room<N, J>>,
@@ -205,8 +206,8 @@ pub struct Pieces<N: Name, J: Errand> {
 }
 
 impl Parts {
-    /// What threads share, over these parts. Where memory is refused the parts come back.
-    pub fn into_pieces<N: Name, J: Errand>(self, alloc: Global) -> Result<Pieces<N, J>, Parts>
+    /// Makes the pieces of the shared state from these parts. If memory is refused, the parts are handed back.
+    pub fn into_pieces<N: Name, J: HandshakeOp>(self, alloc: Global) -> Result<Pieces<N, J>, Parts>
         requires tables { (self.board ≡ N.board) × (self.row ≡ N.poll_row) }
 
         ensures words { IfOk result (λ p. (p.board ≡ N.board) × (p.row ≡ N.poll_row)) }
@@ -267,8 +268,9 @@ impl Parts {
     }
 }
 
-impl<N: Name, J: Errand> Shared<N, J> {
-    /// What threads share, over these parts, and the armer of their poll words. Where memory is refused the parts come back.
+impl<N: Name, J: HandshakeOp> Shared<N, J> {
+    /// Makes the threads' shared state from these parts, and the armer of their poll words. If memory is refused, the parts are
+    /// handed back.
     pub fn new(alloc: Global, parts: Parts) -> Result<(Shared<N, J>, Armer), Parts>
         requires tables { (parts.board ≡ N.board) × (parts.row ≡ N.poll_row) }
         ensures armer { IfOk result (λ r. r.1 ≡ full_armer N.poll_row N.board.places) }

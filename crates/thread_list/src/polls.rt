@@ -5,7 +5,7 @@ ghost use Rattle.thread_list.specs.Moves.{poll_of};
 /// What a poll answers.
 #[derive(Clone, Copy, PartialEq, Eq, Debug, Drop)]
 pub enum Poll {
-    /// Nothing is told to the thread that it hasn't cleared: it goes on.
+    /// No operation is pending that the thread hasn't cleared: it continues.
     Go,
     /// The thread stops for the operation of the number.
     Stop(u64),

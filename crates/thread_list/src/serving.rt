@@ -1,4 +1,4 @@
-//! What a thread does while it has stopped.
+//! What a thread does while it is stopped.
 ghost use Rattle.std.specs.Prelude.{◌≡◌, ◌≢◌, ◌<◌, ℕ};
 ghost use Rattle.berths.specs.Berths.{moved};
 ghost use Rattle.thread_list.specs.Moves.{SameBody, IsLastTurn, first_of};
@@ -8,22 +8,23 @@ ghost use Rattle.thread_state.specs.PollRule.{exchanged};
 ghost use Rattle.desk.specs.declared.entries.Entry.{Entry};
 
 use crate::shared::Shared;
-use crate::turns::{Turn, Turned};
-use berths::{BodyAct, Due, Recorder};
+use crate::turns::{StopRound, Turn};
+use berths::{BodyAct, Recorder, TakenJob};
 use bodies::{Body, Name};
 use desk::Finished;
-use operations::job::Errand;
+use operations::job::HandshakeOp;
 use std::sync::Wait;
 
-/// Who enters at the desk what a job answered. It is of this module alone, whose `serve` is then the one way in which a job is run.
+/// Records at the desk what a job answered. It is private to this module, so a job is run with it only by `serve`.
 #[derive(Drop)]
 struct DeskRecorder;
 
 impl Recorder for DeskRecorder {}
 
-/// A thread that has stopped gives its body to its berth, takes it back once nobody holds it and no census keeps it, publishes its
-/// stack, serves what it was told, and polls, until a poll goes on. Answers the body with the receipts of its turns.
-pub(crate) fn served<N: Name, J: Errand, R: Wait>(
+/// Serves a stopped thread until a poll lets it continue. In each turn it gives its body to its berth, takes it back once nobody
+/// holds it and no census keeps it, publishes its stack, runs a pending job, and polls. Returns the body with the receipts of its
+/// turns.
+pub(crate) fn served<N: Name, J: HandshakeOp, R: Wait>(
     rt: &R,
     shared: &Shared<N, J>,
     body: Body<N>,
@@ -33,7 +34,7 @@ pub(crate) fn served<N: Name, J: Errand, R: Wait>(
     ensures given { (first_of result.1.first result.1.last).given ≡ moved body BodyAct.Given }
     ensures turn { IsLastTurn body.seat.place body.name result.1.last result.1.finish result.0 }
 {
-    let mut turned = Turned::first(rt, shared, body);
+    let mut turned = StopRound::first(rt, shared, body);
     for _ in rt.forever() {
         match turned.poll(shared.row()) {
             Ok(done) => return done,
@@ -43,14 +44,14 @@ pub(crate) fn served<N: Name, J: Errand, R: Wait>(
     unreachable!()
 }
 
-/// Runs a job on a settled body, enters what it answered, and then clears the operation. Answers the receipt of that entry, which shows the
-/// body as it was before the clear, and whether it woke one that waited for it.
+/// Runs a job on a settled body, enters its answer, and then clears the operation. Returns the receipt of that entry, which shows
+/// the body before the clear, and whether the entry woke a waiter.
 #[inline(always)]
-pub fn serve<N: Name, J: Errand, R: Wait>(
+pub fn serve<N: Name, J: HandshakeOp, R: Wait>(
     rt: &R,
     shared: &Shared<N, J>,
     body: &mut Body<N>,
-    job: Due<J>,
+    job: TakenJob<J>,
 ) -> (Finished<N>, bool)
     requires job { (J.whom job ≡ body.old.name) × (0 < J.number job) }
     requires settled { IsSettled body.old.image }

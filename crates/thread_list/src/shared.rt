@@ -23,7 +23,7 @@ use desk::{CodeFault, Desk, Finished, NotLive, Receipt, Refused, live_names_rise
 use frames::CodeId;
 use method_table::table::InvalidateFault;
 use operations::Request;
-use operations::job::{Done, Errand};
+use operations::job::{Done, HandshakeOp};
 use poll::PollRow;
 use std::alloc::AllocError;
 use std::marker::Model;
@@ -31,24 +31,24 @@ use std::sync::atomic::{AtomicU64, Ordering};
 use std::sync::{Condvar, Wait};
 use std::thread;
 
-/// The words, the desk under a lock, and a berth for each place, each under a lock of its own. No call holds two locks. Contracts see
-/// how many methods there are.
+/// The words, the desk under its lock, and a berth for each place, each under its own lock. No call holds two locks. Contracts
+/// see how many methods there are.
 #[derive(Drop)]
-pub struct Shared<N: Name, J: Errand> {
+pub struct Shared<N: Name, J: HandshakeOp> {
     pub(crate) board: Board,
     pub(crate) row: PollRow,
     pub(crate) berths: Vec<Berth<N, J>>,
     pub(crate) desk: Guarded<Desk<N, J>>,
-    /// The desk as it was put under its lock: new.
+    /// The new desk, as it was when it was put under its lock.
     pub(crate) begun: Laid<Desk<N, J>>,
     pub(crate) hints: Hints,
-    /// How many threads wait for `finished`. Each counts itself and takes itself off under the desk's lock.
+    /// How many threads wait for `finished`. Each thread changes this count under the desk's lock.
     pub(crate) waiters: AtomicU64,
-    /// Rings where a thread is answered for, or exits, and somebody waits for it.
+    /// Notified when a thread gets a Finish or exits while somebody waits for it.
     pub(crate) finished: Condvar,
 }
 
-impl<N: Name, J: Errand> Model for Shared<N, J> {
+impl<N: Name, J: HandshakeOp> Model for Shared<N, J> {
     ghost use Rattle.std.specs.Prelude.{◌≡◌, length};
     ghost use Rattle.thread_list.specs.Sharing.{AreInOrder, IsNewDesk, SharedSeen};
 
@@ -61,8 +61,8 @@ impl<N: Name, J: Errand> Model for Shared<N, J> {
         × (s.hints.slots ≡ N.board.slots) × IsNewDesk N.board s.hints.methods s.begun };
 }
 
-/// The receipts of a thread that is gone: of the stops in which it served before, of the first turn of all and of the last; that its berth
-/// gave its place up; and of the entry of its exit.
+/// The receipts of a thread that has exited: of the stops in which it served before (the very first turn and the last), of giving
+/// its place up at its berth, and of its Exit entry.
 #[derive(Drop)]
 pub struct Exited<N: Name> {
     pub served: Option<Turn<N>>,
@@ -70,7 +70,7 @@ pub struct Exited<N: Name> {
     pub exit: Receipt<N>,
 }
 
-impl<N: Name, J: Errand> Shared<N, J> {
+impl<N: Name, J: HandshakeOp> Shared<N, J> {
     /// The board of the codes' words.
     #[inline(always)]
     pub fn board(&self) -> &Board
@@ -117,13 +117,13 @@ impl<N: Name, J: Errand> Shared<N, J> {
         &self.berths[body.place()]
     }
 
-    /// Wakes those that wait at berths, at the last berth first.
+    /// Wakes the threads that wait at berths, the last berth first.
     pub fn wake(&self, unwoken: Unwoken<N>) {
         unwoken.wake(self.berths.as_slice());
     }
 
-    /// The code that a call of the method tries first: what was installed for it last, None without such a method or code. It is
-    /// read off a plain word, so the code may be gone by then; `call` finds that out.
+    /// The code that a call of the method tries first: the one installed last. None if there is no such method or code. The hint
+    /// is read off a plain word, so the code may be gone by then; `call` checks that.
     #[inline(always)]
     pub fn hint(&self, method: u32) -> Option<CodeId>
         ensures { IfSome result (λ c. c.slot < N.board.slots) }
@@ -147,7 +147,8 @@ impl<N: Name, J: Errand> Shared<N, J> {
         self.hints.words()
     }
 
-    // The first place from this one on where something is armed, or past the last. What is armed there by then isn't promised.
+    // The first place from `from` on whose poll word is armed, or a number past the last place. It is a snapshot: nothing is
+    // promised about it.
     pub(crate) fn next_armed(&self, from: usize) -> usize
         ensures behind { from ≤ N.board.places → from ≤ result }
         ensures most { result ≤ N.board.places }
@@ -160,7 +161,7 @@ impl<N: Name, J: Errand> Shared<N, J> {
         self.berths.len()
     }
 
-    /// The sum of all count words as they were a moment ago. Nothing is promised of it.
+    /// The sum of all count words, as a snapshot. Nothing is promised about it.
     pub fn peek_counts(&self) -> u64 {
         let mut sum: u64 = 0;
         for slot in 0..self.hints.slots() {
@@ -169,8 +170,8 @@ impl<N: Name, J: Errand> Shared<N, J> {
         sum
     }
 
-    /// A request waits from now on, with its jobs: one for each target in order, each with the request's ask. Answers the number of
-    /// the operation, with the receipt of its Ask. Where it is refused the jobs come back.
+    /// Queues a request with its jobs: one for each target in order, each with the request's ask. Returns the operation's number
+    /// and the receipt of its Ask. If it is refused, the jobs are handed back.
     pub fn submit<R: Wait>(
         &self,
         rt: &R,
@@ -189,8 +190,8 @@ impl<N: Name, J: Errand> Shared<N, J> {
         }
     }
 
-    /// Installs a code for the method; the one that was in use for it is not entrant from now on. Answers the serial of the new one, with
-    /// the receipt of its Install.
+    /// Installs a code for the method; the code in use before becomes not entrant. Returns the new code's serial and the receipt
+    /// of its Install.
     pub fn install<R: Wait>(&self, rt: &R, method: u32) -> Result<(u64, Receipt<N>), CodeFault>
         ensures installed { IfOk result (λ r. (slot : ℕ)
             × (r.1.entry ≡ Entry.Install (record { slot = slot; serial = r.0 }) method)) }
@@ -203,7 +204,7 @@ impl<N: Name, J: Errand> Shared<N, J> {
         Ok((installed.code.serial, receipt))
     }
 
-    /// No thread enters the code of the serial any more. Answers the receipt of its Invalidate.
+    /// Makes the code of the serial not entrant. Returns the receipt of its Invalidate.
     pub fn invalidate<R: Wait>(&self, rt: &R, serial: u64) -> Result<Receipt<N>, InvalidateFault>
         ensures invalidated { IfOk result (λ r. r.entry ≡ Entry.Invalidate serial) }
         ensures refused { IfErr result (λ e. (s : DeskState)
@@ -212,7 +213,7 @@ impl<N: Name, J: Errand> Shared<N, J> {
         self.desk.lock(rt).invalidate(&self.board, serial)
     }
 
-    /// The names of the threads that are live, rising. Refused only for want of memory.
+    /// The names of the live threads, ascending. Refused only for want of memory.
     pub fn live<R: Wait>(&self, rt: &R) -> Result<Vec<u64>, AllocError>
         ensures live { IfOk result (λ names. AreLive names.items) }
         ensures rising { IfOk result (λ names. AreRising 0 names.items) }
@@ -224,7 +225,7 @@ impl<N: Name, J: Errand> Shared<N, J> {
         Ok(names)
     }
 
-    /// The names with their replies of an operation, in the order in which it was finished. Refused only for want of memory.
+    /// The operation's replies, each with its thread's name, in the order of their Finishes. Refused only for want of memory.
     pub fn replies<R: Wait>(&self, rt: &R, op: u64) -> Result<Vec<(u64, u64)>, AllocError>
         ensures { IfOk result (λ list. AreRepliesOf op list.items) }
     {
@@ -234,7 +235,8 @@ impl<N: Name, J: Errand> Shared<N, J> {
         Ok(list)
     }
 
-    /// The names with all their replies of an operation, and None where some were forgotten. Refused only for want of memory.
+    /// All replies of the operation, each with its thread's name, or None if some were forgotten. Refused only for want of
+    /// memory.
     pub fn kept_replies<R: Wait>(
         &self,
         rt: &R,
@@ -248,8 +250,9 @@ impl<N: Name, J: Errand> Shared<N, J> {
         Ok(list)
     }
 
-    /// Forgets all entries of the history so far, and the replies of each operation before the first that is open or waits: the memory of
-    /// these replies is used for later ones, and HistoryFull counts from now on what is entered later. Answers the receipt of that.
+    /// Forgets all entries of the history so far, and the replies of each operation before the first that is open or queued. The
+    /// memory of those replies is used for later ones, and HistoryFull counts only later entries. Returns the receipt of
+    /// forgetting.
     pub fn forget<R: Wait>(&self, rt: &R) -> Forgotten<N, J>
         ensures { Forgets result }
     {
@@ -257,10 +260,10 @@ impl<N: Name, J: Errand> Shared<N, J> {
         Forgotten::of(&mut desk)
     }
 
-    // Wakes those that wait until a thread is answered for or gone, and answers whether there are any; called once the desk's lock was let
-    // go after such an entry. No wake-up is lost: who waits has counted itself under the lock under which it looked, and keeps the lock
-    // until it sleeps. Where it looked before the entry it is counted here, or has woken already and looks again; where it looks
-    // afterwards it finds the entry, and doesn't wait.
+    // Wakes the threads that wait for a Finish or an Exit, and returns whether there are any. Called after such an entry, once
+    // the desk's lock is released. No wake-up is lost: a waiter counts itself under the lock under which it looked, and keeps
+    // that lock until it sleeps. A waiter that looked before the entry is counted here, or has woken already and looks again. One
+    // that looks later finds the entry and doesn't wait.
     #[inline(always)]
     fn ring(&self) -> bool {
         let wanted = self.waiters.load(Ordering::SeqCst) != 0;
@@ -270,8 +273,8 @@ impl<N: Name, J: Errand> Shared<N, J> {
         wanted
     }
 
-    /// Enters what a job answered on a settled body, and answers whether it woke one that waited for that. Other threads run before each
-    /// further try.
+    /// Enters what a job answered on a settled body, and returns whether that woke a waiter. Yields to other threads before each
+    /// retry.
     #[inline(always)]
     pub(crate) fn finish<R: Wait>(&self, rt: &R, body: &Body<N>, done: Done) -> (Finished<N>, bool)
         requires name { body.now.name ≡ done.target }
@@ -306,7 +309,7 @@ impl<N: Name, J: Errand> Shared<N, J> {
         Ok((finished, self.ring()))
     }
 
-    // Tries until it succeeds. It stands apart, since the first try nearly always does.
+    // Retries until the entry succeeds. Out of line, since the first try nearly always succeeds.
     #[inline(never)]
     fn finish_later<R: Wait>(&self, rt: &R, body: &Body<N>, done: Done) -> (Finished<N>, bool)
         requires name { body.now.name ≡ done.target }
@@ -326,7 +329,7 @@ impl<N: Name, J: Errand> Shared<N, J> {
         unreachable!()
     }
 
-    /// Enters that a thread exits whose berth gave its place up.
+    /// Enters the Exit of a thread that gave its place up at its berth.
     pub(crate) fn enter_exit<R: Wait>(
         &self,
         rt: &R,
@@ -353,7 +356,7 @@ impl<N: Name, J: Errand> Shared<N, J> {
         unreachable!()
     }
 
-    /// Waits until the thread of the name is answered for in the oldest open request, or is live no more.
+    /// Waits until the named thread has a Finish in the oldest open request, or isn't live any more.
     pub fn wait_finished<R: Wait>(&self, rt: &R, name: u64) {
         for _ in rt.forever() {
             let desk = self.desk.lock(rt);

@@ -1,4 +1,4 @@
-//! Threads that start.
+//! Starting threads.
 ghost use Rattle.std.specs.Prelude.{◌≡◌, ◌≢◌, IfOk, IfErr, true, false, [], ◌<◌, OnOk, Some};
 ghost use Rattle.thread_state.specs.declared.State.TheVariants.{InJava as IsInJava};
 ghost use Rattle.thread_list.specs.Moves.{IsStarted, GoesOn};
@@ -9,20 +9,20 @@ ghost use Rattle.bodies.specs.Bodies.{BodyView};
 
 use crate::body_state::{BodyState, OwnHand};
 use crate::mutator::Mutator;
-use crate::own_part::OwnPart;
+use crate::running_thread::RunningThread;
 use crate::serving::served;
 use crate::shared::Shared;
 use berths::BodyReceipt;
 use bodies::{Body, Name};
 use desk::{Receipt, StartFault};
 use frames::image::Image;
-use operations::job::Errand;
+use operations::job::HandshakeOp;
 use std::alloc::Global;
 use std::sync::Wait;
 
-impl<N: Name, J: Errand> Shared<N, J> {
-    /// Starts a thread in the least vacant place: it makes its first publication and crosses into Java, after it has served what it
-    /// was told by then. Answers the thread, with the receipt of its Start.
+impl<N: Name, J: HandshakeOp> Shared<N, J> {
+    /// Starts a thread in the least vacant place: it makes its first publication and crosses into Java, after it has served what
+    /// was pending for it by then. Returns the thread and the receipt of its Start.
     #[tactic(auto, using(crate::proofs::Turned::first_of_seat))]
     pub fn start<R: Wait>(
         &self,
@@ -46,7 +46,7 @@ impl<N: Name, J: Errand> Shared<N, J> {
         body.publish(self.board());
         let moved_in = berth.move_in(rt, body);
         let (body, crossed) = self.go_on(rt, name, place);
-        let own_part = OwnPart {
+        let thread = RunningThread {
             name,
             place,
             methods: self.methods() as usize,
@@ -58,13 +58,13 @@ impl<N: Name, J: Errand> Shared<N, J> {
         let mutator = Mutator {
             shared: self,
             hints: self.hint_words(),
-            own_part,
+            thread,
         };
         Ok((mutator, receipt))
     }
 
-    // The body of a thread that starts comes out of its berth, and the thread polls, and serves where it is told to stop. Answers the
-    // body with the receipt that it came out last.
+    // Takes a starting thread's body from its berth, polls, and serves if the poll stops it. Returns the body and the receipt
+    // that it last came out.
     fn go_on<R: Wait>(&self, rt: &R, name: u64, place: usize) -> (Body<N>, BodyReceipt<N>)
         requires place { place < N.board.places }
         ensures body { (result.0.name ≡ name) × (0 < result.0.name) × (result.0.seat.place ≡ place)
@@ -72,7 +72,7 @@ impl<N: Name, J: Errand> Shared<N, J> {
         ensures goes_on { GoesOn place name result.1 result.0 }
     {
         let (outgoing, resumed) = self.berth(place).resume(rt, name, place);
-        let mut body = outgoing.in_hand(&OwnHand);
+        let mut body = outgoing.into_body(&OwnHand);
         if body.poll(self.row()) == 0 {
             return (body, resumed);
         }
@@ -80,7 +80,7 @@ impl<N: Name, J: Errand> Shared<N, J> {
         (body, turn.last.out())
     }
 
-    // Enters the start of the next name, where there is an image for it.
+    // Enters the Start of the next name, if there is an image for it.
     fn enter<R: Wait>(
         &self,
         rt: &R,

@@ -1,4 +1,4 @@
-//! The turns of a thread that has stopped: in each its body goes into its berth, and comes out to serve.
+//! The turns of a stopped thread: in each, its body goes into its berth and comes out to serve.
 ghost use Rattle.std.specs.Prelude.{◌≡◌, ◌<◌, ◌≢◌, ℕ, Some, None, IfOk, IfErr, IfSome, IfNone};
 ghost use Rattle.berths.specs.Berths.{moved};
 ghost use Rattle.thread_list.specs.Moves.{SameBody, TakesTurn, IsTurn, as_polled, first_of};
@@ -6,31 +6,32 @@ ghost use Rattle.thread_list.specs.Moves.{SameBody, TakesTurn, IsTurn, as_polled
 use crate::body_state::OwnHand;
 use crate::serving::serve;
 use crate::shared::Shared;
-use berths::{BodyAct, CameOut, Outing};
+use berths::{BodyAct, CameOut, StopReceipt};
 use bodies::{Body, Name};
 use desk::Finished;
-use operations::job::Errand;
+use operations::job::HandshakeOp;
 use poll::PollRow;
 use std::marker::Model;
 use std::sync::Wait;
 use std::thread;
 
-/// The receipts of a thread that has stopped: of its first turn where it took several, and of its last, that its body went into its
-/// berth and came out to serve, and, where a job came out with it, of the entry of what the job answered.
+/// The receipts of a stopped thread: of its first turn where it took several, and of its last turn. A turn's receipts say that
+/// the body went into its berth and came out to serve, and, where a job came with it, that the job's answer was entered.
 #[derive(Drop)]
 pub struct Turn<N: Name> {
-    pub first: Option<Outing<N>>,
-    pub last: Outing<N>,
+    pub first: Option<StopReceipt<N>>,
+    pub last: StopReceipt<N>,
     pub finish: Option<Finished<N>>,
 }
 
-/// A thread that has stopped, behind a turn. Its body comes out only where a poll goes on; and it isn't `Drop`, so it can't be lost.
-pub struct Turned<N: Name> {
+/// A stopped thread after a turn. Its body comes out only where a poll lets it continue. It isn't `Drop`, so the body can't be
+/// lost.
+pub struct StopRound<N: Name> {
     body: Body<N>,
     turn: Turn<N>,
 }
 
-impl<N: Name> Model for Turned<N> {
+impl<N: Name> Model for StopRound<N> {
     ghost use Rattle.std.specs.Prelude.{◌≢◌, ◌<◌};
     ghost use Rattle.thread_list.specs.Moves.{Stopping, first_of};
 
@@ -46,9 +47,9 @@ impl<N: Name> Model for Turned<N> {
     ghost invariant = { λ t. (t.body.seat.stored ≢ 0) × (0 < t.body.name) };
 }
 
-/// A thread that has stopped, behind a turn whose poll stopped it again.
+/// A stopped thread after a turn whose poll stopped it again.
 pub struct StoppedAgain<N: Name> {
-    turned: Turned<N>,
+    turned: StopRound<N>,
 }
 
 impl<N: Name> Model for StoppedAgain<N> {
@@ -59,9 +60,13 @@ impl<N: Name> Model for StoppedAgain<N> {
     ghost view = { λ s. s.turned };
 }
 
-impl<N: Name> Turned<N> {
-    /// The first turn of a thread that has stopped with this body.
-    pub fn first<J: Errand, R: Wait>(rt: &R, shared: &Shared<N, J>, body: Body<N>) -> Turned<N>
+impl<N: Name> StopRound<N> {
+    /// Takes the first turn of a thread that has stopped with this body.
+    pub fn first<J: HandshakeOp, R: Wait>(
+        rt: &R,
+        shared: &Shared<N, J>,
+        body: Body<N>,
+    ) -> StopRound<N>
         requires body { (body.seat.stored ≢ 0) × (0 < body.name) }
         ensures alone { result.first ≡ result.last }
         ensures turn { TakesTurn body result }
@@ -69,7 +74,7 @@ impl<N: Name> Turned<N> {
     {
         let (body, last, finish) = take_turn(rt, shared, body);
         let first = None;
-        Turned {
+        StopRound {
             body,
             turn: Turn {
                 first,
@@ -79,7 +84,7 @@ impl<N: Name> Turned<N> {
         }
     }
 
-    /// Polls: the thread goes on with its body and the receipts of its turns, or stops again.
+    /// Polls: the thread continues with its body and the receipts of its turns, or stops again.
     pub fn poll(self, row: &PollRow) -> Result<(Body<N>, Turn<N>), StoppedAgain<N>>
         requires row { row.now ≡ N.poll_row }
         ensures goes_on { IfOk result (λ r. r.0 ≡ as_polled self.body 0) }
@@ -88,28 +93,28 @@ impl<N: Name> Turned<N> {
         ensures stops { IfErr result (λ s. (found : ℕ) × (found ≢ 0)
             × (s ≡ record self { body = as_polled self.body found })) }
     {
-        let Turned { mut body, turn } = self;
+        let StopRound { mut body, turn } = self;
         if body.poll(row) == 0 {
             return Ok((body, turn));
         }
         Err(StoppedAgain {
-            turned: Turned { body, turn },
+            turned: StopRound { body, turn },
         })
     }
 }
 
 impl<N: Name> StoppedAgain<N> {
-    /// The next turn.
-    pub fn again<J: Errand, R: Wait>(self, rt: &R, shared: &Shared<N, J>) -> Turned<N>
+    /// Takes the next turn.
+    pub fn again<J: HandshakeOp, R: Wait>(self, rt: &R, shared: &Shared<N, J>) -> StopRound<N>
         ensures first { result.first ≡ self.first }
         ensures turn { TakesTurn self.body result }
         ensures same { SameBody self.body result.body }
     {
         let StoppedAgain { turned } = self;
-        let Turned { body, turn } = turned;
+        let StopRound { body, turn } = turned;
         let first = first_outing(turn);
         let (body, last, finish) = take_turn(rt, shared, body);
-        Turned {
+        StopRound {
             body,
             turn: Turn {
                 first: Some(first),
@@ -121,7 +126,7 @@ impl<N: Name> StoppedAgain<N> {
 }
 
 impl<N: Name> Turn<N> {
-    /// The receipts of a stop behind an earlier one: of the first turn of that, and of the last of this.
+    /// Joins the receipts of this stop to those of an earlier one: the first turn of the earlier, the last turn of this.
     pub(crate) fn behind(self, earlier: Option<Turn<N>>) -> Turn<N>
         ensures last { (result.last ≡ self.last) × (result.finish ≡ self.finish) }
         ensures first { IfSome earlier (λ t. first_of result.first result.last
@@ -144,7 +149,7 @@ impl<N: Name> Turn<N> {
 }
 
 // The receipts of the first turn.
-fn first_outing<N: Name>(turn: Turn<N>) -> Outing<N>
+fn first_outing<N: Name>(turn: Turn<N>) -> StopReceipt<N>
     ensures { result ≡ first_of turn.first turn.last }
 {
     let Turn {
@@ -158,12 +163,12 @@ fn first_outing<N: Name>(turn: Turn<N>) -> Outing<N>
     }
 }
 
-// One turn: the body goes to its berth, comes out to serve, is published, and serves the job that came out with it.
-fn take_turn<N: Name, J: Errand, R: Wait>(
+// Takes one turn: the body goes into its berth, comes out to serve, is published, and runs the job that came with it.
+fn take_turn<N: Name, J: HandshakeOp, R: Wait>(
     rt: &R,
     shared: &Shared<N, J>,
     body: Body<N>,
-) -> (Body<N>, Outing<N>, Option<Finished<N>>)
+) -> (Body<N>, StopReceipt<N>, Option<Finished<N>>)
     requires body { (body.seat.stored ≢ 0) × (0 < body.name) }
     ensures same { SameBody body result.0 }
     ensures given { result.1.given ≡ moved body BodyAct.Given }
@@ -177,7 +182,7 @@ fn take_turn<N: Name, J: Errand, R: Wait>(
         outing,
         changed,
     } = berth.turn(rt, body);
-    let mut body = body.in_hand(&OwnHand);
+    let mut body = body.into_body(&OwnHand);
     body.publish(shared.board());
     let job = match told {
         Some(job) => job,
@@ -191,16 +196,17 @@ fn take_turn<N: Name, J: Errand, R: Wait>(
     (body, outing, Some(finished))
 }
 
-// How often a thread yields at most after a turn while others have still to come to their polls: where more threads run than there are
-// processors, these then come there within a round of the scheduler and not after a time slice of each.
+// How often a thread yields at most after a turn while other threads haven't reached their polls. With more threads than
+// processors, they then get there within a round of the scheduler, and not after a time slice of each.
 const YIELDS: u32 = 64;
 
-// How often at least, where it slept or has woken another: who was woken, or wakes the others still, may wait for this very processor.
+// How often a thread yields at least, if it slept or woke another thread: that thread, or the one that is still waking others,
+// may wait for this very processor.
 const LEAST: u32 = 4;
 
-// Lets other threads run while something is armed at any place, and some turns where the thread slept or woke another (`changed`), until
-// something new is armed at its own.
-fn give_way<N: Name, J: Errand>(shared: &Shared<N, J>, place: usize, changed: bool) {
+// Yields while the poll word of any place is armed, and for at least a few turns where the thread slept or woke another
+// (`changed`). Stops as soon as its own place is armed again.
+fn give_way<N: Name, J: HandshakeOp>(shared: &Shared<N, J>, place: usize, changed: bool) {
     let least = if changed { LEAST } else { 0 };
     let mut clear = 0;
     for turn in 0..YIELDS {

@@ -1,4 +1,4 @@
-//! What a thread calls that may wait for others: it gives its body away and gets it back.
+//! The calls of a thread that may block: each puts the thread's body into its berth, or takes it back.
 ghost use Rattle.std.specs.Prelude.{◌≡◌, ◌≢◌, ◌<◌, ◌==◌, ◌⊎◌, [], ℕ, true, false, Some, None, IfOk, OnOk, IfErr, IfSome, IfNone, length};
 ghost use Rattle.berths.specs.Berths.{moved, Went};
 ghost use Rattle.frames.specs.ImageView.{IsSettled};
@@ -9,46 +9,27 @@ ghost use Rattle.thread_state.specs.declared.Move.TheVariants as movement;
 ghost use Rattle.thread_state.specs.States as table;
 ghost use Rattle.desk.specs.declared.entries.Entry.{Entry};
 ghost use Rattle.thread_list.specs.declared.polls.Poll.TheVariants.{Go as GoesOn};
-ghost use Rattle.thread_list.specs.Moves.{SameThread, SameBody, ComesBack, GoesBack, Gives, IsResumed, IsTurn, IsVacated, IsKept, HasStopped, IsGivenUp, IsGivenUpAfter, as_polled, first_of, is_running};
-ghost use Rattle.thread_list.specs.BodyStates.{state_in, body_in};
+ghost use Rattle.thread_list.specs.Moves.{SameThread, SameBody, ComesBack, GoesBack, Gives, IsResumed, IsTurn, IsVacated, IsKept, HasStopped, IsGivenUp, IsGivenUpAfter, as_polled, first_of, is_running, owns};
+ghost use Rattle.thread_list.specs.BodyStates.{state_in, body_in, answer_in, given_in, serves};
 ghost use Rattle.thread_list.specs.Refused.{exit_refused, HasNoFrame};
 
-use crate::body_state::{BodyState, OwnHand};
+use crate::body_state::{BodyState, OwnHand, after_poll, going_on};
+use crate::faults::ExitFault;
 use crate::mutator::Mutator;
-use crate::own_part::{OwnPart, is_running};
 use crate::polls::{Poll, poll_of};
+use crate::running_thread::{RunningThread, is_running};
 use crate::serving::served;
 use crate::shared::{Exited, Shared};
 use crate::turns::Turn;
 use berths::{BodyAct, BodyReceipt};
 use bodies::{Body, Name};
-use operations::job::Errand;
+use operations::job::HandshakeOp;
 use std::sync::Wait;
 use thread_state::{Back, State};
 
-/// Why a thread doesn't exit, in the order of the tests.
-#[derive(Clone, Copy, PartialEq, Eq, Debug, Drop)]
-pub enum ExitFault {
-    /// It isn't in Java or in the VM.
-    Illegal(State),
-    StackNotEmpty,
-}
-
-// A thread with this body goes on where its way back leads.
-#[inline(always)]
-fn going_on<N: Name>(back: Back, body: Body<N>) -> BodyState<N>
-    ensures state { state_in result ≡ table.state_of back }
-    ensures body { body_in result ≡ Some body }
-{
-    match back {
-        Back::Java => BodyState::InJava(body),
-        Back::Vm => BodyState::InVm(body),
-    }
-}
-
-impl<'a, N: Name, J: Errand> Mutator<'a, N, J> {
-    /// From Java or the VM into native code, without a poll: the body goes into its berth, where it may be held. A thread that is
-    /// in neither is refused with its state.
+impl<'a, N: Name, J: HandshakeOp> Mutator<'a, N, J> {
+    /// Crosses from Java or the VM into native code, without a poll. The body goes into its berth, where a holder may take it. A
+    /// thread in another state is refused with its state.
     #[inline(always)]
     pub fn to_native<R: Wait>(&mut self, rt: &R) -> Result<(), State>
         ensures ok { OnOk result (table.step self.old.state movement.ToNative
@@ -58,19 +39,21 @@ impl<'a, N: Name, J: Errand> Mutator<'a, N, J> {
         ensures err { IfErr result (λ s. (s ≡ self.old.state)
             × (table.step s movement.ToNative ≡ None) × (self.new ≡ self.old)) }
     {
-        let back = match &self.own_part.body_state {
+        let back = match &self.thread.body_state {
             BodyState::InJava(_) => Back::Java,
             BodyState::InVm(_) => Back::Vm,
-            BodyState::AtPoll(_, _) | BodyState::InNative(_) | BodyState::Blocked => {
-                return Err(self.state());
-            }
+            BodyState::AtPoll(_, _)
+            | BodyState::InNative(_)
+            | BodyState::Blocked
+            | BodyState::Given(_, _)
+            | BodyState::Serves(_, _, _) => return Err(self.state()),
         };
         self.give(rt, BodyState::InNative(back));
         Ok(())
     }
 
-    /// Back from native code: the body comes out of its berth once nobody holds it, without what was told to it, and the thread
-    /// polls. A thread that isn't in native code is refused with its state.
+    /// Returns from native code: waits until nobody holds the body, takes it from the berth, and polls. What is pending stays in the
+    /// berth. A thread that isn't in native code is refused with its state.
     #[inline(always)]
     pub fn from_native<R: Wait>(&mut self, rt: &R) -> Result<Poll, State>
         ensures ok { IfOk result (λ said. (back : WayBack) × (self.old.state ≡ IsInNative back)
@@ -80,15 +63,15 @@ impl<'a, N: Name, J: Errand> Mutator<'a, N, J> {
         ensures err { IfErr result (λ s. (s ≡ self.old.state) × ((back : WayBack)
             → s ≢ IsInNative back) × (self.new ≡ self.old)) }
     {
-        let BodyState::InNative(back) = &self.own_part.body_state else {
+        let BodyState::InNative(back) = &self.thread.body_state else {
             return Err(self.state());
         };
         let back = *back;
         Ok(self.come_back(rt, back))
     }
 
-    /// From the VM into a wait that the runtime knows of, without a poll: the body goes into its berth, where it may be held. A
-    /// thread that isn't in the VM is refused with its state.
+    /// Crosses from the VM into a wait that the runtime knows of, without a poll. The body goes into its berth, where a holder
+    /// may take it. A thread that isn't in the VM is refused with its state.
     pub fn block<R: Wait>(&mut self, rt: &R) -> Result<(), State>
         ensures ok { OnOk result ((self.old.state ≡ IsInVm) × (self.new.state ≡ IsBlocked)) }
         ensures given { OnOk result (Gives self.old self.new) }
@@ -96,15 +79,15 @@ impl<'a, N: Name, J: Errand> Mutator<'a, N, J> {
         ensures err { IfErr result (λ s. (s ≡ self.old.state) × (s ≢ IsInVm)
             × (self.new ≡ self.old)) }
     {
-        let BodyState::InVm(_) = &self.own_part.body_state else {
+        let BodyState::InVm(_) = &self.thread.body_state else {
             return Err(self.state());
         };
         self.give(rt, BodyState::Blocked);
         Ok(())
     }
 
-    /// Back from a wait: the body comes out of its berth once nobody holds it, without what was told to it, and the thread polls. A
-    /// thread that isn't blocked is refused with its state.
+    /// Returns from a wait: waits until nobody holds the body, takes it from the berth, and polls. What is pending stays in the
+    /// berth. A thread that isn't blocked is refused with its state.
     pub fn unblock<R: Wait>(&mut self, rt: &R) -> Result<Poll, State>
         ensures ok { IfOk result (λ said. (self.old.state ≡ IsBlocked)
             × ComesBack self.new.crossed.body self.new IsBlockedTrans said) }
@@ -113,14 +96,14 @@ impl<'a, N: Name, J: Errand> Mutator<'a, N, J> {
         ensures err { IfErr result (λ s. (s ≡ self.old.state) × (s ≢ IsBlocked)
             × (self.new ≡ self.old)) }
     {
-        let BodyState::Blocked = &self.own_part.body_state else {
+        let BodyState::Blocked = &self.thread.body_state else {
             return Err(self.state());
         };
         Ok(self.come_back(rt, Back::Vm))
     }
 
-    /// After a poll that answered Stop: the thread stops, serves what it was told, and goes on where its last poll goes on. A thread
-    /// that isn't at a poll is refused with its state. Answers the receipts of its first turn and of its last.
+    /// Stops after a poll that answered Stop: the thread runs its pending jobs and polls after each turn, until a poll lets it
+    /// continue. Returns the receipts of its first turn and of its last. A thread that isn't at a poll is refused with its state.
     pub fn stop<R: Wait>(&mut self, rt: &R) -> Result<Turn<N>, State>
         ensures given { IfOk result (λ turn. (before : BodyView) × (self.old.body ≡ Some before)
             × ((first_of turn.first turn.last).given ≡ moved before BodyAct.Given)) }
@@ -133,57 +116,54 @@ impl<'a, N: Name, J: Errand> Mutator<'a, N, J> {
         ensures err { IfErr result (λ s. (s ≡ self.old.state) × ((back : WayBack)
             → s ≢ IsAtPoll back) × (self.new ≡ self.old)) }
     {
-        let BodyState::AtPoll(back, _) = &self.own_part.body_state else {
+        let BodyState::AtPoll(back, _) = &self.thread.body_state else {
             return Err(self.state());
         };
         let back = *back;
-        let body = self.own_part.body_state.take_body();
+        let body = self.thread.body_state.take_body();
         let (body, turn) = served(rt, self.shared, body);
-        self.own_part.body_state = going_on(back, body);
+        self.thread.body_state = going_on(back, body);
         Ok(turn)
     }
 
-    // The body goes into its berth, and the thread is in this state, in which it doesn't own itself.
+    // Puts the body into its berth. The thread enters the state `to`, in which it doesn't own itself.
     #[inline(always)]
     fn give<R: Wait>(&mut self, rt: &R, to: BodyState<N>)
         requires running { is_running self.old.state ≡ true }
-        requires safe { table.is_safe (state_in to) ≡ true }
-        requires away { body_in to ≡ None }
+        requires safe { (owns (state_in to) ≡ false) × (is_running (state_in to) ≡ false)
+            × (serves (state_in to) ≡ false) }
+        requires away { (body_in to ≡ None) × (answer_in to ≡ None) × (given_in to ≡ None) }
 
         ensures state { self.new.state ≡ state_in to }
         ensures given { Gives self.old self.new }
         ensures same { SameThread self.old self.new }
     {
-        let body = self.own_part.body_state.take_body();
-        self.own_part.body_state = to;
+        let body = self.thread.body_state.take_body();
+        self.thread.body_state = to;
         let berth = self.shared.berth_of(&body);
-        self.own_part.crossed = berth.give(rt, body);
+        self.thread.crossed = berth.give(rt, body);
     }
 
-    // The body comes out of its berth, and the thread polls: it goes on where the way back leads, or stops there.
+    // Takes the body from its berth and polls: the thread continues in the state that `back` names, or stops there.
     #[inline(always)]
     fn come_back<R: Wait>(&mut self, rt: &R, back: Back) -> Poll
         ensures polled { GoesBack self.new.crossed.body self.new back result }
         ensures resumed { IsResumed self.new }
         ensures same { SameThread self.old self.new }
     {
-        let berth = self.shared.berth(self.own_part.place);
-        let (outgoing, resumed) = berth.resume(rt, self.own_part.name, self.own_part.place);
-        let mut body = outgoing.in_hand(&OwnHand);
+        let berth = self.shared.berth(self.thread.place);
+        let (outgoing, resumed) = berth.resume(rt, self.thread.name, self.thread.place);
+        let mut body = outgoing.into_body(&OwnHand);
         let found = body.poll(self.shared.row());
-        self.own_part.crossed = resumed;
-        self.own_part.body_state = if found == 0 {
-            going_on(back, body)
-        } else {
-            BodyState::AtPoll(back, body)
-        };
+        self.thread.crossed = resumed;
+        self.thread.body_state = after_poll(back, body, found);
         poll_of(found)
     }
 
-    /// The thread ends: it publishes its empty stack, serves what it was told before, and gives its place up. Answers the receipts of
-    /// the stops in which it served, of that, and of its Exit. It is refused, with the mutator as it was, where it isn't in Java or in the
-    /// VM, and where its stack isn't empty. A body that came back from serving may have frames that a holder left there; then it is refused
-    /// in Java, where it served.
+    /// Ends the thread: it publishes its empty stack, serves what was pending before, and gives its place up. Returns three
+    /// receipts: of the stops in which it served, of giving up the place, and of its Exit. Refused, with the mutator unchanged,
+    /// where the thread isn't in Java or in the VM, or where its stack isn't empty. While it serves, a holder may leave frames on
+    /// its body. Then the exit is refused too, and the thread is in Java, having served.
     pub fn exit<R: Wait>(self, rt: &R) -> Result<Exited<N>, (ExitFault, Mutator<'a, N, J>)>
         ensures exited { IfOk result (λ r. (r.exit.entry ≡ Entry.Exit self.entry.name)
             × (is_running self.entry.state ≡ true) × HasNoFrame self.entry.body) }
@@ -204,15 +184,15 @@ impl<'a, N: Name, J: Errand> Mutator<'a, N, J> {
         if !is_running(state) {
             return Err((ExitFault::Illegal(state), self));
         }
-        if self.depth() != 0 {
+        if self.thread.depth() != 0 {
             return Err((ExitFault::StackNotEmpty, self));
         }
         let Mutator {
             shared,
             hints,
-            own_part,
+            thread,
         } = self;
-        let OwnPart {
+        let RunningThread {
             name,
             place,
             methods,
@@ -220,12 +200,12 @@ impl<'a, N: Name, J: Errand> Mutator<'a, N, J> {
             seat,
             moved_in,
             crossed: _,
-        } = own_part;
+        } = thread;
         let body = body_state.take_body();
         match vacate(rt, shared, body) {
             Ok((vacated, served)) => Ok(shared.enter_exit(rt, vacated, served)),
             Err((body, crossed)) => {
-                let own_part = OwnPart {
+                let thread = RunningThread {
                     name,
                     place,
                     methods,
@@ -237,30 +217,18 @@ impl<'a, N: Name, J: Errand> Mutator<'a, N, J> {
                 let back = Mutator {
                     shared,
                     hints,
-                    own_part,
+                    thread,
                 };
                 Err((ExitFault::StackNotEmpty, back))
             }
         }
     }
-
-    // How many frames the stack of the thread has, as far as it has its body.
-    fn depth(&self) -> usize
-        ensures deep { (b : _) → self.now.body ≡ Some b → result ≡ length b.image.frames }
-    {
-        match &self.own_part.body_state {
-            BodyState::InJava(body) => body.depth(),
-            BodyState::InVm(body) => body.depth(),
-            BodyState::AtPoll(_, body) => body.depth(),
-            BodyState::InNative(_) | BodyState::Blocked => 0,
-        }
-    }
 }
 
-// Publishes an empty stack and gives the place up, after all that was told is served. Answers the receipt of that, and those of the
-// stops in which it served: of the first turn of all and of the last. The body comes back where it has frames then, with the receipt that
-// it came out to serve.
-fn vacate<N: Name, J: Errand, R: Wait>(
+// Publishes an empty stack and gives the place up, once all pending jobs are served. Returns the receipt of giving the place up,
+// and the receipts of the stops in which the thread served: of the very first turn and of the last. If the body has frames after
+// a stop, returns the body and the receipt that it came out of its berth to serve.
+fn vacate<N: Name, J: HandshakeOp, R: Wait>(
     rt: &R,
     shared: &Shared<N, J>,
     body: Body<N>,

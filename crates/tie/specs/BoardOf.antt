@@ -1,4 +1,4 @@
--- The board of a world: the words and the views that a running board would have where the core is in this world.
+-- The board of a world: the words and views of a running board that corresponds to this world of the core.
 use Rattle.std.specs.Prelude.{◌≡◌, ℕ, Bool, false, ◌&&◌, ◌==◌, List, Option, Some, None}
 use Rattle.std.specs.List.{list_any}
 use Rattle.frames.specs.declared.CodeId.{CodeId}
@@ -21,9 +21,9 @@ use Rattle.system.specs.World.{World, start_world, part_at, walk, thread_at, cov
 use Rattle.system.specs.Laws.{is_retired}
 use Rattle.system.specs.Runs.{world_after}
 
--- What the keeper knows of a slot with this newest code: its serial and state; the moment of its invalidation; the places that
--- were looked at for it and found clear; and that it was weighed clear, which zombies and freed codes were. A freed code leaves
--- all but the state as it was. A slot that never had a code is as at first.
+-- What the keeper knows of a slot with this newest code: the serial and the state; the moment of the invalidation; the places where a look
+-- found the code clear; and whether the code was weighed clear, as zombies and freed codes were. A Free changes only the state. A slot
+-- that never had a code is in its initial state.
 abbrev pub slot_by : List Entry → Option Code → SlotState
 slot_by log None = first_slot
 slot_by log (Some code) = record {
@@ -37,7 +37,7 @@ slot_by log (Some code) = record {
 abbrev pub slot_at : World → ℕ → SlotState
 slot_at w slot = slot_by w.log (newest_in w.codes slot)
 
--- The code was given out: its serial was, with this slot.
+-- The code was installed: its serial was given out, with this slot.
 abbrev pub stands_in : Option Code → ℕ → Bool
 stands_in None slot = false
 stands_in (Some code) slot = code.slot == slot
@@ -45,7 +45,7 @@ stands_in (Some code) slot = code.slot == slot
 abbrev pub is_given : List Code → CodeId → Bool
 is_given codes code = stands_in (code_of codes code.serial) code.slot
 
--- An Enter of the code at the place was sent away.
+-- An Enter of the code at the place was answered WrongMethod.
 abbrev pub misses_code : ℕ → ℕ → Event → Answer → Bool
 misses_code place serial (event.At p (act.Enter method (Some s))) answer.WrongMethod = (p == place) && (s == serial)
 misses_code place serial event answer = false
@@ -53,9 +53,9 @@ misses_code place serial event answer = false
 abbrev pub is_missed : ℕ → ℕ → List Entry → Bool
 is_missed place serial log = list_any (λ logged. misses_code place serial logged.event logged.answer) log
 
--- What the seat of a place with this thread, or none, knows: how often each code is counted there, as last published code by
--- code; the codes that its thread entered since its last ended publication; the moment of its open publication, and of its last
--- ended one, 0 for none; and the codes that were ever sent away there.
+-- What the seat of a place knows, with this thread or none: for each code the count that the thread last published; the codes that the
+-- thread entered since its last ended publication; the moment of its open publication and that of its last ended one, 0 for none; and the
+-- codes whose Enter was ever answered WrongMethod there.
 abbrev pub seat_by : List Code → List Entry → ℕ → Option Thread → SeatState
 seat_by codes log place t = record {
   counted = λ code. part_at code t;
@@ -68,8 +68,8 @@ seat_by codes log place t = record {
 abbrev pub seat_at : World → ℕ → SeatState
 seat_at w place = seat_by w.codes w.log place (thread_at w place)
 
--- The words: an entry is the serial and the state of its slot's code, a count is the index of that code, a place has the moment
--- of its last ended publication, and the moment is 1 and the rounds in the log.
+-- The words: an entry has the serial and the state of its slot's code; a count is the index of that code; a place has the moment of its
+-- last ended publication; the moment is 1 plus the rounds in the log.
 abbrev pub word_by : World → Word → ℕ
 word_by w (entry_of slot) = pack (slot_at w slot).serial (slot_at w slot).state
 word_by w (count_of slot) = walk w (code slot (slot_at w slot).serial)
@@ -80,16 +80,16 @@ word_by w the_moment = moment w.log
 abbrev pub board_of : World → BoardState
 board_of w = record { word = word_by w; now = moment w.log; slot = slot_at w; seat = seat_at w }
 
--- After any events, the board of the world meets the rule of a code board of so many slots and places.
+-- After any events, the board of the world satisfies the rule of a code board with these numbers of slots and places.
 abbrev pub BoardsKeepTheRule : Type 0
 BoardsKeepTheRule = (places slots methods : ℕ) (events : List Event) → IsBoardKept slots places (board_of (world_after (start_world places slots methods) events))
 
--- For a code that is not entrant, a place is covered exactly where its word lets it pass: it is 0, or above the moment at which the
+-- For a code that is not entrant, a place is covered exactly where its word passes a look: the word is 0, or above the moment at which the
 -- keeper invalidated the code of that slot.
 abbrev pub IsCoveredByWords : World → Type 0
 IsCoveredByWords w = (serial place : ℕ) (code : Code) → code_of w.codes serial ≡ Some code → code.state ≡ state.NotEntrant
     → covered w place serial ≡ is_past ((board_of w).slot code.slot).left ((board_of w).word (place_of place))
 
--- So it is after any events.
+-- This holds after any events.
 abbrev pub CoveredComparesWords : Type 0
 CoveredComparesWords = (places slots methods : ℕ) (events : List Event) → IsCoveredByWords (world_after (start_world places slots methods) events)

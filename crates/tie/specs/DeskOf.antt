@@ -1,5 +1,5 @@
--- The desk of a world: the state that the desk's list machine would have where the core is in this world, and the entries that
--- each event is.
+-- The desk of a world: the state of the desk's list machine that corresponds to this world of the core, and the entries that each event
+-- makes.
 use Rattle.std.specs.Prelude.{◌≡◌, ℕ, zero, suc, ◌+◌, ◌-◌, Bool, true, false, not, ◌&&◌, ◌==◌, List, [], ◌∷◌, ◌++◌, map, filter, find, count_by, option_map, Option, Some, None, if◌then◌else◌}
 use Rattle.method_table.specs.Codes.{in_use_for, free_slot}
 use Rattle.operations.specs.Names.{among}
@@ -24,7 +24,7 @@ use Rattle.desk.specs.Once.{replies_of}
 
 -- 1. The state
 
--- The place of the thread of this name, where one has it.
+-- The place of the thread with this name, if there is one.
 abbrev pub seat_of : ℕ → List (Option Thread) → Option ℕ
 seat_of name [] = None
 seat_of name (None ∷ places) = option_map (λ place. 1 + place) (seat_of name places)
@@ -34,16 +34,16 @@ abbrev pub live_by : ℕ → Option ℕ → List Live
 live_by name None = []
 live_by name (Some place) = record { name = name; place = place } ∷ []
 
--- The live ones of the first n names with their places, in the order of the names: that in which they started.
+-- The live threads among the first n names, with their places, in the order in which they started, which is that of their names.
 abbrev pub live_to : ℕ → List (Option Thread) → List Live
 live_to zero places = []
 live_to (suc n) places = live_to n places ++ live_by (suc n) (seat_of (suc n) places)
 
--- A request that waits.
+-- A request that is asked and not yet open.
 abbrev pub asked_of : Waiting → Asked
 asked_of waiting = record { number = waiting.number; request = waiting.request }
 
--- The entry opened the operation of the number; and the next name when it was opened.
+-- The entry opened the operation of this number; below, the next name at that time.
 abbrev pub opens_it : ℕ → Event → Answer → Bool
 opens_it n event.Open (answer.Opened m kind) = m == n
 opens_it n event given = false
@@ -52,15 +52,15 @@ abbrev pub name_at_open : ℕ → List Logged → ℕ
 name_at_open n [] = 1
 name_at_open n (entry ∷ before) = if opens_it n entry.event entry.answer then names_given before + 1 else name_at_open n before
 
--- How many threads are done with an operation.
+-- How many threads have processed an operation.
 abbrev pub times_done : ℕ → List Mark → ℕ
 times_done n marks = count_by (λ mark. mark.operation == n) marks
 
--- How many entries the open operation can still make before its Close: its Operate, or a Finish of each other target.
+-- How many entries the open operation can still make before its Close: one Operate, or a Finish of each remaining target.
 abbrev pub left_of : List Mark → Opened → ℕ
 left_of done o = if is_census o.request then (if o.operated then 0 else 1) else steps_of o.request - times_done o.number done
 
--- Its targets that were live when it was opened and aren't done. The desk has no Clear: what was done is out.
+-- The targets that were live at the Open and have no Finish yet. The desk has no Clear: a target with a Finish is no longer pending.
 abbrev pub due_of : List Mark → Opened → List ℕ
 due_of done o = filter (λ name. among name o.live && not (is_marked done o.number name)) (targets_of o.request)
 
@@ -85,32 +85,34 @@ desk_of w = record {
   table = record { codes = w.codes; slots = w.slots; methods = w.methods };
 }
 
--- 2. The entries that an event is
+-- 2. The entries of an event
 
 -- An entry for what a search found.
 abbrev pub for_found : {A : Type 0} → Option A → (A → List Entry) → List Entry
 for_found None entries = []
 for_found (Some x) entries = entries x
 
--- The operation of a Finish of the thread: the least told one that isn't done.
+-- The operation of the thread's next Finish: the lowest one that was told to the thread (a Tell armed its poll) and that it hasn't
+-- finished.
 abbrev pub next_of : Requests → Thread → Option Opened
 next_of requests t = find (is_undone requests t.name) requests.opened
 
 abbrev pub finish_entries : Requests → ℕ → Thread → List Entry
 finish_entries requests reply t = for_found (next_of requests t) (λ o. Finish o.number t.name reply ∷ [])
 
--- The oldest open operation: a census is open alone.
+-- The oldest open operation. While a census is open it is the only one.
 abbrev pub oldest_of : List Opened → Option Opened
 oldest_of [] = None
 oldest_of (opened ∷ others) = Some opened
 
--- A new code in the slot; where it replaces code in use, that is invalidated before.
+-- Installs a new code in the slot. If that replaces code in use, an Invalidate of the old code comes first.
 abbrev pub install_entries : World → ℕ → ℕ → List Entry
 install_entries w method serial =
     for_found (in_use_for w.codes method) (λ old. Invalidate old.serial ∷ [])
     ++ for_found (free_slot w.codes w.slots) (λ slot. Install (record { slot = slot; serial = serial }) method ∷ [])
 
--- The entries of an event, in the world before it, with its answer. A refused event, and every event that isn't named here, is none.
+-- The entries of an event with its answer, in the world before it. A refused event makes none, and neither does an event that isn't listed
+-- here.
 abbrev pub entries_of : World → Event → Answer → List Entry
 entries_of w event.Start (answer.Thread name place) = Start name place ∷ []
 entries_of w (event.At place act.Exit) (answer.Exited name) = Exit name ∷ []
@@ -125,14 +127,14 @@ entries_of w (event.Weigh serial) answer.Retired = Retire serial ∷ []
 entries_of w (event.Free serial) answer.Done = Free serial ∷ []
 entries_of w event given = []
 
--- The entries of the events, one event after the other.
+-- The entries of a list of events, in order.
 abbrev pub entries_of_run : World → List Event → List Entry
 entries_of_run w [] = []
 entries_of_run w (event ∷ events) = entries_of w event (answer_to w event) ++ entries_of_run (after w event) events
 
 -- 3. Replies
 
--- The reply that an event gives to the operation, with the name of its thread.
+-- The reply that an event gives to the operation, with the name of the thread.
 abbrev pub reply_by : ℕ → ℕ → ℕ → Option Opened → List (ℕ × ℕ)
 reply_by n name reply None = []
 reply_by n name reply (Some o) = if o.number == n then (name, reply) ∷ [] else []
@@ -145,24 +147,24 @@ abbrev pub reply_given : ℕ → World → Event → Answer → List (ℕ × ℕ
 reply_given n w (event.At place act.Finish) (answer.Reply reply) = reply_of n w.requests reply (thread_at w place)
 reply_given n w event given = []
 
--- The replies that the core gives to an operation, by name, in their order.
+-- The replies that the core gives to an operation, with the names of the threads, in their order.
 abbrev pub replies_in : ℕ → World → List Event → List (ℕ × ℕ)
 replies_in n w [] = []
 replies_in n w (event ∷ events) = reply_given n w event (answer_to w event) ++ replies_in n (after w event) events
 
 -- 4. The laws
 
--- The event takes the desk of the world before it to that of the world after it by its entries, each lawful where it is made.
+-- The event's entries take the desk of the world before it to that of the world after it, and each entry is lawful where it is made.
 pub record IsItsEntries (w : World) (event : Event) : Type 0 where
   pub legal : legal_from (desk_of w) (entries_of w event (answer_to w event)) ≡ true
   pub state : after_from (desk_of w) (entries_of w event (answer_to w event)) ≡ desk_of (after w event)
 
--- So it is of every next event, after any events.
+-- This holds of every next event, after any events.
 abbrev pub EventsAreTheirEntries : Type 0
 EventsAreTheirEntries = (places slots methods : ℕ) (events : List Event) (event : Event)
     → IsItsEntries (world_after (start_world places slots methods) events) event
 
--- The entries of any events are a legal history, and the state after it is the desk of the world after them.
+-- The entries of any events are a legal history, whose final state is the desk of the world after them.
 abbrev pub HistoriesAreLegal : Type 0
 HistoriesAreLegal = (places slots methods : ℕ) (events : List Event)
     → is_legal slots methods (entries_of_run (start_world places slots methods) events) ≡ true
@@ -176,19 +178,19 @@ abbrev pub RepliesAreTheCores : Type 0
 RepliesAreTheCores = (places slots methods n : ℕ) (events : List Event)
     → replies_of n (entries_of_run (start_world places slots methods) events) ≡ replies_in n (start_world places slots methods) events
 
--- One event more appends its entries.
+-- One more event appends its entries.
 abbrev pub EntriesAreAppended : Type 0
 EntriesAreAppended = (places slots methods : ℕ) (events : List Event) (event : Event)
     → entries_of_run (start_world places slots methods) (events ++ event ∷ [])
     ≡ entries_of_run (start_world places slots methods) events
     ++ entries_of (world_after (start_world places slots methods) events) event (answer_to (world_after (start_world places slots methods) events) event)
 
--- A refused event, whatever the world, is no entry.
+-- A refused event makes no entry, in any world.
 abbrev pub RefusedEnterNothing : Type 0
 RefusedEnterNothing = (w : World) (event : Event) (refusal : Refusal) → entries_of w event (answer.Refused refusal) ≡ []
 
--- A desk that has a legal history and the state of the world after some events, and makes the entries of the next events, has still a
--- legal history, and the state of the world after those.
+-- Take a desk with a legal history whose state is that of the world after some events. If it makes the entries of the next events, its
+-- history is still legal, and its state is that of the world after those.
 abbrev pub DesksGoOn : Type 0
 DesksGoOn = (places slots methods : ℕ) (before events : List Event) (history : List Entry)
     → is_legal slots methods history ≡ true

@@ -1,4 +1,4 @@
--- What the core refuses, and what the desk refuses in the state that the world projects to.
+-- Which calls the core refuses, and which the desk refuses in the state of the same world.
 use Rattle.std.specs.Prelude.{◌≡◌, ◌⊎◌, ℕ, ◌<◌, ◌^◌, true, false, ◌&&◌, ◌==◌, List, length, filter, Option, Some, None}
 use Rattle.std.specs.List.{list_any}
 use Rattle.bodies.specs.Bodies.{BodyView}
@@ -29,8 +29,8 @@ use Rattle.desk.specs.Machine.{State, Current, Book, has_census, lawful, may_clo
 use Rattle.desk.specs.Refusals.{HasFree, MayOperate, start_refused, ask_refused, open_refused, close_refused, install_refused, operate_refused, chosen, holds_target, has_body}
 use Rattle.tie.specs.DeskOf.{desk_of, current_of}
 
--- Where the core refuses a call, the desk refuses it for the same cause. Where the core accepts it, no test of the desk refuses it:
--- what is left there is want of room in the history, or of memory. The core gives no other answer.
+-- Where the core refuses a call, the desk refuses it for the same reason. Where the core accepts it, no test of the desk refuses it: only
+-- lack of room in the history, or of memory, can. The core gives no other answer.
 
 abbrev pub StartSays : State → ℕ → Book → Answer → Type 0
 StartSays s places b (answer.Refused refusal.SafepointOpen) = start_refused s places b start.SafepointOpen
@@ -39,7 +39,7 @@ StartSays s places b (answer.Refused refusal.Spent) = start_refused s places b s
 StartSays s places b (answer.Thread name place) = (has_census s.opened ≡ false) × HasFree s places × (s.next_name < 2 ^ 40)
 StartSays s places b given = ⊥
 
--- Of jobs that are one for each target in order, with the request's ask.
+-- For an Ask of the request with one job for each target, in order.
 abbrev pub AskSays : State → Request → Book → Answer → Type 0
 AskSays s r b (answer.Refused refusal.Spent) = ask_refused s r true b ask.Spent
 AskSays s r b (answer.Refused refusal.QueueFull) = ask_refused s r true b ask.QueueFull
@@ -67,7 +67,7 @@ InvalidateSays s serial (answer.Refused refusal.NotInUse) = invalidate_fault (un
 InvalidateSays s serial answer.Done = invalidate_fault (unfreed s.table.codes serial) ≡ None
 InvalidateSays s serial given = ⊥
 
--- Of a Weigh, whether it retires the code or not.
+-- For a Weigh, whether or not it retires the code.
 abbrev pub RetireSays : State → ℕ → Answer → Type 0
 RetireSays s serial (answer.Refused refusal.Unknown) = retire_fault (unfreed s.table.codes serial) ≡ Some retire.Unknown
 RetireSays s serial (answer.Refused refusal.NotNotEntrant) = retire_fault (unfreed s.table.codes serial) ≡ Some retire.NotNotEntrant
@@ -82,12 +82,12 @@ FreeSays s serial (answer.Refused refusal.NotZombie) = free_fault (unfreed s.tab
 FreeSays s serial answer.Done = free_fault (unfreed s.table.codes serial) ≡ None
 FreeSays s serial given = ⊥
 
--- The bodies are those of the held threads, each once.
+-- The bodies are those of the held threads, each exactly once.
 pub record AreHeld (w : World) (bs : List BodyView) : Type 0 where
   pub same : (name : ℕ) → has_body name bs ≡ list_any (λ t. t.held && (t.name == name)) (threads w.places)
   pub count : length bs ≡ length (filter (λ t. t.held) (threads w.places))
 
--- A live target of the chosen open operation has done its part, and isn't cleared.
+-- A live target of the chosen open operation has finished and isn't cleared.
 pub record AwaitsClear (w : World) (number : Option ℕ) : Type 0 where
   pub opened : Opened
   pub chosen_is : chosen number (desk_of w).opened ≡ Some (current_of w.requests.done w.log opened)
@@ -96,7 +96,7 @@ pub record AwaitsClear (w : World) (number : Option ℕ) : Type 0 where
   pub done : (is_marked w.requests.done opened.number name ≡ true) ⊎ (opened.operated ≡ true)
   pub uncleared : is_marked w.requests.cleared opened.number name ≡ false
 
--- The desk may close the chosen one, which has this number.
+-- The desk may close the chosen operation, which has this number.
 pub record ClosesAtDesk (s : State) (number : Option ℕ) (bs : List BodyView) (n : ℕ) : Type 0 where
   pub opened : Current
   pub chosen_is : chosen number s.opened ≡ Some opened
@@ -104,7 +104,7 @@ pub record ClosesAtDesk (s : State) (number : Option ℕ) (bs : List BodyView) (
   pub none_held : holds_target opened.request bs ≡ false
   pub over : may_close s.live opened ≡ true
 
--- The desk has no Clear: where the core isn't done, the desk isn't, or what is done awaits its Clear.
+-- The desk has no Clear. Where the core answers NotDone, the desk does too, or a finished target still awaits its Clear.
 abbrev pub CloseSays : World → Option ℕ → List BodyView → Answer → Type 0
 CloseSays w number bs (answer.Refused refusal.NothingOpen) = close_refused (desk_of w) number bs close.NothingOpen
 CloseSays w number bs (answer.Refused refusal.NotOf) = close_refused (desk_of w) number bs close.NotOf
@@ -113,7 +113,7 @@ CloseSays w number bs (answer.Refused refusal.NotDone) = close_refused (desk_of 
 CloseSays w number bs (answer.Closed n) = ClosesAtDesk (desk_of w) number bs n
 CloseSays w number bs given = ⊥
 
--- The desk's bodies are settled, so the tests of publications are none of its own.
+-- The desk takes only settled bodies, so it has no tests for open or missing publications.
 abbrev pub OperateSays : State → List BodyView → Answer → Type 0
 OperateSays s bs (answer.Refused refusal.NothingOpen) = operate_refused s bs operate.NothingOpen
 OperateSays s bs (answer.Refused refusal.NotOf) = operate_refused s bs operate.NotOf
@@ -124,7 +124,7 @@ OperateSays s bs (answer.Refused refusal.Unpublished) = MayOperate s bs
 OperateSays s bs (answer.Census counts) = MayOperate s bs
 OperateSays s bs given = ⊥
 
--- All of them.
+-- All of these agree.
 pub record AgreesOnRefusals (places : ℕ) (w : World) : Type 0 where
   pub starts : (b : Book) → StartSays (desk_of w) places b (answer_to w event.Start)
   pub asks : (r : Request) (b : Book) → AskSays (desk_of w) r b (answer_to w (event.Ask r))
@@ -136,6 +136,6 @@ pub record AgreesOnRefusals (places : ℕ) (w : World) : Type 0 where
   pub closes : (number : Option ℕ) (bs : List BodyView) → AreHeld w bs → CloseSays w number bs (answer_to w (event.Close number))
   pub operates : (bs : List BodyView) → AreHeld w bs → OperateSays (desk_of w) bs (answer_to w event.Operate)
 
--- So it is after any events.
+-- This holds after any events.
 abbrev pub RefusalsAgree : Type 0
 RefusalsAgree = (places slots methods : ℕ) (events : List Event) → AgreesOnRefusals places (world_after (start_world places slots methods) events)

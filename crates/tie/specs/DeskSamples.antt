@@ -1,4 +1,4 @@
--- The entries of worked runs, one by one, and the state of the desk in the middle of one.
+-- The entries of worked runs, one by one, and the state of the desk in the middle of one run.
 use Rattle.std.specs.Prelude.{◌≡◌, ℕ, true, false, List, [], ◌∷◌, map, take, None}
 use Rattle.operations.specs.declared.Ask.TheVariants.{Depth, Top}
 use Rattle.operations.specs.declared.Request.{Request}
@@ -22,14 +22,14 @@ use Rattle.tie.specs.DeskOf.{desk_of, entries_of_run, replies_in}
 abbrev pub events_of : List Logged → List Event
 events_of run = map (λ line. line.event) run
 
--- A core of so many places and slots, and 2 methods, makes these entries in the run.
+-- In a core with these numbers of places and slots, and 2 methods, the run makes these entries.
 abbrev pub Enters : ℕ → ℕ → List Logged → List Entry → Type 0
 Enters places slots run entries = entries_of_run (start_world places slots 2) (events_of run) ≡ entries
 
 abbrev pub depth : List ℕ → Request
 depth targets = Handshake targets Depth
 
--- Two handshakes are closed out of order; what a target says that never lived is nothing.
+-- Two handshakes are closed out of order. A target name that was never live makes no entry.
 abbrev pub entries_of_four : List Entry
 entries_of_four =
     Start 1 0 ∷ Ask 1 (depth (1 ∷ [])) ∷ Ask 2 (Handshake (1 ∷ []) Top) ∷ Ask 3 (depth (1 ∷ [])) ∷ Ask 4 (depth (2 ∷ [])) ∷ Ask 5 Census
@@ -45,7 +45,8 @@ FourHandshakes =
 abbrev pub open_with : ℕ → Request → ℕ → List ℕ → Current
 open_with number request left due = record { number = number; request = request; before = 2; left = left; due = due; operated = false }
 
--- After the thread is done with the first: the first keeps room for no entry but its Close, the fourth for one that never comes.
+-- The thread has finished the first handshake. That one keeps room only for its Close; the fourth keeps room for a Finish that never
+-- comes.
 abbrev pub first_is_done : State
 first_is_done = record {
   next_name = 2;
@@ -76,7 +77,7 @@ ReclaimedAfterUse = Enters 1 4 reclaimed_after_use (Start 1 0 ∷ Install (code 
 abbrev pub OwnLiveTargets : Type 0
 OwnLiveTargets = Enters 1 1 own_live_targets (Ask 1 (depth (1 ∷ [])) ∷ Open 1 ∷ Start 1 0 ∷ Ask 2 (depth (1 ∷ [])) ∷ Open 2 ∷ Close 1 ∷ Finish 2 1 0 ∷ Close 2 ∷ [])
 
--- The thread is done with its handshake, and isn't cleared: the core closes nothing yet, and the desk's machine would.
+-- The thread has finished its handshake and isn't cleared. The core refuses a Close here, and the desk's machine would allow it.
 abbrev pub done_uncleared : World
 done_uncleared = world_after (start_world 1 4 2) (events_of (take 17 two_operations_in_turn))
 

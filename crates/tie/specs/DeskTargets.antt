@@ -1,4 +1,4 @@
--- How a name stands to the open operations, in the core and at the desk.
+-- How a name relates to the open operations, in the core and at the desk.
 use Rattle.std.specs.Prelude.{Option, Some, None, ◌≡◌, ◌↔◌, ℕ, true, false, List, slice_get, not, find, filter}
 use Rattle.system.specs.declared.events.Event.{Event}
 use Rattle.system.specs.declared.events.Event.TheVariants as event
@@ -23,13 +23,13 @@ use Rattle.tie.specs.BoardOf.{board_of}
 use Rattle.tie.specs.PollRow.{row_of}
 use Rattle.tie.specs.DeskOf.{seat_of, current_of, desk_of, next_of}
 
--- The desk finds the place of a thread of which some open request is, whether it was told already or not.
+-- The thread of this name is a target of an open request, whether or not a Tell has armed its poll yet, and the desk finds its place.
 pub record IsAsked (w : World) (name : ℕ) : Type 0 where
   pub target : Target
   pub standing_is : standing (desk_of w) name ≡ Asked target
   pub place_is : seat_of name w.places ≡ Some target.place
 
--- What a Tell answers is how the name stands at the desk.
+-- The answer of a Tell corresponds to the standing of the name at the desk.
 abbrev pub TellSays : World → ℕ → Answer → Type 0
 TellSays w name (answer.Refused refusal.NothingOpen) = standing (desk_of w) name ≡ NothingOpen
 TellSays w name (answer.Refused refusal.NotOf) = standing (desk_of w) name ≡ NotOf
@@ -38,8 +38,9 @@ TellSays w name answer.Told = IsAsked w name
 TellSays w name answer.Gone = standing (desk_of w) name ≡ Gone
 TellSays w name given = ⊥
 
--- Of a live name: it is a live target of an open operation exactly where the desk has it as one, by the names that were given out
--- before the Open; and where it was told the handshake, its Finish is lawful at the desk exactly where it is the next in the core.
+-- For a live name: it is a live target of an open operation in the core exactly where the desk lists it as one, by the names that were
+-- given out before the Open. If a Tell made the handshake pending for it, its Finish is lawful at the desk exactly where that Finish is
+-- the next one in the core.
 pub record TargetsAreTheSame (w : World) : Type 0 where
   pub targets : (i : ℕ) (o : Opened) (name : ℕ)
       → slice_get w.requests.opened i ≡ Some o
@@ -56,13 +57,13 @@ pub record TargetsAreTheSame (w : World) : Type 0 where
 abbrev pub DesksHaveTheTargets : Type 0
 DesksHaveTheTargets = (places slots methods : ℕ) (events : List Event) → TargetsAreTheSame (world_after (start_world places slots methods) events)
 
--- The number of an operation that was found.
+-- The number of the operation that a search found.
 abbrev pub number_found : Option Opened → Option ℕ
 number_found None = None
 number_found (Some o) = Some o.number
 
--- The thread at a place, whose word was armed last with the number that the row of the world has there, is told next at the desk
--- what a Tell tells it in the core.
+-- Take the thread at a place whose poll word was last armed with the number that the poll row of the world has there. The next operation
+-- of this thread that isn't told yet at the desk is the one for which a Tell in the core arms its poll.
 abbrev pub UntoldAreTheSame : World → Type 0
 UntoldAreTheSame w = (p : ℕ) (t : Thread) → thread_at w p ≡ Some t
     → untold (desk_of w) t.name (row_of w p).armed
@@ -73,12 +74,12 @@ UntoldAreTheSame w = (p : ℕ) (t : Thread) → thread_at w p ≡ Some t
 abbrev pub DesksTellTheSame : Type 0
 DesksTellTheSame = (places slots methods : ℕ) (events : List Event) → UntoldAreTheSame (world_after (start_world places slots methods) events)
 
--- What the board's keeper has of a slot is its newest code at the desk.
+-- What the board's keeper knows of a slot agrees with the newest code at the desk.
 abbrev pub AgreesWith : Option Code → SlotState → Type 0
 AgreesWith None s = (s.serial ≡ 0) × (s.state ≡ entry.Vacant)
 AgreesWith (Some code) s = (s.serial ≡ code.serial) × (s.state ≡ entry_state code.state)
 
--- The desk and the board of a world are of the same codes, and the desk and the places of the same threads.
+-- The desk and the board of a world have the same codes, and the desk and the places have the same threads.
 pub record IsOfOneWorld (w : World) : Type 0 where
   pub codes : (slot : ℕ) → AgreesWith (newest_in (desk_of w).table.codes slot) ((board_of w).slot slot)
   pub threads : (name place : ℕ)

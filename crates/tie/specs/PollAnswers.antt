@@ -1,4 +1,4 @@
--- What the answer to an event says of the poll word that its step met.
+-- How the answer to an event relates to the poll word that its step met.
 use Rattle.std.specs.Prelude.{◌≡◌, ℕ, ◌<◌, ◌≤◌, ◌==◌, Bool, true, false, List, Option, Some, None, if◌then◌else◌}
 use Rattle.thread_state.specs.declared.poll_rule.Deed.{Deed}
 use Rattle.thread_state.specs.declared.poll_rule.Deed.TheVariants.{Nothing, Load, Store, Exchange}
@@ -13,24 +13,24 @@ use Rattle.system.specs.Runs.{answer_to, world_after}
 use Rattle.system.specs.Safepoints.{is_accepted}
 use Rattle.tie.specs.PollRow.{PollDeed, row_of, load, polls_of}
 
--- A poll that found 0 goes on, and one that found another number stops for it.
+-- A poll that loads 0 goes on. A poll that loads another number stops for that operation.
 abbrev pub said_by : ℕ → Answer
 said_by found = if found == 0 then answer.Go else answer.Stop found
 
--- The answer is read off the deed: a poll's off what its load found; a store is a Tell that was told; and the exchange of an
--- accepted Clear finds the number that it is to clear, or a greater one, which stays.
+-- The deed determines the answer. A poll answers by the value that it loads. A store belongs to a Tell that is answered Told. The exchange
+-- of an accepted Clear finds the number that it clears, or a greater one, which stays.
 abbrev pub IsToldBy : Deed → Answer → Type 0
 IsToldBy Nothing said = Unit {0}
 IsToldBy (Load found) said = said ≡ said_by found
 IsToldBy (Store place n) said = said ≡ answer.Told
 IsToldBy (Exchange n found) said = (0 < n) × (n ≤ found)
 
--- An event without a step has its answer elsewhere.
+-- The answer of an event without a step doesn't depend on a poll word.
 abbrev pub IsAnswered : Option PollDeed → Answer → Type 0
 IsAnswered None said = Unit {0}
 IsAnswered (Some step) said = IsToldBy step.deed said
 
--- So it is of every next event, after any events.
+-- This holds of every next event, after any events.
 abbrev pub PollsAnswerTheirWords : Type 0
 PollsAnswerTheirWords = (places slots methods : ℕ) (events : List Event) (next : Event)
     → IsAnswered (polls_of (world_after (start_world places slots methods) events) next (answer_to (world_after (start_world places slots methods) events) next))
@@ -44,7 +44,7 @@ is_poll act.Cross = true
 is_poll act.FromVm = true
 is_poll other = false
 
--- Where such an act is accepted, its one step is the load of its place's word, and its answer is read off what was found there.
+-- Where such an act is accepted, its only step is the load of its place's word, and the loaded value determines its answer.
 abbrev pub IsOneLoad : World → ℕ → Act → Answer → Type 0
 IsOneLoad w place polling said = is_accepted said ≡ true → (polls_of w (event.At place polling) said ≡ load w place) × (said ≡ said_by (row_of w place).word)
 

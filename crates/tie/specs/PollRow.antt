@@ -1,5 +1,5 @@
--- The poll row of a world: the word of each place, and the numbers that were armed and cleared there; and which step of the row
--- each event is.
+-- The poll row of a world: the word of each place, and the numbers that were last armed and cleared there. And the step that each event
+-- makes on the row.
 use Rattle.std.specs.Prelude.{◌≡◌, ℕ, ◌+◌, Bool, false, not, ◌==◌, List, [], ◌∷◌, filter, Option, Some, None, unwrap_or, find, if◌then◌else◌}
 use Rattle.thread_state.specs.declared.poll_rule.Deed.{Deed}
 use Rattle.thread_state.specs.declared.poll_rule.Deed.TheVariants.{Load, Store, Exchange}
@@ -19,9 +19,9 @@ use Rattle.system.specs.Runs.{after, answer_to, world_after}
 use Rattle.system.specs.Ran.{name_in}
 use Rattle.system.specs.Safepoints.{is_accepted}
 
--- 1. What the log and the marks tell of a place
+-- 1. What the log and the marks say of a place
 
--- The event, answered so after these entries, tells an operation to the thread at the place.
+-- The event, with this answer after these entries, is a Tell that arms the poll of the thread at the place for an operation.
 abbrev pub tells : ℕ → Event → Answer → List Entry → Bool
 tells place (event.Tell name) answer.Told before = name_in place before == name
 tells place event answer before = false
@@ -31,7 +31,7 @@ abbrev pub clears : ℕ → Event → Bool
 clears place (event.At p act.Clear) = p == place
 clears place event = false
 
--- The operation of the newest mark, 0 for none; and the marks before it.
+-- The operation of the newest mark, 0 for none; and the marks before that one.
 abbrev pub newest : List Mark → ℕ
 newest [] = 0
 newest (mark ∷ marks) = mark.operation
@@ -40,10 +40,10 @@ abbrev pub older : List Mark → List Mark
 older [] = []
 older (mark ∷ marks) = marks
 
--- What follows walks the log and the marks in step, the newest first. Each Tell that is told makes one mark of what is told, and each
--- Clear one of what is cleared: so the newest mark is that of the newest such entry, and it alone is missing before that entry.
+-- The definitions below walk the log and the marks together, the newest first. Each Tell that is answered Told makes one told mark, and
+-- each Clear one cleared mark. So the newest mark belongs to the newest such entry, and only this mark is missing before that entry.
 
--- The marks of what is told, or cleared, as they stood before the entry, out of those behind it.
+-- The told marks, or the cleared marks, as they were before this entry, out of the marks after it.
 abbrev pub told_before : Event → Answer → List Mark → List Mark
 told_before (event.Tell name) answer.Told told = older told
 told_before event answer told = told
@@ -52,15 +52,15 @@ abbrev pub cleared_before : Event → List Mark → List Mark
 cleared_before (event.At place act.Clear) cleared = older cleared
 cleared_before event cleared = cleared
 
--- The operation that was told last at the place, 0 where none was: that of the newest entry that tells at the place. It stays when the
--- thread leaves and another one starts there. `told` are the marks of what is told, at the end of this log.
+-- The operation for which the place was last armed, 0 where there was none: that of the newest Tell there. It stays when the thread exits
+-- and another one starts there. `told` has the told marks at the end of this log.
 abbrev pub armed_at : ℕ → List Mark → List Entry → ℕ
 armed_at place told [] = 0
 armed_at place told (entry ∷ before) =
     if tells place entry.event entry.answer before then newest told else armed_at place (told_before entry.event entry.answer told) before
 
--- The operations that were told at the place and aren't cleared there, the newest first: an entry that tells at the place adds one, and
--- one that clears at the place takes one away. `told` and `cleared` are the marks at the end of this log.
+-- The operations for which the place was armed and which aren't cleared there yet, the newest first. A Tell at the place adds one, and a
+-- Clear there removes one. `told` and `cleared` are the marks at the end of this log.
 abbrev pub uncleared_at : ℕ → List Mark → List Mark → List Entry → List ℕ
 uncleared_at place told cleared [] = []
 uncleared_at place told cleared (entry ∷ before) =
@@ -68,8 +68,8 @@ uncleared_at place told cleared (entry ∷ before) =
     else (if clears place entry.event then filter (λ n. not (n == newest cleared)) (uncleared_at place told (older cleared) before)
     else uncleared_at place (told_before entry.event entry.answer told) (cleared_before entry.event cleared) before)
 
--- The operation that had been told last at the place when nothing told there was left uncleared, at the last such time: the walk goes
--- back until `uncleared_at` is empty, and answers `armed_at` of then.
+-- The operation for which the place had last been armed at the latest time when it had no uncleared operation. The walk goes back until
+-- `uncleared_at` is empty, and answers `armed_at` of that time.
 abbrev pub cleared_at : ℕ → List Mark → List Mark → List Entry → ℕ
 cleared_at place told cleared [] = 0
 cleared_at place told cleared (entry ∷ before) =
@@ -78,7 +78,7 @@ cleared_at place told cleared (entry ∷ before) =
 
 -- 2. The row
 
--- n where a poll of the thread stops for n, 0 where it goes on; 0 at a vacant place.
+-- The poll word: n where a poll of the thread stops for n, 0 where it goes on or where the place is vacant.
 abbrev pub word_of : Requests → Option Thread → ℕ
 word_of requests None = 0
 word_of requests (Some t) = unwrap_or (poll_of requests t.name) 0
@@ -89,49 +89,50 @@ row_of w place = record { word = word_of w.requests (thread_at w place); armed =
 
 -- 3. The step that an event is
 
--- A step of the row: where it is made, and what the stepping seat does and meets there.
+-- A step of the row: its place, what the seat does there, and the value that it meets.
 pub record PollDeed : Type 0 where
   pub place : ℕ
   pub deed : Deed
 
--- The number of an operation that was found, 0 where none was.
+-- The number of the operation that a search found, 0 where there is none.
 abbrev pub number_of : Option Opened → ℕ
 number_of None = 0
 number_of (Some opened) = opened.number
 
--- The operation that a Tell of the name tells: the least that has it as a live target and wasn't told to it.
+-- The operation for which the next Tell of the name arms: the lowest that has the name as a live target and that no Tell has made pending
+-- for it yet.
 abbrev pub tells_next : World → ℕ → ℕ
 tells_next w name = number_of (find (λ o. not (is_marked w.requests.told o.number name)) (filter (λ o. is_live_target w o name) w.requests.opened))
 
--- The operation that a Clear of the thread clears: the least told one that isn't cleared.
+-- The operation of the thread's next Clear: the lowest that was told to it and isn't cleared.
 abbrev pub clears_next : Requests → Option Thread → ℕ
 clears_next requests None = 0
 clears_next requests (Some t) = number_of (find (is_uncleared requests t.name) requests.opened)
 
--- The place of the thread of this name; the number of places where none has it.
+-- The place of the thread with this name; the number of places where there is no such thread.
 abbrev pub place_of : List (Option Thread) → ℕ → ℕ
 place_of [] name = 0
 place_of (None ∷ places) name = 1 + place_of places name
 place_of (Some t ∷ places) name = if t.name == name then 0 else 1 + place_of places name
 
--- The poller of the place loads its word.
+-- The poller of the place loads the place's word.
 abbrev pub load : World → ℕ → Option PollDeed
 load w place = Some (record { place = place; deed = Load (row_of w place).word })
 
--- The poller of the place compares its word with the number that the Clear clears, to exchange it for 0; a greater number stays.
+-- The poller of the place exchanges the word for 0 if it is the number that the Clear clears. A greater number stays.
 abbrev pub exchange : World → ℕ → Option PollDeed
 exchange w place = Some (record { place = place; deed = Exchange (clears_next w.requests (thread_at w place)) (row_of w place).word })
 
--- The armer stores the number that the Tell tells at the place of the thread.
+-- The armer stores the number of the Tell's operation into the word of the thread's place.
 abbrev pub store : World → ℕ → Option PollDeed
 store w name = Some (record { place = place_of w.places name; deed = Store (place_of w.places name) (tells_next w name) })
 
--- The step of a Tell: none where the thread is gone.
+-- The step of a Tell. There is none where the thread has exited.
 abbrev pub told_step : World → ℕ → Answer → Option PollDeed
 told_step w name answer.Told = store w name
 told_step w name other = None
 
--- The step of an accepted event, by its answer. Nothing but Tell, Clear and the events that poll makes a step.
+-- The step of an accepted event, by its answer. Only Tell, Clear and the events that poll make a step.
 abbrev pub step_of : World → Event → Answer → Option PollDeed
 step_of w (event.At place (act.Enter method (Some serial))) said = None
 step_of w (event.At place (act.Enter method None)) said = None
@@ -169,25 +170,25 @@ step_of w (event.Count serial) said = None
 step_of w (event.CodeState serial) said = None
 step_of w (event.Resolve method) said = None
 
--- The step of an event: a refused one makes none.
+-- The step of an event. A refused event makes none.
 abbrev pub polls_of : World → Event → Answer → Option PollDeed
 polls_of w event said = if is_accepted said then step_of w event said else None
 
--- From one row to the other by just this step.
+-- Exactly this step takes one row to the other.
 abbrev pub IsPolled : ℕ → Option PollDeed → (ℕ → PlaceState) → (ℕ → PlaceState) → Type 0
 IsPolled places None before after = (place : ℕ) → after place ≡ before place
 IsPolled places (Some step) before after = RowStep places step.place step.deed before after
 
 -- 4. The laws
 
--- The row of every world that events lead to meets the rule.
+-- The row of every world that events lead to satisfies the rule.
 abbrev pub RowsKeepTheRule : Type 0
 RowsKeepTheRule = (places slots methods : ℕ) (events : List Event) → IsPollKept places (row_of (world_after (start_world places slots methods) events))
 
--- The next event, whatever it is, changes the row by its step and by nothing else.
+-- The next event, whatever it is, changes the row by exactly its step.
 abbrev pub ChangesByItsStep : ℕ → World → Event → Type 0
 ChangesByItsStep places w next = IsPolled places (polls_of w next (answer_to w next)) (row_of w) (row_of (after w next))
 
--- So it is after any events.
+-- This holds after any events.
 abbrev pub EventsAreTheirPolls : Type 0
 EventsAreTheirPolls = (places slots methods : ℕ) (events : List Event) (next : Event) → ChangesByItsStep places (world_after (start_world places slots methods) events) next

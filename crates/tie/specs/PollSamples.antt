@@ -1,5 +1,5 @@
--- A run of the core in which a thread polls by each of the four acts, and goes on and stops at each, with the steps of the row that
--- its events are.
+-- A run of the core in which a thread polls by each of the four acts, and both goes on and stops at each, with the steps that its events
+-- make on the row.
 use Rattle.std.specs.Prelude.{◌≡◌, List, [], ◌∷◌, ◌++◌}
 use Rattle.thread_state.specs.declared.poll_rule.Deed.{Deed}
 use Rattle.thread_state.specs.declared.poll_rule.Deed.TheVariants.{Load, Store, Exchange}
@@ -9,7 +9,7 @@ use Rattle.system.specs.World.{start_world}
 use Rattle.tie.specs.PollRow.{PollDeed}
 use Rattle.tie.specs.Followed.{polls_of_run}
 
--- In a core of two places, one slot and two methods the events are these steps of the row.
+-- In a core of two places, one slot and two methods the events make these steps on the row.
 abbrev pub PollsBy : List Event → List PollDeed → Type 0
 PollsBy events steps = polls_of_run (start_world 2 1 2) events ≡ steps
 
@@ -17,16 +17,17 @@ PollsBy events steps = polls_of_run (start_world 2 1 2) events ≡ steps
 abbrev pub at_one : Deed → PollDeed
 at_one deed = record { place = 1; deed = deed }
 
--- The second of two threads goes into Java, and by each way of polling on: Cross, Edge, Leave and FromVm.
+-- The second of two threads goes into Java and polls once by each of Cross, Edge, Leave and FromVm. Each poll goes on.
 abbrev pub goes_on : List Event
 goes_on = start ∷ start ∷ begin 1 ∷ end 1 ∷ wake 1 ∷ cross 1 ∷ install 0 ∷ enter_code 1 0 1 ∷ edge 1 ∷ leave 1 ∷ to_vm 1 ∷ from_vm 1 ∷ []
 
--- It stops at an Edge, and there is no other Edge for it then; done but not cleared it stops again at a Cross; cleared it goes on.
+-- The thread stops at an Edge, and its next Edge is refused. Finished but not cleared, it stops again at a Cross. Once cleared, it goes
+-- on.
 abbrev pub stops_at_an_edge : List Event
 stops_at_an_edge =
     ask_depth (2 ∷ []) ∷ open_oldest ∷ tell 2 ∷ edge 1 ∷ edge 1 ∷ take 1 ∷ finish 1 ∷ cross 1 ∷ take 1 ∷ clear 1 ∷ cross 1 ∷ close ∷ []
 
--- It stops on its way out of the VM, and at a return.
+-- The thread stops on its way out of the VM, and at a return.
 abbrev pub stops_at_a_return : List Event
 stops_at_a_return =
     ask_depth (2 ∷ []) ∷ open_oldest ∷ to_vm 1 ∷ tell 2 ∷ from_vm 1 ∷ take 1 ∷ finish 1 ∷ clear 1 ∷ cross 1 ∷ close
@@ -35,7 +36,8 @@ stops_at_a_return =
 abbrev pub polled_everywhere : List Event
 polled_everywhere = goes_on ++ stops_at_an_edge ++ stops_at_a_return
 
--- Two handshakes are told before it stops: it stops for the second, clears the first, which leaves the second armed, and clears that.
+-- Two handshakes arm the thread's poll before it stops. It stops for the second, clears the first, which leaves the second armed, and
+-- clears that.
 abbrev pub cleared_under_a_greater : List Event
 cleared_under_a_greater =
     goes_on ++ ask_depth (2 ∷ []) ∷ ask_depth (2 ∷ []) ∷ open_oldest ∷ open_oldest ∷ tell 2 ∷ tell 2 ∷ edge 1 ∷ take 1 ∷ finish 1 ∷ clear 1 ∷ cross 1

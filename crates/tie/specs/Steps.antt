@@ -1,4 +1,4 @@
--- Which steps of the code board an accepted event is. Every other event, and every refused one, is none.
+-- The steps that an accepted event makes on the code board. Events that aren't listed, and refused ones, make none.
 use Rattle.std.specs.Prelude.{◌≡◌, ℕ, ◌+◌, ℤ, pos, negsuc, Bool, true, false, List, [], ◌∷◌, ◌++◌, Option, Some, None, if◌then◌else◌}
 use Rattle.frames.specs.declared.CodeId.{CodeId}
 use Rattle.frames.specs.declared.board_rule.EntryState.TheVariants.{InUse, NotEntrant, Zombie, Vacant}
@@ -20,7 +20,7 @@ use Rattle.system.specs.World.{World, start_world, thread_at}
 use Rattle.system.specs.Runs.{after, answer_to, world_after}
 use Rattle.tie.specs.BoardOf.{word_by, board_of}
 
--- A step with who makes it.
+-- A step, with the seat that makes it.
 pub record Made : Type 0 where
   pub actor : Actor
   pub step : StepMade
@@ -32,33 +32,33 @@ of_thread place step = record { actor = thread place; step = step } ∷ []
 abbrev pub of_keeper : StepMade → List Made
 of_keeper step = record { actor = keeper; step = step } ∷ []
 
--- The steps for the code that a search found; none where it found none, and the event is refused.
+-- The steps for the code that a search found. If it found none, the event is refused and makes no step.
 abbrev pub for_code : Option Code → (CodeId → List Made) → List Made
 for_code None steps = []
 for_code (Some code) steps = steps (id_of code)
 
--- The steps that store a code of the next serial into the slot that a search found.
+-- The steps that store a code with the next serial into the slot that a search found.
 abbrev pub for_slot : Option ℕ → (ℕ → List Made) → List Made
 for_slot None steps = []
 for_slot (Some slot) steps = steps slot
 
--- An Enter with a code loads the entry of the code's slot, whether it enters or is sent away. One without makes no step.
+-- An Enter with a code loads the entry of the code's slot, whatever the answer. An Enter without a code makes no step.
 abbrev pub enter_steps : World → ℕ → Option ℕ → List Made
 enter_steps w place None = []
 enter_steps w place (Some serial) = for_code (code_of w.codes serial) (λ c. of_thread place (LoadEntry c (word_by w (entry_of c.slot))))
 
--- A count goes up, or down, by the answered difference.
+-- The count rises or falls by the answered difference.
 abbrev pub count_by : CodeId → ℤ → ℕ → StepMade
 count_by c (pos n) found = AddCount c n found
 count_by c (negsuc n) found = SubCount c (n + 1) found
 
--- A Change moves the count of the slot of the code that it answers. Where nothing is left it makes no step.
+-- A Change adjusts the count of the slot of the code that it answers. Where nothing is left to publish it makes no step.
 abbrev pub change_steps : World → ℕ → Answer → List Made
 change_steps w place (answer.Changed serial by) = for_code (code_of w.codes serial) (λ c. of_thread place (count_by c by (word_by w (count_of c.slot))))
 change_steps w place given = []
 
--- A Weigh loads the count of the code's slot, unless a place wasn't looked at; where it retires the code, it stores the entry
--- as zombie then.
+-- A Weigh loads the count of the code's slot, unless some place wasn't found clear. If it retires the code, it then stores the entry as
+-- zombie.
 abbrev pub weigh_steps : World → CodeId → Answer → List Made
 weigh_steps w c (answer.Used n) = of_keeper (LoadCount c (word_by w (count_of c.slot)))
 weigh_steps w c answer.Retired = record { actor = keeper; step = LoadCount c (word_by w (count_of c.slot)) } ∷ of_keeper (StoreEntry c Zombie)
@@ -86,7 +86,7 @@ act_steps w place act.Hold given = []
 act_steps w place act.Release given = []
 act_steps w place act.Stack given = []
 
--- The steps of an accepted event, by its answer. An Install over code in use stores that code as not entrant first.
+-- The steps of an accepted event, by its answer. An Install over code in use first stores that code as not entrant.
 abbrev pub accepted_steps : World → Event → Answer → List Made
 accepted_steps w (event.At place act) given = act_steps w place act given
 accepted_steps w event.Start given = []
@@ -107,7 +107,7 @@ accepted_steps w (event.Count serial) given = []
 accepted_steps w (event.CodeState serial) given = []
 accepted_steps w (event.Resolve method) given = []
 
--- The steps of an event with its answer; a refused event is none.
+-- The steps of an event with its answer. A refused event makes none.
 abbrev pub is_refused : Answer → Bool
 is_refused (answer.Refused refusal) = true
 is_refused given = false
@@ -115,14 +115,13 @@ is_refused given = false
 abbrev pub steps_of : World → Event → Answer → List Made
 steps_of w event given = if is_refused given then [] else accepted_steps w event given
 
--- The board goes from old to new by just these steps, one after the other, and meets the rule after each.
+-- Exactly these steps take the board from old to new, one after the other, and it satisfies the rule after each.
 abbrev pub GoesBy : ℕ → ℕ → BoardState → List Made → BoardState → Type 0
 GoesBy slots places old [] new = new ≡ old
 GoesBy slots places old (made ∷ rest) new =
     (next : BoardState) × BoardStep slots places old next made.actor made.step × IsBoardKept slots places next × GoesBy slots places next rest new
 
--- After any events, every next event takes the board of the world before it to that of the world after it by its steps, and by
--- nothing else.
+-- After any events, the steps of every next event, and nothing else, take the board of the world before it to that of the world after it.
 abbrev pub EventsAreTheirSteps : Type 0
 EventsAreTheirSteps = (places slots methods : ℕ) (events : List Event) (event : Event)
     → GoesBy slots places (board_of (world_after (start_world places slots methods) events))

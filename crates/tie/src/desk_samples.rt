@@ -6,22 +6,22 @@ pub fn entries_of_four_handshakes()
     ensures { FourHandshakes }
 {}
 
-/// The desk in the middle of them: done stands for cleared.
+/// The desk in the middle of this run: where the core waits for a Clear, the desk only needs the Finish.
 pub fn desk_of_four_handshakes()
     ensures { FirstIsDone }
 {}
 
-/// A census is entered as operated, and nobody's Finish.
+/// A census makes an Operate entry, and no thread's Finish.
 pub fn entries_of_a_safepoint()
     ensures { Safepoint }
 {}
 
-/// An Install over code in use is an Invalidate and an Install.
+/// An Install over code in use makes an Invalidate and an Install.
 pub fn entries_of_installs_over()
     ensures { InstallOver }
 {}
 
-/// A thread that starts after the Open isn't waited for.
+/// An operation doesn't wait for a thread that starts after its Open.
 pub fn entries_with_a_late_target()
     ensures { StartedAfterOpen }
 {}
@@ -36,7 +36,7 @@ pub fn entries_of_own_live_targets()
     ensures { OwnLiveTargets }
 {}
 
-/// What is done and not yet cleared may be closed at the desk, and not in the core.
+/// After a Finish and before its Clear, the desk may close the operation and the core may not.
 pub fn done_stands_for_cleared()
     ensures { DoneStandsForCleared }
 {}

@@ -1,21 +1,21 @@
-//! Laws of whole runs: a running system that makes the steps of some events has in the end the words of the world after them.
+//! Laws of whole runs: a running system that makes the steps of some events ends with the words of the world after them.
 ghost use Rattle.tie.specs.Followed.{RunsAreTheirSteps, BoardsFollowTheEvents, WordsFollowTheEvents, NewBoardsAreNewWorlds, RunsAreTheirPolls, RowsFollowTheEvents, PollWordsFollowTheEvents, NewRowsAreNewWorlds};
 
-/// Whatever happened before, the next events take the board to that of the world after them by just their steps, event by event,
-/// and the board meets the rule after each step.
+/// After any events, the steps of the next events, event by event, take the board to that of the world after them, and the board satisfies
+/// the rule after each step.
 pub fn runs_are_their_steps()
     ensures { RunsAreTheirSteps }
 {}
 
-/// A board that starts with the words and the views of a world and makes the steps of the next events has afterwards the words
-/// and the views of the world after them, and met at each step what the world's board held there. It is enough that the steps
-/// are those of the events in who makes them and which they are: what they meet follows.
+/// A board that starts with the words and views of a world, and makes the steps of the next events, ends with the words and views of the
+/// world after them. At each step it meets the value that the world's board holds there. Only the seats and the kinds of the steps need to
+/// be those of the events: the values that they meet follow.
 pub fn boards_follow_the_events()
     ensures { BoardsFollowTheEvents }
 {}
 
-/// A board that starts with the words of a world, whatever its seats know, and makes the steps of the next events and meets what
-/// these met, has afterwards the words of the world after them.
+/// A board that starts with the words of a world, whatever its seats know, and makes the steps of the next events and meets the values
+/// that these met, ends with the words of the world after them.
 pub fn words_follow_the_events()
     ensures { WordsFollowTheEvents }
 {}
@@ -25,19 +25,19 @@ pub fn new_boards_are_new_worlds()
     ensures { NewBoardsAreNewWorlds }
 {}
 
-/// Whatever happened before, the next events take the poll row to that of the world after them by just their steps.
+/// After any events, exactly the steps of the next events take the poll row to that of the world after them.
 pub fn runs_are_their_polls()
     ensures { RunsAreTheirPolls }
 {}
 
-/// A row that starts as that of a world and makes the steps of the next events is afterwards the row of the world after them, and
-/// met at each step what the world's row held there.
+/// A row that starts as that of a world, and makes the steps of the next events, ends as the row of the world after them. At each step it
+/// meets the value that the world's row holds there.
 pub fn rows_follow_the_events()
     ensures { RowsFollowTheEvents }
 {}
 
-/// A row that starts with the words of a world's, and makes the steps of the next events and meets what these met, has afterwards
-/// the words of the row after them.
+/// A row that starts with the words of a world's row, and makes the steps of the next events and meets the values that these met, ends
+/// with the words of the row after them.
 pub fn poll_words_follow_the_events()
     ensures { PollWordsFollowTheEvents }
 {}

@@ -1,10 +1,11 @@
-//! The tie between the core and what running threads share: the core's world as words and as a desk, and its events as their steps and entries.
-//! Nobody calls it at run time: its functions are laws, and what they promise is the tie.
+//! The tie between the core and the state that running threads share: the core's world as words and as a desk, its events as steps and
+//! entries.
+//! Nobody calls this crate at run time: its functions are laws, stated by their contracts.
 //! Read `crates/tie/README.md` first, then `specs/Steps.antt` and `specs/DeskOf.antt`.
 //!
-//! A world of the core, seen as words and views, meets the rules by which the running tables are proved, and each accepted event changes it
-//! by just the steps that those rules let a seat make. Seen as the state of the desk, it is the state after a legal history, and each
-//! accepted event appends just its entries.
+//! Read as words and views, a world of the core satisfies the rules by which the running tables are proved, and each accepted event
+//! changes it by exactly the steps that those rules allow a seat. Read as the state of the desk, it is the state after a legal history,
+//! and each accepted event appends exactly its entries.
 #![tactic(auto)]
 
 pub mod board_laws;

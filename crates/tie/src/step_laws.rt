@@ -1,18 +1,19 @@
-//! Laws of the steps that the running tables make: what a step leaves is determined by what was before it and what it met.
+//! Laws of the steps that the running tables make: the state before a step and the values that it meets determine the state after it.
 ghost use Rattle.tie.specs.Determined.{BoardStepsAreDetermined, BoardStepsMeetTheWords, RowStepsAreDetermined};
 
-/// A step of a board leaves words that the words before it determine, with who made it and what it met; and views that the views
-/// before it do. Words and views are those of the board's slots and places.
+/// The words before a step, its seat and the values that it meets determine the words after it; the views before it determine the views
+/// after it. Words and views are those of the board's slots and places.
 pub fn board_steps_are_determined()
     ensures { BoardStepsAreDetermined }
 {}
 
-/// What a step of a board that meets the rule met is determined by the words before it, and by which step of whom it is.
+/// On a board that satisfies the rule, the words before a step, its seat and its kind determine the values that it meets.
 pub fn board_steps_meet_the_words()
     ensures { BoardStepsMeetTheWords }
 {}
 
-/// A step of a poll row leaves words that the words before it determine, and a row that the row before it does. So is what it met.
+/// The words before a step of a poll row determine the words after it, and the row before it determines the row after it. The value that
+/// it meets is determined too.
 pub fn row_steps_are_determined()
     ensures { RowStepsAreDetermined }
 {}

@@ -10,8 +10,8 @@ use std::io::ErrorKind;
 use std::process::ExitCode;
 
 /// `timeline [--html] [--from N] [--to M]` reads lines on standard input, as `monitor replay` does, and writes an SVG picture of the
-/// run on standard output, or with `--html` a page with the picture, from line N to line M where they are told. The status is 0 when
-/// all is drawn, 1 for a fault and 2 for other words. A fault is told on standard error, in one line.
+/// run on standard output, or with `--html` a page with the picture, from line N to line M if they are given. The status is 0 when all is
+/// drawn, 1 for a fault and 2 for other arguments. A fault is reported on standard error, in one line.
 fn main(rt: HostRuntime) -> ExitCode {
     match draw(&rt) {
         Ok(()) => ExitCode::SUCCESS,
@@ -31,7 +31,7 @@ fn draw(rt: &HostRuntime) -> Result<(), Fault> {
     Ok(draw_run(rt.alloc(), &mut source, &mut sink, asked)?)
 }
 
-// The words behind the program's name.
+// The arguments after the program's name.
 fn words(rt: &HostRuntime) -> Result<Vec<String>, Fault> {
     let words = match env::args(rt) {
         Ok(words) => words,

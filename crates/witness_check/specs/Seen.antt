@@ -1,4 +1,4 @@
--- What the answers so far tell.
+-- The state that the events and answers so far determine.
 use Rattle.std.specs.Prelude.{ℕ, ◌==◌, nat_le, Bool, true, false, not, ◌&&◌, ◌||◌, List, [], ◌∷◌, ◌++◌, map, filter, length, replicate, slice_get, slice_index, slice_set, Option, Some, None, option_map, option_and_then, if◌then◌else◌}
 use Rattle.std.specs.List.{position}
 use Rattle.system.specs.declared.events.Event.{Event}
@@ -17,9 +17,9 @@ use Rattle.witness_check.specs.declared.seen.Replied.{Replied}
 use Rattle.witness_check.specs.declared.seen.Seen.{Seen}
 use Rattle.witness_check.specs.Owed.{is_of, may_owe, isnt_of, owed_to, asked_of, paid}
 
--- The names that were given out, the last of them, and those that exited; by place, the name that started last there; the last number of a
--- request, which is how many were asked for, that of the operation that was opened last, and those that were closed; the replies to
--- handshakes that are still to come, the oldest handshake first; and the replies.
+-- The names that were given out, the last of them, and those that exited; by place, the name that started there last; the last number of a
+-- request, which is the number of requests; the number of the operation that was opened last; the numbers of the closed ones; the due
+-- replies to handshakes, the oldest handshake first; and the replies that were given.
 pub record Sight : Type 0 where
   pub started : List ℕ
   pub exited : List ℕ
@@ -73,7 +73,7 @@ abbrev pub behind : List ℕ → List ℕ
 behind [] = []
 behind (value ∷ values) = values
 
--- The values are the names that didn't exit, in their order.
+-- The values are the names that haven't exited, in the order of their starts.
 abbrev pub are_live : List ℕ → List ℕ → List ℕ → Bool
 are_live [] exited values = is_none values
 are_live (name ∷ names) exited values =
@@ -94,7 +94,7 @@ are_replies (job ∷ jobs) op values =
 abbrev pub op_of : Entry → ℕ
 op_of entry = slice_index entry.args 0
 
--- No request is open or waits.
+-- No request is open or waiting.
 abbrev pub is_idle : Sight → Bool
 is_idle seen = nat_le seen.asked (length seen.closed)
 
@@ -106,7 +106,8 @@ abbrev pub is_replies_call : Word → Bool
 is_replies_call word.Replies = true
 is_replies_call other = false
 
--- A call that looks sees what it answers: who is live, the replies of an operation, or of a reclaiming that a request is open or waits.
+-- The recorded answer of a reading call agrees with the state: the live names, the replies of an operation, or for a reclaiming that some
+-- request is open or waiting.
 abbrev pub sees_by : Option Word → Sight → Entry → Bool
 sees_by None seen entry = true
 sees_by (Some word.Names) seen entry = is_live_call entry.call && are_live seen.started seen.exited entry.values
@@ -120,19 +121,19 @@ sees seen entry = sees_by entry.answer seen entry
 abbrev pub name_at : Sight → ℕ → ℕ
 name_at seen place = slice_index seen.here place
 
--- What a Finish at a place is: the oldest reply that its thread owes.
+-- The reply of a Finish at a place: it is the oldest due reply of the thread there.
 abbrev pub reply_of : Sight → ℕ → ℕ → Option Replied
 reply_of seen place reply =
     option_map (λ owed. record { op = owed.op; name = name_at seen place; reply = reply })
     (option_and_then (slice_get seen.owed) (position (is_of (name_at seen place)) seen.owed))
 
--- The job is that of the reply.
+-- The recorded job has this reply.
 abbrev pub is_that : Option Job → Option Replied → Bool
 is_that (Some job) (Some replied) = (job.op == replied.op) && (job.name == replied.name) && (job.reply == replied.reply)
 is_that (Some job) None = false
 is_that None replied = false
 
--- A reply is that of the call's next job.
+-- A reply must be that of the call's next job.
 abbrev pub runs_next : Sight → Entry → Stage → ℕ → Answer → Bool
 runs_next seen entry stage place (answer.Reply reply) = is_that (slice_get entry.jobs stage.jobs) (reply_of seen place reply)
 runs_next seen entry stage place other = true
@@ -141,12 +142,12 @@ abbrev pub counted_by : Word → Sight → Entry → Answer → Bool
 counted_by word.Operate seen entry (answer.Census list) = census_by entry.answer entry.values seen.opened
 counted_by other seen entry said = true
 
--- A census by hand answers the number of its operation: a census is open alone, so it is the one that was opened last.
+-- A census by hand must answer the number of its operation. While a census is open it is the only operation, so it is the one opened last.
 abbrev pub is_counted : Sight → Entry → Answer → Bool
 is_counted seen entry said = counted_by entry.call seen entry said
 
--- What a call does next is lawful for what was seen: a look sees what it answers, a job is the one that is recorded, a census is the one
--- that is answered, and a reclaiming asks where no request is open or waits.
+-- A call's next event is lawful in this state: a reading call's answer agrees with the state, a job is the recorded one, a census is the
+-- answered one, and a reclaiming asks only where no request is open or waiting.
 abbrev pub allows : Bool → Sight → Entry → Stage → Event → Answer → Bool
 allows recorded seen entry stage (event.Resolve method) said = sees seen entry
 allows recorded seen entry stage (event.At place deed) said = not recorded || runs_next seen entry stage place said
@@ -169,7 +170,7 @@ abbrev pub replied_in : Sight → Event → ℕ → Sight
 replied_in seen (event.At place deed) reply = replied seen place reply
 replied_in seen other reply = seen
 
--- One more event and its answer. An operation that opens is of no thread that starts later.
+-- Takes one more event with its answer into the state. An operation is not for threads that start after its Open.
 abbrev pub noted : Sight → Event → Answer → Sight
 noted seen event (answer.Thread name place) = started_at seen name place
 noted seen event (answer.Exited name) = record seen { exited = seen.exited ++ name ∷ [] }

@@ -13,7 +13,8 @@ use Rattle.witness_check.specs.declared.walk.Walk.{Walk}
 use Rattle.witness_check.specs.Streams.{all_rise}
 use Rattle.witness_check.specs.Seen.{Sight, sight, nothing_seen, allows, noted}
 
--- How far the calls are: the stage of each, the latest ticket before a call that has had an event, and what the answers tell.
+-- The progress of all calls: the stage of each, the latest `before` ticket of a call that has made an event, and the state that the
+-- answers determine.
 pub record Walked : Type 0 where
   pub stages : List Stage
   pub latest : ℕ
@@ -26,7 +27,7 @@ abbrev pub before_end : ℕ → Option ℕ → Bool
 before_end latest None = true
 before_end latest (Some after) = nat_le latest after
 
--- No call has an event behind one of a call that began when it was over.
+-- The call makes no event after an event of a call that began once this one was over.
 abbrev pub in_time : ℕ → Entry → Bool
 in_time latest entry = before_end latest entry.after
 
@@ -46,7 +47,7 @@ stepped_by (Some entry) (Some stage) recorded walk owner event said =
     else if not (allows recorded walk.seen entry stage event said) then None
     else moved walk owner entry event said (next recorded entry stage event said)
 
--- One event on, which is of the call of this number, and so answered: none where that isn't lawful.
+-- One more event, made by the call of this number, with this answer; None where that isn't lawful.
 abbrev pub stepped : Bool → List Entry → Walked → ℕ → Event → Answer → Option Walked
 stepped recorded calls walk owner event said = stepped_by (slice_get calls owner) (slice_get walk.stages owner) recorded walk owner event said
 
@@ -73,7 +74,7 @@ ends recorded calls (Some now) = all_over recorded calls now.stages
 abbrev pub is_sized : Log → Bool
 is_sized log = are_sizes log.places log.slots log.methods
 
--- What the core answers to the events from the start.
+-- The core's answers to the events from the start.
 abbrev pub answers_to : Log → List Event → List Answer
 answers_to log events = answers (start_world log.places log.slots log.methods) events
 
@@ -81,7 +82,8 @@ pub record AreAnswers (log : Log) (events : List Event) (said : List Answer) : T
   pub sized : is_sized log ≡ true
   pub all : said ≡ answers_to log events
 
--- The events, each of the call of its number, explain the log: answered as the core answers them, each is lawful, and all calls are over.
+-- The events, each of the call of its number, explain the log: with the core's answers each event is lawful, and at the end all calls are
+-- over.
 abbrev pub is_explained : Log → List Event → List ℕ → Bool
 is_explained log events owners =
     is_sized log && all_rise log.calls.items

@@ -11,7 +11,7 @@ use system::answers::Answer;
 use system::events::Event;
 use system::{NewFault, System};
 
-/// Whether the events with these answers are lawful, each of the call of its number, and all calls are over after them.
+/// Whether the events with these answers are lawful, each made by the call of its number, and all calls are over at the end.
 fn are_lawful(
     alloc: Global,
     recorded: bool,
@@ -46,7 +46,7 @@ fn are_lawful(
     Ok(events.is_empty() && answers.is_empty() && all_over(recorded, calls, walk.stages.as_slice()))
 }
 
-/// What the core answers to the events from the start; none where it has no system of the log's sizes.
+/// The core's answers to the events from the start; None if the core has no system of the log's sizes.
 pub fn answers_of(
     alloc: Global,
     log: &Log,
@@ -74,9 +74,9 @@ pub fn answers_of(
     }
 }
 
-/// Whether the events explain the log, each being of the call of its number (from 0, in the order of the lines): answered as the core
-/// answers them from the start, each is what its call may make next and stands where its tickets let it, and all calls are over and
-/// answer what was recorded.
+/// Whether the events explain the log, where each is of the call of its number (from 0, in the order of the lines). The core answers the
+/// events from the start. With these answers each event must be one that its call may make next, at a position that the tickets allow. At
+/// the end all calls must be over and agree with their recorded answers.
 pub fn check(
     alloc: Global,
     log: &Log,

@@ -1,4 +1,4 @@
-//! The checker of an order: whether recorded calls are explained by events of the core, each event being of one call.
+//! The checker of an order: whether events of the core, each of one call, explain the recorded calls.
 //! Whoever has an order for a log calls `check`.
 //! Read `src/check.rt` first, then `specs/Walk.antt`.
 #![tactic(auto)]

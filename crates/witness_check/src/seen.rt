@@ -1,4 +1,4 @@
-//! What the events and answers so far tell: who is live and where, what is asked, and who replied what.
+//! The state that the events and answers so far determine: the live threads and their places, the requests, and the replies.
 ghost use Rattle.std.specs.Prelude.{◌≡◌, IfOk, OnOk};
 ghost use Rattle.witness_check.specs.Seen.{sight, nothing_seen, are_live, are_replies, op_of, is_idle, is_live_call, is_replies_call, sees, is_that, name_at, reply_of, runs_next, is_counted, allows, started_at, replied, noted};
 
@@ -13,10 +13,10 @@ use std::alloc::{AllocError, Global};
 use system::answers::Answer;
 use system::events::Event;
 
-/// How many places a system has at most.
+/// The greatest number of places in a system.
 const PLACES: usize = 64;
 
-/// What a thread replied to an operation.
+/// A thread's reply to an operation.
 #[derive(Clone, Copy, Debug, PartialEq, Eq, Drop)]
 pub struct Replied {
     pub op: u64,
@@ -24,7 +24,7 @@ pub struct Replied {
     pub reply: u64,
 }
 
-/// What the events and answers so far tell.
+/// The state that the events and answers so far determine.
 #[derive(Debug, Drop)]
 pub struct Seen {
     /// The names that were given out, in their order.
@@ -32,17 +32,17 @@ pub struct Seen {
     pub exited: Vec<u64>,
     /// The last of the names; 0 before the first.
     pub newest: u64,
-    /// By place, the name of the thread that started last there; 0 before the first.
+    /// By place, the name of the thread that started there last; 0 before the first.
     pub here: Vec<u64>,
-    /// The last number of a request, which is how many were asked for.
+    /// The last number of a request, which is the number of requests.
     pub asked: u64,
     /// The number of the operation that was opened last.
     pub opened: u64,
     /// The numbers of the requests that were closed.
     pub closed: Vec<u64>,
-    /// The replies to handshakes that are still to come, the oldest handshake first.
+    /// The due replies to handshakes, the oldest handshake first.
     pub owed: Vec<Owed>,
-    /// The replies, in the order of their Finishes.
+    /// The given replies, in the order of their Finishes.
     pub done: Vec<Replied>,
 }
 
@@ -102,7 +102,7 @@ fn is_replies_call(call: Word) -> bool
     }
 }
 
-/// Whether the job is that of the reply.
+/// Whether the recorded job has this reply.
 fn is_that(job: Option<Job>, replied: Option<Replied>) -> bool
     ensures { result ≡ is_that job replied }
 {
@@ -131,14 +131,14 @@ impl Seen {
         })
     }
 
-    /// Whether no request is open or waits.
+    /// Whether no request is open or waiting.
     fn is_idle(&self) -> bool
         ensures { result ≡ is_idle (sight self.now) }
     {
         (self.closed.len() as u64) >= self.asked
     }
 
-    /// Whether a call that looks sees what it answers.
+    /// Whether the recorded answer of a reading call agrees with the state.
     fn sees(&self, entry: &Entry) -> bool
         ensures { result ≡ sees (sight self.now) entry.now }
     {
@@ -167,7 +167,7 @@ impl Seen {
         self.here.get(place).copied().unwrap_or(0)
     }
 
-    /// What a Finish at the place is: the oldest reply that its thread owes.
+    /// The reply of a Finish at the place: it is the oldest due reply of the thread there.
     fn reply_of(&self, place: usize, reply: u64) -> Option<Replied>
         ensures { result ≡ reply_of (sight self.now) place reply }
     {
@@ -181,7 +181,7 @@ impl Seen {
         })
     }
 
-    /// Whether what is done at the place is the call's next job, where it is one.
+    /// Whether a Finish at the place is the call's next job. Other answers are no jobs and pass.
     fn runs_next(&self, entry: &Entry, stage: Stage, place: usize, answer: &Answer) -> bool
         ensures { result ≡ runs_next (sight self.now) entry.now stage place answer.now }
     {
@@ -204,8 +204,8 @@ impl Seen {
         }
     }
 
-    /// Whether what the call does next is lawful for what was seen: a look sees what it answers, a job is the one that is recorded, a
-    /// census is the one that is answered, and a reclaiming asks where no request is open or waits.
+    /// Whether the call's next event is lawful in this state: a reading call's answer agrees with the state, a job is the recorded one, a
+    /// census is the answered one, and a reclaiming asks only where no request is open or waiting.
     pub fn allows(
         &self,
         recorded: bool,
@@ -237,7 +237,7 @@ impl Seen {
         Ok(())
     }
 
-    /// The thread at the place gives the oldest reply that it owes.
+    /// The thread at the place gives its oldest due reply.
     fn replied(&mut self, place: usize, reply: u64) -> Result<(), AllocError>
         ensures { OnOk result (sight self.new ≡ replied (sight self.old) place reply) }
     {
@@ -249,7 +249,7 @@ impl Seen {
         Ok(())
     }
 
-    /// Takes note of an event and its answer.
+    /// Takes an event and its answer into the state.
     pub fn note(&mut self, event: &Event, answer: &Answer) -> Result<(), AllocError>
         ensures { OnOk result (sight self.new ≡ noted (sight self.old) event.now answer.now) }
     {

@@ -6,13 +6,13 @@ use call_log::entry::Entry;
 use call_log::lists::Job;
 use std::alloc::{AllocError, Global};
 
-/// Streams are numbered below this.
+/// The numbers of streams are below this.
 const STREAMS: usize = 1024;
 
-/// A ticket behind all of a log.
+/// A ticket above all tickets of a log.
 const NEVER: u64 = 1_099_511_627_776;
 
-/// The first ticket that may come behind the call; none may where the call hadn't returned.
+/// The first ticket that may follow the call in its stream; if the call hadn't returned, no ticket may.
 fn free_from(after: Option<u64>) -> u64
     ensures { result ≡ free_from after }
 {
@@ -22,7 +22,7 @@ fn free_from(after: Option<u64>) -> u64
     }
 }
 
-/// Whether the tickets of the jobs rise, from the first on and below the end.
+/// Whether the tickets of the jobs rise, from this first one on and below the end.
 fn jobs_rise(first: u64, end: u64, jobs: &[Job]) -> bool
     ensures { result ≡ jobs_rise first end jobs.now }
 {
@@ -38,7 +38,7 @@ fn jobs_rise(first: u64, end: u64, jobs: &[Job]) -> bool
     true
 }
 
-/// Whether the call has a lawful stream, begins behind the calls of its stream, and ends behind its beginning; and its jobs ran in
+/// Whether the call has a valid stream number, begins after the earlier calls of its stream, and ends after it begins; and its jobs ran in
 /// between, one after the other.
 fn starts_late(least: &[u64], entry: &Entry) -> bool
     ensures { result ≡ starts_late least.now entry.now }

@@ -10,17 +10,17 @@ use std::alloc::{AllocError, Global};
 use system::answers::Answer;
 use system::events::Event;
 
-/// How far the calls are, after some of the events.
+/// The progress of all calls after some of the events.
 #[derive(Debug, Drop)]
 pub struct Walk {
     /// By call.
     pub stages: Vec<Stage>,
-    /// The latest ticket before a call that has had an event.
+    /// The latest `before` ticket of a call that has made an event.
     pub latest: u64,
     pub seen: Seen,
 }
 
-/// Whether a call that has an event was not over before one began that has had an event.
+/// Whether the call was not yet over when the latest call that has made an event began.
 fn in_time(latest: u64, entry: &Entry) -> bool
     ensures { result ≡ in_time latest entry.now }
 {
@@ -30,7 +30,7 @@ fn in_time(latest: u64, entry: &Entry) -> bool
     }
 }
 
-/// No call has had an event.
+/// The progress before the first event.
 pub fn fresh_walk(alloc: Global, calls: &[Entry]) -> Result<Walk, AllocError>
     ensures { IfOk result (λ walk. walked walk ≡ fresh_walk calls.now) }
 {
@@ -46,7 +46,7 @@ pub fn fresh_walk(alloc: Global, calls: &[Entry]) -> Result<Walk, AllocError>
 }
 
 impl Walk {
-    /// Goes one event on, which is of the call of this number, and so answered. Answers whether that is lawful.
+    /// Makes one more event, of the call of this number, with this answer. Answers whether that is lawful.
     #[tactic(auto, using(crate::proofs::Gets::step_there, crate::proofs::Gets::call_past, crate::proofs::Gets::stage_past))]
     pub fn step(
         &mut self,

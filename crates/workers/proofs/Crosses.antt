@@ -5,12 +5,13 @@ use denote.Param.Send.{IsSend, IsSync, sendable}
 use denote.Ref.{NamedLft}
 use Rattle.std.proofs.Crossing.{crosses}
 use Rattle.bodies.specs.declared.name.Name as name
-use Rattle.operations.specs.declared.job.errands.Errand as errand
+use Rattle.operations.specs.declared.job.handshake_ops.HandshakeOp as errand
 use Rattle.bodies.proofs.body.Body.TheSendSync as body
 use Rattle.interp.proofs.runner.Runner.TheSendSync as runner
 use Rattle.thread_list.proofs.Crosses.{shared_crosses}
 use Rattle.thread_list.specs.contracts.mutator.Mutator as Mutator
-use Rattle.thread_list.specs.contracts.own_part.OwnPart as ThreadPart
+use Rattle.thread_list.specs.contracts.running_thread.RunningThread as RunningThread
+use Rattle.thread_list.specs.contracts.body_state.BodyState as BodyState
 use Rattle.berths.specs.contracts.room.BodyReceipt as BodyReceipt
 use Rattle.workers.specs.contracts.worker.Worker as Worker
 use Rattle.workers.specs.contracts.task.Task as Task
@@ -19,8 +20,11 @@ module _ (κ : NamedLft) (N J R G : RattleType) (n : name.Ghosts (param 0 N).Den
   receipt_send : IsSend (BodyReceipt.the_row (param 0 N) n)
   receipt_send = search (sendable, crosses) depth 20
 
-  thread_send : IsSend (ThreadPart.the_row (param 0 N) n)
-  thread_send = search (sendable, crosses, body.the_send, receipt_send) depth 40
+  body_state_send : IsSend (BodyState.the_field (param 0 N) n).row
+  body_state_send = search (sendable, crosses, body.the_send, receipt_send) depth 40
+
+  thread_send : IsSend (RunningThread.the_row (param 0 N) n)
+  thread_send = search (sendable, crosses, body_state_send, receipt_send) depth 40
 
   mutator_send : IsSend (Mutator.the_row κ (param 0 N) (param 1 J) n j)
   mutator_send = let shared = shared_crosses N J n j sn sj in search (sendable, crosses, thread_send) depth 40

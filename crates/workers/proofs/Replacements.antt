@@ -2,9 +2,9 @@
 use Rattle.std.proofs.Common.{◌≡◌, ◌∙◌, ◌+◌, ◌*◌, ℕ, suc, List, [], ◌∷◌, ◌++◌, Option, Some, None, length, length-append, inl, inr, refl, ap, sym, subst, append_assoc, slice_index, arith}
 use Rattle.std.proofs.lemmas.List.{length-set}
 use Rattle.std.specs.Prelude.{IfSome, IfNone}
-use Rattle.held_threads.specs.Reclaiming.{IsReclaimed}
-use Rattle.held_threads.specs.declared.faults.Reclaimed.{Reclaimed}
-use Rattle.held_threads.specs.declared.faults.Reclaimed.TheVariants.{Freed, Used, Late}
+use Rattle.stopped_threads.specs.Reclaiming.{IsReclaimed}
+use Rattle.stopped_threads.specs.declared.faults.Reclaimed.{Reclaimed}
+use Rattle.stopped_threads.specs.declared.faults.Reclaimed.TheVariants.{Freed, Used, Late}
 use Rattle.desk.specs.Machine.{Stands}
 use Rattle.desk.specs.declared.entries.Entry.TheVariants.{Free}
 use Rattle.workers.specs.Replacing.{Codes, IsInstall, AreInstalls, InstallsEach, IsKept, IsKeptBy, Replaced, ReplacedFirst, ReplacedEach, CountsMore, WasLeft, IsLeft, AreFreed, FreesSome}

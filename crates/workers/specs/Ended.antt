@@ -18,7 +18,7 @@ use Rattle.workers.specs.declared.report.Ending.{Ending}
 use Rattle.workers.specs.declared.report.Ending.TheVariants.{Finished, Overflow, OutOfFuel}
 use Rattle.workers.specs.Marks.{Working, Does}
 
--- An ending, and the marks made by then.
+-- How a run ends, and the marks made by then.
 pub record Ended : Type 0 where
   pub ending : Ending
   pub marks : ℕ
@@ -29,7 +29,7 @@ after_marks e n = record { ending = e; marks = n }
 abbrev pub one_more : Ended → Ended
 one_more e = after_marks e.ending (suc e.marks)
 
--- with so much fuel, one unit a mark
+-- The end of a trace with this much fuel. Each mark uses one unit.
 unfoldable pub ended : ℕ → Trace → Ended
 ended fuel finished = after_marks Finished 0
 ended fuel overflowed = after_marks Overflow 0
@@ -40,12 +40,12 @@ ended (suc fuel) (made m t) = one_more (ended fuel t)
 abbrev pub most : ℕ
 most = 1000000
 
--- Where no mark was refused, a run of that trace with so much fuel ended as it does.
+-- The result of a run of this trace with this much fuel. It is determined unless a mark was refused.
 abbrev pub EndsAs : ℕ → Trace → Result Ending Refused → ℕ → Type 0
 EndsAs fuel t (Ok ending) marks = ended fuel t ≡ after_marks ending marks
 EndsAs fuel t (Err refused) marks = ⊤
 
--- What a thread reports: the entry of its exit, its name, how its run ended, the marks that it made, and whether some frame was compiled.
+-- The report of a thread: the entry of its exit, its name, how its run ended, the marks that it made, and whether some frame was compiled.
 pub record Reported : Type 0 where
   pub exited : Entry
   pub name : ℕ
@@ -53,7 +53,7 @@ pub record Reported : Type 0 where
   pub made : ℕ
   pub compiled : Bool
 
--- A thread of that name, no frame of which was compiled so far, made so many first marks of the trace, one after the other; whether some frame is compiled now follows from how each method was entered.
+-- The thread of this name made the first marks of the trace, this many, one after the other. None of its frames had been compiled before; whether one is now follows from how each method was entered.
 pub record HasMade (w : Trace) (name : ℕ) (marks : ℕ) (compiled : Bool) : Type 0 where
   pub first : List Mark
   pub rest : Trace
@@ -66,7 +66,7 @@ pub record HasMade (w : Trace) (name : ℕ) (marks : ℕ) (compiled : Bool) : Ty
   pub steps : Chain Does old first new
   pub told : compiled ≡ new.compiled
 
--- Where that is the code of a checked script, a thread exited by its name, its run of the script ended as it reports, and some frame was compiled as it reports.
+-- If this is the code of a checked script: the thread exited under its name, its run of the script ended as it reports, and some frame was compiled if it reports so.
 abbrev pub IsReport : List (List Op) → Reported → Type 0
 IsReport code r = (bs : List Body) → code ≡ map routine bs → AreChecked bs
     → (r.exited ≡ Exit r.name) × EndsAs most (trace bs) r.ending r.made × HasMade (trace bs) r.name r.made r.compiled
@@ -77,16 +77,16 @@ ending_of outcome.Overflow = Ok Overflow
 ending_of outcome.OutOfFuel = Ok OutOfFuel
 ending_of (outcome.Refused refused) = Err refused
 
--- The worker made that mark first.
+-- The worker made this mark, as its first.
 abbrev pub IsFirst : Mark → Working → Type 0
 IsFirst m w = (s : Working) × (s.compiled ≡ false) × Does s m w
 
--- Where that is the code of a checked script, the worker, of the thread of that name, has made the first mark, and the runner has the others left.
+-- If this is the code of a checked script: the worker of the thread with this name has made the first mark, and the other marks are left in the runner.
 abbrev pub IsBegun : List (List Op) → ℕ → Working → Runner → Type 0
 IsBegun code name w r = (bs : List Body) → code ≡ map routine bs → AreChecked bs
     → (m : Mark) × (t : Trace) × (trace bs ≡ made m t) × (w.thread.name ≡ name) × Left r t × (made_by r ≡ 1) × IsFirst m w
 
--- What contracts see of a task: the code that it runs, and the thread's name.
+-- The view of a task in contracts: the code that it runs, and the thread's name.
 pub record Tasked : Type 0 where
   pub code : List (List Op)
   pub name : ℕ

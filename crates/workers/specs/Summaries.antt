@@ -1,4 +1,4 @@
--- What a run tells, and how that is spelled.
+-- The summary of a run, and its text.
 use Rattle.std.specs.Prelude.{◌≡◌, ◌≤◌, ◌||◌, ◌*◌, ℕ, suc, Bool, true, false, List, [], ◌∷◌, ◌++◌, All, Ok, codes, decimal, length, ⊤}
 use Rattle.std.specs.List.{flat_map}
 use Rattle.script.specs.declared.code.Op.{Op}
@@ -21,7 +21,7 @@ abbrev pub yes_or_no : Bool → List ℕ
 yes_or_no true = codes "yes"
 yes_or_no false = codes "no"
 
--- What contracts see of a summary: what the threads reported and the line of each, whether some frame was compiled, the receipts of the codes that were installed and freed, and the sum of all count words.
+-- The view of a summary in contracts: the report and the line of each thread, whether some frame was compiled, the receipts of the installed and freed codes, and the sum of all count words.
 pub record Summed : Type 0 where
   pub reports : List Reported
   pub lines : List Line
@@ -37,11 +37,11 @@ summary_text s = (codes "threads " ++ decimal (length s.lines) ++ codes "\n")
     ++ (codes "codes " ++ decimal (length s.installed) ++ codes " freed " ++ decimal (length s.freed) ++ codes "\n")
     ++ (codes "counts " ++ decimal s.counts ++ codes "\n")
 
--- The line says what the thread reported, no mark of which was refused.
+-- The line has the content of the thread's report, and no mark of the thread was refused.
 abbrev pub Tells : Reported → Line → Type 0
 Tells r l = (r.name ≡ l.name) × (r.ending ≡ Ok l.ending) × (r.made ≡ l.made)
 
--- The lines of threads that reported so, one for each, in rising name from that one on.
+-- One line for each report; the names rise by one, starting with this one.
 abbrev pub AreLines : ℕ → List Reported → List Line → Type 0
 AreLines name [] [] = ⊤
 AreLines name [] (l ∷ ls) = ⊥
@@ -52,7 +52,7 @@ abbrev pub some_compiled : List Reported → Bool
 some_compiled [] = false
 some_compiled (r ∷ rs) = r.compiled || some_compiled rs
 
--- What a run of that code by so many threads tells: each of them reported and has its line, and some frame was compiled just where one of them reported so; two codes for each method were installed, and no more freed than these.
+-- The summary of a run of this code by this many threads: each thread has its report and its line, and some frame was compiled exactly if a thread reported so. Two codes for each method were installed, and no more freed.
 pub record IsSummary (code : List (List Op)) (threads : ℕ) (s : Summed) : Type 0 where
   pub ran : All (IsReport code) s.reports
   pub lines : AreLines 1 s.reports s.lines

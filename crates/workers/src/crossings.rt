@@ -1,4 +1,4 @@
-//! What a thread in Java does at a mark of a script that enters no method: it polls, or goes away and comes back.
+//! The acts of a thread in Java at a mark that enters no method: it polls, or goes into another state and comes back.
 ghost use Rattle.std.specs.Prelude.{◌≡◌, IfErr, OnOk};
 ghost use Rattle.thread_state.specs.declared.State.TheVariants.{InJava, InVm};
 ghost use Rattle.thread_list.specs.Moves.{SameThread};
@@ -6,13 +6,14 @@ ghost use Rattle.thread_list.specs.Refused.{return_refused, HasNoFrame};
 ghost use Rattle.workers.specs.Marks.{goes_on, Settles, Returns, Turns, GoesNative, GoesVm, Blocks, ComesFromVm};
 
 use bodies::Name;
-use operations::job::Errand;
+use operations::job::HandshakeOp;
 use std::sync::Wait;
 use thread_list::{Mutator, ReturnFault};
 use thread_state::State;
 
-/// A thread that stopped at its last poll serves what it was told, and goes on where that poll leads. Any other is as before.
-pub fn serve_stop<N: Name, J: Errand, R: Wait>(rt: &R, thread: &mut Mutator<'_, N, J>)
+/// A thread that its last poll stopped serves its pending operations, and continues where that poll leads. Any other thread stays as it
+/// is.
+pub fn serve_stop<N: Name, J: HandshakeOp, R: Wait>(rt: &R, thread: &mut Mutator<'_, N, J>)
     ensures settled { Settles thread.old thread.new }
     ensures state { thread.new.state ≡ goes_on thread.old.state }
     ensures same { SameThread thread.old thread.new }
@@ -24,8 +25,8 @@ pub fn serve_stop<N: Name, J: Errand, R: Wait>(rt: &R, thread: &mut Mutator<'_, 
     }
 }
 
-/// Returns from the method of the top frame, and polls. Refused only where there is no frame.
-pub fn return_from<N: Name, J: Errand, R: Wait>(
+/// Returns from the method of the top frame, and polls. Refused only if there is no frame.
+pub fn return_from<N: Name, J: HandshakeOp, R: Wait>(
     rt: &R,
     thread: &mut Mutator<'_, N, J>,
 ) -> Result<(), ReturnFault>
@@ -41,7 +42,7 @@ pub fn return_from<N: Name, J: Errand, R: Wait>(
 }
 
 /// Returns from all methods.
-pub fn unwind<N: Name, J: Errand, R: Wait>(rt: &R, thread: &mut Mutator<'_, N, J>)
+pub fn unwind<N: Name, J: HandshakeOp, R: Wait>(rt: &R, thread: &mut Mutator<'_, N, J>)
     requires { thread.old.state ≡ InJava }
     ensures state { thread.new.state ≡ InJava }
     ensures frames { HasNoFrame thread.new.body }
@@ -55,8 +56,8 @@ pub fn unwind<N: Name, J: Errand, R: Wait>(rt: &R, thread: &mut Mutator<'_, N, J
     unreachable!()
 }
 
-/// The back edge of a loop.
-pub fn turn<N: Name, J: Errand, R: Wait>(rt: &R, thread: &mut Mutator<'_, N, J>)
+/// Polls at the back edge of a loop.
+pub fn turn<N: Name, J: HandshakeOp, R: Wait>(rt: &R, thread: &mut Mutator<'_, N, J>)
     requires { thread.old.state ≡ InJava }
     ensures turned { Turns thread.old thread.new }
     ensures state { thread.new.state ≡ InJava }
@@ -68,8 +69,8 @@ pub fn turn<N: Name, J: Errand, R: Wait>(rt: &R, thread: &mut Mutator<'_, N, J>)
     serve_stop(rt, thread);
 }
 
-/// Into native code and back.
-pub fn go_native<N: Name, J: Errand, R: Wait>(rt: &R, thread: &mut Mutator<'_, N, J>)
+/// Goes into native code and back.
+pub fn go_native<N: Name, J: HandshakeOp, R: Wait>(rt: &R, thread: &mut Mutator<'_, N, J>)
     requires { thread.old.state ≡ InJava }
     ensures went { GoesNative thread.new }
     ensures state { thread.new.state ≡ InJava }
@@ -84,8 +85,8 @@ pub fn go_native<N: Name, J: Errand, R: Wait>(rt: &R, thread: &mut Mutator<'_, N
     serve_stop(rt, thread);
 }
 
-/// Into the VM and back.
-pub fn go_vm<N: Name, J: Errand, R: Wait>(rt: &R, thread: &mut Mutator<'_, N, J>)
+/// Goes into the VM and back.
+pub fn go_vm<N: Name, J: HandshakeOp, R: Wait>(rt: &R, thread: &mut Mutator<'_, N, J>)
     requires { thread.old.state ≡ InJava }
     ensures went { GoesVm thread.old thread.new }
     ensures state { thread.new.state ≡ InJava }
@@ -97,8 +98,8 @@ pub fn go_vm<N: Name, J: Errand, R: Wait>(rt: &R, thread: &mut Mutator<'_, N, J>
     come_from_vm(rt, thread);
 }
 
-/// Into the VM, into a wait, and all the way back.
-pub fn block<N: Name, J: Errand, R: Wait>(rt: &R, thread: &mut Mutator<'_, N, J>)
+/// Goes into the VM, blocks, and comes all the way back.
+pub fn block<N: Name, J: HandshakeOp, R: Wait>(rt: &R, thread: &mut Mutator<'_, N, J>)
     requires { thread.old.state ≡ InJava }
     ensures blocked { Blocks thread.new }
     ensures state { thread.new.state ≡ InJava }
@@ -117,8 +118,8 @@ pub fn block<N: Name, J: Errand, R: Wait>(rt: &R, thread: &mut Mutator<'_, N, J>
     come_from_vm(rt, thread);
 }
 
-// From the VM back into Java.
-fn come_from_vm<N: Name, J: Errand, R: Wait>(rt: &R, thread: &mut Mutator<'_, N, J>)
+// Returns from the VM into Java.
+fn come_from_vm<N: Name, J: HandshakeOp, R: Wait>(rt: &R, thread: &mut Mutator<'_, N, J>)
     requires { thread.old.state ≡ InVm }
     ensures came { ComesFromVm thread.old thread.new }
     ensures state { thread.new.state ≡ InJava }

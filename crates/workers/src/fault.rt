@@ -1,17 +1,17 @@
-//! Why a run isn't done.
+//! Why a run fails.
 ghost use Rattle.std.specs.Prelude.{◌≡◌};
 ghost use Rattle.workers.specs.declared.fault.RunFault.TheVariants as faults;
 
 use std::alloc::AllocError;
 
-/// Why a run isn't done. No thread of it runs any more.
+/// Why a run failed. None of its threads runs any more.
 #[derive(Clone, Copy, PartialEq, Eq, Debug, Drop)]
 pub enum RunFault {
     NoMemory,
     /// No thread could be made.
     NoThread,
-    /// A call was refused that is none where the calls before it did what they do: what comes out of a lock isn't known, so no
-    /// clause excludes it.
+    /// A call was refused, although the calls before it make that impossible. No clause excludes it, since contracts don't know the
+    /// state that a lock guards.
     Refused,
 }
 

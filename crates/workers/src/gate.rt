@@ -1,11 +1,11 @@
-//! What the ticks of a script call.
+//! The callback for the ticks of a script.
 
-/// Called at each tick of a script, by the thread that ticks, with that thread's name.
+/// Each tick of a script calls it in the thread that ticks, with that thread's name.
 pub trait Gate {
     fn tick(&self, name: u64);
 }
 
-/// The gate that does nothing.
+/// A gate that does nothing.
 #[derive(Clone, Copy, Debug, Drop)]
 pub struct OpenGate;
 

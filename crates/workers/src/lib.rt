@@ -1,5 +1,5 @@
-//! Running a script on threads: each thread makes the marks of the script by its own calls.
-//! `commands` runs scripts by it.
+//! Runs a script on threads. Each thread makes the marks of the script by its own calls.
+//! `cli` uses it to run scripts.
 //! Read `src/running.rt` first, then `src/worker.rt`, `specs/Marks.antt` and `docs/start/SCRIPTS.md`.
 #![tactic(auto)]
 

@@ -1,10 +1,10 @@
-//! The codes of a run: what the thread does that installs and reclaims them.
+//! The codes of a run, and the acts of the thread that installs and reclaims them.
 ghost use Rattle.std.specs.Prelude.{◌≡◌, ◌==◌, ◌≤◌, ◌<◌, ◌+◌, IfOk, IfSome, IfNone, OnOk, length};
 ghost use Rattle.std.specs.List.{filter, list_any};
 ghost use Rattle.poll.specs.Rows.{full_armer};
 ghost use Rattle.desk.specs.declared.entries.Entry.{Entry};
-ghost use Rattle.held_threads.specs.Reclaiming.{IsReclaimed};
-ghost use Rattle.held_threads.specs.declared.faults.Reclaimed.{Reclaimed};
+ghost use Rattle.stopped_threads.specs.Reclaiming.{IsReclaimed};
+ghost use Rattle.stopped_threads.specs.declared.faults.Reclaimed.{Reclaimed};
 ghost use Rattle.workers.specs.Replacing.{IsInstall, InstallsEach, IsKeptBy, IsLeft, Replaced, ReplacedEach, FreesSome, Reclaims};
 
 use crate::fault::RunFault;
@@ -12,18 +12,18 @@ use bodies::Name;
 use coordinator::{Coordinator, Reclaimed};
 use desk::{AskFault, CodeFault, Receipt, ReclaimFault};
 use method_table::table::InstallFault;
-use operations::job::Errand;
+use operations::job::HandshakeOp;
 use poll::Armer;
 use std::alloc::Global;
 use std::marker::Model;
 use std::sync::Wait;
 use thread_list::Shared;
 
-/// Installs codes, takes them out of use and reclaims them. After each reclaiming the desk forgets its history so far, which nobody
-/// reads here, so no number of codes fills it. Contracts see the code of each method that is in use, the codes that are out of use and
-/// not freed, and the receipts of those that were installed and freed.
+/// Installs, invalidates and reclaims codes. After each reclaim the desk forgets its history so far, which nobody reads here: no number
+/// of codes fills it. Contracts see the code in use of each method, the codes that are out of use and not freed, and the receipts of
+/// those that were installed and freed.
 #[derive(Drop)]
-pub struct Reclaimer<'a, N: Name, J: Errand> {
+pub struct Reclaimer<'a, N: Name, J: HandshakeOp> {
     shared: &'a Shared<N, J>,
     coordinator: Coordinator<'a, N, J>,
     in_use: Vec<u64>,
@@ -32,7 +32,7 @@ pub struct Reclaimer<'a, N: Name, J: Errand> {
     freed: Vec<Receipt<N>>,
 }
 
-impl<'a, N: Name, J: Errand> Model for Reclaimer<'a, N, J> {
+impl<'a, N: Name, J: HandshakeOp> Model for Reclaimer<'a, N, J> {
     ghost use Rattle.workers.specs.Replacing.{Codes};
 
     ghost Value = { Codes };
@@ -45,7 +45,7 @@ impl<'a, N: Name, J: Errand> Model for Reclaimer<'a, N, J> {
     } };
 }
 
-/// The receipts of the codes that were installed and freed, and the sum of all count words in the end.
+/// The receipts of the codes that were installed and freed, and the sum of all count words at the end.
 #[derive(Drop)]
 pub struct Tally<N: Name> {
     pub installed: Vec<Receipt<N>>,
@@ -53,8 +53,8 @@ pub struct Tally<N: Name> {
     pub counts: u64,
 }
 
-impl<'a, N: Name, J: Errand> Reclaimer<'a, N, J> {
-    /// Installs a code for each of so many methods.
+impl<'a, N: Name, J: HandshakeOp> Reclaimer<'a, N, J> {
+    /// Installs a code for each of this many methods.
     pub fn new<R: Wait>(
         rt: &R,
         alloc: Global,
@@ -93,8 +93,8 @@ impl<'a, N: Name, J: Errand> Reclaimer<'a, N, J> {
         self.in_use.len()
     }
 
-    /// For each method in rising order: installs a code over the one in use, and tries once to reclaim the old one, with the jobs of one
-    /// list that are for live threads.
+    /// For each method in rising order: installs a code over the one in use, and tries once to reclaim the old one. Of its list of jobs
+    /// it uses those for live threads.
     pub fn replace_each<R: Wait>(&mut self, rt: &R, jobs: Vec<Vec<J>>) -> Result<(), RunFault>
         requires { length jobs.items ≡ length self.old.in_use }
         ensures { OnOk result (ReplacedEach self.old self.new) }
@@ -111,7 +111,7 @@ impl<'a, N: Name, J: Errand> Reclaimer<'a, N, J> {
         Ok(())
     }
 
-    /// Takes all codes out of use, and reclaims all that are left, without jobs.
+    /// Invalidates all codes, and tries to reclaim each that isn't freed, without jobs.
     pub fn finish<R: Wait>(self, rt: &R, alloc: Global) -> Result<Tally<N>, RunFault>
         ensures installed { IfOk result (λ t. t.installed.items ≡ self.entry.installed) }
         ensures freed { IfOk result (λ t. Reclaims self.entry t.freed.items) }
@@ -139,7 +139,7 @@ impl<'a, N: Name, J: Errand> Reclaimer<'a, N, J> {
         })
     }
 
-    /// Installs a code over that of a method, and tries once to reclaim the old one, with these jobs, each for another live thread.
+    /// Installs a code over that of a method, and tries once to reclaim the old one. Each of the jobs is for another live thread.
     pub fn replace<R: Wait>(&mut self, rt: &R, method: usize, jobs: Vec<J>) -> Result<(), RunFault>
         requires { method < length self.old.in_use }
         ensures { OnOk result (Replaced method self.old self.new) }
@@ -155,7 +155,7 @@ impl<'a, N: Name, J: Errand> Reclaimer<'a, N, J> {
         Ok(())
     }
 
-    // A code that was taken out of use is freed, or left.
+    // Keeps the receipt of a freed code, or the serial of a code that is left.
     fn keep(&mut self, serial: u64, freed: Option<Receipt<N>>) -> Result<(), RunFault>
         requires { IfSome freed (λ r. r.entry ≡ Entry.Free serial) }
         ensures kept { OnOk result (IsKeptBy serial freed self.old.freed self.old.left
@@ -179,8 +179,8 @@ impl<'a, N: Name, J: Errand> Reclaimer<'a, N, J> {
     }
 }
 
-// The jobs that are for live threads.
-fn of_live<J: Errand>(jobs: Vec<J>, live: &[u64]) -> Vec<J>
+// The jobs for live threads.
+fn of_live<J: HandshakeOp>(jobs: Vec<J>, live: &[u64]) -> Vec<J>
     ensures { result.items ≡ filter (λ j. list_any (λ n. n == J.whom j) live.now) jobs.items }
 {
     let mut jobs = jobs;
@@ -192,8 +192,8 @@ fn of_live<J: Errand>(jobs: Vec<J>, live: &[u64]) -> Vec<J>
     jobs
 }
 
-// Installs a code for a method. Answers its serial, with the receipt of its Install.
-fn install<N: Name, J: Errand, R: Wait>(
+// Installs a code for a method. Returns its serial and the receipt of its Install.
+fn install<N: Name, J: HandshakeOp, R: Wait>(
     rt: &R,
     shared: &Shared<N, J>,
     method: usize,
@@ -212,8 +212,8 @@ fn install<N: Name, J: Errand, R: Wait>(
     }
 }
 
-// Takes a code out of use. Answers the receipt of its Invalidate.
-fn invalidate<N: Name, J: Errand, R: Wait>(
+// Invalidates a code. Returns the receipt of its Invalidate.
+fn invalidate<N: Name, J: HandshakeOp, R: Wait>(
     rt: &R,
     shared: &Shared<N, J>,
     serial: u64,
@@ -226,8 +226,8 @@ fn invalidate<N: Name, J: Errand, R: Wait>(
     }
 }
 
-// Reclaims a code, and answers the receipt of its Free where it is freed. The desk forgets its history so far.
-fn reclaim<N: Name, J: Errand, R: Wait>(
+// Tries to reclaim a code. Returns the receipt of its Free if it is freed. The desk then forgets its history so far.
+fn reclaim<N: Name, J: HandshakeOp, R: Wait>(
     rt: &R,
     shared: &Shared<N, J>,
     coordinator: &mut Coordinator<'_, N, J>,
@@ -250,8 +250,8 @@ fn reclaim<N: Name, J: Errand, R: Wait>(
     }
 }
 
-// Reclaims codes without jobs, and keeps the receipts of those that are freed.
-fn reclaim_all<N: Name, J: Errand, R: Wait>(
+// Tries to reclaim codes without jobs, and keeps the receipts of those that are freed.
+fn reclaim_all<N: Name, J: HandshakeOp, R: Wait>(
     rt: &R,
     alloc: Global,
     shared: &Shared<N, J>,

@@ -1,4 +1,4 @@
-//! What becomes of a thread's run of a script.
+//! The result of a thread's run of a script.
 ghost use Rattle.std.specs.Prelude.{◌≡◌};
 
 use crate::worker::Refused;
@@ -9,16 +9,16 @@ use std::marker::Model;
 /// How a thread's run ended.
 #[derive(Clone, Copy, PartialEq, Eq, Debug, Drop)]
 pub enum Ending {
-    /// The whole trace is made.
+    /// All marks of the trace are made.
     Finished,
-    /// The next mark would call above the most calls that stand at once.
+    /// The next mark is a call for which the call stack of the script has no room.
     Overflow,
-    /// A mark is left, and no fuel.
+    /// A mark is left, but no fuel.
     OutOfFuel,
 }
 
-/// What a thread says of its run once it has exited: its name, how its run ended or why a mark of it was refused, how many marks it
-/// made, and whether some frame was compiled. It has the receipt of the thread's Exit.
+/// The report of a thread that has exited: its name, how its run ended or why a mark was refused, how many marks it made, and whether
+/// some frame was compiled. It contains the receipt of the thread's Exit.
 #[derive(Drop)]
 pub struct Report<N: Name> {
     exited: Receipt<N>,

@@ -1,4 +1,4 @@
-//! The run of a script on threads.
+//! Runs a script on threads.
 ghost use Rattle.std.specs.Prelude.{◌≡◌, ◌≤◌, All, IfOk, length, vec_len, vec_capacity};
 ghost use Rattle.poll.specs.Rows.{full_armer};
 ghost use Rattle.workers.specs.Replacing.{InstallsEach};
@@ -15,7 +15,7 @@ use crate::threads::{Started, join_all, start_all};
 use crate::worker::Worker;
 use bodies::Name;
 use desk::StartFault;
-use operations::job::Errand;
+use operations::job::HandshakeOp;
 use poll::Armer;
 use script::Code;
 use std::alloc::Global;
@@ -23,10 +23,11 @@ use std::sync::Wait;
 use std::thread::{self, Scope, Threads};
 use thread_list::{Parts, Shared};
 
-/// Runs a script on so many threads of a system that is made of the parts: a place for each, and two slots a method. Meanwhile it replaces the code of each method and tries
-/// to reclaim the old one, with those jobs of one list a method that are for live threads: each list has a job for each thread by its
-/// name, from 1 on, that asks for its depth. No thread runs any more when it returns, also where it is refused.
-pub fn run<N: Name + Send, J: Errand + Send, R: Threads + Wait + Sync, G: Gate + Sync>(
+/// Runs a script on this many threads of a system that is made of the parts. The parts have a place for each thread and two slots for
+/// each method. Meanwhile it replaces the code of each method and tries to reclaim the old one. For that it has one list of jobs for
+/// each method, and uses the jobs for live threads. A list has one job for each thread, by its name from 1 on, which queries the stack
+/// depth. No thread runs any more when it returns, also if it fails.
+pub fn run<N: Name + Send, J: HandshakeOp + Send, R: Threads + Wait + Sync, G: Gate + Sync>(
     rt: &R,
     alloc: Global,
     code: &Code,
@@ -47,7 +48,7 @@ pub fn run<N: Name + Send, J: Errand + Send, R: Threads + Wait + Sync, G: Gate +
     run_over(rt, alloc, code, threads, gate, &shared, armer, jobs)
 }
 
-fn run_over<'a, N: Name + Send, J: Errand + Send, R: Threads + Wait + Sync, G: Gate + Sync>(
+fn run_over<'a, N: Name + Send, J: HandshakeOp + Send, R: Threads + Wait + Sync, G: Gate + Sync>(
     rt: &'a R,
     alloc: Global,
     code: &'a Code,
@@ -66,8 +67,8 @@ fn run_over<'a, N: Name + Send, J: Errand + Send, R: Threads + Wait + Sync, G: G
     run_all(rt, alloc, code, tasks, reclaimer, jobs)
 }
 
-// Starts so many threads, each of which has made the first mark.
-fn begin_all<'a, N: Name, J: Errand, R: Wait, G: Gate>(
+// Starts this many threads. Each has made the first mark.
+fn begin_all<'a, N: Name, J: HandshakeOp, R: Wait, G: Gate>(
     rt: &'a R,
     alloc: Global,
     shared: &'a Shared<N, J>,
@@ -86,7 +87,7 @@ fn begin_all<'a, N: Name, J: Errand, R: Wait, G: Gate>(
 }
 
 // Starts a thread, which makes the first mark.
-fn begin<'a, N: Name, J: Errand, R: Wait, G: Gate>(
+fn begin<'a, N: Name, J: HandshakeOp, R: Wait, G: Gate>(
     rt: &'a R,
     alloc: Global,
     shared: &'a Shared<N, J>,
@@ -107,8 +108,8 @@ fn begin<'a, N: Name, J: Errand, R: Wait, G: Gate>(
     }
 }
 
-// Runs each task in a thread of its own, and meanwhile replaces the codes.
-fn run_all<'a, N: Name + Send, J: Errand + Send, R: Threads + Wait + Sync, G: Gate + Sync>(
+// Runs each task in a thread of its own, and replaces the codes meanwhile.
+fn run_all<'a, N: Name + Send, J: HandshakeOp + Send, R: Threads + Wait + Sync, G: Gate + Sync>(
     rt: &'a R,
     alloc: Global,
     code: &'a Code,
@@ -134,12 +135,12 @@ fn run_all<'a, N: Name + Send, J: Errand + Send, R: Threads + Wait + Sync, G: Ga
     )
 }
 
-// Runs the tasks in a scope, with room for the threads.
+// Runs the tasks in a scope. `room` has capacity for all threads.
 fn run_in<
     's,
     'a: 's,
     N: Name + Send,
-    J: Errand + Send,
+    J: HandshakeOp + Send,
     R: Threads + Wait + Sync,
     G: Gate + Sync,
     E,

@@ -1,4 +1,4 @@
-//! What a run came to, and its text.
+//! The summary of a run, and its text.
 ghost use Rattle.std.specs.Prelude.{◌≡◌, ◌+◌, IfOk, length, Some};
 ghost use Rattle.workers.specs.Summaries.{ending_text, line_text, summary_text, Tells, AreLines, some_compiled};
 
@@ -10,7 +10,7 @@ use std::alloc::Global;
 use std::fmt;
 use std::marker::Model;
 
-/// What is told of one thread: its name, how its run ended, and how many marks it made.
+/// The line of one thread: its name, how its run ended, and how many marks it made.
 #[derive(Clone, Copy, PartialEq, Eq, Debug, Drop)]
 pub struct Line {
     pub name: u64,
@@ -18,8 +18,8 @@ pub struct Line {
     pub made: u64,
 }
 
-/// What a run came to: what each thread reported and its line, in rising name; whether some frame was compiled; the receipts of the
-/// codes that were installed and freed; and the sum of all count words. `{}` is the text, each line with a newline.
+/// The summary of a run: the report and the line of each thread, in rising name; whether some frame was compiled; the receipts of the
+/// installed and freed codes; and the sum of all count words. `{}` is the text; each line ends with a newline.
 #[derive(Drop)]
 pub struct Summary<N: Name> {
     pub(crate) reports: Vec<Report<N>>,
@@ -46,7 +46,7 @@ impl<N: Name> Model for Summary<N> {
 }
 
 impl<N: Name> Summary<N> {
-    /// What each thread reported.
+    /// The report of each thread.
     pub fn reports(&self) -> &[Report<N>]
         ensures { result.now ≡ self.now.reports }
     {
@@ -136,7 +136,7 @@ impl<N: Name> fmt::Display for Summary<N> {
     }
 }
 
-/// The lines of threads that reported in rising name from 1 on. Refused where one didn't, or had a mark refused.
+/// The lines of threads whose names rise from 1 on. Fails if a thread has another name or a mark of it was refused.
 pub fn lines_of<N: Name>(alloc: Global, reports: &[Report<N>]) -> Result<Vec<Line>, RunFault>
     ensures lines { IfOk result (λ lines. AreLines 1 reports.now lines.items) }
     ensures len { IfOk result (λ lines. length lines.items ≡ length reports.now) }
@@ -149,7 +149,7 @@ pub fn lines_of<N: Name>(alloc: Global, reports: &[Report<N>]) -> Result<Vec<Lin
     Ok(lines)
 }
 
-// The line of the thread of a name.
+// The line of the thread with this name.
 fn line_of<N: Name>(report: &Report<N>, name: u64) -> Result<Line, RunFault>
     ensures { IfOk result (λ line. (line.name ≡ name) × Tells report.now line) }
 {

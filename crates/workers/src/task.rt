@@ -8,25 +8,25 @@ use crate::report::{Ending, Report};
 use crate::worker::{Refused, Worker};
 use bodies::Name;
 use interp::{Outcome, Runner};
-use operations::job::Errand;
+use operations::job::HandshakeOp;
 use script::Code;
 use std::alloc::Global;
 use std::marker::Model;
 use std::sync::Wait;
 
-/// The marks that a run makes at most.
+/// The most marks of a run.
 pub const FUEL: u64 = 1_000_000;
 
-/// A worker with the runner of a script, which has made the first mark. Contracts see the code of the script, and the thread's name.
+/// A worker and the runner of a script. The first mark is made. Contracts see the code of the script and the thread's name.
 #[derive(Drop)]
-pub struct Task<'a, N: Name, J: Errand, R, G> {
+pub struct Task<'a, N: Name, J: HandshakeOp, R, G> {
     code: &'a Code,
     name: u64,
     runner: Runner<'a>,
     worker: Worker<'a, N, J, R, G>,
 }
 
-impl<'a, N: Name, J: Errand, R, G> Model for Task<'a, N, J, R, G> {
+impl<'a, N: Name, J: HandshakeOp, R, G> Model for Task<'a, N, J, R, G> {
     ghost use Rattle.workers.specs.Ended.{Tasked, IsBegun};
 
     ghost Value = { Tasked };
@@ -36,7 +36,7 @@ impl<'a, N: Name, J: Errand, R, G> Model for Task<'a, N, J, R, G> {
     ghost invariant = { λ t. IsBegun t.code.now t.name t.worker t.runner };
 }
 
-/// Why a task isn't begun.
+/// Why a task can't begin.
 #[derive(Clone, Copy, PartialEq, Eq, Debug, Drop)]
 pub enum BeginFault {
     NoMemory,
@@ -44,8 +44,8 @@ pub enum BeginFault {
     Refused(Refused),
 }
 
-impl<'a, N: Name, J: Errand, R: Wait, G: Gate> Task<'a, N, J, R, G> {
-    /// Makes the first mark of a script by a worker, whose first it is. All memory that the run ever needs is taken here.
+impl<'a, N: Name, J: HandshakeOp, R: Wait, G: Gate> Task<'a, N, J, R, G> {
+    /// Makes the first mark of a script, which must be the worker's first mark. It takes all memory that the run needs.
     pub fn begin(
         alloc: Global,
         code: &'a Code,
@@ -87,7 +87,7 @@ impl<'a, N: Name, J: Errand, R: Wait, G: Gate> Task<'a, N, J, R, G> {
         self.name
     }
 
-    /// Makes all other marks for which there is fuel, returns from all methods, and exits.
+    /// Makes all other marks while there is fuel, returns from all methods, and exits.
     pub fn finish(self) -> Report<N>
         ensures report { IsReport self.entry.code result }
         ensures name { result.name ≡ self.entry.name }

@@ -6,7 +6,7 @@ use crate::gate::Gate;
 use crate::report::Report;
 use crate::task::Task;
 use bodies::Name;
-use operations::job::Errand;
+use operations::job::HandshakeOp;
 use script::Code;
 use std::alloc::AllocError;
 use std::snapshot::Snapshot;
@@ -14,7 +14,7 @@ use std::sync::Wait;
 use std::thread;
 use std::thread::{Promise, PromisedHandle, Scope, Threads};
 
-/// That a report is of a run of the code.
+/// The promise that a report is of a run of this code.
 #[derive(Drop)]
 pub struct Promised {
     code: Snapshot<Code>,
@@ -28,8 +28,8 @@ impl<N: Name> Promise<Report<N>> for Promised {
 #[derive(Clone, Copy, PartialEq, Eq, Debug, Drop)]
 pub struct NoThread;
 
-/// Gives a task to a thread of the scope.
-pub fn start<'s, 'a: 's, N: Name + Send, J: Errand + Send, R: Wait + Sync, G: Gate + Sync, E>(
+/// Starts a thread of the scope that finishes the task.
+pub fn start<'s, 'a: 's, N: Name + Send, J: HandshakeOp + Send, R: Wait + Sync, G: Gate + Sync, E>(
     scope: &Scope<'s, E>,
     task: Task<'a, N, J, R, G>,
 ) -> Result<PromisedHandle<Report<N>, Promised>, NoThread>
@@ -47,8 +47,16 @@ pub fn start<'s, 'a: 's, N: Name + Send, J: Errand + Send, R: Wait + Sync, G: Ga
 /// The thread of a task, still to be joined.
 pub type Started<N> = PromisedHandle<Report<N>, Promised>;
 
-/// Gives each task to a thread of the scope. There is room for all of the threads.
-pub fn start_all<'s, 'a: 's, N: Name + Send, J: Errand + Send, R: Wait + Sync, G: Gate + Sync, E>(
+/// Starts a thread of the scope for each task. `room` has capacity for all threads.
+pub fn start_all<
+    's,
+    'a: 's,
+    N: Name + Send,
+    J: HandshakeOp + Send,
+    R: Wait + Sync,
+    G: Gate + Sync,
+    E,
+>(
     scope: &Scope<'s, E>,
     code: &Code,
     tasks: Vec<Task<'a, N, J, R, G>>,
@@ -66,7 +74,7 @@ pub fn start_all<'s, 'a: 's, N: Name + Send, J: Errand + Send, R: Wait + Sync, G
     Ok(handles)
 }
 
-/// Waits for all threads. Refused only for want of memory.
+/// Waits for all threads. Fails only if memory is refused.
 pub fn join_all<N: Name, R: Threads>(
     rt: &R,
     code: &Code,

@@ -10,7 +10,7 @@ use crate::gate::Gate;
 use bodies::{Called, Name};
 use desk::Receipt;
 use interp::{Mark, Steps};
-use operations::job::Errand;
+use operations::job::HandshakeOp;
 use std::marker::Model;
 use std::sync::Wait;
 use thread_list::{CallFault, Mutator, ReturnFault, Shared};
@@ -25,7 +25,7 @@ pub enum Refused {
 /// A thread with what its marks need besides: the permission to wait, what threads share, and the gate of its ticks. Contracts see the
 /// thread, and whether some frame so far was compiled. Between two marks the thread is in Java.
 #[derive(Drop)]
-pub struct Worker<'a, N: Name, J: Errand, R, G> {
+pub struct Worker<'a, N: Name, J: HandshakeOp, R, G> {
     rt: &'a R,
     shared: &'a Shared<N, J>,
     gate: &'a G,
@@ -33,7 +33,7 @@ pub struct Worker<'a, N: Name, J: Errand, R, G> {
     compiled: bool,
 }
 
-impl<'a, N: Name, J: Errand, R, G> Model for Worker<'a, N, J, R, G> {
+impl<'a, N: Name, J: HandshakeOp, R, G> Model for Worker<'a, N, J, R, G> {
     ghost use Rattle.std.specs.Prelude.{◌≡◌};
     ghost use Rattle.thread_state.specs.declared.State.TheVariants.{InJava};
     ghost use Rattle.workers.specs.Marks.{Working};
@@ -45,7 +45,7 @@ impl<'a, N: Name, J: Errand, R, G> Model for Worker<'a, N, J, R, G> {
     ghost invariant = { λ w. w.thread.state ≡ InJava };
 }
 
-impl<'a, N: Name, J: Errand, R: Wait, G: Gate> Worker<'a, N, J, R, G> {
+impl<'a, N: Name, J: HandshakeOp, R: Wait, G: Gate> Worker<'a, N, J, R, G> {
     /// The worker of a thread that has made no mark.
     pub fn new(
         rt: &'a R,
@@ -121,7 +121,7 @@ fn is_compiled(called: Called) -> bool
     matches!(called, Called::Compiled(_))
 }
 
-impl<'a, N: Name, J: Errand, R: Wait, G: Gate> Steps for Worker<'a, N, J, R, G> {
+impl<'a, N: Name, J: HandshakeOp, R: Wait, G: Gate> Steps for Worker<'a, N, J, R, G> {
     /// The fault of the mutator's call.
     type Refusal = Refused;
 

@@ -3,7 +3,7 @@ ghost use Rattle.std.specs.Prelude.{◌≡◌, ◌↔◌, ℕ};
 ghost use Rattle.frames.specs.ImageView.{ImageView};
 ghost use Rattle.operations.specs.Asks.{reply};
 
-use super::{Done, Errand};
+use super::{Done, HandshakeOp};
 use crate::Ask;
 use frames::image::Image;
 
@@ -18,17 +18,17 @@ pub struct Query {
 impl Query {
     /// A query that has no number yet.
     pub fn new(target: u64, ask: Ask) -> Query
-        ensures number { ⟦<Query as Errand>⟧.number result ≡ 0 }
-        ensures whom { ⟦<Query as Errand>⟧.whom result ≡ target }
-        ensures asks { ⟦<Query as Errand>⟧.asks result ≡ ask }
+        ensures number { ⟦<Query as HandshakeOp>⟧.number result ≡ 0 }
+        ensures whom { ⟦<Query as HandshakeOp>⟧.whom result ≡ target }
+        ensures asks { ⟦<Query as HandshakeOp>⟧.asks result ≡ ask }
         ensures callback { (image : ImageView) (r : ℕ)
-            → ⟦<Query as Errand>⟧.may_answer result image r ↔ (r ≡ reply ask image.frames) }
+            → ⟦<Query as HandshakeOp>⟧.may_answer result image r ↔ (r ≡ reply ask image.frames) }
     {
         Query { op: 0, target, ask }
     }
 }
 
-impl Errand for Query {
+impl HandshakeOp for Query {
     ghost number = { λ q. q.op };
 
     ghost whom = { λ q. q.target };

@@ -3,7 +3,7 @@ ghost use Rattle.std.specs.Prelude.{◌≡◌};
 ghost use Rattle.frames.specs.ImageView.{IsSettled};
 ghost use Rattle.operations.specs.Asks.{reply};
 
-use super::{Call, Errand, Job};
+use super::{Call, HandshakeOp, Job};
 use crate::Ask;
 use frames::image::Image;
 use std::marker::Model;
@@ -29,11 +29,11 @@ impl Job {
     /// Calls the callback on the image of a settled stack.
     pub fn run(self, image: &Image) -> Done
         requires { IsSettled image.now }
-        ensures same { (result.op ≡ ⟦<Job as Errand>⟧.number self)
-            × (result.target ≡ ⟦<Job as Errand>⟧.whom self)
-            × (result.ask ≡ ⟦<Job as Errand>⟧.asks self) }
-        ensures reply { result.reply ≡ reply (⟦<Job as Errand>⟧.asks self) image.now.frames }
-        ensures called { ⟦<Job as Errand>⟧.may_answer self image.now result.reply }
+        ensures same { (result.op ≡ ⟦<Job as HandshakeOp>⟧.number self)
+            × (result.target ≡ ⟦<Job as HandshakeOp>⟧.whom self)
+            × (result.ask ≡ ⟦<Job as HandshakeOp>⟧.asks self) }
+        ensures reply { result.reply ≡ reply (⟦<Job as HandshakeOp>⟧.asks self) image.now.frames }
+        ensures called { ⟦<Job as HandshakeOp>⟧.may_answer self image.now result.reply }
     {
         let Job {
             op,

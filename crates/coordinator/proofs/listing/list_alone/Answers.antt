@@ -3,8 +3,8 @@ use Rattle.std.proofs.lemmas.List.{map-append, nil_from_length}
 use Rattle.operations.specs.declared.Kind.TheVariants as kind
 use Rattle.desk.specs.Fields.{at}
 use Rattle.coordinator.specs.Telling.{telling_of, tellings, AreAskedAlone}
-use Rattle.coordinator.specs.declared.listing.Telling.{Telling}
-use Rattle.coordinator.specs.declared.listing.Untold.{Untold}
+use Rattle.coordinator.specs.declared.listing.PendingOp.{PendingOp}
+use Rattle.coordinator.specs.declared.listing.PendingJob.{PendingJob}
 use Rattle.coordinator.proofs.Alone.{alone_is, none_further}
 use Rattle.coordinator.proofs.Tellings.{some_first, moved}
 use Rattle.coordinator.proofs.listing.list_alone.Goals as goal
@@ -15,7 +15,7 @@ loop-who-preserved-else-len-capacity g c =
     let armer = c.args.armer.now.seen in
     let who = c.in-Some.who.now in let others = c.in-Some.others.now in let what = c.in-Some-telling_alone.what in
     let rest = tellings s kind.Handshake armer others in
-    let f : Untold g.row.J.Denot → Telling = λ u. u.what in
+    let f : PendingJob g.row.J.Denot → PendingOp = λ u. u.what in
     let rest_is : l.rest.now ≡ who ∷ others = search rules in
     let asked : AreAskedAlone s number (who ∷ others) = subst (AreAskedAlone s number) rest_is l.invariant.2 in
     let is : telling_of s kind.Handshake armer who ≡ Some what =

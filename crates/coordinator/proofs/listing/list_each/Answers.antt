@@ -3,8 +3,8 @@ use Rattle.std.proofs.lemmas.List.{map-append}
 use Rattle.desk.specs.Fields.{at}
 use Rattle.desk.specs.Targets.{untold}
 use Rattle.coordinator.specs.Telling.{telling_of, tellings, is_there, any_more}
-use Rattle.coordinator.specs.declared.listing.Telling.{Telling}
-use Rattle.coordinator.specs.declared.listing.Untold.{Untold}
+use Rattle.coordinator.specs.declared.listing.PendingOp.{PendingOp}
+use Rattle.coordinator.specs.declared.listing.PendingJob.{PendingJob}
 use Rattle.coordinator.proofs.Tellings.{at_same, some_first, some_more, moved, or_moved}
 use Rattle.coordinator.proofs.listing.list_each.Goals as goal
 use Rattle.coordinator.proofs.listing.list_each.Goals.{then-has_more, else-has_more}
@@ -15,7 +15,7 @@ loop-who-preserved-after-has_more g c =
     let kind = c.args.kind in let armer = c.args.armer.now.seen in
     let who = c.in-Some.who.now in let others = c.in-Some.others.now in let what = c.in-Some-telling_of.what in
     let rest = tellings s kind armer others in
-    let f : Untold g.row.J.Denot → Telling = λ u. u.what in
+    let f : PendingJob g.row.J.Denot → PendingOp = λ u. u.what in
     let here : at l.desk ≡ s = at_same l.desk c.args.desk.now (search rules) (search rules) (search rules) in
     let is : telling_of s kind armer who ≡ Some what =
     sym (ap (λ t. telling_of t kind armer who) here) ∙ sym c.telling_of.ensures ∙ c.in-Some-telling_of.is in

@@ -3,8 +3,8 @@ use Rattle.std.proofs.Math.Seq.{take-nil}
 use Rattle.desk.specs.Fields.{at}
 use Rattle.desk.specs.Targets.{open_kind, only_handshake}
 use Rattle.coordinator.specs.Telling.{tellings, kind_told, any_more, due_in, AreAskedAlone}
-use Rattle.coordinator.specs.declared.listing.Telling.{Telling}
-use Rattle.coordinator.specs.declared.listing.Untold.{Untold}
+use Rattle.coordinator.specs.declared.listing.PendingOp.{PendingOp}
+use Rattle.coordinator.specs.declared.listing.PendingJob.{PendingJob}
 use Rattle.coordinator.proofs.Alone.{due_asked}
 use Rattle.coordinator.proofs.Tellings.{none_due}
 use Rattle.coordinator.proofs.listing.list_untold.Goals as goal
@@ -19,7 +19,7 @@ pub returns-in_default-clause-all : goal.returns-in_default-clause-all
 returns-in_default-clause-all g c =
     let s = at c.args.desk.now in let armer = c.args.armer.now.seen in
     let none : open_kind s ≡ None = search rules in
-    let f : Untold g.row.J.Denot → Telling = λ u. u.what in
+    let f : PendingJob g.row.J.Denot → PendingOp = λ u. u.what in
     λ _. (
       c.clear.ensures.items ∙ sym (none_due s none),
       ap (map f) c.clear-2.ensures.items ∙ sym (ap (tellings s (kind_told s) armer) c.clear.ensures.items),

@@ -1,4 +1,4 @@
-use Rattle.operations.specs.contracts.job.queries.QueryErrand.TheImpl.{ghosts}
+use Rattle.operations.specs.contracts.job.queries.QueryHandshakeOp.TheImpl.{ghosts}
 use Rattle.parties.proofs.Hands.{err_left}
 use Rattle.parties.proofs.coordinating.serve.Goals as goal
 

@@ -1,6 +1,6 @@
 use Rattle.std.proofs.Common.{refl, rules, subst}
 use Rattle.desk.specs.Fields.{at}
-use Rattle.held_threads.specs.Refused.{tell_stays}
+use Rattle.stopped_threads.specs.Refused.{tell_stays}
 use Rattle.parties.proofs.coordinating.tell.Goals as goal
 
 pub returns-in-Err-Err-clause-refused : goal.returns-in-Err-Err-clause-refused

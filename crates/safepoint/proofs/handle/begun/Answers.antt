@@ -1,5 +1,5 @@
 use Rattle.std.proofs.Common.{◌∙◌, Some, is_some, ap}
-use Rattle.held_threads.specs.Holding.{Holding}
+use Rattle.stopped_threads.specs.Holding.{Holding}
 use Rattle.parties.specs.Acted.{party_as}
 use Rattle.parties.specs.declared.party.Role.TheVariants as role
 use Rattle.safepoint.proofs.handle.begun.Goals as goal

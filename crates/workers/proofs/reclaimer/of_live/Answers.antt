@@ -5,4 +5,4 @@ use Rattle.workers.proofs.reclaimer.of_live.Goals as goal
 
 -- the closure answers for each job whether its thread is live, and stays as it is
 pub returns : goal.returns
-returns g c = filter_same _ (λ j. list_any (λ n. n == g.J.Errand.whom j) c.args.live.now) _ (λ x b f' k. search rules) _ _ c.retain.ensures.filtered
+returns g c = filter_same _ (λ j. list_any (λ n. n == g.J.HandshakeOp.whom j) c.args.live.now) _ (λ x b f' k. search rules) _ _ c.retain.ensures.filtered

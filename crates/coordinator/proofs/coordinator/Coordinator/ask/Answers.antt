@@ -7,7 +7,7 @@ use Rattle.coordinator.proofs.coordinator.Coordinator.ask.Goals as goal
 
 pub returns-in_default-clause-refused : goal.returns-in_default-clause-refused
 returns-in_default-clause-refused g c =
-    let d = c.deref.result.now in let e = g.J.Errand in (
+    let d = c.deref.result.now in let e = g.J.HandshakeOp in (
       at d,
       d.book,
       d.keeper.moment,
@@ -18,5 +18,5 @@ returns-in_default-clause-refused g c =
 pub returns-in-Err-clause-refused : goal.returns-in-Err-clause-refused
 returns-in-Err-clause-refused g c =
     let d = c.deref_mut.result.now in
-    let fits : Request → Bool = λ r. jobs_fit g.J.Errand.whom g.J.Errand.asks r c.args.jobs.items in
+    let fits : Request → Bool = λ r. jobs_fit g.J.HandshakeOp.whom g.J.HandshakeOp.asks r c.args.jobs.items in
     (at d, d.book, d.keeper.moment, subst (λ r. reclaim_refused (at d) c.args.serial r fits d.book d.keeper.moment c.in-Err.refused.fault) (search rules) c.in-Err.ensures.refused)

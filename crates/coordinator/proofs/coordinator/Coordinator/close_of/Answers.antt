@@ -1,6 +1,6 @@
 use Rattle.std.proofs.Common.{◌≡◌, ◌∙◌, ap, subst, Some, ℕ}
 use Rattle.desk.specs.declared.entries.Entry.TheVariants as entry
-use Rattle.held_threads.specs.Refused.{MayClose}
+use Rattle.stopped_threads.specs.Refused.{MayClose}
 use Rattle.coordinator.proofs.OpenNumber.{open_number}
 use Rattle.coordinator.proofs.coordinator.Coordinator.close_of.Goals as goal
 

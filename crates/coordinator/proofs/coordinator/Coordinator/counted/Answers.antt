@@ -1,5 +1,5 @@
 use Rattle.std.proofs.Common.{sym, subst, rules}
-use Rattle.held_threads.specs.Holding.{Holding}
+use Rattle.stopped_threads.specs.Holding.{Holding}
 use Rattle.coordinator.specs.Driving.{HoldsOn}
 use Rattle.coordinator.proofs.HoldsMore.{holds_then}
 use Rattle.coordinator.proofs.Holdings.{listed_again}

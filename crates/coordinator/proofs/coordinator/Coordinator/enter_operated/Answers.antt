@@ -1,7 +1,7 @@
 use Rattle.std.proofs.Common.{◌∙◌, ap, subst}
 use Rattle.desk.specs.Fields.{at}
-use Rattle.held_threads.specs.Holding.{Holding}
-use Rattle.held_threads.specs.Refused.{census_refused}
+use Rattle.stopped_threads.specs.Holding.{Holding}
+use Rattle.stopped_threads.specs.Refused.{census_refused}
 use Rattle.coordinator.proofs.coordinator.Coordinator.enter_operated.Goals as goal
 
 pub returns-in-Err-clause-refused : goal.returns-in-Err-clause-refused

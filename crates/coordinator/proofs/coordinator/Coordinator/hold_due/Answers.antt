@@ -1,6 +1,6 @@
 use Rattle.std.proofs.Common.{◌∙◌, List, [], ◌∷◌, ◌++◌, ap}
 use Rattle.bodies.specs.Bodies.{BodyView}
-use Rattle.held_threads.specs.Holding.{Holding}
+use Rattle.stopped_threads.specs.Holding.{Holding}
 use Rattle.coordinator.proofs.Arms.{arms_same}
 use Rattle.coordinator.proofs.coordinator.Coordinator.hold_due.Goals as goal
 

@@ -2,10 +2,10 @@ use Rattle.std.proofs.Common.{sym, subst}
 use Rattle.bodies.specs.Bodies.{IsPublished}
 use Rattle.bodies.specs.Census.{IsCensus}
 use Rattle.thread_list.specs.Moves.{IsCleared}
-use Rattle.held_threads.specs.Held.{AreEach}
-use Rattle.held_threads.specs.Holding.{Holding}
-use Rattle.held_threads.proofs.Each.{each_both}
-use Rattle.held_threads.proofs.Published.{cleared_census, operated_census}
+use Rattle.stopped_threads.specs.Held.{AreEach}
+use Rattle.stopped_threads.specs.Holding.{Holding}
+use Rattle.stopped_threads.proofs.Each.{each_both}
+use Rattle.stopped_threads.proofs.Published.{cleared_census, operated_census}
 use Rattle.coordinator.proofs.coordinator.Coordinator.operate.Goals as goal
 
 pub returns-clause-counted : goal.returns-clause-counted

@@ -4,8 +4,8 @@ use Rattle.std.proofs.lemmas.Option.{slice_get_read}
 use Rattle.bodies.specs.Bodies.{BodyView}
 use Rattle.desk.specs.Fields.{at}
 use Rattle.desk.specs.Targets.{standing, progress}
-use Rattle.held_threads.specs.Holding.{Holding}
-use Rattle.held_threads.specs.Refused.{serve_fault}
+use Rattle.stopped_threads.specs.Holding.{Holding}
+use Rattle.stopped_threads.specs.Refused.{serve_fault}
 use Rattle.coordinator.proofs.coordinator.Coordinator.serve_refusal.Goals as goal
 
 pub returns : goal.returns

@@ -1,5 +1,5 @@
 use Rattle.std.proofs.Common.{◌≡◌}
-use Rattle.held_threads.specs.Holding.{ArmsOn}
+use Rattle.stopped_threads.specs.Holding.{ArmsOn}
 use Rattle.coordinator.proofs.coordinator.Coordinator.shake_on.Given as goal
 
 abbrev pub invariant-loop : goal.invariant-loop

@@ -3,8 +3,8 @@ use Rattle.std.proofs.Math.Seq.{map-set_same}
 use Rattle.std.proofs.lemmas.List.{take_more, length-map}
 use Rattle.std.proofs.Math.ListN.{get_or-map}
 use Rattle.coordinator.specs.Telling.{AreArmed}
-use Rattle.coordinator.specs.declared.listing.Telling.{Telling}
-use Rattle.coordinator.specs.declared.listing.Untold.{Untold}
+use Rattle.coordinator.specs.declared.listing.PendingOp.{PendingOp}
+use Rattle.coordinator.specs.declared.listing.PendingJob.{PendingJob}
 use Rattle.coordinator.proofs.Arms.{arms_then}
 use Rattle.coordinator.proofs.Tellings.{armed_on, armed_more, and_left, and_right}
 use Rattle.coordinator.proofs.coordinator.Coordinator.tell_each.Goals as goal
@@ -13,7 +13,7 @@ use Rattle.coordinator.proofs.coordinator.Coordinator.tell_each.Goals.{then-tell
 pub loop-at-preserved : goal.loop-at-preserved
 loop-at-preserved g c =
     let l = c.loop-at in let i = c.loop-at.at in let new = c.tell_at.new.self.armer in
-    let f : Untold g.row.J.Denot → Telling = λ u. u.what in
+    let f : PendingJob g.row.J.Denot → PendingOp = λ u. u.what in
     let ts = map f c.args.list.now.items in
     let one = c.index_mut.result.now in
     let arms = arms_then c.args.self.now.armer l.self.armer new l.invariant.2 c.tell_at.ensures.arms in

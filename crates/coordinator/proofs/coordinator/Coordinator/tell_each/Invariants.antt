@@ -1,5 +1,5 @@
 use Rattle.std.proofs.Common.{◌≡◌, true, map, take}
-use Rattle.held_threads.specs.Holding.{ArmsOn}
+use Rattle.stopped_threads.specs.Holding.{ArmsOn}
 use Rattle.coordinator.specs.Telling.{AreArmed}
 use Rattle.coordinator.proofs.coordinator.Coordinator.tell_each.Given as goal
 

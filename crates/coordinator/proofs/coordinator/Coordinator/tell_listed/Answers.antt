@@ -1,7 +1,7 @@
 use Rattle.std.proofs.Common.{rules, ◌≡◌, true, false, length, sym, ap, subst, ◌∙◌}
 use Rattle.thread_state.specs.declared.poll_rule.Arming.{Arming}
 use Rattle.desk.specs.Fields.{DeskSeen, at}
-use Rattle.held_threads.specs.Holding.{Holding}
+use Rattle.stopped_threads.specs.Holding.{Holding}
 use Rattle.coordinator.specs.Telling.{due_in, IsAllTold, AreArmed}
 use Rattle.coordinator.proofs.Tellings.{all_told}
 use Rattle.coordinator.proofs.coordinator.Coordinator.tell_listed.Goals as goal

@@ -1,5 +1,5 @@
 use Rattle.std.proofs.Common.{◌≡◌, length}
-use Rattle.held_threads.specs.Holding.{ArmsOn}
+use Rattle.stopped_threads.specs.Holding.{ArmsOn}
 use Rattle.coordinator.specs.Telling.{IsListing}
 use Rattle.coordinator.proofs.coordinator.Coordinator.tell_on.Given as goal
 

@@ -2,7 +2,7 @@ use Rattle.std.proofs.Common.{◌≡◌, ◌∙◌, ℕ, Option, Some, false, sy
 use Rattle.desk.specs.Machine.{Stands}
 use Rattle.desk.specs.Fields.{at}
 use Rattle.desk.specs.Refusals.{close_refused, chosen, oldest_of, holds_target}
-use Rattle.held_threads.specs.Holding.{Holding}
+use Rattle.stopped_threads.specs.Holding.{Holding}
 use Rattle.coordinator.proofs.Oldest.{same_number}
 use Rattle.coordinator.proofs.coordinator.Coordinator.try_close.Goals as goal
 

@@ -1,8 +1,8 @@
 use Rattle.std.proofs.Common.{subst}
 use Rattle.desk.specs.Fields.{at}
-use Rattle.held_threads.specs.Holding.{Holding}
-use Rattle.held_threads.specs.Refused.{IsFound, tell_said}
-use Rattle.held_threads.proofs.Staying.{staying}
+use Rattle.stopped_threads.specs.Holding.{Holding}
+use Rattle.stopped_threads.specs.Refused.{IsFound, tell_said}
+use Rattle.stopped_threads.proofs.Staying.{staying}
 use Rattle.coordinator.proofs.coordinator.Coordinator.try_tell.Goals as goal
 
 pub returns-in-Said-clause-said : goal.returns-in-Said-clause-said

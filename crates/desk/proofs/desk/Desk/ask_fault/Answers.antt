@@ -22,4 +22,4 @@ refused_of whom asks (j ∷ js) s b fault good low fits refused = refused (Hands
 
 pub returns-in-Some : goal.returns-in-Some
 returns-in-Some g c =
-    refused_of g.J.Errand.whom g.J.Errand.asks c.args.jobs.now (at c.args.self.now) c.args.self.now.book c.in-Some.fault c.fit_their_request.result c.requires.jobs c.fit_their_request.ensures.fits c.in-Some.ensures.some
+    refused_of g.J.HandshakeOp.whom g.J.HandshakeOp.asks c.args.jobs.now (at c.args.self.now) c.args.self.now.book c.in-Some.fault c.fit_their_request.result c.requires.jobs c.fit_their_request.ensures.fits c.in-Some.ensures.some

@@ -110,10 +110,10 @@ returns-clause-ok g c =
     let found : Found i.opened.items c.args.done.op o = record { place = c.in-Some.place; index = where_is; here = here } in
     let due : true ≡ (is_due c.args.done.target (current_of o) && is_live c.args.done.target i.live.items) = search rules in
     let least : is_least c.args.done.op c.args.done.target (map (current_of {J = g.row.J.Denot}) i.opened.items) ≡ true = search rules in
-    let is : record { book = i.log.book; slots = i.codes.table.slots; methods = i.codes.table.methods; keeper = i.codes.keeper; jobs = map (jobs_left g.J.Errand.whom) i.opened.items } ≡ c.args.self.now = c.self.view_is in
-    let new : DeskSeen = record { book = c.enter_finish.new.self.book; slots = i.codes.table.slots; methods = i.codes.table.methods; keeper = i.codes.keeper; jobs = map (jobs_left g.J.Errand.whom) c.finish_at.new.opened.items } in
+    let is : record { book = i.log.book; slots = i.codes.table.slots; methods = i.codes.table.methods; keeper = i.codes.keeper; jobs = map (jobs_left g.J.HandshakeOp.whom) i.opened.items } ≡ c.args.self.now = c.self.view_is in
+    let new : DeskSeen = record { book = c.enter_finish.new.self.book; slots = i.codes.table.slots; methods = i.codes.table.methods; keeper = i.codes.keeper; jobs = map (jobs_left g.J.HandshakeOp.whom) c.finish_at.new.opened.items } in
     let entered : Enters c.args.self.now new (entry.Finish c.args.done.op c.args.done.target c.args.done.reply) c.enter_finish.result =
-    subst (λ (d : DeskSeen). Enters d (record { book = c.enter_finish.new.self.book; slots = i.codes.table.slots; methods = i.codes.table.methods; keeper = i.codes.keeper; jobs = map (jobs_left g.J.Errand.whom) c.finish_at.new.opened.items }) (entry.Finish c.args.done.op c.args.done.target c.args.done.reply) c.enter_finish.result) is
+    subst (λ (d : DeskSeen). Enters d (record { book = c.enter_finish.new.self.book; slots = i.codes.table.slots; methods = i.codes.table.methods; keeper = i.codes.keeper; jobs = map (jobs_left g.J.HandshakeOp.whom) c.finish_at.new.opened.items }) (entry.Finish c.args.done.op c.args.done.target c.args.done.reply) c.enter_finish.result) is
     (enters_by _ (entry.Finish c.args.done.op c.args.done.target c.args.done.reply) m.kept.state
     (finish_is c.args.done.target c.args.done.reply true true m.kept found due (sym least))
     (search rules) (search rules) (search rules) refl refl) in
@@ -125,7 +125,7 @@ returns-clause-jobs g c =
     let where_is : IsIndex {J = g.row.J.Denot} c.args.done.op i.opened.items (Some c.in-Some.place) = search rules in
     let here : slice_get i.opened.items c.in-Some.place ≡ Some o = slice_get_read i.opened.items _ c.in-Some.place o refl where_is.0 c.index-2.ensures in
     let made = c.finish_at.ensures.step o here in
-    ap (map (jobs_left g.J.Errand.whom)) made.2 ∙ set_left g.J.Errand.whom c.in-Some.place i.opened.items o made.0 here made.3 (ap (λ (x : Current). x.number) made.1) ∙ ap (λ (d : DeskSeen). d.jobs) c.self.view_is
+    ap (map (jobs_left g.J.HandshakeOp.whom)) made.2 ∙ set_left g.J.HandshakeOp.whom c.in-Some.place i.opened.items o made.0 here made.3 (ap (λ (x : Current). x.number) made.1) ∙ ap (λ (d : DeskSeen). d.jobs) c.self.view_is
 
 pub returns-clause-asked : goal.returns-clause-asked
 returns-clause-asked g c =

@@ -11,7 +11,7 @@ use Rattle.desk.proofs.desk.Desk.open.Goals as goal
 pub invariant_of-self-2 : goal.invariant_of-self-2
 invariant_of-self-2 g c =
     let i = c.self.inside in let m = c.self.invariant in let w = c.in-Some.first in
-    let k = open_keeps g.J.Errand.whom c.enter.new.self.book c.pop.new.self c.push_reserved.new.self.items w _ m.kept m.carried (search rules) c.in-Some.ensures.oldest c.push_reserved.ensures.items
+    let k = open_keeps g.J.HandshakeOp.whom c.enter.new.self.book c.pop.new.self c.push_reserved.new.self.items w _ m.kept m.carried (search rules) c.in-Some.ensures.oldest c.push_reserved.ensures.items
     (record { number = refl; request = refl; before = refl; left = search rules; due = search rules; operated = refl }) c.enter.ensures.history c.enter.ensures.reserved in
     let r = open_has_room c.pop.new.self c.push_reserved.new.self.items w _ m c.in-Some.ensures.oldest c.push_reserved.ensures.items refl (search rules) in
     let few = few_open i.queue i.opened.items (search rules) in

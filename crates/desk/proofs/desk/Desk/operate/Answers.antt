@@ -52,4 +52,4 @@ returns-clause-jobs g c =
     let low = front_there (λ (x : Current). is_census x.request) true i.opened.items may.0 in
     let here : slice_get i.opened.items 0 ≡ Some o = slice_get_read i.opened.items _ 0 o refl low c.index.ensures in
     let made = c.operate_at.ensures.step o here in
-    ap (map (jobs_left g.J.Errand.whom)) made.2 ∙ set_left g.J.Errand.whom 0 i.opened.items o made.0 here made.3 (ap (λ (x : Current). x.number) made.1) ∙ ap (λ (d : DeskSeen). d.jobs) c.self.view_is
+    ap (map (jobs_left g.J.HandshakeOp.whom)) made.2 ∙ set_left g.J.HandshakeOp.whom 0 i.opened.items o made.0 here made.3 (ap (λ (x : Current). x.number) made.1) ∙ ap (λ (d : DeskSeen). d.jobs) c.self.view_is

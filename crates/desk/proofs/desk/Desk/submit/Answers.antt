@@ -25,16 +25,16 @@ invariant_of-self-2 g c =
     let seen : c.seen_as_ask-seen.result.0.value ≡ entry.Ask i.next_number c.args.request = c.seen_as_ask-seen.ensures.0 in
     let enough : length (targets_of c.args.request) ≤ targets = omega (arith, c.in-Ok.ensures.targets.0) in
     let low : 0 < i.next_number = (let n = m.replies.count in omega arith) in
-    let fit : jobs_fit g.J.Errand.whom g.J.Errand.asks c.args.request c.args.jobs.items ≡ true = search rules in
+    let fit : jobs_fit g.J.HandshakeOp.whom g.J.HandshakeOp.asks c.args.request c.args.jobs.items ≡ true = search rules in
     let waits = c.in_default-wait_for_its_turn.ensures.ok in
     let w : Waiting (Carried g.row.J.Denot) = record { number = i.next_number; request = c.args.request; load = record { room = waits.0; jobs = c.args.jobs } } in
-    let carried : IsCarried g.J.Errand.whom w = record { number = low; room = (let wide = waits.1 in omega (arith, enough, wide)); distinct = targets_distinct c.args.request (search rules); jobs = fitting g.J.Errand.whom g.J.Errand.asks c.args.request c.args.jobs.items fit } in
+    let carried : IsCarried g.J.HandshakeOp.whom w = record { number = low; room = (let wide = waits.1 in omega (arith, enough, wide)); distinct = targets_distinct c.args.request (search rules); jobs = fitting g.J.HandshakeOp.whom g.J.HandshakeOp.asks c.args.request c.args.jobs.items fit } in
     let pushed : c.wait_for_its_turn.new.queue ≡ i.queue ++ w ∷ [] = waits.2 ∙ ap (λ (r : Request). i.queue ++ record { number = i.next_number; request = r; load = w.load } ∷ []) request in
     let entered : c.enter_ask.new.self.book.history ≡ i.log.book.history ++ entry.Ask i.next_number c.args.request ∷ [] = search rules in
     let k = ask_keeps c.enter_ask.new.self.book c.wait_for_its_turn.new.queue w m.kept refl pushed entered (search rules) in
     record {
       kept = k;
-      carried = subst (AreCarried g.J.Errand.whom) (sym pushed) (carried_push g.J.Errand.whom i.queue w m.carried carried);
+      carried = subst (AreCarried g.J.HandshakeOp.whom) (sym pushed) (carried_push g.J.HandshakeOp.whom i.queue w m.carried carried);
       few = m.few;
       capacity = m.capacity;
       places = m.places;
@@ -48,7 +48,7 @@ keep_request-requires g c = record { steps = few_steps c.args.request (search ru
 
 pub returns-in-Some-clause-err : goal.returns-in-Some-clause-err
 returns-in-Some-clause-err g c =
-    let fits = jobs_fit g.J.Errand.whom g.J.Errand.asks c.args.request c.args.jobs.items in
+    let fits = jobs_fit g.J.HandshakeOp.whom g.J.HandshakeOp.asks c.args.request c.args.jobs.items in
     let some : has_targets c.args.request ≡ c.has_targets.result = search rules in
     let good : (are_targets c.args.request && fits) ≡ c.if-are_targets.good =
     elim c.if-are_targets.branch [

@@ -15,13 +15,13 @@ pub returns-in_default-clause-none : goal.returns-in_default-clause-none
 returns-in_default-clause-none g c =
     let i = c.self.inside in
     let none : IsIndex {J = g.row.J.Denot} c.args.number i.opened.items None = search rules in
-    subst (λ (d : DeskSeen). has_job c.args.number c.args.name d.jobs ≡ false) c.self.view_is (ap (among c.args.name) (left_not g.J.Errand.whom c.args.number i.opened.items none))
+    subst (λ (d : DeskSeen). has_job c.args.number c.args.name d.jobs ≡ false) c.self.view_is (ap (among c.args.name) (left_not g.J.HandshakeOp.whom c.args.number i.opened.items none))
 
 pub returns-in_default-clause-left : goal.returns-in_default-clause-left
 returns-in_default-clause-left g c =
     let i = c.self.inside in
     let none : IsIndex {J = g.row.J.Denot} c.args.number i.opened.items None = search rules in
-    subst (λ (d : DeskSeen). d.jobs ≡ job_taken c.args.number c.args.name d.jobs) c.self.view_is (sym (taken_not g.J.Errand.whom c.args.number c.args.name i.opened.items none))
+    subst (λ (d : DeskSeen). d.jobs ≡ job_taken c.args.number c.args.name d.jobs) c.self.view_is (sym (taken_not g.J.HandshakeOp.whom c.args.number c.args.name i.opened.items none))
 
 pub invariant_of-self : goal.invariant_of-self
 invariant_of-self g c =
@@ -70,7 +70,7 @@ returns-clause-there g c =
     let o = there_at i.opened.items c.in-Some.place where_is.0 in
     some_then c.job_of.result
     (λ h. subst (λ (d : DeskSeen). has_job c.args.number c.args.name d.jobs ≡ true) c.self.view_is
-    (ap (among c.args.name) (left_at g.J.Errand.whom c.args.number c.in-Some.place i.opened.items o.0 where_is o.1) ∙ h o.0 o.1))
+    (ap (among c.args.name) (left_at g.J.HandshakeOp.whom c.args.number c.in-Some.place i.opened.items o.0 where_is o.1) ∙ h o.0 o.1))
     c.job_of.ensures.some
 
 pub returns-clause-none : goal.returns-clause-none
@@ -80,7 +80,7 @@ returns-clause-none g c =
     let o = there_at i.opened.items c.in-Some.place where_is.0 in
     none_then c.job_of.result
     (λ h. subst (λ (d : DeskSeen). has_job c.args.number c.args.name d.jobs ≡ false) c.self.view_is
-    (ap (among c.args.name) (left_at g.J.Errand.whom c.args.number c.in-Some.place i.opened.items o.0 where_is o.1) ∙ h o.0 o.1))
+    (ap (among c.args.name) (left_at g.J.HandshakeOp.whom c.args.number c.in-Some.place i.opened.items o.0 where_is o.1) ∙ h o.0 o.1))
     c.job_of.ensures.none
 
 pub returns-clause-left : goal.returns-clause-left
@@ -89,6 +89,6 @@ returns-clause-left g c =
     let where_is : IsIndex {J = g.row.J.Denot} c.args.number i.opened.items (Some c.in-Some.place) = search rules in
     let o = there_at i.opened.items c.in-Some.place where_is.0 in
     let made = c.job_of.ensures.step o.0 o.1 in
-    subst (λ (d : DeskSeen). map (jobs_left g.J.Errand.whom) c.job_of.new.opened.items ≡ job_taken c.args.number c.args.name d.jobs) c.self.view_is
-    (ap (map (jobs_left g.J.Errand.whom)) made.2
-    ∙ taken_at g.J.Errand.whom c.args.number c.args.name c.in-Some.place i.opened.items o.0 made.0 where_is o.1 (ap (λ (x : Current). x.number) made.1) made.3)
+    subst (λ (d : DeskSeen). map (jobs_left g.J.HandshakeOp.whom) c.job_of.new.opened.items ≡ job_taken c.args.number c.args.name d.jobs) c.self.view_is
+    (ap (map (jobs_left g.J.HandshakeOp.whom)) made.2
+    ∙ taken_at g.J.HandshakeOp.whom c.args.number c.args.name c.in-Some.place i.opened.items o.0 made.0 where_is o.1 (ap (λ (x : Current). x.number) made.1) made.3)

@@ -1,5 +1,5 @@
 use Rattle.std.proofs.Common.{sym, ap, subst}
-use Rattle.thread_steps.specs.Moves.{Starting}
+use Rattle.thread_list.specs.Steps.{Starting}
 use Rattle.parties.specs.Asked.{WasStarted}
 use Rattle.parties.specs.Acted.{PartySeen}
 use Rattle.parties.specs.declared.party.Role.TheVariants as role

@@ -37,7 +37,7 @@ use Rattle.std.proofs.raw_atomic.Calls.{marker, marker_laws, dict}
 use Rattle.std_heap.specs.contracts.Global as Heap
 use Rattle.std_heap.specs.contracts.GlobalAllocator.TheImpl.{ghosts}
 use Rattle.std_heap.proofs.Global.TheLaws as heap
-use Rattle.safepoint.proofs.Values.{both, Loose, loose_good, loose_out, loose_in, pair_in, two_out, ptr_good, both_tt}
+use Rattle.safepoint.proofs.Values.{both, RawBox, loose_good, loose_out, loose_in, pair_in, two_out, ptr_good, both_tt}
 use Rattle.safepoint.specs.Held.{party_of}
 use Rattle.safepoint.specs.Told.{Forks}
 use Rattle.parties.specs.contracts.acts.Act as Act
@@ -46,7 +46,7 @@ use Rattle.parties.proofs.acts.Act.TheLaws as act_laws
 use Rattle.parties.proofs.acts.Fault.TheLaws as fault_laws
 use Rattle.parties.proofs.party.Party.TheLaws as party_laws
 use Rattle.core.specs.contracts.result.Result as Result
-use Rattle.safepoint.proofs.loose.Loose.TheLaws.{the_row_laws as loose_laws}
+use Rattle.safepoint.proofs.raw_box.RawBox.TheLaws.{the_row_laws as loose_laws}
 use denote.Struct.Field.{bool-field}
 use denote.Struct.Laws.{bool-laws, bool-copy}
 use denote.Param.Laws.{Laws, of_field, param_laws}
@@ -86,12 +86,12 @@ module _ {M : Type 1} {𝓤 : Ura M} (𝓛 : Logic 𝓤) (𝓜 : Model 𝓤 𝓛
       let Z : RattleType = Heap.the_row in
       let LZ = heap.the_row_laws in
       let g = ghosts in
-      let v : (Loose R Z LZ g).Denot = record { at = h.at; alloc = h.alloc; value = h.value } in
+      let v : (RawBox R Z LZ g).Denot = record { at = h.at; alloc = h.alloc; value = h.value } in
       let gn : Name.Ghosts marker.Denot = record { board = h.board; poll_row = h.row } in
-      let L₁ : Laws (Loose R Z LZ g) = loose_laws R Z g (party_laws.the_row_laws (denote.Param.param 0 marker) gn (param_laws 0 marker marker_laws)) LZ in
+      let L₁ : Laws (RawBox R Z LZ g) = loose_laws R Z g (party_laws.the_row_laws (denote.Param.param 0 marker) gn (param_laws 0 marker marker_laws)) LZ in
       let k = triple_of 𝓛 (callee.signature marker gn dict) (callee.spec marker gn dict 𝓛 𝓜.mem 𝓡.returns) in
       qed 𝓛 ((‵ ftrue ⊛ ‵ (fsep (H-row.own_val h z.0.4.0) ftrue)) ∷ raw (fact 𝓤 (is_some h.value ≡ true)) ∷ []) ∵
-      split ! $ drop ! $ fsplit ! $ use1 𝓛 (‵ ((Loose R Z LZ g).own_val v z.0.4.0)) (id⊢ 𝓤 _) $
+      split ! $ drop ! $ fsplit ! $ use1 𝓛 (‵ ((RawBox R Z LZ g).own_val v z.0.4.0)) (id⊢ 𝓤 _) $
       loose_out R Z LZ g ! v z.0.4.0 (λ hv ws fits. loose_in R Z LZ g ! v.at hv v.alloc v.value $
       -- [the handle as parts; nothing; what is asked]
       let w : Val = both (ptr_val v.at) hv in let typed = loose_good R Z LZ g v.at hv fits in
@@ -103,20 +103,20 @@ module _ {M : Type 1} {𝓤 : Ura M} (𝓛 : Logic 𝓤) (𝓜 : Model 𝓤 𝓛
       enter ! 𝓣.C 𝓣.Λ code.function (w ∷ []) Post $ alloc_all ! (λ l. pass_all ! refl (typed, tt) $ let Ev = env code.function.locals l in
       sets ! (of_opd ! (get_in ! (fld ! refl (stop !)) (sub ! 0 refl (whole !)))) refl (ptr_good v.at) $ sets ! (of_opd ! (get_in ! (fld ! refl (stop !)) (sub ! 1 refl (whole !)))) refl fits $
       sets ! (of_opd ! (get ! refl)) refl (ptr_good v.at) $ sets ! (agg ! (and_then ! (get ! refl) (and_then ! (get ! refl) (no_more !)))) refl typed $
-      let T₂ : List RattleType = Loose R Z LZ g ∷ bool ∷ [] in let Two : RattleType = Tuple T₂ in let L₂ : Laws Two = tuple_laws T₂ (L₁, (yes_laws, tt)) in
+      let T₂ : List RattleType = RawBox R Z LZ g ∷ bool ∷ [] in let Two : RattleType = Tuple T₂ in let L₂ : Laws Two = tuple_laws T₂ (L₁, (yes_laws, tt)) in
       calls_at ! (fm 𝓛 𝓜 𝓡) k (met 𝓤 𝓛 𝓜 𝓡 (code.calls-safepoint::handle::fork 𝓡.env wired) marker marker_laws gn dict (record {})) y (and_then ! (get ! refl) (no_more !)) (λ u.
-      use1 𝓛 (later (some (λ (r : (Loose R Z LZ g).Denot × Two.Denot). ((‵ (flft [] full_share) ⊛ ‵ ftrue) ⊛ ‵ ((Tuple (Loose R Z LZ g ∷ Two ∷ [])).own_val r (u ∷ []))) ⊛ some (λ (ls : Lasts (callee.ended marker gn dict) ([], tt) y.0.3). ‵ (lasts (callee.ended marker gn dict) ([], tt) y.0.3 ls) ⊛ raw (fact 𝓤 (Forks v.value r.0.value r.1.0.value r.1.1)))))) (id⊢ 𝓤 (k.post y u)) $
+      use1 𝓛 (later (some (λ (r : (RawBox R Z LZ g).Denot × Two.Denot). ((‵ (flft [] full_share) ⊛ ‵ ftrue) ⊛ ‵ ((Tuple (RawBox R Z LZ g ∷ Two ∷ [])).own_val r (u ∷ []))) ⊛ some (λ (ls : Lasts (callee.ended marker gn dict) ([], tt) y.0.3). ‵ (lasts (callee.ended marker gn dict) ([], tt) y.0.3 ls) ⊛ raw (fact 𝓤 (Forks v.value r.0.value r.1.0.value r.1.1)))))) (id⊢ 𝓤 (k.post y u)) $
       await ! tt $ pick ! (λ r. split ! $ move ! (1 ∷ []) $ pick ! (λ _. split ! $ drop ! $ heard ! (Forks v.value r.0.value r.1.0.value r.1.1) (λ er. split ! $ drop ! $
-      two_out (Loose R Z LZ g) Two r.0 r.1 ! L₁.one L₂.one (L₁.lawful 𝓛) (L₂.lawful 𝓛) (u ∷ []) (λ v₁ v₂ g₁ g₂ eu. move ! (1 ∷ []) $
-      two_out (Loose R Z LZ g) bool r.1.0 r.1.1 ! L₁.one yes_laws.one (L₁.lawful 𝓛) (yes_laws.lawful 𝓛) (v₂ ∷ []) (λ v₃ n g₃ gn' eu₂.
+      two_out (RawBox R Z LZ g) Two r.0 r.1 ! L₁.one L₂.one (L₁.lawful 𝓛) (L₂.lawful 𝓛) (u ∷ []) (λ v₁ v₂ g₁ g₂ eu. move ! (1 ∷ []) $
+      two_out (RawBox R Z LZ g) bool r.1.0 r.1.1 ! L₁.one yes_laws.one (L₁.lawful 𝓛) (yes_laws.lawful 𝓛) (v₂ ∷ []) (λ v₃ n g₃ gn' eu₂.
       loose_out R Z LZ g ! r.1.0 (v₃ ∷ []) (λ hv₃ ws₃ fits₃. move ! (3 ∷ []) $ loose_out R Z LZ g ! r.0 (v₁ ∷ []) (λ hv₂ ws₂ fits₂.
       -- [a box; its allocator; the other box; its allocator; whether it was made; the locals]
       let l₂ = loose_good R Z LZ g r.0.at hv₂ fits₂ in let w₂ : Val = both (ptr_val r.0.at) hv₂ in
       let l₃ = loose_good R Z LZ g r.1.0.at hv₃ fits₃ in let w₃ : Val = both (ptr_val r.1.0.at) hv₃ in
       let hr : H-row.Denot = record { at = r.0.at; alloc = r.0.alloc; board = h.board; row = h.row; value = r.0.value } in
       let hk : H-row.Denot = record { at = r.1.0.at; alloc = r.1.0.alloc; board = h.board; row = h.row; value = r.1.0.value } in
-      let inner : Good (layout Two) (both w₃ n) = (both_tt (has_ty (layout (Loose R Z LZ g)) w₃) (has_ty (layout bool) n) l₃.0 gn'.0, (l₃.1, (gn'.1, tt))) in
-      let outer : Good (layout (Tuple (Loose R Z LZ g ∷ Two ∷ []))) (both w₂ (both w₃ n)) = (both_tt (has_ty (layout (Loose R Z LZ g)) w₂) (has_ty (layout Two) (both w₃ n)) l₂.0 inner.0, (l₂.1, (inner.1, tt))) in
+      let inner : Good (layout Two) (both w₃ n) = (both_tt (has_ty (layout (RawBox R Z LZ g)) w₃) (has_ty (layout bool) n) l₃.0 gn'.0, (l₃.1, (gn'.1, tt))) in
+      let outer : Good (layout (Tuple (RawBox R Z LZ g ∷ Two ∷ []))) (both w₂ (both w₃ n)) = (both_tt (has_ty (layout (RawBox R Z LZ g)) w₂) (has_ty (layout Two) (both w₃ n)) l₂.0 inner.0, (l₂.1, (inner.1, tt))) in
       let in_two : v₂ ∷ [] ≡ both w₃ n ∷ [] = eu₂ ∙ (λ j. both (only (ws₃ j)) n ∷ []) in
       lands_as ! (ap only (eu ∙ (λ j. both (only (ws₂ j)) (only (in_two j)) ∷ []))) refl outer $
       sets ! (of_opd ! (get_in ! (fld ! refl (stop !)) (sub ! 0 refl (whole !)))) refl l₂ $ sets ! (of_opd ! (get_in ! (fld ! refl (stop !)) (sub ! 1 refl (whole !)))) refl inner $

@@ -34,7 +34,7 @@ use Rattle.std.proofs.raw_atomic.Calls.{marker, marker_laws, dict}
 use Rattle.std_heap.specs.contracts.Global as Heap
 use Rattle.std_heap.specs.contracts.GlobalAllocator.TheImpl.{ghosts}
 use Rattle.std_heap.proofs.Global.TheLaws as heap
-use Rattle.safepoint.proofs.Values.{both, Loose, loose_good, loose_out, loose_in, value_out, ptr_good}
+use Rattle.safepoint.proofs.Values.{both, RawBox, loose_good, loose_out, loose_in, value_out, ptr_good}
 use Rattle.safepoint.specs.Held.{party_of}
 use Rattle.parties.specs.contracts.acts.Act as Act
 use Rattle.parties.specs.contracts.acts.Fault as Fault
@@ -42,7 +42,7 @@ use Rattle.parties.proofs.acts.Act.TheLaws as act_laws
 use Rattle.parties.proofs.acts.Fault.TheLaws as fault_laws
 use Rattle.parties.proofs.party.Party.TheLaws as party_laws
 use Rattle.core.specs.contracts.result.Result as Result
-use Rattle.safepoint.proofs.loose.Loose.TheLaws.{the_row_laws as loose_laws}
+use Rattle.safepoint.proofs.raw_box.RawBox.TheLaws.{the_row_laws as loose_laws}
 use denote.Struct.Field.{bool-field}
 use denote.Struct.Laws.{bool-laws, bool-copy}
 use denote.Param.Laws.{Laws, of_field, param_laws}
@@ -82,12 +82,12 @@ module _ {M : Type 1} {𝓤 : Ura M} (𝓛 : Logic 𝓤) (𝓜 : Model 𝓤 𝓛
       let Z : RattleType = Heap.the_row in
       let LZ = heap.the_row_laws in
       let g = ghosts in
-      let v : (Loose R Z LZ g).Denot = record { at = h.at; alloc = h.alloc; value = h.value } in
+      let v : (RawBox R Z LZ g).Denot = record { at = h.at; alloc = h.alloc; value = h.value } in
       let gn : Name.Ghosts marker.Denot = record { board = h.board; poll_row = h.row } in
-      let L₁ : Laws (Loose R Z LZ g) = loose_laws R Z g (party_laws.the_row_laws (denote.Param.param 0 marker) gn (param_laws 0 marker marker_laws)) LZ in
+      let L₁ : Laws (RawBox R Z LZ g) = loose_laws R Z g (party_laws.the_row_laws (denote.Param.param 0 marker) gn (param_laws 0 marker marker_laws)) LZ in
       let k = triple_of 𝓛 (callee.signature marker gn dict) (callee.spec marker gn dict 𝓛 𝓜.mem 𝓡.returns) in
       qed 𝓛 ((‵ ftrue ⊛ ‵ (fsep (H-row.own_val h z.0.4.0) ftrue)) ∷ raw (fact 𝓤 (is_some h.value ≡ true)) ∷ []) ∵
-      split ! $ drop ! $ fsplit ! $ use1 𝓛 (‵ ((Loose R Z LZ g).own_val v z.0.4.0)) (id⊢ 𝓤 _) $
+      split ! $ drop ! $ fsplit ! $ use1 𝓛 (‵ ((RawBox R Z LZ g).own_val v z.0.4.0)) (id⊢ 𝓤 _) $
       loose_out R Z LZ g ! v z.0.4.0 (λ hv ws fits. loose_in R Z LZ g ! v.at hv v.alloc v.value $
       -- [the handle as parts; nothing; what is asked]
       let w : Val = both (ptr_val v.at) hv in let typed = loose_good R Z LZ g v.at hv fits in

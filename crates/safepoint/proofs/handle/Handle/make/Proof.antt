@@ -36,7 +36,7 @@ use Rattle.std.proofs.raw_atomic.Calls.{marker, marker_laws, dict}
 use Rattle.std_heap.specs.contracts.Global as Heap
 use Rattle.std_heap.specs.contracts.GlobalAllocator.TheImpl.{ghosts}
 use Rattle.std_heap.proofs.Global.TheLaws as heap
-use Rattle.safepoint.proofs.Values.{both, Loose, loose_good, loose_out, loose_in, pair_in, two_out, value_out, ptr_good, both_tt}
+use Rattle.safepoint.proofs.Values.{both, RawBox, loose_good, loose_out, loose_in, pair_in, two_out, value_out, ptr_good, both_tt}
 use Rattle.safepoint.specs.Held.{party_of}
 use Rattle.safepoint.specs.Told.{Begins}
 use Rattle.thread_list.specs.contracts.parts.Parts as PartsRow
@@ -47,7 +47,7 @@ use Rattle.parties.proofs.acts.Act.TheLaws as act_laws
 use Rattle.parties.proofs.acts.Fault.TheLaws as fault_laws
 use Rattle.parties.proofs.party.Party.TheLaws as party_laws
 use Rattle.core.specs.contracts.result.Result as Result
-use Rattle.safepoint.proofs.loose.Loose.TheLaws.{the_row_laws as loose_laws}
+use Rattle.safepoint.proofs.raw_box.RawBox.TheLaws.{the_row_laws as loose_laws}
 use denote.Struct.Field.{bool-field}
 use denote.Struct.Laws.{bool-laws, bool-copy}
 use denote.Param.Laws.{Laws, of_field, param_laws}
@@ -91,7 +91,7 @@ module _ {M : Type 1} {𝓤 : Ura M} (𝓛 : Logic 𝓤) (𝓜 : Model 𝓤 𝓛
       let LZ = heap.the_row_laws in
       let g = ghosts in
       let gn : Name.Ghosts marker.Denot = record { board = parts.board; poll_row = parts.row } in
-      let L₁ : Laws (Loose R Z LZ g) = loose_laws R Z g (party_laws.the_row_laws (denote.Param.param 0 marker) gn (param_laws 0 marker marker_laws)) LZ in
+      let L₁ : Laws (RawBox R Z LZ g) = loose_laws R Z g (party_laws.the_row_laws (denote.Param.param 0 marker) gn (param_laws 0 marker marker_laws)) LZ in
       let k = triple_of 𝓛 (callee.signature marker gn dict) (callee.spec marker gn dict 𝓛 𝓜.mem 𝓡.returns) in
       qed 𝓛 ((‵ ftrue ⊛ ‵ (fsep (Z.own_val a z.0.4.0) (fsep (PartsRow.the_row.own_val parts z.0.4.1.0) ftrue))) ∷ raw (emp 𝓤) ∷ []) ∵
       split ! $ drop ! $ fsplit ! $ value_out Z LZ ! a z.0.4.0 (λ wa ga wsa. move ! (1 ∷ []) $ fsplit ! $ value_out PartsRow.the_row parts_laws.the_row_laws ! parts z.0.4.1.0 (λ wp gp wsp.
@@ -106,13 +106,13 @@ module _ {M : Type 1} {𝓤 : Ura M} (𝓛 : Logic 𝓤) (𝓜 : Model 𝓤 𝓛
       enter ! 𝓣.C 𝓣.Λ code.function (wa ∷ wp ∷ []) Post $ alloc_all ! (λ l. pass_all ! refl (ga, (gp, tt)) $
       sets ! (of_opd ! (get ! refl)) refl gp $
       calls_at ! (fm 𝓛 𝓜 𝓡) k (met 𝓤 𝓛 𝓜 𝓡 (code.calls-safepoint::handle::make 𝓡.env wired) marker marker_laws gn dict (record {})) y (and_then ! (get ! refl) (and_then ! (get ! refl) (no_more !))) (λ u.
-      use1 𝓛 (later (some (λ (r : (Loose R Z LZ g).Denot × bool.Denot). ((‵ (flft [] full_share) ⊛ ‵ ftrue) ⊛ ‵ ((Tuple (Loose R Z LZ g ∷ bool ∷ [])).own_val r (u ∷ []))) ⊛ some (λ (ls : Lasts (callee.ended marker gn dict) ([], tt) y.0.3). ‵ (lasts (callee.ended marker gn dict) ([], tt) y.0.3 ls) ⊛ raw (fact 𝓤 (Begins gn.board gn.poll_row r.0.value r.1)))))) (id⊢ 𝓤 (k.post y u)) $
+      use1 𝓛 (later (some (λ (r : (RawBox R Z LZ g).Denot × bool.Denot). ((‵ (flft [] full_share) ⊛ ‵ ftrue) ⊛ ‵ ((Tuple (RawBox R Z LZ g ∷ bool ∷ [])).own_val r (u ∷ []))) ⊛ some (λ (ls : Lasts (callee.ended marker gn dict) ([], tt) y.0.3). ‵ (lasts (callee.ended marker gn dict) ([], tt) y.0.3 ls) ⊛ raw (fact 𝓤 (Begins gn.board gn.poll_row r.0.value r.1)))))) (id⊢ 𝓤 (k.post y u)) $
       await ! tt $ pick ! (λ r. split ! $ move ! (1 ∷ []) $ pick ! (λ _. split ! $ drop ! $ heard ! (Begins gn.board gn.poll_row r.0.value r.1) (λ er. split ! $ drop ! $
-      two_out (Loose R Z LZ g) bool r.0 r.1 ! L₁.one yes_laws.one (L₁.lawful 𝓛) (yes_laws.lawful 𝓛) (u ∷ []) (λ v₁ n g₁ gn' eu.
+      two_out (RawBox R Z LZ g) bool r.0 r.1 ! L₁.one yes_laws.one (L₁.lawful 𝓛) (yes_laws.lawful 𝓛) (u ∷ []) (λ v₁ n g₁ gn' eu.
       loose_out R Z LZ g ! r.0 (v₁ ∷ []) (λ hv₂ ws₂ fits₂.
       let l₂ = loose_good R Z LZ g r.0.at hv₂ fits₂ in let w₂ : Val = both (ptr_val r.0.at) hv₂ in
       let hr : H-row.Denot = record { at = r.0.at; alloc = r.0.alloc; board = parts.board; row = parts.row; value = r.0.value } in
-      let outer : Good (layout (Tuple (Loose R Z LZ g ∷ bool ∷ []))) (both w₂ n) = (both_tt (has_ty (layout (Loose R Z LZ g)) w₂) (has_ty (layout bool) n) l₂.0 gn'.0, (l₂.1, (gn'.1, tt))) in
+      let outer : Good (layout (Tuple (RawBox R Z LZ g ∷ bool ∷ []))) (both w₂ n) = (both_tt (has_ty (layout (RawBox R Z LZ g)) w₂) (has_ty (layout bool) n) l₂.0 gn'.0, (l₂.1, (gn'.1, tt))) in
       lands_as ! (ap only (eu ∙ (λ j. both (only (ws₂ j)) n ∷ []))) refl outer $
       sets ! (of_opd ! (get_in ! (fld ! refl (stop !)) (sub ! 0 refl (whole !)))) refl l₂ $ sets ! (of_opd ! (get_in ! (fld ! refl (stop !)) (sub ! 1 refl (whole !)))) refl gn' $
       sets ! (of_opd ! (get_in ! (fld ! refl (stop !)) (sub ! 0 refl (whole !)))) refl (ptr_good r.0.at) $ sets ! (of_opd ! (get_in ! (fld ! refl (stop !)) (sub ! 1 refl (whole !)))) refl fits₂ $

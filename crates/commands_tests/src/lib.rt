@@ -1,7 +1,0 @@
-//! Tests of the program's forms, through the public calls of `commands`.
-//! `rt ci` runs them. They stand apart, so that a change of a test doesn't prove `commands` anew.
-//! Read `src/tests.rt` first.
-#![tactic(auto)]
-
-#[cfg(test)]
-mod tests;

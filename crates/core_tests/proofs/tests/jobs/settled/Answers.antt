@@ -1,4 +1,0 @@
-use Rattle.core_tests.proofs.tests.jobs.settled.Goals as goal
-
-pub returns : goal.returns
-returns g c = c.is_settled.ensures.0 c.if-not-is_settled.false

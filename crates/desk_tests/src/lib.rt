@@ -1,7 +1,0 @@
-//! Tests of the desk through its public calls.
-//! `rt ci` runs them. They stand apart, so that a change of a test doesn't prove `desk` anew.
-//! Read `src/tests/calls.rt` first.
-#![tactic(auto)]
-
-#[cfg(test)]
-mod tests;

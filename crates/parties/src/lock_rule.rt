@@ -1,0 +1,35 @@
+//! The rule of a lock: while its word is 0 its value is at home.
+ghost use Rattle.parties.specs.Locked.{IsLock, Tried};
+
+use atomic_table::{Play, TableRule};
+
+// The lock's word stands in the middle of a block, so that no line of the cache that has it has anything else.
+pub(crate) const WORDS: usize = 15;
+
+pub(crate) const WORD: usize = 7;
+
+pub(crate) const FREE: u64 = 0;
+
+pub(crate) const TAKEN: u64 = 1;
+
+pub(crate) struct LockLaw;
+
+impl<T> TableRule<Option<T>, (), ()> for LockLaw {
+    ghost holds = { λ _ s. IsLock s };
+
+    ghost first = { λ _. tt };
+}
+
+// Who finds the lock free has its value.
+pub(crate) struct Tries;
+
+impl<T> Play<Option<T>, ()> for Tries {
+    ghost then = { λ _ _ found after. Tried found after.1 };
+}
+
+// The value is at home again.
+pub(crate) struct PutsBack;
+
+impl<T> Play<Option<T>, ()> for PutsBack {
+    ghost then = { λ _ _ _ _. Unit {0} };
+}

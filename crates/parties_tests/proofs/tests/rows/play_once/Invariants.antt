@@ -1,4 +1,0 @@
-use Rattle.parties_tests.proofs.tests.rows.play_once.Given as goal
-
-abbrev pub ghosts-play_over : goal.ghosts-play_over
-ghosts-play_over g a = record { board = a.parts.board; poll_row = a.parts.row }

@@ -1,4 +1,0 @@
-use Rattle.run_tests.proofs.tests.rows.RunScenario.play.Given as goal
-
-abbrev pub ghosts-play_over : goal.ghosts-play_over
-ghosts-play_over g a = record { board = a.parts.board; poll_row = a.parts.row }

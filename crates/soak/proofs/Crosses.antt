@@ -1,7 +1,0 @@
--- Threads may share what they tell each other.
-use denote.Param.Send.{IsSync, sendable}
-use Rattle.std.proofs.Crossing.{crosses}
-use Rattle.soak.specs.contracts.signals.Signals as Signals
-
-pub signals_sync : IsSync Signals.the_row
-signals_sync = search (sendable, crosses) depth 40

@@ -1,5 +1,0 @@
-use Rattle.std.proofs.Common.{length}
-use Rattle.soak.proofs.driver.Driver.close_some.Given as goal
-
-abbrev pub decreases-loop-op : goal.decreases-loop-op
-decreases-loop-op g l = length l.rest.items

@@ -1,0 +1,19 @@
+//! Runs are text. Each step of a row gives a call on running words and its answer, which is also the core's answer to the line beside
+//! it.
+mod beside_core;
+mod board_runs;
+mod boards;
+mod core_lines;
+mod made;
+mod next_code;
+mod place;
+mod play;
+mod poll_rows;
+mod poll_runs;
+mod rows;
+mod run;
+mod said;
+mod shelf;
+mod stopped;
+mod tables;
+mod thread_bodies;

@@ -1,0 +1,4 @@
+use Rattle.test_workers.proofs.tests.rows.play.Given as goal
+
+abbrev pub ghosts-play_over : goal.ghosts-play_over
+ghosts-play_over g a = record { board = a.parts.board; poll_row = a.parts.row }

@@ -1,4 +1,0 @@
-pub mod BodyStates
-pub mod Moves
-pub mod Rooms
-pub mod Refused

@@ -1,5 +1,0 @@
-use Rattle.std.proofs.Common.{rules}
-use Rattle.tried_lock.proofs.lock.TriedLock.new.Goals as goal
-
-pub new-requires : goal.new-requires
-new-requires g c = (search rules, λ _. (c.args.value, search rules))

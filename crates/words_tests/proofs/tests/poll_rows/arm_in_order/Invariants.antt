@@ -1,8 +1,0 @@
-use Rattle.std.proofs.Common.{◌≡◌, ◌∷◌, []}
-use Rattle.words_tests.proofs.tests.poll_rows.arm_in_order.Given as goal
-
-abbrev pub invariant-loop-n : goal.invariant-loop-n
-invariant-loop-n l = record {
-  table : l.armer.table ≡ l.initial.armer.table;
-  armed : l.armer.seen.armed ≡ l.n ∷ [];
-}

@@ -1,5 +1,0 @@
-use Rattle.std.proofs.Common.{length}
-use Rattle.words_tests.proofs.tests.thread_bodies.return_all.Given as goal
-
-abbrev pub decreases-loop-body : goal.decreases-loop-body
-decreases-loop-body g l = length l.body.image.frames
