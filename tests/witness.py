@@ -52,7 +52,6 @@ RECORD, CONDITION = "-DSP_RECORD", "-DSP_PTHREAD"
 # What each liar stands before.
 LIARS = {
     "hold": ("hold", "release"),
-    "drive": ("called_place",),
     "call": ("call", "install"),
     "publish": ("publish",),
     "stop": ("stop_next", "stop_serve"),

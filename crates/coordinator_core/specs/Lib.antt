@@ -1,5 +1,2 @@
 pub mod Done
 pub mod Putting
-pub mod Telling
-pub mod Work
-pub mod Called

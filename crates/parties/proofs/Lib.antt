@@ -1,4 +1,3 @@
-pub mod Driven
 pub mod Fits
 pub mod Hands
 pub mod Roles

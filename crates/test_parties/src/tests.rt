@@ -1,6 +1,5 @@
 //! Texts of acts with their answers, and the runner that plays them.
 mod acts;
-mod advancing;
 mod censuses;
 mod codes;
 mod counted;

@@ -72,6 +72,7 @@ impl<N: Name> Report<N> {
     pub fn name(&self) -> u64
         ensures { result ≡ self.now.name }
     {
+        let _ = &self.exited;
         self.name
     }
 
@@ -79,6 +80,7 @@ impl<N: Name> Report<N> {
     pub fn ending(&self) -> Result<Ending, Refused>
         ensures { result ≡ self.now.ending }
     {
+        let _ = &self.exited;
         self.ending
     }
 
@@ -86,6 +88,7 @@ impl<N: Name> Report<N> {
     pub fn made(&self) -> u64
         ensures { result ≡ self.now.made }
     {
+        let _ = &self.exited;
         self.made
     }
 
@@ -93,6 +96,7 @@ impl<N: Name> Report<N> {
     pub fn compiled(&self) -> bool
         ensures { result ≡ self.now.compiled }
     {
+        let _ = &self.exited;
         self.compiled
     }
 }
