@@ -93,12 +93,10 @@ def architecture():
     parts.append(line((c, row(1) + 19), (262, row(1) + 19), (262, row(3) + 27), (134, row(3) + 27)))
     for upper in (0, 1, 2, 3):
         parts.append(line((343, foot(upper)), (343, row(upper + 1))))
-    parts.append(line((402, row(2) + 19), (422, row(2) + 19), (422, row(3) + 19), (d, row(3) + 19)))
-    parts.append(line((448, foot(0)), (448, row(3))))
-    parts += [line((697, foot(0)), (697, row(1))), line((622, foot(1)), (622, row(2))),
-              line((747, foot(1)), (747, row(2))), line((562, foot(1)), (562, row(2)))]
-    parts.append(line((653, foot(2)), (653, foot(2) + 5), (792, foot(2) + 5), (792, row(5) + 19), (780, row(5) + 19)))
-    parts.append(line((530, foot(2)), (530, foot(2) + 11), (786, foot(2) + 11), (786, row(4) + 19), (780, row(4) + 19)))
+    parts.append(line((402, row(2) + 19), (d, row(2) + 19)))
+    for x in (519, 697):
+        parts += [line((x, foot(0)), (x, row(2))), line((x, foot(2)), (x, row(3)))]
+    parts.append(line((780, row(2) + 19), (792, row(2) + 19), (792, row(5) + 19), (780, row(5) + 19)))
     parts += [line((205, foot(4)), (205, row(5))), line((150, row(5) + 19), (110, row(5) + 19), (110, row(6)))]
     parts += [line((608, foot(3)), (608, row(4))), line((608, foot(4)), (608, row(5)))]
     for x in (519, 697):
@@ -127,9 +125,9 @@ def architecture():
     parts += named("laws", c, row(6), 118, "tie", "joins the two")
     parts += named("yours", d, row(0), 166, "your runtime", "in Rattle")
     parts += named("program", e, row(0), 166, "safepoint", "libsafepoint.a, for C")
-    parts += named("crate", 548, row(1), 232, "parties", "acts that never wait")
-    parts += named("crate", 548, row(2), 232, "coordinator_core")
-    parts += named("crate", d, row(3), 344, "coordinator", "Coordinator: drive, reclaim; owns the armer")
+    parts += named("crate", d, row(2), 166, "coordinator", "drive, reclaim: it waits")
+    parts += named("crate", e, row(2), 166, "parties", "acts that never wait")
+    parts += named("crate", d, row(3), 344, "coordinator_core", "what is pending is listed, armed, held, served")
     parts += named("crate", d, row(4), 344, "stopped_threads", "held bodies; arms places")
     parts += named("crate", d, row(5), 344, "thread_list", "Shared, and a Mutator for each thread")
     parts += named("shared", d, row(6), 166, "desk", "one lock")

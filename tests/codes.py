@@ -26,7 +26,7 @@ HEADER, TEXTS, RUST = f"{CRATE}/include/safepoint.h", f"{CRATE}/waits/safepoint_
 FILES = CODE, SPEC, HEADER, TEXTS, RUST
 
 # Reasons that have a name of their own in the code, and a common one elsewhere.
-COMMON = {"SerialsSpent": "Spent", "NotNotEntrant": "StillInUse"}
+COMMON = {"SerialsSpent": "Spent", "NotNotEntrant": "StillInUse", "Runs": "Run"}
 # What no contract says: `sp_make` alone answers BadSize, and NO_MEMORY is a name in the code for what functions answer.
 NOT_STATED = {("", "BadSize"), ("", "NoMemory")}
 # It has some reasons of `fault_code`, and is proved to answer as that.
@@ -54,12 +54,15 @@ PLANTS = (
     (SPEC, "close_code close_fault.NotDone = negsuc 26\n", ""),
     (HEADER, "SP_NOT_HELD = -24", "SP_NOT_HELD = -25"),
     (HEADER, "SP_LATE = -36,", ""),
-    (HEADER, "SP_LATE = -36,", "SP_LATE = -36, SP_LATER = -37,"),
+    (HEADER, "SP_LATE = -36,", "SP_LATE = -36, SP_LATER = -39,"),
+    (HEADER, "SP_RUN = -37, SP_AWAITS = -38,", "SP_RUN = -38, SP_AWAITS = -37,"),
     (TEXTS, "{SP_NOT_HELD,", "{SP_HELD,"),
     (TEXTS, '    {SP_LATE, "a thread may still enter the code, or hasn\'t told that it has"},\n', ""),
+    (TEXTS, "{SP_RUN,", "{SP_AWAITS,"),
     (TEXTS, '"the stack is empty"', '""'),
     (TEXTS, '"the stack is empty"', '"the stack isn\'t empty"'),
     (RUST, "NotHeld = -24,", "NotHeld = -25,"),
+    (RUST, "Awaits = -38,", "Awaits = -39,"),
     (RUST, '"the stack is empty"', '"the stack is bare"'),
     (RUST, '    EmptyStack = -7, "the stack is empty";\n', ""),
 )

@@ -42,7 +42,7 @@ CONDITION, RACES, MEMORY = "-DSP_PTHREAD", "-fsanitize=thread", "-fsanitize=addr
 VALGRIND = ("valgrind", "-q", "--leak-check=full", "--error-exitcode=9")
 # What takes memory, and so is refused it.
 GROWING = set("sp_make sp_fork sp_start sp_target sp_submit sp_census sp_install sp_reclaim_begin".split())
-GROWING |= {"sp_reply", "sp_operate"}
+GROWING |= {"sp_reply", "sp_operate", "sp_advance", "sp_drive"}
 # Threads, requests and the seed of each run of safepoint_threads.
 RUNS = ((1, 4000, 1), (4, 1000, 3), (16, 200, 5), (64, 20, 6))
 SLOW_RUNS = ((4, 200, 7), (16, 40, 8))
@@ -179,7 +179,9 @@ def is_whole(log, count):
             return False
         last[stream] = int(after) if after != "-" else 1 << 40
         called.append((call, line.partition(" : ")[2]))
-    closed = [said for call, said in called if call == "close" and said.startswith("closed")]
+    said_of = {"close": ("closed",), "drive": ("handshake", "census")}
+    answers = [said.split() for call, said in called if call in said_of and said.startswith(said_of[call])]
+    closed = [int(said[1]) for said in answers]
     starts, exits = (sum(call == what for call, _ in called) for what in ("start", "exit"))
     is_headed = lines[0] == "witness 1 jobs" and lines[1].startswith("size ")
     return is_headed and starts == exits == count and len(closed) == len(set(closed)) > 0

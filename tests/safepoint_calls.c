@@ -22,6 +22,37 @@ static void judge(int line, const char *call, int64_t found, int64_t wanted) {
         judge(__LINE__, #call, found_, (wanted));                                                                                          \
     } while (0)
 
+/* No lock is taken here, and no thread starts or exits: SP_AGAIN says that there is more to arm, or that the work begins anew. */
+static int64_t advanced(struct sp_party *coordinator) {
+    int64_t answer;
+    int tries = 0;
+    do answer = sp_advance(coordinator);
+    while (answer == SP_AGAIN && ++tries < 6);
+    return answer;
+}
+
+#define ADVANCES(coordinator, wanted)                                                                                                      \
+    do {                                                                                                                                   \
+        int64_t found_ = advanced(coordinator);                                                                                            \
+        if (found_ == SP_NO_MEMORY) refused = "sp_advance", found_ = advanced(coordinator);                                                \
+        judge(__LINE__, "sp_advance", found_, (wanted));                                                                                   \
+    } while (0)
+
+/* It serves the thread of this place next, for this operation. */
+#define CALLS(coordinator, operation, place)                                                                                               \
+    do {                                                                                                                                   \
+        ADVANCES(coordinator, SP_RUN);                                                                                                     \
+        IS(sp_called_operation(coordinator), operation);                                                                                   \
+        IS(sp_called_place(coordinator), place);                                                                                           \
+    } while (0)
+
+/* So many threads have still to come. */
+#define AWAITS(coordinator, count)                                                                                                         \
+    do {                                                                                                                                   \
+        ADVANCES(coordinator, SP_AWAITS);                                                                                                  \
+        IS(sp_awaited(coordinator), count);                                                                                                \
+    } while (0)
+
 static struct sp_party none, c, a, b, d; /* no party, the coordinator, three others */
 
 static void no_party_does_nothing(void) {
@@ -32,6 +63,10 @@ static void no_party_does_nothing(void) {
     IS(sp_submit(&none, SP_DEPTH, 0), SP_NOT_THIS);
     IS(sp_open_kind(&none), SP_NOT_THIS);
     IS(sp_open(&none), SP_NOT_THIS);
+    IS(sp_advance(&none), SP_NOT_THIS);
+    IS(sp_called_operation(&none), SP_NOT_THIS);
+    IS(sp_called_place(&none), SP_NOT_THIS);
+    IS(sp_awaited(&none), SP_NOT_THIS);
     sp_free(&none);
     IS(none.made, 0);
 }
@@ -67,6 +102,10 @@ static void another_part_is_refused(void) {
     IS(sp_name(&a), SP_NOT_THIS);
     IS(sp_place(&a), SP_NOT_THIS);
     IS(sp_state(&a), SP_NOT_THIS);
+    IS(sp_advance(&a), SP_NOT_THIS);
+    IS(sp_called_operation(&a), 0);
+    IS(sp_called_place(&a), 0);
+    IS(sp_awaited(&a), 0);
     IS(sp_open(&a), SP_NOT_THIS);
     IS(sp_tell(&a, 1), SP_NOT_THIS);
     IS(sp_hold(&a, 0), SP_NOT_THIS);
@@ -146,6 +185,7 @@ static void codes_are_installed(void) {
 
 static void requests_are_refused(void) {
     IS(sp_open(&c), SP_QUEUE_EMPTY);
+    IS(sp_advance(&c), SP_QUEUE_EMPTY);
     IS(sp_open_kind(&c), SP_NONE);
     IS(sp_tell(&c, 1), SP_NOTHING_OPEN);
     IS(sp_hold(&c, 0), SP_NOTHING_OPEN);
@@ -357,6 +397,262 @@ static void threads_exit(void) {
     IS(sp_place(&a), 0);
 }
 
+/* --- the coordinator's work in one call: each on a system of its own --- */
+
+static struct sp_party k, s, t; /* its coordinator, and two threads, of names 1 and 2 at places 0 and 1 */
+
+static void begin(void) {
+    IS(sp_make(&k, 2, 4, 2), 0);
+    IS(sp_fork(&k, &s), 0);
+    IS(sp_fork(&k, &t), 0);
+    IS(sp_start(&s), 1);
+    IS(sp_start(&t), 2);
+    IS(sp_call(&s, 0), 0);
+}
+
+static void end(void) {
+    sp_free(&s);
+    sp_free(&t);
+    sp_free(&k);
+}
+
+static void shake(uint64_t first, uint64_t second, int64_t number) {
+    IS(sp_target(&k, first), 0);
+    if (second) IS(sp_target(&k, second), 0);
+    IS(sp_submit(&k, SP_DEPTH, 0), number);
+}
+
+/* The thread stops for an operation at its next poll, and serves it. */
+static void serve_itself(struct sp_party *thread, int64_t number) {
+    IS(sp_back_edge(thread), number);
+    IS(sp_stop_next(thread), number);
+    IS(sp_stop_serve(thread), 0);
+}
+
+/* No lock is taken: each call of the desk's lock, and of the room of t, answers. */
+static void no_lock_is_taken(int64_t kind) {
+    IS(sp_live_after(&k, 0), 1);
+    IS(sp_open_kind(&s), kind);
+    IS(sp_to_native(&t), 0);
+    IS(sp_from_native(&t), 0);
+}
+
+static void a_held_thread_is_called(void) {
+    begin();
+    IS(sp_to_native(&s), 0);
+    shake(1, 0, 1);
+    CALLS(&k, 1, 0);
+    no_lock_is_taken(SP_HANDSHAKE);
+    IS(sp_from_native(&s), SP_AGAIN);
+    IS(sp_reply(&k, 1, 1), SP_NOT_ANSWERED);
+    ADVANCES(&k, 1);
+    no_lock_is_taken(SP_NONE);
+    IS(sp_called_operation(&k), 0);
+    IS(sp_called_place(&k), 0);
+    IS(sp_reply(&k, 1, 1), 1);
+    IS(sp_from_native(&s), 0);
+    ADVANCES(&k, SP_QUEUE_EMPTY);
+    end();
+}
+
+static void a_busy_thread_is_awaited(void) {
+    begin();
+    IS(sp_to_native(&t), 0);
+    shake(1, 2, 1);
+    CALLS(&k, 1, 1);
+    AWAITS(&k, 1);
+    IS(sp_from_native(&t), 0);
+    AWAITS(&k, 1);
+    no_lock_is_taken(SP_HANDSHAKE);
+    serve_itself(&s, 1);
+    ADVANCES(&k, 1);
+    IS(sp_reply(&k, 1, 1), 1);
+    IS(sp_reply(&k, 1, 2), 0);
+    end();
+}
+
+/* A thread that was busy is served in its place once it is in native code. */
+static void a_busy_thread_goes_into_native_code(void) {
+    begin();
+    shake(1, 0, 1);
+    AWAITS(&k, 1);
+    IS(sp_to_native(&s), 0);
+    CALLS(&k, 1, 0);
+    ADVANCES(&k, 1);
+    IS(sp_from_native(&s), 0);
+    end();
+}
+
+static void a_census_is_advanced(void) {
+    begin();
+    IS(sp_install(&k, 1), 1);
+    IS(sp_call(&t, 1), 1);
+    IS(sp_to_native(&t), 0);
+    IS(sp_census(&k), 1);
+    AWAITS(&k, 1);
+    IS(sp_called_operation(&k), 0);
+    IS(sp_from_native(&t), SP_AGAIN);
+    IS(sp_back_edge(&s), 1);
+    IS(sp_stop_next(&s), SP_AGAIN);
+    ADVANCES(&k, 1);
+    IS(sp_counted(&k, 1), 1);
+    IS(sp_stop_next(&s), 0);
+    IS(sp_from_native(&t), 0);
+    no_lock_is_taken(SP_NONE);
+    end();
+}
+
+static void four_are_advanced(void) {
+    begin();
+    IS(sp_to_native(&t), 0);
+    for (int64_t number = 1; number < 6; number++) shake(2, 0, number);
+    for (int64_t number = 1; number < 5; number++) IS(sp_open(&k), number);
+    for (int64_t number = 1; number < 5; number++) CALLS(&k, number, 1);
+    for (int64_t number = 1; number < 5; number++) {
+        ADVANCES(&k, number);
+        IS(sp_open_kind(&k), number < 4 ? SP_HANDSHAKE : SP_NONE);
+    }
+    IS(sp_from_native(&t), 0);
+    AWAITS(&k, 1);
+    serve_itself(&t, 5);
+    ADVANCES(&k, 5);
+    end();
+}
+
+static void a_target_exits(void) {
+    begin();
+    IS(sp_ret(&s), 0);
+    shake(1, 2, 1);
+    shake(1, 0, 2);
+    IS(sp_to_native(&t), 0);
+    IS(sp_exit(&s), 0);
+    CALLS(&k, 1, 1);
+    ADVANCES(&k, 1);
+    ADVANCES(&k, 2);
+    IS(sp_from_native(&t), 0);
+    shake(2, 0, 3);
+    AWAITS(&k, 1);
+    IS(sp_exit(&t), 3);
+    IS(sp_stop_next(&t), 3);
+    IS(sp_stop_serve(&t), 0);
+    IS(sp_exit(&t), 0);
+    ADVANCES(&k, 3);
+    IS(sp_reply(&k, 3, 2), 0);
+    IS(sp_census(&k), 4);
+    ADVANCES(&k, 4);
+    end();
+}
+
+/* The single steps come in between. */
+static void steps_are_mixed_in(void) {
+    begin();
+    IS(sp_to_native(&s), 0);
+    shake(1, 0, 1);
+    CALLS(&k, 1, 0);
+    IS(sp_release(&k, 0), 0);
+    CALLS(&k, 1, 0);
+    IS(sp_serve(&k, 0), 1);
+    ADVANCES(&k, 1);
+    shake(1, 0, 2);
+    CALLS(&k, 2, 0);
+    IS(sp_serve(&k, 0), 2);
+    IS(sp_release(&k, 0), 0);
+    IS(sp_close(&k), 2);
+    ADVANCES(&k, SP_QUEUE_EMPTY);
+    shake(1, 0, 3);
+    IS(sp_open(&k), 3);
+    IS(sp_tell(&k, 1), 3);
+    IS(sp_hold(&k, 0), 3);
+    CALLS(&k, 3, 0);
+    ADVANCES(&k, 3);
+    IS(sp_release(&k, 0), SP_NOT_HELD);
+    shake(1, 0, 4);
+    CALLS(&k, 4, 0);
+    IS(sp_release(&k, 0), 0);
+    IS(sp_from_native(&s), 4);
+    IS(sp_stop_next(&s), 4);
+    AWAITS(&k, 1);
+    IS(sp_stop_serve(&s), 0);
+    ADVANCES(&k, 4);
+    end();
+}
+
+static void steps_are_mixed_into_a_census(void) {
+    begin();
+    IS(sp_to_native(&s), 0);
+    IS(sp_to_native(&t), 0);
+    IS(sp_census(&k), 1);
+    IS(sp_open(&k), 1);
+    IS(sp_tell(&k, 1), 1);
+    IS(sp_hold(&k, 0), 1);
+    ADVANCES(&k, 1);
+    IS(sp_release(&k, 0), SP_NOT_HELD);
+    IS(sp_census(&k), 2);
+    IS(sp_open(&k), 2);
+    for (uint64_t name = 1; name < 3; name++) IS(sp_tell(&k, name), 2);
+    for (size_t place = 0; place < 2; place++) IS(sp_hold(&k, place), 2);
+    IS(sp_operate(&k), 2);
+    ADVANCES(&k, 2);
+    IS(sp_from_native(&s), 0);
+    IS(sp_from_native(&t), 0);
+    end();
+}
+
+/* It waits for those alone that the oldest request still needs. */
+static void the_oldest_is_awaited(void) {
+    begin();
+    shake(1, 0, 1);
+    shake(2, 0, 2);
+    IS(sp_open(&k), 1);
+    IS(sp_open(&k), 2);
+    AWAITS(&k, 1);
+    IS(sp_back_edge(&s), 1);
+    IS(sp_stop_next(&s), 1);
+    AWAITS(&k, 1);
+    IS(sp_stop_serve(&s), 0);
+    ADVANCES(&k, 1);
+    AWAITS(&k, 1);
+    serve_itself(&t, 2);
+    ADVANCES(&k, 2);
+    end();
+}
+
+/* --- the loops of safepoint_wait.h, where nobody has to be waited for --- */
+
+static int served_for[2]; /* each place */
+
+static void at_safe_point(void *with, const struct sp_served *served) {
+    IS(served->thread != NULL || with != &k, 0);
+    IS(sp_called_operation(with), (int64_t)served->operation);
+    served_for[served->place]++;
+}
+
+static void held_threads_are_driven(void) {
+    begin();
+    IS(sp_install(&k, 1), 1);
+    IS(sp_call(&t, 1), 1);
+    IS(sp_to_native(&s), 0);
+    IS(sp_to_native(&t), 0);
+    served_for[0] = served_for[1] = 0;
+    ADVANCES(&k, SP_QUEUE_EMPTY);
+    IS(sp_drive(&k, at_safe_point, &k), SP_QUEUE_EMPTY);
+    IS(sp_drive_four(&k, at_safe_point, &k), 0);
+    shake(1, 2, 1);
+    IS(sp_drive(&k, at_safe_point, &k), 1);
+    IS(served_for[0], 1);
+    IS(served_for[1], 1);
+    IS(sp_census(&k), 2);
+    IS(sp_drive(&k, at_safe_point, &k), 2);
+    IS(sp_counted(&k, 1), 1);
+    for (int64_t number = 3; number < 8; number++) shake(2, 0, number);
+    IS(sp_drive_four(&k, at_safe_point, &k), 4);
+    IS(served_for[1], 5);
+    IS(sp_drive_four(&k, NULL, NULL), 1);
+    IS(served_for[1], 5);
+    IS(sp_drive(&s, at_safe_point, &k), SP_NOT_THIS);
+    end();
+}
+
 int main(void) {
     no_party_does_nothing();
     making();
@@ -372,6 +668,16 @@ int main(void) {
     the_queue_is_full();
     a_code_is_reclaimed();
     threads_exit();
+    a_held_thread_is_called();
+    a_busy_thread_is_awaited();
+    a_busy_thread_goes_into_native_code();
+    a_census_is_advanced();
+    four_are_advanced();
+    a_target_exits();
+    steps_are_mixed_in();
+    steps_are_mixed_into_a_census();
+    the_oldest_is_awaited();
+    held_threads_are_driven();
     sp_free(&a);
     sp_free(&b);
     sp_free(&c);

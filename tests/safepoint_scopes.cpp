@@ -37,12 +37,32 @@ int main() {
         failed += system.drive(callback) != operation || ran != (i + 1) * threads;
         for (auto name : names) failed += system.reply(operation, name) > 1;
     }
+    for (int i = rounds; i < 2 * rounds; i++) {
+        auto operation = system.submit(system.live());
+        using Next = safepoint::System::Next;
+        for (auto next = system.advance(); next != Next::closed; next = system.advance()) {
+            if (next == Next::run) {
+                failed += system.called().operation != operation || system.called().place >= threads;
+                ran++;
+            } else {
+                failed += system.awaited() > threads;
+                std::this_thread::yield();
+            }
+        }
+        failed += ran != (i + 1) * threads || system.open_kind() != Kind::none;
+    }
     auto census = system.census();
     safepoint::wait([&] { return sp_open(system.get()); });
     failed += system.open_kind() != Kind::census;
     failed += system.drive() != census || system.open_kind() != Kind::none;
     ends = true;
     for (auto &thread : all) thread.join();
+    try {
+        system.advance();
+        failed++;
+    } catch (const safepoint::Refused &refused) {
+        failed += refused.answer() != SP_QUEUE_EMPTY;
+    }
     try {
         system.invalidate(9);
         failed++;

@@ -1,6 +1,6 @@
 /* Threads that start, run, ask and exit at random over one system, a coordinator beside them, for so long: safepoint_soak THREADS SECONDS SEED. They
    are in all states; any of them asks for handshakes and censuses, installs codes and invalidates them. The coordinator drives one request,
-   four, or one step by step, and frees codes. Then hold: a callback runs once for each operation that a live target was told, on a stack that
+   four, one step by step, or one by sp_advance with single steps in between, and frees codes. Then hold: a callback runs once for each operation that a live target was told, on a stack that
    stays as it is, and the reply is its depth; a code that is freed has no frame, and is never entered again. The last line counts.
    tests/safepoint.py builds and runs it. */
 #include <pthread.h>
@@ -33,7 +33,7 @@ static atomic_int still; /* threads that haven't exited for good */
 static atomic_int frames_of[CODES]; /* a thread counts a frame behind the call, and uncounts it before the return */
 static atomic_bool is_freed[CODES];
 static atomic_uint_least64_t served_by[OPERATIONS]; /* by place; a place has one target of an operation at most, since its thread exits served */
-static atomic_long own, held, handshakes, censuses, freed, starts;
+static atomic_long own, held, handshakes, censuses, advanced, freed, starts;
 
 static void fail(const char *what, int64_t answer) {
     printf("FAILED: %s: %lld, %s\n", what, (long long)answer, sp_text(answer));
@@ -217,7 +217,7 @@ static void release_all(void) {
 static void operate(void) {
     int64_t answer;
     SP_WAIT(answer, sp_operate(&coordinator));
-    if (answer == SP_NOT_ALL_HELD) return;
+    if (answer == SP_NOT_ALL_HELD || answer == SP_ALREADY_DONE) return;
     must("sp_operate", answer);
     atomic_fetch_add(&censuses, 1);
     release_all();
@@ -249,6 +249,50 @@ static void drive_by_steps(void) {
     }
 }
 
+/* A held thread is served next: the callback runs, and the step that follows or the coordinator serves it; or it is let go unserved. */
+static void serve_next(void) {
+    struct sp_served next = {(uint64_t)sp_called_operation(&coordinator), (size_t)sp_called_place(&coordinator), NULL};
+    uint64_t way = drawn(&coordinator_random, 5);
+    int64_t answer;
+    if (way < 4) at_safe_point(NULL, &next);
+    if (way < 2) return;
+    if (way < 4) {
+        SP_WAIT(answer, sp_serve(&coordinator, next.place));
+        if (answer != (int64_t)next.operation) fail("sp_serve", answer);
+    }
+    if (way == 2) return;
+    SP_WAIT(answer, sp_release(&coordinator, next.place));
+    must("sp_release", answer);
+}
+
+/* Threads have still to come: a step of the coordinator's own, or none. Whether it closed the request. */
+static bool step_in_between(void) {
+    int64_t answer = 0, kind;
+    SP_WAIT(kind, sp_open_kind(&coordinator));
+    switch (drawn(&coordinator_random, 8)) {
+    case 0: release_all(); break;
+    case 1: SP_WAIT(answer, sp_close(&coordinator)); break;
+    case 2: SP_WAIT(answer, sp_hold(&coordinator, drawn(&coordinator_random, MOST))); break;
+    default:
+        if (kind == SP_CENSUS) operate();
+    }
+    return answer > 0 && kind != SP_NONE && (int64_t)sp_open_kind(&coordinator) == SP_NONE;
+}
+
+/* The oldest request, by sp_advance, with single steps in between. */
+static void advance(void) {
+    struct sp_pause pause = {0, 0};
+    for (;;) {
+        int64_t answer = sp_advance(&coordinator);
+        sp_ring();
+        if (answer == SP_RUN) serve_next();
+        else if (answer == SP_AWAITS && step_in_between()) break;
+        else if (answer == SP_AWAITS || answer == SP_AGAIN) sp_again(SP_AGAIN, &pause);
+        else if (answer == SP_QUEUE_EMPTY || must("sp_advance", answer)) break;
+    }
+    atomic_fetch_add(&advanced, 1);
+}
+
 /* Frees a code, where no frame of it stands. */
 static void reclaim(uint64_t serial) {
     int64_t answer = sp_reclaim(&coordinator, serial, at_safe_point, NULL);
@@ -268,13 +312,14 @@ static void install(void) {
 
 static void work(void) {
     int64_t answer = 0;
-    switch (drawn(&coordinator_random, 8)) {
+    switch (drawn(&coordinator_random, 9)) {
     case 0: case 1: shake_hands(); break;
     case 2: answer = sp_drive(&coordinator, at_safe_point, NULL); break;
     case 3: answer = sp_drive_four(&coordinator, at_safe_point, NULL); break;
     case 4: drive_by_steps(); break;
     case 5: SP_WAIT(answer, sp_forget(&coordinator)); break;
     case 6: install(); break;
+    case 7: advance(); break;
     default: reclaim(atomic_load(&last_serial) + 1 - drawn(&coordinator_random, 2 * SLOTS));
     }
     if (answer < 0 && answer != SP_QUEUE_EMPTY) fail("the coordinator", answer);
@@ -298,7 +343,7 @@ int main(int argc, char **argv) {
     while (atomic_load(&still)) work();
     for (int i = 0; i < count; i++) pthread_join(all[i].id, NULL), sp_free(&all[i].client);
     sp_free(&coordinator);
-    printf("%d threads, %ld starts, %ld handshakes, %ld censuses by steps, %ld callbacks by the thread and %ld for a held one, %ld codes freed\n",
-           count, atomic_load(&starts), atomic_load(&handshakes), atomic_load(&censuses), atomic_load(&own), atomic_load(&held), atomic_load(&freed));
+    printf("%d threads, %ld starts, %ld handshakes, %ld censuses by steps, %ld times advanced, %ld callbacks by the thread and %ld for a held one, %ld codes freed\n",
+           count, atomic_load(&starts), atomic_load(&handshakes), atomic_load(&censuses), atomic_load(&advanced), atomic_load(&own), atomic_load(&held), atomic_load(&freed));
     return 0;
 }

@@ -103,6 +103,10 @@ BODY(reply, sp_reply(at, n, 1))
 BODY(live_after, sp_live_after(at, n))
 BODY(open_kind, sp_open_kind(at))
 BODY(forget, sp_forget(at))
+BODY(advance, sp_advance(at))
+BODY(called_operation, sp_called_operation(at))
+BODY(called_place, sp_called_place(at))
+BODY(awaited, sp_awaited(at))
 BODY(open, sp_open(at))
 BODY(tell, sp_tell(at, n))
 BODY(hold, sp_hold(at, n))
@@ -178,23 +182,41 @@ static void by_hand(void) {
     ON(drive, &coordinator, 0, 3);
 }
 
+/* A handshake of all, with each thread in native code but the first, and a census. */
+static void by_advancing(void) {
+    for (int i = 0; i < PLACES; i++) ON(target, &client, (uint64_t)i + 1, 0);
+    ON(submit, &client, 0, 4);
+    for (int i = 1; i < PLACES; i++) {
+        ON(advance, &coordinator, 0, SP_RUN);
+        ON(called_operation, &coordinator, 0, 4);
+        ON(called_place, &coordinator, 0, i);
+    }
+    ON(advance, &coordinator, 0, SP_AWAITS);
+    ON(awaited, &coordinator, 0, 1);
+    ON(to_native, &threads[0], 0, 0);
+    ON(advance, &coordinator, 0, SP_RUN);
+    ON(advance, &coordinator, 0, 4);
+    ON(census, &client, 0, 5);
+    ON(advance, &coordinator, 0, 5);
+    ON(advance, &coordinator, 0, SP_QUEUE_EMPTY);
+}
+
 /* A census of all, and codes that are reclaimed. */
 static void of_all(void) {
-    ON(to_native, &threads[0], 0, 0);
-    ON(census, &client, 0, 4);
-    ON(open, &coordinator, 0, 4);
+    ON(census, &client, 0, 6);
+    ON(open, &coordinator, 0, 6);
     ON(open_kind, &coordinator, 0, SP_CENSUS);
-    for (int i = 0; i < PLACES; i++) ON(tell, &coordinator, (uint64_t)i + 1, 4);
-    for (int i = 0; i < PLACES; i++) ON(hold, &coordinator, (uint64_t)i, 4);
-    ON(operate, &coordinator, 0, 4);
+    for (int i = 0; i < PLACES; i++) ON(tell, &coordinator, (uint64_t)i + 1, 6);
+    for (int i = 0; i < PLACES; i++) ON(hold, &coordinator, (uint64_t)i, 6);
+    ON(operate, &coordinator, 0, 6);
     ON(counted, &coordinator, SLOTS - 1, 1);
     for (int i = 0; i < PLACES; i++) ON(release, &coordinator, (uint64_t)i, 0);
-    ON(close, &coordinator, 0, 4);
-    ON(census, &client, 0, 5);
-    ON(drive, &coordinator, 0, 5);
+    ON(close, &coordinator, 0, 6);
+    ON(census, &client, 0, 7);
+    ON(drive, &coordinator, 0, 7);
     for (int i = 0; i < 4; i++) {
         for (int name = 1; name <= PLACES; name++) ON(target, &client, (uint64_t)name, 0);
-        ON(submit, &client, 0, 6 + i);
+        ON(submit, &client, 0, 8 + i);
     }
     ON(drive_four, &coordinator, 0, 4);
     ON(invalidate, &client, SLOTS - 1, 0);
@@ -226,12 +248,12 @@ static void end(void) {
     ON(leave_blocked, &spare, 0, 0);
     ON(from_vm, &spare, 0, 0);
     ON(target, &client, PLACES + 1, 0);
-    ON(submit, &client, 0, 12);
-    ON(open, &coordinator, 0, 12);
-    ON(tell, &coordinator, PLACES + 1, 12);
-    ON(back_edge, &spare, 0, 12);
+    ON(submit, &client, 0, 14);
+    ON(open, &coordinator, 0, 14);
+    ON(tell, &coordinator, PLACES + 1, 14);
+    ON(back_edge, &spare, 0, 14);
     ON(stop, &spare, 0, 0);
-    ON(close, &coordinator, 0, 12);
+    ON(close, &coordinator, 0, 14);
     ON(exit_thread, &spare, 0, 0);
     for (int i = 0; i < PLACES; i++) ON(free, &threads[i], 0, 0);
     ON(free, &spare, 0, 0);
@@ -246,6 +268,7 @@ int main(int count, char **words) {
     without = touched(), greatest = 0, failed = 0;
     begin();
     by_hand();
+    by_advancing();
     of_all();
     end();
     printf("%zu bytes, of %s\n", greatest, greatest_call);

@@ -52,6 +52,7 @@ RECORD, CONDITION = "-DSP_RECORD", "-DSP_PTHREAD"
 # What each liar stands before.
 LIARS = {
     "hold": ("hold", "release"),
+    "drive": ("called_place",),
     "call": ("call", "install"),
     "publish": ("publish",),
     "stop": ("stop_next", "stop_serve"),

@@ -1,5 +1,5 @@
 /* Liars between the recorder and the library, one for each LIE: what they tell has no order of events. tests/witness.py builds the recorder so that it calls
-   them. HOLD says that a thread is held which runs, and that it is let go. CALL says now and then that a thread runs the code that its method had before.
+   them. HOLD says that a thread is held which runs, and that it is let go. DRIVE says that a drive serves the thread of the place before. CALL says now and then that a thread runs the code that its method had before.
    PUBLISH leaves every second publication out. STOP says now and then that a thread serves an operation twice. */
 #include <stdatomic.h>
 
@@ -23,6 +23,11 @@ int64_t lying_release(struct sp_party *coordinator, size_t place) {
     if (place >= PLACES || !is_said_held[place]) return sp_release(coordinator, place);
     is_said_held[place] = false;
     return 0;
+}
+
+int64_t lying_called_place(struct sp_party *coordinator) {
+    int64_t place = sp_called_place(coordinator);
+    return place > 0 ? place - 1 : place;
 }
 
 static atomic_int_least64_t now[METHODS], before[METHODS];

@@ -1,5 +1,5 @@
 /* Threads at random over one system, whose calls are all recorded: witness_threads THREADS STEPS SEED prints the log. The threads share so many steps: they
-   start, run, ask and exit, and make refused calls too. Beside them a coordinator drives one handshake, four or a census, works some by hand, installs over
+   start, run, ask and exit, and make refused calls too. Beside them a coordinator drives one handshake, four or a census, works some by hand or by sp_advance, installs over
    running code, reclaims, and makes refused calls. With -DLIES it serves a liar (witness_liars.c). tests/witness.py builds and runs it. */
 #include <pthread.h>
 #include <sched.h>
@@ -312,6 +312,21 @@ static void work_by_hand(void) {
     drive();
 }
 
+static int64_t install(uint32_t method);
+
+/* As a host with its own waits: while threads have still to come it makes other calls. */
+static void advance(void) {
+    submit(true);
+    for (bool has_called = false;;) {
+        int64_t answer = sp_advance(&coordinator);
+        sp_ring();
+        if (answer == SP_RUN) spin(50);
+        else if (answer == SP_AWAITS && !has_called) submit(false), install((uint32_t)drawn(&coordinator_random, METHODS)), has_called = true;
+        else if (answer == SP_AWAITS || answer == SP_AGAIN) sched_yield();
+        else if (answer == SP_QUEUE_EMPTY || must("sp_advance", answer)) return;
+    }
+}
+
 /* Gives a method a new code: the serial of the one that it had from here, 0 for none. */
 static int64_t install(uint32_t method) {
     static int64_t codes[METHODS];
@@ -379,13 +394,14 @@ static void be_refused_all(void) {
 }
 
 static void turn(void) {
-    switch (drawn(&coordinator_random, 12)) {
+    switch (drawn(&coordinator_random, 14)) {
     case 0: case 1: submit(true), drive(); break;
     case 2: drive_four(); break;
     case 3: census(); break;
     case 4: work_by_hand(); break;
     case 5: install((uint32_t)drawn(&coordinator_random, METHODS)); break;
     case 6: reclaim(); break;
+    case 12: case 13: advance(); break;
     case 7: case 8: case 9: case 10: reclaim_by_hand(); break;
     default: be_refused_all();
     }

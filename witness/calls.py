@@ -34,8 +34,8 @@ class Call:
     What the windows say of it is put beside (windows.py).
     """
     __slots__ = ("number", "text", "stream", "index", "before", "after", "call", "args", "word", "values", "jobs",
-                 "life", "at", "span", "spans", "drive_spans", "is_refused", "is_sayable", "is_watched", "is_held",
-                 "is_told", "is_queue_seen", "is_list_seen", "next_poll", "may_rest")
+                 "life", "at", "span", "spans", "drive_spans", "census_spans", "is_refused", "is_sayable", "is_watched",
+                 "is_held", "is_told", "is_queue_seen", "is_list_seen", "next_poll", "may_rest")
 
     def __init__(self, number, text):
         self.number, self.text = number, text

@@ -99,12 +99,23 @@ class Drives:
         world = self.world
         live = world.live()
         if not all(thread.held for thread in live):
-            return CHOICE, tuple((self.do_gather, thread) for thread in live
-                                 if not thread.held and thread.state in SAFE and world.poll(thread.name))
+            return self.holds_next(call, [thread for thread in live if not thread.held])
         counts = [number for counted in world.census() for number in counted]
         if call.word == "census" and (call.call != "drive" or [request.number, *counts] != call.values):
             return WAIT
         return EAGER, ((self.do_count,),)
+
+    def holds_next(self, call, threads):
+        """It holds a thread that it finds; at once where the log shows in which of its calls the thread is held."""
+        found = []
+        for thread in threads:
+            span = call.census_spans.get(thread.name)
+            if thread.state not in SAFE or not self.world.poll(thread.name) or span and span.life.at not in span.ends:
+                continue
+            if span and len(span.ends) == 1:
+                return EAGER, ((self.do_gather, thread),)
+            found.append((self.do_gather, thread))
+        return CHOICE, tuple(found)
 
     def do_gather(self, stream, call, thread):
         self.world.hold(thread)
@@ -115,6 +126,7 @@ class Drives:
         for thread in self.world.live():
             self.world.release(thread)
             self.make(call, f"release {thread.place}")
+        self.put(stream, RAN, self.states[stream][RAN] + 1)
         self.put(stream, STAGE, COUNTED)
 
     def has_more(self, stream, call):
@@ -129,7 +141,8 @@ class Drives:
         kind = "census" if request.ask is None else "handshake"
         if call.call == "drive" and call.word and (call.word != kind or call.values[0] != request.number):
             return NEVER
-        return EAGER, ((self.do_close_next,),)
+        # (a start that is refused for a census comes before its Close)
+        return (CHOICE if request.ask is None and call.is_list_seen else EAGER), ((self.do_close_next,),)
 
     def do_close_next(self, stream, call):
         self.world.close()

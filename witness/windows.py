@@ -37,18 +37,18 @@ class Windows:
         self.told_behind, self.refused_before, self.not_done, self.newest = {}, {}, {}, {}
         self.invalidations, self.seen_at = {}, {}
         self.note_calls()
-        self.note_overlaps()
         self.note_polls()
         self.note_requests()
         for calls in log.streams:
             self.note_spans(calls)
+        self.note_overlaps()
         self.note_told()
 
     # --- single calls
 
     def note_calls(self):
         for call in self.log.calls:
-            call.span, call.drive_spans = None, ()
+            call.span, call.drive_spans, call.census_spans = None, (), {}
             if call.word == "compiled":
                 self.note_last(self.last_entries, call.values[0], call)
             elif call.call == "invalidate" and call.word == "ok":
@@ -95,7 +95,10 @@ class Windows:
                                    or call.call.startswith(("submit", "reclaim")) and call.is_refused])
 
     def mark(self, field, others):
-        """Whether a call overlaps one of the others, which is of another stream."""
+        """Whether a call overlaps one of the others, which is of another stream.
+
+        A census that is known to hold the thread of the call has a span for that, and doesn't count.
+        """
         for call in self.log.calls:
             setattr(call, field, False)
         for calls in self.log.streams:
@@ -103,7 +106,8 @@ class Windows:
             for other in others:
                 if calls[0].stream != other.stream:
                     for call in calls[bisect_right(afters, other.before):bisect_left(befores, other.after)]:
-                        setattr(call, field, True)
+                        if not call.life or call.life.name not in other.census_spans:
+                            setattr(call, field, True)
 
     # --- polls of a thread
 
@@ -232,6 +236,19 @@ class Windows:
             span.ran, span.after, span.ops, span.name = ran, job.ticket, [job.op], job.name
             call.drive_spans.append(span)
             self.put(span)
+        if call.call == "drive" and call.word == "census":
+            self.note_census(call)
+
+    def note_census(self, call):
+        """A census that is driven holds each thread that has started before and exits behind it."""
+        for life in self.lives.values():
+            first, last = life.calls[0], life.calls[-1]
+            if first.after <= call.before and (last.call != "exit" or last.is_refused or last.before >= call.after):
+                span = Span(call.stream, call.index, call.after, life.place)
+                span.ran, span.after, span.ops, span.name = len(call.jobs), call.before, call.values[:1], life.name
+                self.put(span)
+                if span.life:
+                    call.census_spans[life.name] = span
 
     def put(self, span):
         put_span(span, self.by_place.get(span.place, ()))

@@ -42,5 +42,5 @@ mod waiting;
 pub use callback::Served;
 pub use party::Kind;
 pub use refusal::Refusal;
-pub use system::{Ask, Reclaimed, Safepoints};
+pub use system::{Ask, Next, Reclaimed, Safepoints};
 pub use thread::{Client, Thread};

@@ -71,6 +71,8 @@ refusals! {
     StillInUse = -34, "the code may still be entered";
     NotWeighed = -35, "the code isn't one that can be weighed";
     Late = -36, "a thread may still enter the code, or hasn't told that it has";
+    Run = -37, "a held thread is served next";
+    Awaits = -38, "threads have still to come";
     Made = -40, "the party is made already";
     BadSize = -41, "a size is 0, or above its limit";
     BadAsk = -42, "there is no such ask";

@@ -46,12 +46,17 @@ extern "C" {
     pub fn sp_live_after(party: *mut Party, name: u64) -> i64;
     pub fn sp_open_kind(party: *mut Party) -> i64;
     pub fn sp_forget(party: *mut Party) -> i64;
+    pub fn sp_advance(coordinator: *mut Party) -> i64;
+    pub fn sp_called_operation(coordinator: *mut Party) -> i64;
+    pub fn sp_called_place(coordinator: *mut Party) -> i64;
+    pub fn sp_awaited(coordinator: *mut Party) -> i64;
     pub fn sp_counted(coordinator: *mut Party, serial: u64) -> i64;
 }
 
 // Of libsafepoint_wait.a.
 extern "C" {
     pub fn sp_again(answer: i64, pause: *mut Pause) -> bool;
+    pub fn sp_ring();
     pub fn sp_stop(thread: *mut Party, call: Callback, with: *mut c_void) -> i64;
     pub fn sp_start_thread(thread: *mut Party, call: Callback, with: *mut c_void) -> i64;
     pub fn sp_exit_thread(thread: *mut Party, call: Callback, with: *mut c_void) -> i64;

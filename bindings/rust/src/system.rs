@@ -28,6 +28,17 @@ pub enum Reclaimed {
     Late,
 }
 
+/// What comes next in the work on a request.
+#[derive(Clone, Copy, Debug, PartialEq, Eq)]
+pub enum Next {
+    /// The request of this number is closed.
+    Closed(u64),
+    /// A held thread is served next: the host runs its callback for this now.
+    Run(Served),
+    /// So many threads have still to come to a safe point. They come by themselves.
+    Awaits(u64),
+}
+
 /// A system of threads, as its coordinator.
 ///
 /// The calls that take a callback wait. They run it for each target that is held, on the thread that calls. Where a
@@ -119,6 +130,32 @@ impl Safepoints {
             sys::sp_drive(self.party.at(), call, with)
         })
         .resume()
+    }
+
+    /// Works on the oldest request as far as that goes without waiting, and says what comes next. `Refusal::QueueEmpty`
+    /// where no request waits. It is for a host with its own waits, which calls again at any time; `drive` does all.
+    pub fn advance(&mut self) -> Result<Next, Refusal> {
+        let said = wait(|| unsafe { sys::sp_advance(self.party.at()) });
+        // The call may have let threads go.
+        unsafe { sys::sp_ring() };
+        match said {
+            Ok(number) => Ok(Next::Closed(number)),
+            Err(Refusal::Run) => self.called().map(Next::Run),
+            Err(Refusal::Awaits) => {
+                answer(unsafe { sys::sp_awaited(self.party.at()) }).map(Next::Awaits)
+            }
+            Err(refusal) => Err(refusal),
+        }
+    }
+
+    fn called(&mut self) -> Result<Served, Refusal> {
+        let operation = answer(unsafe { sys::sp_called_operation(self.party.at()) })?;
+        let place = answer(unsafe { sys::sp_called_place(self.party.at()) })?;
+        Ok(Served {
+            operation,
+            place: place as usize,
+            is_held: true,
+        })
     }
 
     /// Works up to four handshakes at once, or one census, to their Close: how many were closed, 0 where none waits.

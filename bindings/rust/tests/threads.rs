@@ -1,5 +1,5 @@
 //! Threads with callbacks, beside a coordinator.
-use safepoint::{Ask, Client, Kind, Reclaimed, Refusal, Safepoints, Served, Thread};
+use safepoint::{Ask, Client, Kind, Next, Reclaimed, Refusal, Safepoints, Served, Thread};
 use std::cell::Cell;
 use std::panic::{catch_unwind, resume_unwind, AssertUnwindSafe};
 use std::sync::atomic::{AtomicBool, AtomicU64, Ordering};
@@ -87,6 +87,73 @@ fn the_kind_of_what_is_open_is_told() {
     assert_is_seen_open(&mut system, Kind::Census, |system, _name| {
         system.census().unwrap();
     });
+}
+
+/// A host with its own waits: one thread is held in native code, the other serves itself.
+#[test]
+fn the_work_is_advanced_step_by_step() {
+    const ROUNDS: u64 = 100;
+    let mut system = Safepoints::new(2, 1, 1).unwrap();
+    assert_eq!(system.advance(), Err(Refusal::QueueEmpty));
+    let clients = [(); 2].map(|()| system.client().unwrap());
+    let (own, ends) = (AtomicU64::new(0), Ends::default());
+    thread::scope(|scope| {
+        let _ends_here = ends.at_the_end();
+        let (ready, started) = mpsc::channel();
+        let (own, ends) = (&own, &ends);
+        for (index, client) in clients.into_iter().enumerate() {
+            let ready = ready.clone();
+            scope.spawn(move || {
+                let mut thread = client
+                    .start(|_| {
+                        own.fetch_add(1, Ordering::SeqCst);
+                    })
+                    .unwrap();
+                let tell = |name| ready.send(name).unwrap();
+                let name = thread.name();
+                match index {
+                    0 => tell(name),
+                    _ => thread
+                        .in_native(|| {
+                            tell(name);
+                            wait_for(ends)
+                        })
+                        .unwrap(),
+                }
+                while !ends.has_come() {
+                    thread.poll().unwrap();
+                }
+            });
+        }
+        let names = [(); 2].map(|()| started.recv().unwrap());
+        let mut ran = 0;
+        for _ in 0..ROUNDS {
+            let operation = system.submit(&names, Ask::Depth).unwrap();
+            loop {
+                match system.advance().unwrap() {
+                    Next::Closed(number) => break assert_eq!(number, operation),
+                    Next::Run(served) => {
+                        assert!(served.operation == operation && served.place < 2);
+                        assert!(served.is_held);
+                        ran += 1;
+                    }
+                    Next::Awaits(count) => {
+                        assert!(count <= 2);
+                        thread::yield_now();
+                    }
+                }
+            }
+            assert_eq!(system.reply(operation, names[0]).unwrap(), 0);
+        }
+        assert_eq!(ran + own.load(Ordering::SeqCst), 2 * ROUNDS);
+        assert!(ran >= ROUNDS);
+    });
+}
+
+fn wait_for(ends: &Ends) {
+    while !ends.has_come() {
+        thread::yield_now();
+    }
 }
 
 #[test]

@@ -10,7 +10,7 @@ use Rattle.desk.specs.Operatings.{OperatingSeen}
 use Rattle.coordinator.specs.declared.faults.Driven.{Driven}
 use Rattle.coordinator.specs.declared.faults.Driven.TheVariants.{Handshake, Census}
 use Rattle.coordinator.specs.Driving.{HoldsOn, LacksList, CountedSeen, WorkedSeen, IsListOf, IsCounted, IsListed, drive_refused}
-use Rattle.coordinator.proofs.Arms.{arms_then}
+use Rattle.coordinator_core.proofs.Arms.{arms_then}
 
 pub lacked : {A : Type 0} (old mid new : Holding) (r : Result A DriveFault) → (mid.held ≡ old.held) × (mid.operated ≡ old.operated)
     → ArmsOn old.armer mid.armer

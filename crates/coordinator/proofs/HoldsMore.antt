@@ -3,7 +3,7 @@ use Rattle.std.proofs.Common.{◌≡◌, List, [], ◌∷◌, ◌++◌, refl, ap
 use Rattle.bodies.specs.Bodies.{BodyView}
 use Rattle.stopped_threads.specs.Holding.{Holding}
 use Rattle.coordinator.specs.Driving.{HoldsOn}
-use Rattle.coordinator.proofs.Arms.{arms_same, arms_then}
+use Rattle.coordinator_core.proofs.Arms.{arms_same, arms_then}
 
 none_more : (xs : List BodyView) → xs ≡ xs ++ []
 none_more [] = refl

@@ -3,4 +3,3 @@ pub mod Driving
 pub mod Awaited
 pub mod Rounds
 pub mod Receipts
-pub mod Telling

@@ -1,7 +1,7 @@
 //! That telling is done, as a value: serving takes it, so that all targets are told before any is served.
 ghost use Rattle.std.specs.Prelude.{◌≡◌};
 ghost use Rattle.desk.specs.Fields.{at};
-ghost use Rattle.coordinator.specs.Telling.{IsAllTold};
+ghost use Rattle.coordinator_core.specs.Telling.{IsAllTold};
 
 use bodies::Name;
 use desk::Desk;
@@ -20,7 +20,7 @@ pub struct AllArmed<N: Name, J: HandshakeOp> {
 
 impl<N: Name, J: HandshakeOp> Model for AllArmed<N, J> {
     ghost use Rattle.desk.specs.Fields.{DeskSeen, at};
-    ghost use Rattle.coordinator.specs.Telling.{IsAllTold};
+    ghost use Rattle.coordinator_core.specs.Telling.{IsAllTold};
 
     ghost Value = { DeskSeen };
 

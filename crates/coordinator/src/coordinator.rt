@@ -9,9 +9,9 @@ ghost use Rattle.coordinator.specs.Driving.{WasOldest};
 ghost use Rattle.stopped_threads.specs.Refused.{MayClose, not_closed};
 
 use crate::closed::Closed;
-use crate::listing::PendingJob;
 use berths::locked;
 use bodies::Name;
+use coordinator_core::PendingJob;
 use desk::{CloseFault, Closing, Live, OpenFault, Receipt};
 use operations::Kind;
 use operations::job::HandshakeOp;

@@ -1,45 +1,25 @@
 //! Working one request from its Open to its Close: how it begins, and how all that is held goes back.
-ghost use Rattle.std.specs.Prelude.{◌≡◌, ◌⊎◌, [], ℕ, Some, IfOk, OnOk, IfErr, IfSome, IfNone, OnSome, false, length};
+ghost use Rattle.std.specs.Prelude.{◌≡◌, [], Some, IfOk, OnOk, IfErr, IfSome, IfNone, OnSome, false, length};
 ghost use Rattle.desk.specs.declared.entries.Entry.{Entry};
-ghost use Rattle.desk.specs.Machine.{State as DeskState, Stands};
-ghost use Rattle.desk.specs.Fields.{Enters, at};
+ghost use Rattle.desk.specs.Machine.{State as DeskState};
+ghost use Rattle.desk.specs.Fields.{at};
 ghost use Rattle.desk.specs.Targets.{open_kind};
 ghost use Rattle.stopped_threads.specs.Holding.{ArmsOn};
 ghost use Rattle.coordinator.specs.Driving.{number_of, IsWorked, IsListed, drive_refused};
-ghost use Rattle.coordinator.specs.Telling.{IsListing};
+ghost use Rattle.coordinator_core.specs.Telling.{IsListing};
 
 use crate::all_armed::AllArmed;
 use crate::closed::Worked;
 use crate::coordinator::Coordinator;
 use crate::faults::{DriveFault, Driven};
-use crate::listing::Listed;
 use berths::{Unwoken, locked};
 use bodies::Name;
-use desk::Desk;
+use coordinator_core::{Listed, open_or_go_on};
 use operations::Kind;
 use operations::job::HandshakeOp;
 use std::sync::Wait;
 use stopped_threads::HeldBodies;
 use thread_list::Shared;
-
-// Which kind the oldest open request is. Where nothing is open the oldest that waits is opened first; None where nothing waits either.
-#[tactic(auto, using(crate::proofs::Opens::open_behind))]
-fn open_or_go_on<N: Name, J: HandshakeOp>(desk: &mut Desk<N, J>) -> Option<Kind>
-    ensures open { IfSome result (λ kind. open_kind (at desk.new) ≡ Some kind) }
-    ensures one { (desk.new ≡ desk.old)
-        ⊎ ((n : ℕ) × (receipt : Stands) × Enters desk.old desk.new (Entry.Open n) receipt) }
-    ensures empty { IfNone result ((desk.new ≡ desk.old) × ((at desk.old).opened ≡ [])
-        × ((at desk.old).waiting ≡ [])) }
-{
-    let open = desk.open_kind();
-    if open.is_some() {
-        return open;
-    }
-    match desk.open() {
-        Ok(_) => desk.open_kind(),
-        Err(_) => None,
-    }
-}
 
 impl<'a, N: Name, J: HandshakeOp> Coordinator<'a, N, J> {
     /// Works the oldest open request, or where nothing is open the oldest that waits, to its Close: tells all targets before it serves

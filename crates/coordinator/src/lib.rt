@@ -19,7 +19,6 @@ mod fault_texts;
 mod faults;
 mod four;
 mod holding;
-mod listing;
 mod looks;
 mod reclaiming;
 mod rounds;

@@ -3,14 +3,14 @@ ghost use Rattle.std.specs.Prelude.{◌≡◌, ◌<◌, ◌≤◌, true, length,
 ghost use Rattle.thread_state.specs.PollRule.{armed_with};
 ghost use Rattle.stopped_threads.specs.Holding.{ArmsOn};
 ghost use Rattle.stopped_threads.specs.Refused.{tell_said, told_act};
-ghost use Rattle.coordinator.specs.Telling.{IsListing, AreArmed};
+ghost use Rattle.coordinator_core.specs.Telling.{IsListing, AreArmed};
 ghost use Rattle.berths.specs.Berths.{acted};
 
 use crate::all_armed::AllArmed;
 use crate::coordinator::Coordinator;
-use crate::listing::{Listed, PendingJob, job_of};
 use berths::{BerthReceipt, locked};
 use bodies::Name;
+use coordinator_core::{Listed, PendingJob, job_of};
 use desk::{Desk, Target};
 use frames::LAST;
 use operations::Kind;

@@ -1,2 +1,5 @@
 pub mod Done
 pub mod Putting
+pub mod Telling
+pub mod Work
+pub mod Called

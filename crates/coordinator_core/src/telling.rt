@@ -8,22 +8,15 @@ ghost use Rattle.stopped_threads.specs.Refused.{IsAsked, IsUntold, tell_stays, t
 ghost use Rattle.coordinator_core.specs.Putting.{at_hand, CameFrom, HasNoJob, IsPut, IsNotPut, PutsIn};
 
 use crate::coordinator::CoordinatorCore;
+use crate::listing::PendingOp;
 use berths::{BerthReceipt, Room};
 use bodies::Name;
-use desk::{Desk, Target};
+use desk::Desk;
 use frames::LAST;
 use operations::Kind;
 use operations::job::HandshakeOp;
 use poll::PollRow;
 use stopped_threads::{Found, TellFault, Told, look_up};
-
-/// What a thread is to be told: the oldest open request that is of its name and wasn't told to it.
-#[derive(Clone, Copy, Drop)]
-pub struct PendingOp {
-    pub name: u64,
-    pub target: Target,
-    pub number: u64,
-}
 
 // The job of the name in the operation: the one in hand where it is that, or with none in hand the desk's. Another one stays in hand.
 fn job_in<N: Name, J: HandshakeOp>(
@@ -78,6 +71,7 @@ impl<N: Name> CoordinatorCore<N> {
                 name,
                 target,
                 number,
+                last: self.armer.last(target.place),
             })),
             Found::NoPlace => Ok(None),
             Found::Said(said) => Err(said),

@@ -1,3 +1,4 @@
+pub mod Driven
 pub mod Fits
 pub mod Hands
 pub mod Roles

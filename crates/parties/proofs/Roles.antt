@@ -41,4 +41,4 @@ pub weighs_on : {N : Type 0} (places serial : ℕ) (old : PartySeen N) (h : Hold
     → IsWeighed places serial r → ActsAs (OfCoordinator (Weighs N places serial)) old said old
 weighs_on {N} places serial old h r said is told w =
     let did = subst (λ (s : Told). WeighsTold N places serial s) (sym told) (weighs_told places serial r w) in
-    (subst (λ (o : Role N). OfCoordinator (Weighs N places serial) o said o) (sym is) (did, refl), (refl, refl, refl))
+    (subst (λ (o : Role N). OfCoordinator (Weighs N places serial) o said o) (sym is) (did, refl), (refl, refl, refl, refl))

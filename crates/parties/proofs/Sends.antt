@@ -16,6 +16,7 @@ use Rattle.operations.proofs.queue.Queue.TheSendSync as queue
 use Rattle.desk.proofs.entries.Carried.TheSendSync as carried
 use Rattle.desk.proofs.entries.Opened.TheSendSync as opened
 use Rattle.desk.proofs.replies.Replies.TheSendSync as replies
+use Rattle.coordinator_core.proofs.listing.PendingJob.TheSendSync as pending
 use Rattle.parties.proofs.tried_lock.TriedLock.TheSendSync as lock
 use Rattle.method_table.specs.contracts.history.History as History
 use Rattle.method_table.specs.contracts.table.MethodTable as MethodTable
@@ -32,6 +33,7 @@ use Rattle.thread_list.specs.contracts.running_thread.RunningThread as RunningTh
 use Rattle.thread_list.specs.contracts.ends.Entered as Entered
 use Rattle.stopped_threads.specs.contracts.held.HeldBodies as HeldBodies
 use Rattle.coordinator_core.specs.contracts.coordinator.CoordinatorCore as CoordinatorCore
+use Rattle.coordinator_core.specs.contracts.drive.Drive as Drive
 use Rattle.parties.specs.contracts.system.LockedRoom as LockedRoom
 use Rattle.parties.specs.contracts.system.SharedSystem as SharedSystem
 use Rattle.parties.specs.contracts.party.Role as Role
@@ -68,6 +70,10 @@ module _ (N J : RattleType) (n : name.Ghosts N.Denot) (j : errand.Ghosts J.Denot
   pub desk_send : IsSend (Desk.the_row N J n j)
   desk_send = search (sendable, crosses, codes_send, log_send, queue.the_send, carried.the_field_send, opened.the_field_send) depth 40
 
+module _ (J : RattleType) (j : errand.Ghosts J.Denot) (sj : IsSend J) where
+  drive_send : IsSend (Drive.the_row J j)
+  drive_send = search (sendable, crosses, pending.the_field_send) depth 40
+
 module _ (N : RattleType) (n : name.Ghosts N.Denot) (sn : IsSend N) where
   locked_sync : IsSync (LockedRoom.the_row N n)
   locked_sync = search (sendable, crosses, lock.the_sync, room_send) depth 40
@@ -103,7 +109,7 @@ module _ (N : RattleType) (n : name.Ghosts N.Denot) (sn : IsSend N) where
   role_send = search (sendable, crosses, entered_send, thread_send, receipt_send, steps_send) depth 40
 
   party_send : IsSend (Party.the_row N n)
-  party_send = search (sendable, crosses, system_sync, system_send, role_send) depth 40
+  party_send = search (sendable, crosses, system_sync, system_send, role_send, drive_send) depth 40
 
 pub party_crosses : (N : RattleType) (n : name.Ghosts N.Denot) → IsSend (param 0 N) → IsSend (Party.the_row (param 0 N) n)
 party_crosses N n sn = party_send (param 0 N) n sn

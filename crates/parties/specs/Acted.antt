@@ -27,9 +27,11 @@ use Rattle.stopped_threads.specs.Holding.{Holding}
 use Rattle.desk.specs.declared.entries.Entry.{Entry}
 use Rattle.desk.specs.Fields.{DeskSeen, at}
 use Rattle.desk.specs.Refusals.{start_refused}
-use Rattle.parties.specs.Asked.{Told, IsLegal, WasEntered, WasStarted, Submits, Installs, Invalidates, Begins, FindsReply, FindsNext, FindsKind, Forgets, names_behind}
+use Rattle.parties.specs.Asked.{Told, WasEntered, WasStarted, Submits, Installs, Invalidates, Begins, FindsReply, FindsNext, FindsKind, Forgets, names_behind}
 use Rattle.parties.specs.Pairs.{first_of, or_zero}
+use Rattle.coordinator_core.specs.Work.{IsLegal, DriveSeen, idle}
 use Rattle.parties.specs.Coordinated as coordinated
+use Rattle.parties.specs.Driven.{Advances, work}
 use Rattle.parties.specs.declared.acts.Act.{Act}
 use Rattle.parties.specs.declared.acts.Act.TheVariants as act
 use Rattle.parties.specs.declared.acts.Fault.{Fault}
@@ -52,15 +54,16 @@ IsRole role.Gone = Unit {0}
 IsRole (role.Coordinates c) = Unit {0}
 
 -- What contracts see of a party: what it is, the names of the targets of its next request, what the census that it operated last counted, which
--- is serials, each with its frames, and a job that came out of the desk and found no room.
+-- is serials, each with its frames, a job that came out of the desk and found no room, and how far its work on the open requests is.
 pub record PartySeen (N : Type 0) : Type 0 where
   pub role : Role N
   pub names : List ℕ
   pub counts : List (ℕ × ℕ)
   pub hand : Option Query
+  pub drive : DriveSeen
 
 abbrev pub party_as : {N : Type 0} → Role N → PartySeen N
-party_as role = record { role = role; names = []; counts = []; hand = None }
+party_as role = record { role = role; names = []; counts = []; hand = None; drive = idle }
 
 -- How a call ran, as a number: the serial of its code, or 0.
 abbrev pub serial_of : Called → ℕ
@@ -230,7 +233,7 @@ Weighs N places serial old said new = coordinated.Weighs N places serial said ×
 
 -- What the party notes stays.
 abbrev pub SameNotes : {N : Type 0} → PartySeen N → PartySeen N → Type 0
-SameNotes old new = (new.names ≡ old.names) × (new.counts ≡ old.counts) × (new.hand ≡ old.hand)
+SameNotes old new = (new.names ≡ old.names) × (new.counts ≡ old.counts) × (new.hand ≡ old.hand) × (new.drive ≡ old.drive)
 
 -- An act by what the party is.
 abbrev pub ActsAs : {N : Type 0} → (Role N → Told → Role N → Type 0) → PartySeen N → Told → PartySeen N → Type 0
@@ -253,17 +256,35 @@ Notes name old (Err e) new = ⊥
 abbrev pub Operates : {N : Type 0} → PartySeen N → Told → PartySeen N → Type 0
 Operates old said new
     = OfCoordinator (λ before told after. coordinated.Operates before told new.counts after) old.role said new.role
-    × (new.names ≡ old.names) × (new.hand ≡ old.hand) × coordinated.SameCounts said old.counts new.counts
+    × (new.names ≡ old.names) × (new.hand ≡ old.hand) × (new.drive ≡ old.drive) × coordinated.SameCounts said old.counts new.counts
 
 -- Telling a name may put the job in hand into its berth.
 abbrev pub TellsName : {N : Type 0} → ℕ → PartySeen N → Told → PartySeen N → Type 0
 TellsName name old said new
-    = OfCoordinator (coordinated.Tells name) old.role said new.role × (new.names ≡ old.names) × (new.counts ≡ old.counts)
+    = OfCoordinator (coordinated.Tells name) old.role said new.role × (new.names ≡ old.names) × (new.counts ≡ old.counts) × (new.drive ≡ old.drive)
     × coordinated.KeepsHand (λ j. j.op) (λ j. j.target) name said old.hand new.hand
 
 -- How many frames the code had in the census that was operated last.
 abbrev pub Counts : {N : Type 0} → ℕ → PartySeen N → Told → PartySeen N → Type 0
 Counts serial old said new = (said ≡ Ok (or_zero (first_of serial old.counts))) × (new ≡ old)
+
+-- The work on the open requests is advanced.
+abbrev pub Advancing : {N : Type 0} → PartySeen N → Told → PartySeen N → Type 0
+Advancing {N} old said new
+    = OfCoordinator (λ before told after. Advances N (work before old.drive.called) old.counts told (work after new.drive.called) new.counts) old.role said new.role
+    × (new.names ≡ old.names) × (new.hand ≡ old.hand) × (said ≡ Err fault.NotThis → new ≡ old)
+
+-- For which operation the held thread of which place is served next; 0 without one.
+abbrev pub operation_of : Option (ℕ × ℕ) → ℕ
+operation_of None = 0
+operation_of (Some called) = called.0
+
+abbrev pub place_of : Option (ℕ × ℕ) → ℕ
+place_of None = 0
+place_of (Some called) = called.1
+
+abbrev pub Shows : {N : Type 0} → (DriveSeen → ℕ) → PartySeen N → Told → PartySeen N → Type 0
+Shows what old said new = (said ≡ Ok (what old.drive)) × (new ≡ old)
 
 abbrev pub Acts : {N : Type 0} → ℕ → PartySeen N → Act → Told → PartySeen N → Type 0
 Acts places old act.Start said new = ActsAs (Starts places) old said new
@@ -298,6 +319,10 @@ Acts places old (act.Serve place) said new = ActsAs (OfCoordinator (coordinated.
 Acts places old (act.Release place) said new = ActsAs (OfCoordinator (coordinated.Releases places place)) old said new
 Acts places old act.Operate said new = Operates old said new
 Acts places old (act.Counted serial) said new = Counts serial old said new
+Acts {N} places old act.Advance said new = Advancing old said new
+Acts places old act.CalledOperation said new = Shows (λ d. operation_of d.called) old said new
+Acts places old act.CalledPlace said new = Shows (λ d. place_of d.called) old said new
+Acts places old act.Awaited said new = Shows (λ d. d.awaited) old said new
 Acts places old (act.Close number) said new = ActsAs (OfCoordinator (coordinated.Closes number)) old said new
 Acts places old (act.Reclaim serial) said new = AsksWith (Begins serial) old said new
 Acts {N} places old (act.Weigh serial) said new = ActsAs (OfCoordinator (Weighs N places serial)) old said new

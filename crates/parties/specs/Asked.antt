@@ -14,11 +14,12 @@ use Rattle.desk.specs.declared.entries.Entry.{Entry}
 use Rattle.desk.specs.declared.faults.AskFault.TheVariants as ask_fault
 use Rattle.desk.specs.declared.faults.ReclaimFault.TheVariants as reclaim_fault
 use Rattle.desk.specs.Fields.{DeskSeen, Enters, EntersInstall, at}
-use Rattle.desk.specs.Machine.{Stands, is_legal, is_taken}
+use Rattle.desk.specs.Machine.{Stands, is_taken}
 use Rattle.desk.specs.Replies.{replies_kept}
 use Rattle.desk.specs.Targets.{live_after, open_kind}
 use Rattle.desk.specs.Pending.{least_pending}
 use Rattle.desk.specs.Refusals.{ask_refused, install_refused, reclaim_refused, is_idle}
+use Rattle.coordinator_core.specs.Work.{IsLegal}
 use Rattle.parties.specs.Pairs.{first_of, or_zero}
 use Rattle.parties.specs.declared.acts.Fault.{Fault}
 use Rattle.parties.specs.declared.acts.Fault.TheVariants as fault
@@ -26,10 +27,6 @@ use Rattle.parties.specs.declared.acts.Fault.TheVariants as fault
 -- What an act answers: a number, or why it isn't done.
 abbrev pub Told : Type 0
 Told = Result ℕ Fault
-
--- A desk as it can be: each entry of its history was lawful where it was entered.
-abbrev pub IsLegal : DeskSeen → Type 0
-IsLegal d = is_legal d.slots d.methods d.book.history ≡ true
 
 -- By the receipt the entry was entered at such a desk, lawfully.
 abbrev pub IsEntry : Entry → Stands → Type 0

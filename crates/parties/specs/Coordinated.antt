@@ -1,7 +1,6 @@
 -- What comes of an act of the coordinator.
 use Rattle.std.specs.Prelude.{◌≡◌, ◌≢◌, ◌<◌, ◌≤◌, ◌⊎◌, ℕ, List, true, false, Ok, Err, Option, Some, Result, slice_index}
 use Rattle.thread_state.specs.PollRule.{armed_with}
-use Rattle.bodies.specs.Bodies.{IsPublished}
 use Rattle.bodies.specs.Census.{IsCensus}
 use Rattle.berths.specs.Berths.{Moved, Acted, acted}
 use Rattle.method_table.specs.Codes.{unfreed}
@@ -27,9 +26,11 @@ use Rattle.stopped_threads.specs.Held.{AreEach, is_held}
 use Rattle.stopped_threads.specs.Holding.{Holding}
 use Rattle.stopped_threads.specs.Reclaiming.{IsReclaimedFrom}
 use Rattle.coordinator_core.specs.Done as done
+use Rattle.coordinator_core.specs.Called.{IsLeft}
+use Rattle.coordinator_core.specs.Work.{IsLegal}
 use Rattle.stopped_threads.specs.Refused as steps
 use Rattle.parties.specs.declared.acts.Fault.TheVariants as fault
-use Rattle.parties.specs.Asked.{Told, IsLegal, WasEntered}
+use Rattle.parties.specs.Asked.{Told, WasEntered}
 
 abbrev pub Opens : Told → Type 0
 Opens (Ok n) = WasEntered (Entry.Open n)
@@ -79,10 +80,6 @@ Holds places place old (Err e) new = ⊥
 -- The held body of the place is answered for.
 abbrev pub IsServed : ℕ → Holding → ℕ → FinishSeen → Holding → Type 0
 IsServed place old n finish new = (d : DeskSeen) × IsLegal d × done.ServesBy (steps.In (at d)) old new place n finish
-
--- All stays, or the held body of the place is published.
-abbrev pub IsLeft : ℕ → Holding → Holding → Type 0
-IsLeft place old new = (new ≡ old) ⊎ done.Becomes (λ body after. (after ≡ body) ⊎ IsPublished body after) old new place
 
 abbrev pub Serves : ℕ → ℕ → Holding → Told → Holding → Type 0
 Serves places place old (Ok n) new = (finish : FinishSeen) × IsServed place old n finish new

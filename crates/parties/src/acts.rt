@@ -52,6 +52,14 @@ pub enum Act {
     Counted(u64),
     /// The open request of the number closes, or (None) the oldest.
     Close(Option<u64>),
+    /// The work on the open requests goes on as far as it can without waiting: the number of the request that it closed.
+    Advance,
+    /// The operation for which a held thread is served next, 0 without one.
+    CalledOperation,
+    /// The place of that thread.
+    CalledPlace,
+    /// How many threads the work waits for.
+    Awaited,
     /// The first step of reclaiming a code: the round, and a handshake of the targets waits where there are any.
     Reclaim(u64),
     /// The last: the code is weighed, and freed where no activation stands.
@@ -78,6 +86,10 @@ pub enum Fault {
     NotWeighed,
     /// The least place whose thread may still enter the code, or have entered it without having published that.
     Late(usize),
+    /// A held thread is served next. The host may run its part of that operation now.
+    Runs,
+    /// Threads of the request aren't at a safe point yet.
+    Awaits,
     Start(StartFault),
     Ask(AskFault),
     Code(CodeFault),

@@ -1,6 +1,6 @@
 //! The steps of the coordinator: each tries the desk's lock, and behind it that of one room where it needs it. What is done is answered with
 //! its receipt.
-ghost use Rattle.std.specs.Prelude.{◌≡◌, Ok, Err, IfOk, IfErr, IfSome, IfNone};
+ghost use Rattle.std.specs.Prelude.{◌≡◌, Ok, Err, IfOk, IfErr, OnErr, IfSome, IfNone};
 ghost use Rattle.desk.specs.declared.entries.Entry.{Entry};
 ghost use Rattle.coordinator_core.specs.Done as done;
 ghost use Rattle.parties.specs.Asked.{IsEntry};
@@ -174,6 +174,7 @@ pub(crate) fn operate<'s, 'c, 'l, N: Name>(
         (λ r. IsOperate keeps.old r.0 r.1.stands counts.new.items keeps.new) }
     ensures shown { IfOk result (λ r. r.1.list ≡ counts.new.items) }
     ensures refused { IfErr result (λ e. Operates keeps.old (Err e) counts.new.items keeps.new) }
+    ensures same { OnErr result (keeps.new ≡ keeps.old) }
     ensures counts { SameCounts result counts.old.items counts.new.items }
 {
     let Some(mut desk) = system.try_desk() else {

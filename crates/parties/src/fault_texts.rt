@@ -17,6 +17,8 @@ impl fmt::Display for Fault {
             Fault::NotAnswered => f.write_str("no answer of the name is kept"),
             Fault::NotWeighed => f.write_str("the code is not one that can be weighed"),
             Fault::Late(place) => write!(f, "the thread at place {place} is late"),
+            Fault::Runs => f.write_str("a held thread is served next"),
+            Fault::Awaits => f.write_str("threads have still to come"),
             Fault::Start(fault) => write!(f, "{fault}"),
             Fault::Ask(fault) => write!(f, "{fault}"),
             Fault::Code(fault) => write!(f, "{fault}"),

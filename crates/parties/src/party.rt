@@ -6,7 +6,7 @@ use crate::acts::{Act, Fault};
 use crate::system::SharedSystem;
 use berths::BodyReceipt;
 use bodies::Name;
-use coordinator_core::CoordinatorCore;
+use coordinator_core::{CoordinatorCore, Drive};
 use operations::job::Query;
 use std::alloc::{AllocError, Global};
 use std::marker::Model;
@@ -30,7 +30,8 @@ pub enum Role<N: Name> {
     Coordinates(CoordinatorCore<N>),
 }
 
-/// A party, with what it shares. Contracts see what it is, the names of its next request, what its last census counted, and the job in hand.
+/// A party, with what it shares. Contracts see what it is, the names of its next request, what its last census counted, the job in hand, and
+/// how far its work on the open requests is.
 #[derive(Drop)]
 pub struct Party<N: Name> {
     pub(crate) system: Arc<SharedSystem<N>>,
@@ -42,6 +43,8 @@ pub struct Party<N: Name> {
     pub(crate) hand: Option<Query>,
     /// What the census that was operated last counted.
     pub(crate) counts: Vec<(u64, u32)>,
+    /// How far the coordinator's work on the open requests is.
+    pub(crate) drive: Drive<Query>,
 }
 
 impl<N: Name> Model for Party<N> {
@@ -55,6 +58,7 @@ impl<N: Name> Model for Party<N> {
       names = p.names.items;
       counts = p.counts.items;
       hand = p.hand;
+      drive = p.drive;
     } };
 
     ghost invariant = { λ p. IsRole p.role };
@@ -72,6 +76,7 @@ impl<N: Name> Party<N> {
             names: Vec::new(alloc),
             hand: None,
             counts: Vec::new(alloc),
+            drive: Drive::none(alloc),
         }
     }
 
@@ -90,11 +95,11 @@ impl<N: Name> Party<N> {
             names: Vec::new(alloc),
             hand: None,
             counts: Vec::new(alloc),
+            drive: Drive::none(alloc),
         }
     }
 
     pub fn alloc(&self) -> Global {
-        let _ = &self.role;
         self.alloc
     }
 
@@ -102,7 +107,6 @@ impl<N: Name> Party<N> {
     pub fn fork(&self) -> Result<Party<N>, AllocError>
         ensures { IfOk result (λ p. p ≡ party_as Role.Shares) }
     {
-        let _ = &self.role;
         let system = Arc::try_clone(&self.system)?;
         Ok(Party::new(self.alloc, system))
     }
@@ -146,6 +150,10 @@ impl<N: Name> Party<N> {
             Act::Operate => self.operate(),
             Act::Counted(serial) => self.counted(serial),
             Act::Close(number) => self.close(number),
+            Act::Advance => self.advance(),
+            Act::CalledOperation => self.called_operation(),
+            Act::CalledPlace => self.called_place(),
+            Act::Awaited => self.awaited(),
             Act::Reclaim(serial) => self.reclaim(serial),
             Act::Weigh(serial) => self.weigh(serial),
         }

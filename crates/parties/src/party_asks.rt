@@ -23,7 +23,6 @@ impl<N: Name> Party<N> {
     pub fn submit(&mut self, ask: Option<Ask>) -> Result<u64, Fault>
         ensures { Acts N.board.places self.old (Act.Submit ask) result self.new }
     {
-        let _ = &self.role;
         let (number, _receipt) = asking::submit(&self.system, self.alloc, &mut self.names, ask)?;
         Ok(number)
     }
@@ -32,7 +31,6 @@ impl<N: Name> Party<N> {
     pub fn reclaim(&mut self, serial: u64) -> Result<u64, Fault>
         ensures { Acts N.board.places self.old (Act.Reclaim serial) result self.new }
     {
-        let _ = &self.role;
         let (number, _receipt) = asking::reclaim(
             &self.system,
             self.alloc,
@@ -46,7 +44,6 @@ impl<N: Name> Party<N> {
     pub fn install(&mut self, method: u32) -> Result<u64, Fault>
         ensures { Acts N.board.places self.old (Act.Install method) result self.new }
     {
-        let _ = &self.role;
         let (serial, _receipt) = asking::install(&self.system, method)?;
         Ok(serial)
     }
@@ -55,7 +52,6 @@ impl<N: Name> Party<N> {
     pub fn invalidate(&mut self, serial: u64) -> Result<u64, Fault>
         ensures { Acts N.board.places self.old (Act.Invalidate serial) result self.new }
     {
-        let _ = &self.role;
         let _receipt = asking::invalidate(&self.system, serial)?;
         Ok(0)
     }
@@ -64,7 +60,6 @@ impl<N: Name> Party<N> {
     pub fn reply(&mut self, op: u64, name: u64) -> Result<u64, Fault>
         ensures { Acts N.board.places self.old (Act.Reply op name) result self.new }
     {
-        let _ = &self.role;
         asking::reply(&self.system, op, name)
     }
 
@@ -72,7 +67,6 @@ impl<N: Name> Party<N> {
     pub fn live_after(&mut self, name: u64) -> Result<u64, Fault>
         ensures { Acts N.board.places self.old (Act.LiveAfter name) result self.new }
     {
-        let _ = &self.role;
         asking::live_after(&self.system, name)
     }
 
@@ -80,7 +74,6 @@ impl<N: Name> Party<N> {
     pub fn open_kind(&mut self) -> Result<u64, Fault>
         ensures { Acts N.board.places self.old Act.OpenKind result self.new }
     {
-        let _ = &self.role;
         asking::open_kind(&self.system)
     }
 
@@ -88,7 +81,6 @@ impl<N: Name> Party<N> {
     pub fn forget(&mut self) -> Result<u64, Fault>
         ensures { Acts N.board.places self.old Act.Forget result self.new }
     {
-        let _ = &self.role;
         asking::forget(&self.system)
     }
 }

@@ -109,7 +109,6 @@ impl<N: Name> Party<N> {
     pub fn counted(&mut self, serial: u64) -> Result<u64, Fault>
         ensures { Acts N.board.places self.old (Act.Counted serial) result self.new }
     {
-        let _ = &self.role;
         match first_of(self.counts.as_slice(), serial) {
             Some(count) => Ok(count as u64),
             None => Ok(0),

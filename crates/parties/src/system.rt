@@ -138,7 +138,6 @@ impl<N: Name> SharedSystem<N> {
     pub fn places(&self) -> usize
         ensures { result ≡ N.board.places }
     {
-        let _ = &self.hints;
         self.rooms.len()
     }
 
@@ -146,7 +145,6 @@ impl<N: Name> SharedSystem<N> {
     pub fn methods(&self) -> u32
         ensures { result ≡ self.now.methods }
     {
-        let _ = &self.desk;
         self.hints.methods()
     }
 
@@ -154,7 +152,6 @@ impl<N: Name> SharedSystem<N> {
     pub fn hint(&self, method: u32) -> Option<CodeId>
         ensures { IfSome result (λ c. c.slot < N.board.slots) }
     {
-        let _ = &self.desk;
         self.hints.of(method)?
     }
 

@@ -68,6 +68,7 @@ enum {
     SP_VACANT = -25, SP_NO_SUCH_PLACE = -26, SP_NOT_DONE = -27, SP_TABLE_FULL = -28,
     SP_UNKNOWN = -29, SP_NOT_IN_USE = -30, SP_NOT_SAFE = -31, SP_NOT_ALL_HELD = -32,
     SP_NOT_ANSWERED = -33, SP_STILL_IN_USE = -34, SP_NOT_WEIGHED = -35, SP_LATE = -36,
+    SP_RUN = -37, SP_AWAITS = -38,
     SP_MADE = -40, SP_BAD_SIZE = -41, SP_BAD_ASK = -42
 };
 
@@ -153,7 +154,45 @@ int64_t sp_open_kind(struct sp_party *party);
    waits: 0. A history of a million entries is full. */
 int64_t sp_forget(struct sp_party *party);
 
-/* THE COORDINATOR. sp_open opens the oldest waiting request, and returns its number. Up to four
+/* THE COORDINATOR. sp_advance works on the oldest open request as far as it can without waiting, and
+   closes it; where nothing is open it opens the oldest waiting request first. It arms the polls of
+   all targets. Of a handshake it serves each thread that doesn't own itself, one after the other. Of
+   a census it holds all threads and operates it. Then it lets them go. It returns the number of the
+   request that it closed, or what comes next:
+
+   SP_RUN     it holds a thread, and serves it next. The caller runs its callback now, for the
+              operation sp_called_operation and the thread of the place sp_called_place. The next
+              sp_advance enters the thread's reply, and lets it go unless it owes another operation
+   SP_AWAITS  sp_awaited threads of the request have still to come. They come by themselves
+   SP_AGAIN   a lock is taken, a thread is starting or exiting, or there is more to arm
+
+   What it has done stays, and it may be called again at any time. SP_QUEUE_EMPTY (nothing is open, and
+   nothing waits), SP_NO_MEMORY (for a list: the request may be open, and a census keeps the threads
+   that it holds, until a later call goes on).
+
+   The other three (*) tell about the last sp_advance. sp_called_operation returns the operation's
+   number, or 0 if no thread is served next; sp_called_place its thread's place, from 0 on; sp_awaited
+   a number up to 64. To any party but the coordinator they return 0.
+
+       int64_t drive(struct sp_party *coordinator) {
+           for (;;) {
+               int64_t answer = sp_advance(coordinator);
+               if (answer == SP_RUN)
+                   callback(sp_called_operation(coordinator), sp_called_place(coordinator));
+               else if (answer == SP_AWAITS || answer == SP_AGAIN)
+                   sched_yield();
+               else
+                   return answer;
+           }
+       }
+
+   The single steps below may come in between: the caller may serve a held thread, let it go, or close
+   a request by itself. The next sp_advance goes on from there. */
+int64_t sp_advance(struct sp_party *coordinator);
+int64_t sp_called_operation(struct sp_party *coordinator);
+int64_t sp_called_place(struct sp_party *coordinator);
+int64_t sp_awaited(struct sp_party *coordinator);
+/* SINGLE STEPS. sp_open opens the oldest waiting request, and returns its number. Up to four
    handshakes may be open, or one census. SP_ALREADY_OPEN, SP_QUEUE_EMPTY. sp_tell arms the poll of
    the thread of the name with the oldest open operation that the thread wasn't told, so that the
    thread stops at its next poll. It returns that operation's number, or 0 if the name is gone.

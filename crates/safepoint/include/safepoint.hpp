@@ -115,6 +115,24 @@ public:
     std::uint64_t drive_four(Callback callback = {}) {
         return must(sp_drive_four(&party_, at_safe_point, &callback));
     }
+    /* For a host with its own waits: works on the oldest request as far as that goes without
+       waiting, and says what comes next. `closed`: it is closed. `run`: the host runs its callback
+       for what `called` tells. `awaits`: so many threads have still to come as `awaited` tells. */
+    enum class Next { closed, run, awaits };
+    Next advance() {
+        std::int64_t answer;
+        SP_WAIT(answer, sp_advance(&party_));
+        sp_ring();
+        if (answer == SP_RUN) return Next::run;
+        if (answer == SP_AWAITS) return Next::awaits;
+        must(answer);
+        return Next::closed;
+    }
+    sp_served called() {
+        return {must(sp_called_operation(&party_)),
+                static_cast<std::size_t>(must(sp_called_place(&party_))), nullptr};
+    }
+    std::uint64_t awaited() { return must(sp_awaited(&party_)); }
     std::uint64_t counted(std::uint64_t serial) { return must(sp_counted(&party_, serial)); }
 
     enum class Code { freed, used, late };

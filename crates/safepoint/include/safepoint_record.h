@@ -7,11 +7,15 @@
    that of the first try. A thread that stops, starts or exits is one call from its first try to
    where it goes on. So is a reclaiming from sp_reclaim_begin to sp_reclaim_end, and whoever
    makes it makes no other call in between, but those that drive its handshake; an sp_reclaim_end
-   alone is a reclaiming too, and isn't noted where it is late. Behind a call stand
-   the callbacks that ran in it, each with its reply. Looks that change nothing (sp_reply,
-   sp_live_after, sp_open_kind, sp_counted) aren't noted, nor is a refusal that the core doesn't
-   have (SP_NOT_THIS, SP_NO_MEMORY, SP_HISTORY_FULL, SP_BAD_ASK). sp_forget forgets nothing. One
-   system is recorded: that of the first sp_make. */
+   alone is a reclaiming too, and isn't noted where it is late. A drive is one call from its first
+   sp_advance to the one that closes a request or finds none. What its thread calls meanwhile is noted
+   as if another thread had called it. But no log is written where a single step of the coordinator
+   comes between the calls of sp_advance for one request, or where a single step holds a thread when
+   the first of these calls is made. Behind a call stand the callbacks that ran
+   in it, each with its reply. Looks that change nothing (sp_reply, sp_live_after, sp_open_kind,
+   sp_counted, sp_called_operation, sp_called_place, sp_awaited) aren't noted, nor is a refusal that
+   the core doesn't have (SP_NOT_THIS, SP_NO_MEMORY, SP_HISTORY_FULL, SP_BAD_ASK). sp_forget forgets
+   nothing. One system is recorded: that of the first sp_make. */
 #ifndef SAFEPOINT_RECORD_H
 #define SAFEPOINT_RECORD_H
 
@@ -23,8 +27,8 @@
 extern "C" {
 #endif
 
-/* Writes the log, once no thread calls any more: 0; SP_NO_MEMORY where a call couldn't be noted,
-   and then nothing is written. */
+/* Writes the log, once no thread calls any more and no drive has begun that isn't over: 0;
+   SP_NO_MEMORY where a call couldn't be noted, and then nothing is written. */
 int64_t sp_record_write(FILE *file);
 
 int64_t sp_recorded_make(struct sp_party *coordinator, size_t places, size_t slots, size_t methods);
@@ -48,6 +52,7 @@ int64_t sp_recorded_census(struct sp_party *party);
 int64_t sp_recorded_forget(struct sp_party *party);
 int64_t sp_recorded_install(struct sp_party *party, uint32_t method);
 int64_t sp_recorded_invalidate(struct sp_party *party, uint64_t serial);
+int64_t sp_recorded_advance(struct sp_party *coordinator);
 int64_t sp_recorded_open(struct sp_party *coordinator);
 int64_t sp_recorded_tell(struct sp_party *coordinator, uint64_t name);
 int64_t sp_recorded_hold(struct sp_party *coordinator, size_t place);
@@ -85,6 +90,7 @@ int64_t sp_recorded_reclaim_end(struct sp_party *coordinator, uint64_t serial);
 #define sp_forget sp_recorded_forget
 #define sp_install sp_recorded_install
 #define sp_invalidate sp_recorded_invalidate
+#define sp_advance sp_recorded_advance
 #define sp_open sp_recorded_open
 #define sp_tell sp_recorded_tell
 #define sp_hold sp_recorded_hold

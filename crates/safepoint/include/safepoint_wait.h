@@ -60,7 +60,8 @@ int64_t sp_enter_blocked(struct sp_party *thread);
 int64_t sp_leave_blocked(struct sp_party *thread, sp_callback call, void *with);
 
 /* The coordinator. sp_drive works on the oldest open request, or else on the oldest waiting one,
-   until it is closed, and returns its number; SP_QUEUE_EMPTY. */
+   until it is closed, and returns its number; SP_QUEUE_EMPTY. After SP_NO_MEMORY the request may be
+   open, and a census keeps the threads that it holds: call again. It is a loop over sp_advance. */
 int64_t sp_drive(struct sp_party *coordinator, sp_callback call, void *with);
 /* The same for up to four handshakes at once. Returns how many it closed. */
 int64_t sp_drive_four(struct sp_party *coordinator, sp_callback call, void *with);

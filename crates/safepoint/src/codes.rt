@@ -194,6 +194,8 @@ fn fault_code(fault: Fault) -> i64
         Fault::NotAnswered => -33,
         Fault::NotWeighed => -35,
         Fault::Late(_) => -36,
+        Fault::Runs => -37,
+        Fault::Awaits => -38,
         Fault::Start(fault) => start_code(fault),
         Fault::Ask(fault) => ask_code(fault),
         Fault::Code(fault) => install_refusal(fault),

@@ -87,6 +87,43 @@ pub extern "C" fn sp_close_of(coordinator: &mut CHandle, number: u64) -> i64
     code_of(coordinator.dispatch(Act::Close(Some(number))))
 }
 
+/// Goes on with the work on the open requests as far as it can without waiting: the number of the request that it closed. Where a held thread
+/// is served next, or threads have still to come, the code says so.
+#[unsafe(no_mangle)]
+pub extern "C" fn sp_advance(coordinator: &mut CHandle) -> i64
+    ensures { Replies coordinator.old.handle.board.places result Act.Advance
+        coordinator.old.handle.value coordinator.new.handle.value }
+{
+    code_of(coordinator.dispatch(Act::Advance))
+}
+
+/// The operation for which a held thread is served next, 0 without one.
+#[unsafe(no_mangle)]
+pub extern "C" fn sp_called_operation(coordinator: &mut CHandle) -> i64
+    ensures { Replies coordinator.old.handle.board.places result Act.CalledOperation
+        coordinator.old.handle.value coordinator.new.handle.value }
+{
+    code_of(coordinator.dispatch(Act::CalledOperation))
+}
+
+/// The place of that thread.
+#[unsafe(no_mangle)]
+pub extern "C" fn sp_called_place(coordinator: &mut CHandle) -> i64
+    ensures { Replies coordinator.old.handle.board.places result Act.CalledPlace
+        coordinator.old.handle.value coordinator.new.handle.value }
+{
+    code_of(coordinator.dispatch(Act::CalledPlace))
+}
+
+/// How many threads the work waits for.
+#[unsafe(no_mangle)]
+pub extern "C" fn sp_awaited(coordinator: &mut CHandle) -> i64
+    ensures { Replies coordinator.old.handle.board.places result Act.Awaited
+        coordinator.old.handle.value coordinator.new.handle.value }
+{
+    code_of(coordinator.dispatch(Act::Awaited))
+}
+
 /// The last step of reclaiming a code: 0 where it is freed, or how many activations stand.
 #[unsafe(no_mangle)]
 pub extern "C" fn sp_reclaim_end(coordinator: &mut CHandle, serial: u64) -> i64

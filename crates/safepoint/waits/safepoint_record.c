@@ -9,7 +9,7 @@
 #include <stdlib.h>
 #include <string.h>
 
-enum { TARGETS = 64, PLACES = 64, ROOM = 1 << 16, MOST_JOBS = 1024 };
+enum { TARGETS = 64, PLACES = 64, ROOM = 1 << 16, MOST_JOBS = 1024, ASKED = 128, MOST_YIELDS = 1 << 20 };
 
 /* The calls of one thread of the machine, as lines. */
 struct stream {
@@ -20,10 +20,11 @@ struct stream {
 };
 
 /* What the thread is in the middle of: a call whose tries answered SP_AGAIN so far, or which goes on over several. */
-enum kind { NOTHING, SINGLE, START, STOP, EXIT, RECLAIM };
+enum kind { NOTHING, SINGLE, START, STOP, EXIT, RECLAIM, DRIVE };
 struct pending {
     enum kind kind;
     uint64_t before;
+    struct line *line;
     int64_t name, place;
     bool stopped; /* an exit that served */
 };
@@ -40,24 +41,37 @@ static _Atomic(struct stream *) all;
 static atomic_bool lost;
 static size_t sizes[3];
 static atomic_int_least64_t name_at[PLACES]; /* of the thread that started last at the place; it is told before that thread can be held */
+static atomic_int held;                      /* threads that single steps of the coordinator hold */
+static atomic_int_least64_t operated;        /* the census that a single step operated last */
+static atomic_int_least64_t asked[ASKED];    /* of each request of late, by its number: twice that, and 1 more for a census */
 
-static _Thread_local struct stream *mine;
-static _Thread_local struct pending now;
+/* A stream, and the jobs of its call that ran so far. */
+struct line {
+    struct stream *stream;
+    struct job jobs[MOST_JOBS];
+    size_t ran;
+};
+
+static _Thread_local struct line lines[2]; /* of the thread's calls, and of those that it makes while a drive isn't over */
+static _Thread_local struct pending now, drive;
 static _Thread_local uint64_t targets[TARGETS + 1];
 static _Thread_local size_t named;
-static _Thread_local struct job jobs[MOST_JOBS], serving; /* of the call; and that of which a thread runs the callback */
-static _Thread_local size_t ran;
+static _Thread_local struct job serving; /* that of which a thread runs the callback */
 
 static uint64_t ticket(void) { return atomic_fetch_add(&tickets, 1); }
 
+static struct stream *made_stream(void) {
+    struct stream *made = calloc(1, sizeof *made);
+    if (!made) return NULL;
+    made->number = atomic_fetch_add(&streams, 1);
+    made->next = atomic_load(&all);
+    while (!atomic_compare_exchange_weak(&all, &made->next, made)) ;
+    return made;
+}
+
 static struct stream *stream(void) {
-    if (mine) return mine;
-    mine = calloc(1, sizeof *mine);
-    if (!mine) return NULL;
-    mine->number = atomic_fetch_add(&streams, 1);
-    mine->next = atomic_load(&all);
-    while (!atomic_compare_exchange_weak(&all, &mine->next, mine)) ;
-    return mine;
+    if (!now.line->stream) now.line->stream = made_stream();
+    return now.line->stream;
 }
 
 __attribute__((format(printf, 1, 2))) static void put(const char *form, ...) {
@@ -102,7 +116,8 @@ static const char *refusal(int64_t answer) {
 
 /* A call begins, or is tried again. */
 static void begin(enum kind kind) {
-    if (now.kind == NOTHING) now = (struct pending){.kind = kind, .before = ticket(), .name = -1, .place = -1};
+    if (now.kind != NOTHING) return;
+    now = (struct pending){.kind = kind, .before = ticket(), .line = &lines[drive.kind != NOTHING], .name = -1, .place = -1};
 }
 
 /* The call has returned: its line up to what was called. Behind that come its numbers. */
@@ -116,20 +131,28 @@ static void put_number(uint64_t number) { put(" %llu", (unsigned long long)numbe
 
 /* Behind the answer: the jobs of the call. */
 static void close_line(void) {
-    if (ran) put(" ;");
-    for (size_t i = 0; i < ran; i++) {
-        put_number((uint64_t)jobs[i].operation), put_number((uint64_t)jobs[i].name);
-        put_number((uint64_t)jobs[i].reply), put_number(jobs[i].ticket);
+    struct line *it = now.line;
+    if (it->ran) put(" ;");
+    for (size_t i = 0; i < it->ran; i++) {
+        put_number((uint64_t)it->jobs[i].operation), put_number((uint64_t)it->jobs[i].name);
+        put_number((uint64_t)it->jobs[i].reply), put_number(it->jobs[i].ticket);
     }
-    ran = 0;
+    it->ran = 0;
     put("\n");
 }
 
-/* A job is done: its reply is entered, and nothing is forgotten. */
-static void note_job(struct sp_party *party, struct job job) {
-    while ((job.reply = sp_reply(party, (uint64_t)job.operation, (uint64_t)job.name)) == SP_AGAIN) sched_yield();
-    if (job.reply < 0 || ran == MOST_JOBS) atomic_store(&lost, true);
-    else jobs[ran++] = job;
+/* What was entered for a job; nothing is forgotten. */
+static int64_t reply_to(struct sp_party *party, struct job job) {
+    int64_t reply;
+    while ((reply = sp_reply(party, (uint64_t)job.operation, (uint64_t)job.name)) == SP_AGAIN) sched_yield();
+    return reply;
+}
+
+/* A job of the line's call is done, with this reply. */
+static void note_job(struct line *it, struct job job, int64_t reply) {
+    job.reply = reply;
+    if (reply < 0 || it->ran == MOST_JOBS) atomic_store(&lost, true);
+    else it->jobs[it->ran++] = job;
 }
 
 /* A call with at most one number, which answered this; `said` is what it says where it isn't refused. True where the call is over. */
@@ -254,7 +277,7 @@ int64_t sp_recorded_stop_next(struct sp_party *thread) {
 
 int64_t sp_recorded_stop_serve(struct sp_party *thread) {
     int64_t place = sp_place(thread), answer = sp_stop_serve(thread);
-    if (answer >= 0) note_job(thread, serving);
+    if (answer >= 0) note_job(now.line, serving, reply_to(thread, serving));
     if (answer == 0) goes_on(place, true);
     return answer;
 }
@@ -280,6 +303,21 @@ int64_t sp_recorded_exit(struct sp_party *thread) {
 
 /* --- any party --- */
 
+static void note_asked(int64_t number, bool is_census) {
+    if (number > 0) atomic_store(&asked[number % ASKED], 2 * number + is_census);
+}
+
+/* Whether the request is a census. Whoever asked for it may not have noted that yet. */
+static bool is_census(int64_t number) {
+    for (int i = 0; i < MOST_YIELDS; i++) {
+        int64_t noted = atomic_load(&asked[number % ASKED]);
+        if (noted / 2 >= number) return noted & 1;
+        sched_yield();
+    }
+    atomic_store(&lost, true);
+    return false;
+}
+
 int64_t sp_recorded_target(struct sp_party *party, uint64_t name) {
     int64_t answer = sp_target(party, name);
     if (answer >= 0 && named <= TARGETS) targets[named++] = name;
@@ -296,6 +334,7 @@ int64_t sp_recorded_submit(struct sp_party *party, uint32_t asks, uint64_t seria
     static const char *const words[] = {"submit-depth", "submit-count", "submit-top"};
     begin(SINGLE);
     int64_t answer = sp_submit(party, asks, serial);
+    note_asked(answer, false);
     if (answer == SP_AGAIN) return answer;
     const char *word = answer < 0 ? refusal(answer) : "asked";
     if (!word || asks > SP_TOP || named > TARGETS) {
@@ -315,6 +354,7 @@ int64_t sp_recorded_submit(struct sp_party *party, uint32_t asks, uint64_t seria
 int64_t sp_recorded_census(struct sp_party *party) {
     begin(SINGLE);
     int64_t answer = sp_census(party);
+    note_asked(answer, true);
     ends("submit-census", -1, answer, "asked", true);
     return answer;
 }
@@ -338,54 +378,113 @@ int64_t sp_recorded_invalidate(struct sp_party *party, uint64_t serial) {
 
 /* --- the coordinator --- */
 
-#define STEP(name, of, kind_of, number, word, said, with_answer)                                                                           \
+/* A single step has no place within a drive. */
+static void begin_step(void) {
+    if (drive.kind != NOTHING) atomic_store(&lost, true);
+    begin(SINGLE);
+}
+
+#define STEP(name, of, kind_of, number, word, said, with_answer, holds_more)                                                               \
     int64_t sp_recorded_##name(struct sp_party *coordinator, kind_of of) {                                                                 \
         if (is_inside()) return sp_##name(coordinator, of);                                                                                \
-        begin(SINGLE);                                                                                                                     \
+        begin_step();                                                                                                                      \
         int64_t answer = sp_##name(coordinator, of);                                                                                       \
         ends(word, (int64_t)number, answer, said, with_answer);                                                                            \
+        if (answer >= 0) atomic_fetch_add(&held, holds_more);                                                                              \
         return answer;                                                                                                                     \
     }
 #define WHOLE(name, word, said)                                                                                                            \
     int64_t sp_recorded_##name(struct sp_party *coordinator) {                                                                             \
         if (is_inside()) return sp_##name(coordinator);                                                                                    \
-        begin(SINGLE);                                                                                                                     \
+        begin_step();                                                                                                                      \
         int64_t answer = sp_##name(coordinator);                                                                                           \
         ends(word, -1, answer, said, true);                                                                                                \
         return answer;                                                                                                                     \
     }
 WHOLE(open, "open", "open")
 WHOLE(close, "close", "closed")
-STEP(close_of, number, uint64_t, number, "close", "closed", true)
-STEP(tell, name, uint64_t, name, "tell", answer ? "told" : "gone", false)
-STEP(hold, place, size_t, place, "hold", "ok", false)
-STEP(release, place, size_t, place, "release", "ok", false)
+STEP(close_of, number, uint64_t, number, "close", "closed", true, 0)
+STEP(tell, name, uint64_t, name, "tell", answer ? "told" : "gone", false, 0)
+STEP(hold, place, size_t, place, "hold", "ok", false, 1)
+STEP(release, place, size_t, place, "release", "ok", false, -1)
 
 int64_t sp_recorded_serve(struct sp_party *coordinator, size_t place) {
-    if (!is_inside()) begin(SINGLE);
-    uint64_t when = ticket();
+    if (!is_inside()) begin_step();
+    struct job job = {.ticket = ticket()};
     int64_t answer = sp_serve(coordinator, place);
-    if (answer >= 0) note_job(coordinator, (struct job){answer, atomic_load(&name_at[place]), 0, when});
+    if (answer >= 0) job.operation = answer, job.name = atomic_load(&name_at[place]), note_job(now.line, job, reply_to(coordinator, job));
     if (!is_inside()) ends("serve", (int64_t)place, answer, "ok", false);
     return answer;
 }
 
+/* What a census counted. */
+static void put_census(struct sp_party *coordinator, int64_t number) {
+    put(" : census");
+    put_number((uint64_t)number);
+    for (uint64_t serial = 1, last = atomic_load(&last_serial); serial <= last; serial++) {
+        int64_t frames = sp_counted(coordinator, serial);
+        if (frames > 0) put_number(serial), put_number((uint64_t)frames);
+    }
+}
+
 int64_t sp_recorded_operate(struct sp_party *coordinator) {
     if (is_inside()) return sp_operate(coordinator);
-    begin(SINGLE);
+    begin_step();
     int64_t answer = sp_operate(coordinator);
     if (answer < 0) {
         ends("operate", -1, answer, NULL, false);
         return answer;
     }
+    atomic_store(&operated, answer);
     open_line("operate");
-    put(" : census");
-    put_number((uint64_t)answer);
-    for (uint64_t serial = 1, last = atomic_load(&last_serial); serial <= last; serial++) {
-        int64_t frames = sp_counted(coordinator, serial);
-        if (frames > 0) put_number(serial), put_number((uint64_t)frames);
-    }
+    put_census(coordinator, answer);
     close_line();
+    return answer;
+}
+
+/* A drive begins: nobody is held, and no other call of the thread is to be made again meanwhile. */
+static void begin_drive(void) {
+    if (drive.kind != NOTHING) return;
+    if (now.kind != NOTHING || atomic_load(&held)) atomic_store(&lost, true);
+    drive = (struct pending){.kind = DRIVE, .before = ticket(), .line = &lines[0]};
+}
+
+/* The drive has closed a request, or found none. Of a census that a single step operated it is the Close alone. */
+static void end_drive(struct sp_party *coordinator, int64_t answer) {
+    struct pending other = now;
+    now = drive, drive.kind = NOTHING;
+    if (answer < 0) {
+        ends("drive", -1, answer, NULL, false);
+    } else if (answer == atomic_load(&operated)) {
+        ends("close", -1, answer, "closed", true);
+    } else {
+        bool counts = is_census(answer);
+        open_line("drive");
+        if (counts) put_census(coordinator, answer);
+        else put(" : handshake %lld", (long long)answer);
+        close_line();
+    }
+    now = other;
+}
+
+/* The held thread that was called before is served by this step, or by a later one. */
+static void note_called(struct sp_party *coordinator, struct job job) {
+    int64_t reply = reply_to(coordinator, job);
+    if (reply != SP_NOT_ANSWERED) note_job(&lines[0], job, reply);
+}
+
+static bool is_over(int64_t answer) {
+    return answer != SP_RUN && answer != SP_AWAITS && answer != SP_AGAIN && answer != SP_NO_MEMORY;
+}
+
+int64_t sp_recorded_advance(struct sp_party *coordinator) {
+    if (!is_inside()) begin_drive();
+    int64_t operation = sp_called_operation(coordinator);
+    int64_t name = operation > 0 ? atomic_load(&name_at[sp_called_place(coordinator)]) : 0;
+    struct job job = {operation, name, 0, ticket()};
+    int64_t answer = sp_advance(coordinator);
+    if (operation > 0) note_called(coordinator, job);
+    if (!is_inside() && is_over(answer)) end_drive(coordinator, answer);
     return answer;
 }
 
@@ -418,6 +517,7 @@ static void end_untold(uint64_t serial) {
 int64_t sp_recorded_reclaim_begin(struct sp_party *party, uint64_t serial) {
     begin(RECLAIM);
     int64_t answer = sp_reclaim_begin(party, serial);
+    note_asked(answer, false);
     if (answer >= 0 || answer == SP_AGAIN) return answer;
     const char *word = refusal(answer);
     if (word && named <= TARGETS) {

@@ -40,6 +40,8 @@ static const struct {
     {SP_STILL_IN_USE, "the code may still be entered"},
     {SP_NOT_WEIGHED, "the code isn't one that can be weighed"},
     {SP_LATE, "a thread may still enter the code, or hasn't told that it has"},
+    {SP_RUN, "a held thread is served next"},
+    {SP_AWAITS, "threads have still to come"},
     {SP_MADE, "the party is made already"},
     {SP_BAD_SIZE, "a size is 0, or above its limit"},
     {SP_BAD_ASK, "there is no such ask"},

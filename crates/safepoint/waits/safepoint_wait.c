@@ -225,185 +225,73 @@ int64_t sp_leave_blocked(struct sp_party *thread, sp_callback call, void *with) 
 
 /* --- the coordinator --- */
 
-/* What is worked on. */
-struct drive {
-    struct sp_party *coordinator;
-    sp_callback call;
-    void *with;
-    int64_t newest; /* the number that was opened last, 0 where there may be others */
-    int told;       /* how many names were told, below 0 where nobody knows */
-    int looks;      /* that are left */
+/* A drive's waits for threads that are late. */
+struct late {
+    unsigned came; /* how many had come before it looked for them */
+    int looks;     /* that are left */
     unsigned naps;
-    unsigned came;  /* how many had come before the last pass */
-    uint64_t late;  /* the places whose threads had still to come in that */
-    uint64_t held;  /* the places whose threads a census holds */
 };
 
-enum { ALL = -1 };
-
-/* Tells a name all that is open and of it: whether that was anything. */
-static bool is_told(struct drive *it, int64_t name) {
-    for (bool any = false;; any = true) {
-        int64_t told;
-        SP_WAIT(told, sp_tell(it->coordinator, (uint64_t)name));
-        if (told <= 0) return any;
-        if (told == it->newest) return true;
-    }
+/* Up to the first wait nobody rings for it. */
+static struct late begin(void) {
+    atomic_fetch_add(&all.begun, 1);
+    struct late it = {atomic_load(&all.came), LOOKS, 0};
+    atomic_store_explicit(&all.wanted, it.came + PLACES, memory_order_relaxed);
+    return it;
 }
 
-/* Tells each live name: 0, or why not. Names rise by one, so behind two neighbours the next is tried: to ask which lives goes through all. */
-static int64_t tell_all(struct drive *it) {
-    unsigned came = atomic_load(&all.came);
-    int64_t name = 0, next = 0;
-    bool is_row = false;
-    for (it->told = 0;; name = next) {
-        next = name + 1;
-        if (!is_row) SP_WAIT(next, sp_live_after(it->coordinator, (uint64_t)name));
-        if (next <= 0) break;
-        /* Before it can come, which it does by what the call then stores. */
-        atomic_store_explicit(&all.wanted, came + (unsigned)it->told + 1, memory_order_relaxed);
-        bool told = is_told(it, next);
-        it->told += told;
-        is_row = told && name && next == name + 1;
-    }
-    if (!it->told) it->told = ALL;
-    return next;
-}
-
-/* Serves for a held thread what it owes, and lets it go: 0, or why not. */
-static int64_t serve_held(struct drive *it, size_t place, int64_t owed) {
-    int64_t served, released;
-    if (it->call) it->call(it->with, &(struct sp_served){(uint64_t)owed, place, NULL});
-    SP_WAIT(served, sp_serve(it->coordinator, place));
-    SP_WAIT(released, sp_release(it->coordinator, place));
-    if (atomic_load(&all.gone.sleepers)) ring(&all.gone);
-    return served < 0 ? served : released < 0 ? released : 0;
-}
-
-/* A pass over the places that are late: holds each thread that can be held. Of a handshake it serves all that the thread owes, and lets it
-   go; of a census it keeps it. 0, or why not. Once it has seen as many as were told it looks no further. */
-static int64_t pass(struct drive *it, bool serves) {
-    uint64_t late = it->late;
-    int found = 0;
-    bool has_served = false;
-    int64_t answer = 0;
-    it->came = atomic_load(&all.came);
-    it->late = 0;
-    for (size_t place = 0; place < PLACES && found != it->told && answer >= 0;) {
-        int64_t owed = SP_VACANT;
-        if (late >> place & 1) SP_WAIT(owed, sp_hold(it->coordinator, place));
-        if (owed == SP_NO_SUCH_PLACE) break;
-        if (owed >= 0 && serves) {
-            answer = serve_held(it, place, owed);
-            has_served = true;
-            if (owed != it->newest) continue; /* it may owe the next */
-        }
-        uint64_t bit = (uint64_t)1 << place;
-        if (owed == SP_NOT_SAFE) it->late |= bit;
-        if (owed == SP_HELD || (owed >= 0 && !serves)) it->held |= bit;
-        found += owed >= 0 || owed == SP_NOT_SAFE || owed == SP_ALREADY_DONE;
-        place++;
-    }
-    if (has_served) ring(&all.gone); /* also for those that were about to sleep */
-    return answer;
-}
-
-/* Waits until all that were late in the last pass have come, or for a nap. */
-static void wait_for_late(struct drive *it) {
-    unsigned wanted = it->came + (unsigned)__builtin_popcountll(it->late), seen = atomic_load(&all.come.rings);
+/* Waits until so many have come, or for a nap. */
+static void wait_for(struct late *it, unsigned awaited) {
+    unsigned wanted = it->came + (awaited ? awaited : 1), seen = atomic_load(&all.come.rings);
     atomic_store(&all.wanted, wanted);
-    for (; it->looks > 0; it->looks--) {
-        if (are_here(wanted)) return;
-        PAUSE();
+    while (it->looks > 0 && !are_here(wanted)) it->looks--, PAUSE();
+    if (!are_here(wanted)) {
+        atomic_fetch_add(&all.come.sleepers, 1);
+        if (!are_here(wanted)) nap(&all.come, seen, it->naps++);
+        atomic_fetch_sub(&all.come.sleepers, 1);
     }
-    atomic_fetch_add(&all.come.sleepers, 1);
-    if (!are_here(wanted)) nap(&all.come, seen, it->naps++);
-    atomic_fetch_sub(&all.come.sleepers, 1);
+    it->came = atomic_load(&all.came);
 }
 
-/* The next pass is over all places: somebody owes still whom the last one didn't see. */
-static void look_everywhere(struct drive *it, struct sp_pause *pause) {
-    it->late = UINT64_MAX;
-    it->told = ALL;
-    rest(pause);
+static void run_for_held(struct sp_party *coordinator, sp_callback call, void *with) {
+    uint64_t operation = (uint64_t)sp_called_operation(coordinator);
+    call(with, &(struct sp_served){operation, (size_t)sp_called_place(coordinator), NULL});
 }
 
-/* The open census: all are held, it is operated, all are let go. A name that started meanwhile is no part of it. */
-static int64_t work_census(struct drive *it) {
+/* It rings for threads that it let go: where it goes on at once, if some sleep already; before it waits, also for those that are about to. */
+int64_t sp_drive(struct sp_party *coordinator, sp_callback call, void *with) {
+    struct late late = begin();
     struct sp_pause pause = {0, 0};
-    int64_t answer, released = 0;
-    for (;;) {
-        pass(it, false);
-        if (it->late) {
-            wait_for_late(it);
-            continue;
+    int64_t answer;
+    for (bool lets_go = false;; lets_go |= answer == SP_RUN) {
+        answer = sp_advance(coordinator);
+        if (lets_go && (answer == SP_AWAITS || atomic_load(&all.gone.sleepers))) ring(&all.gone);
+        if (answer != SP_AGAIN) pause.turns = 0;
+        if (answer == SP_RUN) {
+            if (call) run_for_held(coordinator, call, with);
+        } else if (answer == SP_AWAITS) {
+            lets_go = false;
+            wait_for(&late, (unsigned)sp_awaited(coordinator));
+        } else if (!sp_again(answer, &pause)) {
+            break;
         }
-        SP_WAIT(answer, sp_operate(it->coordinator));
-        if (answer != SP_NOT_ALL_HELD) break;
-        look_everywhere(it, &pause);
-    }
-    for (size_t place = 0; place < PLACES; place++) {
-        if (it->held >> place & 1) SP_WAIT(released, sp_release(it->coordinator, place));
     }
     ring(&all.gone);
-    return released < 0 ? released : answer;
-}
-
-static int64_t work_handshake(struct drive *it) {
-    struct sp_pause pause = {0, 0};
-    for (;;) {
-        int64_t closed = pass(it, true);
-        if (closed < 0) return closed;
-        if (it->late) wait_for_late(it);
-        SP_WAIT(closed, sp_close(it->coordinator));
-        if (closed != SP_NOT_DONE) return closed;
-        if (!it->late) look_everywhere(it, &pause);
-    }
-}
-
-/* Works the oldest open request to its Close, once all are told. */
-static int64_t work_told(struct drive *it) {
-    int64_t answer;
-    SP_WAIT(answer, sp_open_kind(it->coordinator));
-    if (answer == SP_NONE) return SP_NOTHING_OPEN;
-    if (answer == SP_HANDSHAKE) return work_handshake(it);
-    if (answer == SP_CENSUS) answer = work_census(it);
-    if (answer < 0 && answer != SP_ALREADY_DONE) return answer;
-    SP_WAIT(answer, sp_close(it->coordinator));
-    return answer;
-}
-
-/* Works the oldest open request, and all others that are open too, as far as they are wanted: the number of the one, or why not. The number that
-   was opened last is given, or 0 where there may be others. */
-static int64_t work(struct sp_party *coordinator, int64_t newest, int64_t *others, sp_callback call, void *with) {
-    struct drive it = {coordinator, call, with, newest, ALL, LOOKS, 0, 0, UINT64_MAX, 0};
-    struct sp_pause pause = {0, 0};
-    atomic_fetch_add(&all.begun, 1);
-    int64_t next, closed = tell_all(&it);
-    if (closed >= 0) closed = work_told(&it);
-    for (next = closed; others && next > 0; *others += next > 0) {
-        SP_WAIT(next, sp_close(coordinator)); /* in the passes for the first the others were served too */
-        if (next == SP_NOT_DONE) look_everywhere(&it, &pause), next = work_handshake(&it);
-    }
     atomic_fetch_add(&all.ended, 1);
-    return closed > 0 && next < 0 && next != SP_NOTHING_OPEN ? next : closed;
-}
-
-int64_t sp_drive(struct sp_party *coordinator, sp_callback call, void *with) {
-    int64_t opened, closed;
-    SP_WAIT(opened, sp_open(coordinator));
-    if (opened < 0 && opened != SP_ALREADY_OPEN && opened != SP_QUEUE_EMPTY) return opened;
-    closed = work(coordinator, opened > 0 ? opened : 0, NULL, call, with);
-    return closed == SP_NOTHING_OPEN ? SP_QUEUE_EMPTY : closed;
+    return answer;
 }
 
 int64_t sp_drive_four(struct sp_party *coordinator, sp_callback call, void *with) {
-    int64_t opened, closed, others = 0;
-    do SP_WAIT(opened, sp_open(coordinator));
-    while (opened > 0);
-    if (opened != SP_ALREADY_OPEN && opened != SP_QUEUE_EMPTY) return opened;
-    closed = work(coordinator, 0, &others, call, with);
-    return closed > 0 ? 1 + others : closed == SP_NOTHING_OPEN ? 0 : closed;
+    int64_t answer;
+    do SP_WAIT(answer, sp_open(coordinator));
+    while (answer > 0);
+    if (answer != SP_ALREADY_OPEN && answer != SP_QUEUE_EMPTY) return answer;
+    for (int64_t closed = 0;; closed++) {
+        SP_WAIT(answer, sp_open_kind(coordinator));
+        if (answer == SP_NONE) return closed;
+        if (answer > 0) answer = sp_drive(coordinator, call, with);
+        if (answer < 0) return answer;
+    }
 }
 
 int64_t sp_reclaim(struct sp_party *coordinator, uint64_t serial, sp_callback call, void *with) {

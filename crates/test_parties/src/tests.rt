@@ -1,5 +1,6 @@
 //! Texts of acts with their answers, and the runner that plays them.
 mod acts;
+mod advancing;
 mod censuses;
 mod codes;
 mod counted;

@@ -89,7 +89,6 @@ impl<'a, N: Name, J: HandshakeOp> Reclaimer<'a, N, J> {
     pub fn methods(&self) -> usize
         ensures { result ≡ length self.now.in_use }
     {
-        let _ = &self.coordinator;
         self.in_use.len()
     }
 

@@ -72,7 +72,6 @@ impl<N: Name> Report<N> {
     pub fn name(&self) -> u64
         ensures { result ≡ self.now.name }
     {
-        let _ = &self.exited;
         self.name
     }
 
@@ -80,7 +79,6 @@ impl<N: Name> Report<N> {
     pub fn ending(&self) -> Result<Ending, Refused>
         ensures { result ≡ self.now.ending }
     {
-        let _ = &self.exited;
         self.ending
     }
 
@@ -88,7 +86,6 @@ impl<N: Name> Report<N> {
     pub fn made(&self) -> u64
         ensures { result ≡ self.now.made }
     {
-        let _ = &self.exited;
         self.made
     }
 
@@ -96,7 +93,6 @@ impl<N: Name> Report<N> {
     pub fn compiled(&self) -> bool
         ensures { result ≡ self.now.compiled }
     {
-        let _ = &self.exited;
         self.compiled
     }
 }

@@ -50,7 +50,6 @@ impl<N: Name> Summary<N> {
     pub fn reports(&self) -> &[Report<N>]
         ensures { result.now ≡ self.now.reports }
     {
-        let _ = &self.lines;
         self.reports.as_slice()
     }
 
@@ -58,7 +57,6 @@ impl<N: Name> Summary<N> {
     pub fn lines(&self) -> &[Line]
         ensures { result.now ≡ self.now.lines }
     {
-        let _ = &self.reports;
         self.lines.as_slice()
     }
 
@@ -66,7 +64,6 @@ impl<N: Name> Summary<N> {
     pub fn compiled(&self) -> bool
         ensures { result ≡ self.now.compiled }
     {
-        let _ = &self.reports;
         self.compiled
     }
 
@@ -74,7 +71,6 @@ impl<N: Name> Summary<N> {
     pub fn installed(&self) -> &[Receipt<N>]
         ensures { result.now ≡ self.now.installed }
     {
-        let _ = &self.reports;
         self.installed.as_slice()
     }
 
@@ -82,7 +78,6 @@ impl<N: Name> Summary<N> {
     pub fn freed(&self) -> &[Receipt<N>]
         ensures { result.now ≡ self.now.freed }
     {
-        let _ = &self.reports;
         self.freed.as_slice()
     }
 
@@ -90,7 +85,6 @@ impl<N: Name> Summary<N> {
     pub fn counts(&self) -> u64
         ensures { result ≡ self.now.counts }
     {
-        let _ = &self.reports;
         self.counts
     }
 }

@@ -75,7 +75,6 @@ impl<'a, N: Name, J: HandshakeOp, R: Wait, G: Gate> Task<'a, N, J, R, G> {
     pub fn code(&self) -> &'a Code
         ensures { result.now ≡ self.now.code }
     {
-        let _ = &self.worker;
         self.code
     }
 
@@ -83,7 +82,6 @@ impl<'a, N: Name, J: HandshakeOp, R: Wait, G: Gate> Task<'a, N, J, R, G> {
     pub fn name(&self) -> u64
         ensures { result ≡ self.now.name }
     {
-        let _ = &self.worker;
         self.name
     }
 

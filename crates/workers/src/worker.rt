@@ -70,7 +70,6 @@ impl<'a, N: Name, J: HandshakeOp, R: Wait, G: Gate> Worker<'a, N, J, R, G> {
     pub fn name(&self) -> u64
         ensures { result ≡ self.now.thread.name }
     {
-        let _ = &self.shared;
         self.thread.name()
     }
 
@@ -78,7 +77,6 @@ impl<'a, N: Name, J: HandshakeOp, R: Wait, G: Gate> Worker<'a, N, J, R, G> {
     pub fn compiled(&self) -> bool
         ensures { result ≡ self.now.compiled }
     {
-        let _ = &self.thread;
         self.compiled
     }
 

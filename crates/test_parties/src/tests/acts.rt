@@ -27,6 +27,10 @@ fn plain_act(word: &str) -> Option<Act> {
         "open" => Act::Open,
         "operate" => Act::Operate,
         "close" => Act::Close(None),
+        "advance" => Act::Advance,
+        "called_operation" => Act::CalledOperation,
+        "called_place" => Act::CalledPlace,
+        "awaited" => Act::Awaited,
         _ => return None,
     };
     Some(act)

@@ -1,7 +1,7 @@
 use Rattle.std.proofs.Common.{◌∙◌, List, [], ◌∷◌, ◌++◌, ap}
 use Rattle.bodies.specs.Bodies.{BodyView}
 use Rattle.stopped_threads.specs.Holding.{Holding}
-use Rattle.coordinator.proofs.Arms.{arms_same}
+use Rattle.coordinator_core.proofs.Arms.{arms_same}
 use Rattle.coordinator.proofs.coordinator.Coordinator.hold_due.Goals as goal
 
 pub returns-in-Asleep : goal.returns-in-Asleep

@@ -1,5 +1,5 @@
 use Rattle.std.proofs.Common.{rules}
-use Rattle.coordinator.proofs.Arms.{arms_by}
+use Rattle.coordinator_core.proofs.Arms.{arms_by}
 use Rattle.coordinator.proofs.coordinator.Coordinator.put.Goals as goal
 
 pub returns-in-Ok-clause-arms : goal.returns-in-Ok-clause-arms

@@ -2,11 +2,11 @@ use Rattle.std.proofs.Common.{rules, ◌≡◌, ◌<◌, ◌&&◌, ◌++◌, tru
 use Rattle.std.proofs.Math.Seq.{map-set_same}
 use Rattle.std.proofs.lemmas.List.{take_more, length-map}
 use Rattle.std.proofs.Math.ListN.{get_or-map}
-use Rattle.coordinator.specs.Telling.{AreArmed}
-use Rattle.coordinator.specs.declared.listing.PendingOp.{PendingOp}
-use Rattle.coordinator.specs.declared.listing.PendingJob.{PendingJob}
-use Rattle.coordinator.proofs.Arms.{arms_then}
-use Rattle.coordinator.proofs.Tellings.{armed_on, armed_more, and_left, and_right}
+use Rattle.coordinator_core.specs.Telling.{AreArmed}
+use Rattle.coordinator_core.specs.declared.listing.PendingOp.{PendingOp}
+use Rattle.coordinator_core.specs.declared.listing.PendingJob.{PendingJob}
+use Rattle.coordinator_core.proofs.Arms.{arms_then}
+use Rattle.coordinator_core.proofs.Tellings.{armed_on, armed_more, and_left, and_right}
 use Rattle.coordinator.proofs.coordinator.Coordinator.tell_each.Goals as goal
 use Rattle.coordinator.proofs.coordinator.Coordinator.tell_each.Goals.{then-tell_at, else-tell_at}
 

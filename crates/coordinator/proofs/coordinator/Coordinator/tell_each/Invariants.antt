@@ -1,6 +1,6 @@
 use Rattle.std.proofs.Common.{◌≡◌, true, map, take}
 use Rattle.stopped_threads.specs.Holding.{ArmsOn}
-use Rattle.coordinator.specs.Telling.{AreArmed}
+use Rattle.coordinator_core.specs.Telling.{AreArmed}
 use Rattle.coordinator.proofs.coordinator.Coordinator.tell_each.Given as goal
 
 abbrev pub invariant-loop-at : goal.invariant-loop-at

@@ -2,8 +2,8 @@ use Rattle.std.proofs.Common.{rules, ◌≡◌, true, false, length, sym, ap, su
 use Rattle.thread_state.specs.declared.poll_rule.Arming.{Arming}
 use Rattle.desk.specs.Fields.{DeskSeen, at}
 use Rattle.stopped_threads.specs.Holding.{Holding}
-use Rattle.coordinator.specs.Telling.{due_in, IsAllTold, AreArmed}
-use Rattle.coordinator.proofs.Tellings.{all_told}
+use Rattle.coordinator_core.specs.Telling.{due_in, IsAllTold, AreArmed}
+use Rattle.coordinator_core.proofs.Tellings.{all_told}
 use Rattle.coordinator.proofs.coordinator.Coordinator.tell_listed.Goals as goal
 
 pub of-requires : goal.of-requires

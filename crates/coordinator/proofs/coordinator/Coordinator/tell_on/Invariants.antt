@@ -1,6 +1,6 @@
 use Rattle.std.proofs.Common.{◌≡◌, length}
 use Rattle.stopped_threads.specs.Holding.{ArmsOn}
-use Rattle.coordinator.specs.Telling.{IsListing}
+use Rattle.coordinator_core.specs.Telling.{IsListing}
 use Rattle.coordinator.proofs.coordinator.Coordinator.tell_on.Given as goal
 
 abbrev pub invariant-loop : goal.invariant-loop
