@@ -1,13 +1,125 @@
-/* Threads of C++ by scopes, beside a coordinator: each callback runs once for each target. tests/safepoint.py builds and runs it. */
+/* Threads of C++ by scopes, beside a coordinator: each callback runs once for each target, exceptions leave scopes, and a refused start keeps the
+   party. It ends by itself. tests/safepoint.py builds and runs it. */
 #include <atomic>
 #include <cstdio>
+#include <memory>
 #include <thread>
+#include <unistd.h>
 
 #include "safepoint.hpp"
 
 using Kind = safepoint::Party::Kind;
+using safepoint::Refused;
+using safepoint::System;
+using safepoint::Thread;
 
-int main() {
+struct Bug {};
+
+/* Leaves two methods, and native code, a wait or the VM, by an exception. */
+static void fail_inside(Thread &thread, int turn) {
+    Thread::Frame outer(thread, 0);
+    thread.poll();
+    Thread::Frame inner(thread, 1);
+    if (turn % 3 == 0) {
+        Thread::Native native(thread);
+        throw Bug();
+    }
+    if (turn % 3 == 1) {
+        Thread::Blocked blocked(thread);
+        throw Bug();
+    }
+    Thread::Vm vm(thread);
+    throw Bug();
+}
+
+/* A handshake with all that live, where there is one, and a census: how many answered. */
+static int ask_all(System &system, const safepoint::Callback &callback) {
+    auto names = system.live();
+    auto operation = names.empty() ? 0 : system.submit(names);
+    auto census = system.census();
+    int answered = 0, failed = operation && system.drive(callback) != operation;
+    failed += system.drive() != census;
+    for (auto name : names) {
+        std::int64_t reply;
+        SP_WAIT(reply, sp_reply(system.get(), operation, name));
+        answered += reply >= 0;
+    }
+    return failed ? -1 : answered;
+}
+
+/* Starts the calling thread. While a census is open, it tries again. */
+static std::unique_ptr<Thread> started(safepoint::Party party, const safepoint::Callback &callback) {
+    for (;;) try {
+            return std::make_unique<Thread>(std::move(party), callback);
+        } catch (const Refused &refused) {
+            if (refused.answer() != SP_SAFEPOINT_OPEN) throw;
+            std::this_thread::yield();
+        }
+}
+
+/* Exceptions leave scopes while a coordinator works on handshakes and censuses. */
+static int exceptions_leave_scopes(int threads) {
+    constexpr int turns = 300;
+    System system(static_cast<std::size_t>(threads), 1, 2);
+    std::atomic<int> done{0}, caught{0}, ran{0};
+    auto callback = [&](const sp_served &) { ran++; };
+    std::vector<std::thread> all;
+    for (int i = 0; i < threads; i++)
+        all.emplace_back([&, party = system.fork()]() mutable {
+            auto thread = started(std::move(party), callback);
+            for (int turn = 0; turn < turns; turn++) try {
+                    fail_inside(*thread, turn);
+                } catch (const Bug &) {
+                    caught++;
+                }
+            thread.reset();
+            done++;
+        });
+    int answered = 0, failed = 0;
+    for (int told; done < threads; answered += told) {
+        told = ask_all(system, callback);
+        failed += told < 0;
+    }
+    for (auto &thread : all) thread.join();
+    return failed + (caught != threads * turns) + (ran != answered) + !system.live().empty();
+}
+
+static int refused_starts_keep_their_parties(int threads) {
+    System system(static_cast<std::size_t>(threads), 1, 1);
+    std::vector<safepoint::Party> parties;
+    std::vector<std::unique_ptr<Thread>> all;
+    int failed = 0;
+    for (int i = 0; i < threads; i++) {
+        parties.push_back(system.fork());
+        all.push_back(std::make_unique<Thread>(system.fork()));
+    }
+    for (auto &party : parties) try {
+            Thread thread(std::move(party));
+            failed++;
+        } catch (const Refused &refused) {
+            failed += refused.answer() != SP_PLACES_FULL || party.live() != system.live();
+        }
+    all.clear();
+    for (auto &party : parties) all.push_back(std::make_unique<Thread>(std::move(party)));
+    std::vector<std::uint64_t> names;
+    for (auto &thread : all) names.push_back(thread->name());
+    return failed + (system.live() != names);
+}
+
+/* A running thread asks about itself, and a held one is told by its place. */
+static int a_thread_asks() {
+    System system(2, 1, 1);
+    Thread first(system.fork()), thread(system.fork());
+    int failed = first.place() == thread.place();
+    auto operation = thread.party().submit({thread.name()});
+    std::size_t place = 9;
+    Thread::Frame frame(thread, 0);
+    Thread::Blocked blocked(thread);
+    failed += system.drive([&](const sp_served &served) { place = served.place; }) != operation;
+    return failed + (place != thread.place()) + (thread.party().reply(operation, thread.name()) != 1);
+}
+
+static int callbacks_run_once() {
     constexpr int threads = 3, rounds = 100;
     safepoint::System system(8, 16, 4);
     std::atomic<bool> ends{false};
@@ -69,6 +181,14 @@ int main() {
     } catch (const safepoint::Refused &refused) {
         failed += refused.answer() != SP_UNKNOWN;
     }
+    return failed;
+}
+
+int main() {
+    alarm(300);
+    int failed = callbacks_run_once() + a_thread_asks();
+    for (int threads : {1, 4, 16})
+        failed += exceptions_leave_scopes(threads) + refused_starts_keep_their_parties(threads);
     if (!failed) std::puts("ok");
     return failed != 0;
 }

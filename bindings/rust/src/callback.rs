@@ -8,11 +8,11 @@ use std::panic::{catch_unwind, resume_unwind, AssertUnwindSafe};
 use std::ptr;
 
 /// An operation that is served at a safe point: the thread doesn't run, and its stack is published.
-#[derive(Clone, Copy, Debug, PartialEq, Eq)]
+#[derive(Clone, Copy, Debug, PartialEq, Eq, Hash)]
 pub struct Served {
     /// The number of the operation.
     pub operation: u64,
-    /// The place of the thread.
+    /// The place of the thread, which [`Thread::place`](crate::Thread::place) tells.
     pub place: usize,
     /// Whether the thread is held, and the coordinator runs the callback for it.
     pub is_held: bool,
@@ -26,7 +26,7 @@ struct Running<F> {
     panic: Option<Panic>,
 }
 
-/// What a call that ran callbacks answered, and the first panic of a callback.
+/// What a call that may run callbacks answered, and the first panic of a callback.
 #[must_use]
 pub struct Ran {
     said: i64,
@@ -34,25 +34,48 @@ pub struct Ran {
 }
 
 impl Ran {
-    /// The answer, or the panic goes on.
-    pub fn resume(self) -> Result<u64, Refusal> {
-        match self.panic {
-            Some(panic) => resume_unwind(panic),
-            None => answer(self.said),
+    /// Of a call that ran no callback.
+    pub fn of(said: i64) -> Ran {
+        Ran { said, panic: None }
+    }
+
+    /// The answer of a further call, and the first panic of both.
+    pub fn then(self, next: Ran) -> Ran {
+        Ran {
+            said: next.said,
+            panic: self.panic.or(next.panic),
         }
     }
 
-    /// The answer alone, where another panic goes on already.
-    pub fn answer(self) -> Result<u64, Refusal> {
+    /// The answer alone.
+    pub fn answer(&self) -> Result<u64, Refusal> {
         answer(self.said)
+    }
+
+    /// The panic goes on, if there is one.
+    pub fn resume_panic(self) {
+        if let Some(panic) = self.panic {
+            resume_unwind(panic);
+        }
+    }
+
+    /// The answer, or the panic goes on.
+    pub fn resume(self) -> Result<u64, Refusal> {
+        let said = self.answer();
+        self.resume_panic();
+        said
     }
 }
 
 /// No panic unwinds into C: the first is kept, and the callback runs for the further targets too.
+///
+/// # Safety
+/// `with` is the `Running<F>` of the call that runs this callback, and nobody else uses it meanwhile.
 unsafe extern "C" fn at_safe_point<F: FnMut(Served)>(
     with: *mut c_void,
     served: *const sys::Served,
 ) {
+    // SAFETY: C passes `with` on as it is, and a `struct sp_served` that it has made.
     let (running, served) = unsafe { (&mut *with.cast::<Running<F>>(), &*served) };
     let served = Served {
         operation: served.operation,

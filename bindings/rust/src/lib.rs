@@ -1,8 +1,8 @@
 //! Stops the threads of a runtime at safe points, runs callbacks there, and says when machine code can be freed.
 //!
-//! The calls are those of libsafepoint.a, which are proved. The waits are those of libsafepoint_wait.a, in C, and
-//! nobody proved them or this crate. The build links what `SAFEPOINT_ARCHIVES` names, or else the installed package
-//! `safepoint` of pkg-config.
+//! [`Safepoints`] makes a system and is its coordinator: it works on what is asked. A [`Client`] asks, and becomes a
+//! running [`Thread`] by its start. All three are a [`Party`], which may ask and install codes. No call is made with a
+//! pointer, and none is unsafe.
 //!
 //! ```
 //! use safepoint::{Ask, Safepoints};
@@ -12,7 +12,7 @@
 //! let (ready, started) = std::sync::mpsc::channel();
 //! let (end, ended) = std::sync::mpsc::channel::<()>();
 //! let running = std::thread::spawn(move || {
-//!     let mut thread = client.start(|_served| {}).expect("a thread starts");
+//!     let mut thread = client.start(|_served| {})?;
 //!     ready.send(thread.name()).unwrap();
 //!     thread.call(0, |thread| {
 //!         while ended.try_recv().is_err() {
@@ -29,9 +29,33 @@
 //! running.join().unwrap()?;
 //! # Ok::<(), safepoint::Refusal>(())
 //! ```
-#![deny(missing_docs)]
+//!
+//! # Panics of a body or a callback
+//!
+//! A panic leaves no thread that others wait for. A method, native code and a wait are left where their body panics,
+//! and a dropped [`Thread`] exits. A callback that panics unwinds no frame of C: the stop ends first, and then the
+//! panic goes on in the thread that called. [`Thread`] and [`Safepoints`] say it call by call.
+//!
+//! # What a host keeps
+//!
+//! The types see to it that one thread at a time calls with a party. The host sees to the rest of the list in
+//! docs/start/EMBEDDING.md: above all, each entry of a method is a [`Thread::call`] or a [`Thread::enter`], a code's
+//! memory goes only after [`Reclaimed::Freed`], and each call finds 12 KB of stack.
+//!
+//! # Linking
+//!
+//! The calls are those of libsafepoint.a, which are proved. The waits are those of libsafepoint_wait.a, in C, and
+//! nobody proved them or this crate. The build links the archives that `SAFEPOINT_ARCHIVES` names, separated by spaces,
+//! or else the installed package `safepoint` of pkg-config.
+#![deny(missing_docs, unsafe_op_in_unsafe_fn)]
+#![warn(
+    clippy::missing_errors_doc,
+    clippy::missing_panics_doc,
+    clippy::undocumented_unsafe_blocks
+)]
 
 mod callback;
+mod client;
 mod party;
 mod refusal;
 mod sys;
@@ -40,7 +64,8 @@ mod thread;
 mod waiting;
 
 pub use callback::Served;
-pub use party::Kind;
+pub use client::{Client, StartError};
+pub use party::{Ask, Kind, Party};
 pub use refusal::Refusal;
-pub use system::{Ask, Next, Reclaimed, Safepoints};
-pub use thread::{Client, Thread};
+pub use system::{Next, Reclaimed, Safepoints};
+pub use thread::Thread;

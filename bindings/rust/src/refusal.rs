@@ -6,7 +6,7 @@ use std::fmt;
 macro_rules! refusals {
     ($($name:ident = $number:literal, $text:literal;)*) => {
         /// Why a call isn't done. The call has changed nothing then, except where `safepoint.h` says so.
-        #[derive(Clone, Copy, Debug, PartialEq, Eq)]
+        #[derive(Clone, Copy, Debug, PartialEq, Eq, Hash)]
         #[non_exhaustive]
         pub enum Refusal {
             $(#[doc = $text] $name,)*

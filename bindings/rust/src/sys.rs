@@ -26,11 +26,18 @@ pub struct Pause {
 
 pub type Callback = unsafe extern "C" fn(with: *mut c_void, served: *const Served);
 
+/// A call that takes the party alone.
+pub type Act = unsafe extern "C" fn(*mut Party) -> i64;
+
+/// A call that may stop the thread, and runs its callback then.
+pub type Stopping = unsafe extern "C" fn(*mut Party, Callback, *mut c_void) -> i64;
+
 extern "C" {
     pub fn sp_make(coordinator: *mut Party, places: usize, slots: usize, methods: usize) -> i64;
     pub fn sp_fork(party: *mut Party, other: *mut Party) -> i64;
     pub fn sp_free(party: *mut Party);
     pub fn sp_name(thread: *mut Party) -> i64;
+    pub fn sp_place(thread: *mut Party) -> i64;
     pub fn sp_call(thread: *mut Party, method: u32) -> i64;
     pub fn sp_ret(thread: *mut Party) -> i64;
     pub fn sp_back_edge(thread: *mut Party) -> i64;
@@ -51,6 +58,8 @@ extern "C" {
     pub fn sp_called_place(coordinator: *mut Party) -> i64;
     pub fn sp_awaited(coordinator: *mut Party) -> i64;
     pub fn sp_counted(coordinator: *mut Party, serial: u64) -> i64;
+    pub fn sp_reclaim_begin(party: *mut Party, serial: u64) -> i64;
+    pub fn sp_reclaim_end(coordinator: *mut Party, serial: u64) -> i64;
 }
 
 // Of libsafepoint_wait.a.

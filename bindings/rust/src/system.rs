@@ -1,24 +1,14 @@
 //! A system of threads, as its coordinator.
-use crate::callback::{with_callback, Served};
-use crate::party::{Kind, Party};
+use crate::callback::{with_callback, Ran, Served};
+use crate::party::Party;
 use crate::refusal::Refusal;
 use crate::sys;
-use crate::thread::Client;
 use crate::waiting::{answer, wait};
-
-/// What a handshake asks of each target.
-#[derive(Clone, Copy, Debug, PartialEq, Eq)]
-pub enum Ask {
-    /// How many frames its stack has.
-    Depth,
-    /// How many of them are of the code of this serial.
-    CountOf(u64),
-    /// The serial of the top frame's code; 0 where that is interpreted, or there is no frame.
-    Top,
-}
+use std::ops::Deref;
+use std::os::raw::c_void;
 
 /// What became of a code.
-#[derive(Clone, Copy, Debug, PartialEq, Eq)]
+#[derive(Clone, Copy, Debug, PartialEq, Eq, Hash)]
 pub enum Reclaimed {
     /// It is freed: its memory may go.
     Freed,
@@ -28,8 +18,19 @@ pub enum Reclaimed {
     Late,
 }
 
+impl Reclaimed {
+    fn of(said: Result<u64, Refusal>) -> Result<Reclaimed, Refusal> {
+        match said {
+            Ok(0) => Ok(Reclaimed::Freed),
+            Ok(frames) => Ok(Reclaimed::Used(frames)),
+            Err(Refusal::Late) => Ok(Reclaimed::Late),
+            Err(refusal) => Err(refusal),
+        }
+    }
+}
+
 /// What comes next in the work on a request.
-#[derive(Clone, Copy, Debug, PartialEq, Eq)]
+#[derive(Clone, Copy, Debug, PartialEq, Eq, Hash)]
 pub enum Next {
     /// The request of this number is closed.
     Closed(u64),
@@ -39,118 +40,154 @@ pub enum Next {
     Awaits(u64),
 }
 
-/// A system of threads, as its coordinator.
+/// A system of threads, as its coordinator: it works on what parties asked for. It asks what any [`Party`] may ask.
 ///
-/// The calls that take a callback wait. They run it for each target that is held, on the thread that calls. Where a
-/// callback panics, the work goes on to its end, with the callback for each further target; then the first panic goes
-/// on out of the call.
+/// The calls that take a callback wait. They run it for each target that is held, on the thread that calls. A callback
+/// makes no call that waits for another thread. Where a callback panics, the work goes on to its end, with the callback
+/// for each further target; then the first panic goes on out of the call. So no thread stays held for a panic.
+///
+/// ```
+/// use safepoint::{Refusal, Safepoints};
+///
+/// let mut system = Safepoints::new(2, 4, 1)?;
+/// let mut thread = system.client()?.start(|_served| {})?;
+/// let code = system.install(0)?;
+/// let running = thread.call_with(0, |_thread, serial| Ok(serial))?;
+/// assert_eq!(running, code);
+/// let census = system.census()?;
+/// assert_eq!(thread.in_native(|| system.drive(|_served| {}))??, census);
+/// assert_eq!(system.counted(code)?, 0);
+/// # Ok::<(), Refusal>(())
+/// ```
+///
+/// It may pass to another thread of the host, and two don't share it:
+///
+/// ```
+/// fn may_pass<T: Send>() {}
+/// may_pass::<safepoint::Safepoints>();
+/// ```
+///
+/// ```compile_fail,E0277
+/// fn is_shared<T: Sync>() {}
+/// is_shared::<safepoint::Safepoints>();
+/// ```
 #[derive(Debug)]
 pub struct Safepoints {
     party: Party,
 }
 
 impl Safepoints {
-    /// Makes a system of at most so many threads at a time (1 to 64), codes (1 to 1024) and methods (1 to 256).
+    /// Makes a system of at most so many threads at a time (1 to 64), codes (1 to 1024) and methods (1 to 256), which
+    /// are numbered from 0.
+    ///
+    /// # Errors
+    /// [`Refusal::BadSize`], [`Refusal::NoMemory`].
     pub fn new(places: usize, slots: usize, methods: usize) -> Result<Safepoints, Refusal> {
-        let mut party = Party::none();
-        answer(unsafe { sys::sp_make(party.at(), places, slots, methods) })?;
+        let party = Party::none();
+        // SAFETY: the pointer is that of a party, which isn't made yet.
+        answer(unsafe { sys::sp_make(party.raw(), places, slots, methods) })?;
         Ok(Safepoints { party })
     }
 
-    /// Makes another party to the system, which may become a thread.
-    pub fn client(&mut self) -> Result<Client, Refusal> {
-        Ok(Client::of(self.party.fork()?))
-    }
-
-    /// Installs a code for the method: its serial. No thread enters the method's code before it any more.
-    pub fn install(&mut self, method: u32) -> Result<u64, Refusal> {
-        wait(|| unsafe { sys::sp_install(self.party.at(), method) })
-    }
-
-    /// Takes the code out of use: no thread enters it any more.
-    pub fn invalidate(&mut self, serial: u64) -> Result<(), Refusal> {
-        wait(|| unsafe { sys::sp_invalidate(self.party.at(), serial) }).map(drop)
-    }
-
-    /// Submits a handshake with the threads of these names, which waits: its number.
-    pub fn submit(&mut self, names: &[u64], ask: Ask) -> Result<u64, Refusal> {
-        for name in names {
-            answer(unsafe { sys::sp_target(self.party.at(), *name) })?;
-        }
-        let (asks, serial) = match ask {
-            Ask::Depth => (0, 0),
-            Ask::CountOf(serial) => (1, serial),
-            Ask::Top => (2, 0),
-        };
-        wait(|| unsafe { sys::sp_submit(self.party.at(), asks, serial) })
-    }
-
-    /// Submits a census of all threads, which waits: its number.
-    pub fn census(&mut self) -> Result<u64, Refusal> {
-        wait(|| unsafe { sys::sp_census(self.party.at()) })
-    }
-
-    /// What the thread of the name answered in an operation. `Refusal::NotAnswered` where it answered nothing.
-    pub fn reply(&mut self, operation: u64, name: u64) -> Result<u64, Refusal> {
-        wait(|| unsafe { sys::sp_reply(self.party.at(), operation, name) })
-    }
-
-    /// The frames of a code in the census that was operated last.
-    pub fn counted(&mut self, serial: u64) -> Result<u64, Refusal> {
-        answer(unsafe { sys::sp_counted(self.party.at(), serial) })
-    }
-
-    /// The names of the live threads, each above the one before. They are found one by one: a thread that starts or
-    /// exits meanwhile may be missing or still listed.
-    pub fn live(&mut self) -> Result<Vec<u64>, Refusal> {
-        let mut names = Vec::new();
-        let mut last = 0;
-        loop {
-            last = wait(|| unsafe { sys::sp_live_after(self.party.at(), last) })?;
-            if last == 0 {
-                return Ok(names);
-            }
-            names.push(last);
-        }
-    }
-
-    /// Of which kind the open requests are; None where nothing is open.
-    pub fn open_kind(&mut self) -> Result<Option<Kind>, Refusal> {
-        self.party.open_kind()
-    }
-
-    /// Forgets the entries of the history so far, and the replies of operations that are closed.
-    pub fn forget(&mut self) -> Result<(), Refusal> {
-        wait(|| unsafe { sys::sp_forget(self.party.at()) }).map(drop)
-    }
-
-    /// Works the oldest request to its Close: its number. `Refusal::QueueEmpty` where no request waits.
+    /// Works the oldest request to its Close, and answers its number.
+    ///
+    /// # Errors
+    /// [`Refusal::QueueEmpty`] where no request waits. [`Refusal::NoMemory`]: the request may be open, and a census
+    /// keeps the threads that it holds; call again.
+    ///
+    /// # Panics
+    /// Where the callback panics. The request is closed then.
     pub fn drive(&mut self, callback: impl FnMut(Served)) -> Result<u64, Refusal> {
-        with_callback(callback, |call, with| unsafe {
-            sys::sp_drive(self.party.at(), call, with)
+        // SAFETY: the pointer is that of a party, which this thread alone has, and the callback can't reach it.
+        self.running(callback, |party, call, with| unsafe {
+            sys::sp_drive(party, call, with)
         })
         .resume()
     }
 
-    /// Works on the oldest request as far as that goes without waiting, and says what comes next. `Refusal::QueueEmpty`
-    /// where no request waits. It is for a host with its own waits, which calls again at any time; `drive` does all.
+    /// Works up to four handshakes at once, or one census, to their Close, and answers how many were closed, 0 where
+    /// none waits.
+    ///
+    /// # Errors
+    /// [`Refusal::NoMemory`], as of [`drive`](Safepoints::drive).
+    ///
+    /// # Panics
+    /// Where the callback panics. The requests are closed then.
+    pub fn drive_four(&mut self, callback: impl FnMut(Served)) -> Result<u64, Refusal> {
+        // SAFETY: as in `drive`.
+        self.running(callback, |party, call, with| unsafe {
+            sys::sp_drive_four(party, call, with)
+        })
+        .resume()
+    }
+
+    /// Works on the oldest request as far as that goes without waiting for threads, and says what comes next. It is
+    /// for a host with its own waits, which calls again at any time; [`drive`](Safepoints::drive) does all.
+    ///
+    /// The host runs its callback for [`Next::Run`] itself. If that panics, the thread stays held until the next
+    /// `advance`. A `Safepoints` that is dropped with an open request leaves held threads held.
+    ///
+    /// # Errors
+    /// Those of [`drive`](Safepoints::drive).
     pub fn advance(&mut self) -> Result<Next, Refusal> {
-        let said = wait(|| unsafe { sys::sp_advance(self.party.at()) });
+        let said = wait(|| self.party.once(sys::sp_advance));
         // The call may have let threads go.
+        // SAFETY: it takes nothing.
         unsafe { sys::sp_ring() };
         match said {
             Ok(number) => Ok(Next::Closed(number)),
             Err(Refusal::Run) => self.called().map(Next::Run),
-            Err(Refusal::Awaits) => {
-                answer(unsafe { sys::sp_awaited(self.party.at()) }).map(Next::Awaits)
-            }
+            Err(Refusal::Awaits) => answer(self.party.once(sys::sp_awaited)).map(Next::Awaits),
             Err(refusal) => Err(refusal),
         }
     }
 
+    /// The frames of a code in the census that was operated last.
+    ///
+    /// # Errors
+    /// `safepoint.h` lists none.
+    pub fn counted(&self, serial: u64) -> Result<u64, Refusal> {
+        // SAFETY: the pointer is that of a party, which this thread alone has.
+        answer(unsafe { sys::sp_counted(self.party.raw(), serial) })
+    }
+
+    /// Reclaims a code that no thread enters any more, by a handshake with all live threads.
+    ///
+    /// # Errors
+    /// Those of [`begin_reclaim`](Party::begin_reclaim) and of [`drive`](Safepoints::drive).
+    /// [`Refusal::BadTargets`] where threads start and exit meanwhile: call again.
+    ///
+    /// # Panics
+    /// Where the callback panics. The handshake is closed then, and the code may be freed: where it is, a further call
+    /// answers [`Refusal::Unknown`].
+    pub fn reclaim(
+        &mut self,
+        serial: u64,
+        callback: impl FnMut(Served),
+    ) -> Result<Reclaimed, Refusal> {
+        // SAFETY: as in `drive`.
+        Reclaimed::of(
+            self.running(callback, |party, call, with| unsafe {
+                sys::sp_reclaim(party, serial, call, with)
+            })
+            .resume(),
+        )
+    }
+
+    /// Says what becomes of a code, once the handshake of its [`begin_reclaim`](Party::begin_reclaim) is closed.
+    ///
+    /// # Errors
+    /// [`Refusal::NotWeighed`].
+    pub fn end_reclaim(&mut self, serial: u64) -> Result<Reclaimed, Refusal> {
+        // SAFETY: the pointer is that of a party, which this thread alone has.
+        Reclaimed::of(wait(|| unsafe {
+            sys::sp_reclaim_end(self.party.raw(), serial)
+        }))
+    }
+
     fn called(&mut self) -> Result<Served, Refusal> {
-        let operation = answer(unsafe { sys::sp_called_operation(self.party.at()) })?;
-        let place = answer(unsafe { sys::sp_called_place(self.party.at()) })?;
+        let operation = answer(self.party.once(sys::sp_called_operation))?;
+        let place = answer(self.party.once(sys::sp_called_place))?;
         Ok(Served {
             operation,
             place: place as usize,
@@ -158,30 +195,20 @@ impl Safepoints {
         })
     }
 
-    /// Works up to four handshakes at once, or one census, to their Close: how many were closed, 0 where none waits.
-    pub fn drive_four(&mut self, callback: impl FnMut(Served)) -> Result<u64, Refusal> {
-        with_callback(callback, |call, with| unsafe {
-            sys::sp_drive_four(self.party.at(), call, with)
-        })
-        .resume()
-    }
-
-    /// Reclaims a code that is out of use, by a handshake with all live threads.
-    pub fn reclaim(
+    fn running(
         &mut self,
-        serial: u64,
         callback: impl FnMut(Served),
-    ) -> Result<Reclaimed, Refusal> {
-        let party = self.party.at();
-        match with_callback(callback, |call, with| unsafe {
-            sys::sp_reclaim(party, serial, call, with)
-        })
-        .resume()
-        {
-            Ok(0) => Ok(Reclaimed::Freed),
-            Ok(frames) => Ok(Reclaimed::Used(frames)),
-            Err(Refusal::Late) => Ok(Reclaimed::Late),
-            Err(refusal) => Err(refusal),
-        }
+        call: impl FnOnce(*mut sys::Party, sys::Callback, *mut c_void) -> i64,
+    ) -> Ran {
+        let party = self.party.raw();
+        with_callback(callback, |run, with| call(party, run, with))
+    }
+}
+
+impl Deref for Safepoints {
+    type Target = Party;
+
+    fn deref(&self) -> &Party {
+        &self.party
     }
 }

@@ -1,67 +1,121 @@
 //! The threads of a system.
 use crate::callback::{with_callback, Ran, Served};
-use crate::party::{Kind, Party};
+use crate::party::Party;
 use crate::refusal::Refusal;
 use crate::sys;
 use crate::waiting::answer;
 use std::fmt;
 use std::marker::PhantomData;
-use std::os::raw::c_void;
-use std::panic::{catch_unwind, resume_unwind, AssertUnwindSafe};
-use std::thread;
+use std::ops::Deref;
 
-/// A party to a system that is no thread yet.
-#[derive(Debug)]
-pub struct Client {
-    party: Party,
-}
-
-impl Client {
-    pub(crate) fn of(party: Party) -> Client {
-        Client { party }
-    }
-
-    /// Of which kind the open requests are; None where nothing is open.
-    pub fn open_kind(&mut self) -> Result<Option<Kind>, Refusal> {
-        self.party.open_kind()
-    }
-
-    /// Starts the calling thread, with the callback that it runs for each operation that it serves itself.
-    pub fn start<'a>(self, callback: impl FnMut(Served) + 'a) -> Result<Thread<'a>, Refusal> {
-        let callback = Box::new(callback);
-        let mut thread = Thread {
-            party: self.party,
-            name: 0,
-            callback,
-            stays: PhantomData,
-        };
-        thread.name = thread.serving(sys::sp_start_thread).resume()?;
-        Ok(thread)
-    }
-}
-
-/// A call that may stop the thread, and runs its callback then.
-type Stopping = unsafe extern "C" fn(*mut sys::Party, sys::Callback, *mut c_void) -> i64;
-
-/// The thread that started. It doesn't pass to another thread, and exits where it is dropped.
+/// A running thread of the system. It stays with the thread of the host that started it, and exits where it is dropped.
 ///
-/// Where a callback panics, the thread serves on, with the callback for each further operation; once it may go on, the
-/// first panic goes on out of the call that polled. Where a body panics, its method, native code, wait or part in the
-/// VM is left, and the panic goes on.
+/// It asks what any [`Party`] may ask.
+///
+/// **Bodies that panic.** A method, native code, a wait and a part in the VM are left where the body panics: the stop
+/// that this needs is served, and then the panic goes on. A `Thread` that is dropped leaves its methods and exits, also
+/// where a panic drops it. So no request waits for a thread whose closure has panicked.
+///
+/// **Callbacks that panic.** No panic unwinds into C. The thread serves on, with the callback for each further
+/// operation. Once it may go on, the first panic goes on out of the call that polled. Where another panic goes on
+/// already, or the `Thread` is dropped, it goes no further than the panic hook, which has told of it: a drop never
+/// panics. Call [`exit`](Thread::exit) where it must go on.
+///
+/// A `Thread` that is forgotten ([`std::mem::forget`]) keeps its place, and each request of its name waits for it.
+///
+/// ```
+/// use safepoint::{Refusal, Safepoints};
+///
+/// let mut system = Safepoints::new(1, 1, 1)?;
+/// let client = system.client()?;
+/// let running = std::thread::spawn(move || {
+///     let mut thread = client.start(|_served| {})?;
+///     thread.call(0, |_thread| -> Result<(), Refusal> { panic!("in a method") })
+/// });
+/// assert!(running.join().is_err());
+/// assert_eq!(system.live()?, []);
+/// # Ok::<(), Refusal>(())
+/// ```
+///
+/// It doesn't pass to another thread of the host, and two don't share it:
+///
+/// ```compile_fail,E0277
+/// fn may_pass<T: Send>() {}
+/// may_pass::<safepoint::Thread<'static>>();
+/// ```
+///
+/// ```compile_fail,E0277
+/// fn is_shared<T: Sync>() {}
+/// is_shared::<safepoint::Thread<'static>>();
+/// ```
 pub struct Thread<'a> {
     party: Party,
     name: u64,
+    place: usize,
+    /// How many methods it has entered and not left.
+    depth: usize,
     callback: Box<dyn FnMut(Served) + 'a>,
     stays: PhantomData<*mut ()>,
 }
 
-impl Thread<'_> {
+impl<'a> Thread<'a> {
+    /// Starts the calling thread, or gives the party back.
+    pub(crate) fn started(
+        party: Party,
+        mut callback: Box<dyn FnMut(Served) + 'a>,
+    ) -> Result<Thread<'a>, (Refusal, Party)> {
+        let ran = serving(&party, &mut callback, sys::sp_start_thread);
+        let name = match ran.answer() {
+            Ok(name) => name,
+            Err(refusal) => return Err((refusal, party)),
+        };
+        let thread = Thread {
+            name,
+            place: party.once(sys::sp_place) as usize,
+            depth: 0,
+            party,
+            callback,
+            stays: PhantomData,
+        };
+        // Where a callback panicked, the thread exits here.
+        ran.resume_panic();
+        Ok(thread)
+    }
+
     /// The name, which no other thread of the system ever has.
     pub fn name(&self) -> u64 {
         self.name
     }
 
+    /// The place, below the number of places of the system. No other live thread has it, and [`Served::place`] names
+    /// the thread by it.
+    pub fn place(&self) -> usize {
+        self.place
+    }
+
     /// Enters a method, runs the body, and leaves the method. Where the body is refused something, that is answered.
+    ///
+    /// ```
+    /// # use safepoint::Safepoints;
+    /// # let system = Safepoints::new(1, 1, 2)?;
+    /// # let mut thread = system.client()?.start(|_served| {})?;
+    /// let sum = thread.call(0, |thread| {
+    ///     let mut sum = 0;
+    ///     for i in 0..10 {
+    ///         sum += thread.call(1, |_thread| Ok(i))?;
+    ///         thread.poll()?;
+    ///     }
+    ///     Ok(sum)
+    /// })?;
+    /// assert_eq!(sum, 45);
+    /// # Ok::<(), safepoint::Refusal>(())
+    /// ```
+    ///
+    /// # Errors
+    /// What the body is refused, and those of [`enter`](Thread::enter).
+    ///
+    /// # Panics
+    /// Where the body panics, or a callback that runs as the method is left. The method is left then.
     pub fn call<T>(
         &mut self,
         method: u32,
@@ -70,116 +124,226 @@ impl Thread<'_> {
         self.call_with(method, |thread, _serial| body(thread))
     }
 
-    /// Enters a method, as `call`. The body gets the serial of the code to run, 0 where the method is interpreted:
-    /// nobody frees that code before the method is left.
+    /// Enters a method, as [`call`](Thread::call). The body gets the serial of the code to run, 0 where the method is
+    /// interpreted: nobody frees that code before the method is left.
+    ///
+    /// # Errors
+    /// Those of [`call`](Thread::call).
+    ///
+    /// # Panics
+    /// As [`call`](Thread::call).
     pub fn call_with<T>(
         &mut self,
         method: u32,
         body: impl FnOnce(&mut Self, u64) -> Result<T, Refusal>,
     ) -> Result<T, Refusal> {
-        let serial = answer(unsafe { sys::sp_call(self.party.at(), method) })?;
-        let (said, left) = self.scope(
+        let depth = self.depth;
+        let serial = self.enter(method)?;
+        self.within(
+            |thread| thread.leave_down_to(depth),
             |thread| body(thread, serial),
-            |thread| {
-                let polled = answer(unsafe { sys::sp_ret(thread.party.at()) })?;
-                thread.stop_if(polled)
-            },
-        );
-        // The body's refusal was first.
-        said.and_then(|value| left.map(|()| value))
+        )
     }
 
-    /// Polls: a safe point, where the thread serves the operations that wait for it.
+    /// Enters a method until [`leave`](Thread::leave), for an interpreter whose frames are no closures, and for
+    /// machine code. It answers the serial of the code to run, 0 where the method is interpreted: nobody frees that
+    /// code before the method is left. A [`call`](Thread::call) leaves at its end what was entered in it, and a
+    /// `Thread` that is dropped leaves all.
+    ///
+    /// # Errors
+    /// [`Refusal::NoSuchMethod`], [`Refusal::DepthFull`] (256 frames).
+    pub fn enter(&mut self, method: u32) -> Result<u64, Refusal> {
+        // SAFETY: the pointer is that of a party, which this thread alone has.
+        let serial = answer(unsafe { sys::sp_call(self.party.raw(), method) })?;
+        self.depth += 1;
+        Ok(serial)
+    }
+
+    /// Leaves the top method, and polls.
+    ///
+    /// # Errors
+    /// [`Refusal::EmptyStack`].
+    ///
+    /// # Panics
+    /// Where a callback panics. The method is left then.
+    pub fn leave(&mut self) -> Result<(), Refusal> {
+        self.leave_top().resume().map(drop)
+    }
+
+    /// Polls: a safe point, where the thread serves the operations that wait for it. Loops call it at each turn.
+    ///
+    /// # Errors
+    /// `safepoint.h` lists none for a thread that hasn't exited.
+    ///
+    /// # Panics
+    /// Where a callback panics. The thread may go on then.
     pub fn poll(&mut self) -> Result<(), Refusal> {
-        let polled = answer(unsafe { sys::sp_back_edge(self.party.at()) })?;
-        self.stop_if(polled)
+        let polled = self.party.once(sys::sp_back_edge);
+        self.stopped_by(polled).resume().map(drop)
     }
 
-    /// Publishes which codes have frames on the stack.
+    /// Publishes which codes have frames on the stack. Call it now and then: it lets old code be freed sooner.
+    ///
+    /// # Errors
+    /// `safepoint.h` lists none for a thread that hasn't exited.
     pub fn publish(&mut self) -> Result<(), Refusal> {
-        answer(unsafe { sys::sp_publish(self.party.at()) }).map(drop)
+        answer(self.party.once(sys::sp_publish)).map(drop)
     }
 
-    /// Runs the body in the VM, where the thread doesn't poll.
+    /// Runs the body in the VM, where the thread doesn't poll: whoever waits for this thread waits for the body.
+    ///
+    /// # Errors
+    /// `safepoint.h` lists none for a thread that hasn't exited.
+    ///
+    /// # Panics
+    /// Where the body panics, or a callback that runs as the thread comes back. It has come back then.
     pub fn in_vm<T>(&mut self, body: impl FnOnce() -> T) -> Result<T, Refusal> {
-        self.enter_vm()?;
-        let (value, left) = self.scope(|_| body(), Self::leave_vm);
-        left.map(|()| value)
+        self.within_vm(|_| Ok(body()))
     }
 
     /// Runs the body in native code: meanwhile the coordinator may hold the thread and serve for it. The thread comes
-    /// back once it isn't held.
+    /// back once it isn't held. The body touches nothing that callbacks touch.
+    ///
+    /// ```
+    /// # use safepoint::{Ask, Safepoints};
+    /// # let mut system = Safepoints::new(1, 1, 1)?;
+    /// # let mut thread = system.client()?.start(|_served| {})?;
+    /// system.submit(&[thread.name()], Ask::Depth)?;
+    /// let closed = thread.in_native(|| system.drive(|served| assert!(served.is_held)))?;
+    /// assert_eq!(closed, Ok(1));
+    /// # Ok::<(), safepoint::Refusal>(())
+    /// ```
+    ///
+    /// # Errors
+    /// `safepoint.h` lists none for a thread that hasn't exited.
+    ///
+    /// # Panics
+    /// Where the body panics, or a callback that runs as the thread comes back. It has come back then.
     pub fn in_native<T>(&mut self, body: impl FnOnce() -> T) -> Result<T, Refusal> {
-        answer(unsafe { sys::sp_enter_native(self.party.at()) })?;
-        let (value, left) = self.scope(|_| body(), |thread| thread.leave(sys::sp_leave_native));
-        left.map(|()| value)
+        answer(self.party.once(sys::sp_enter_native))?;
+        self.within(
+            |thread| thread.serving(sys::sp_leave_native),
+            |_| Ok(body()),
+        )
     }
 
-    /// Runs the body, a wait inside the runtime: meanwhile the coordinator may hold the thread and serve for it.
+    /// Runs the body, a wait inside the runtime: meanwhile the coordinator may hold the thread and serve for it, as in
+    /// [`in_native`](Thread::in_native).
+    ///
+    /// # Errors
+    /// `safepoint.h` lists none for a thread that hasn't exited.
+    ///
+    /// # Panics
+    /// Where the body panics, or a callback that runs as the thread comes back. It has come back then.
     pub fn blocked<T>(&mut self, body: impl FnOnce() -> T) -> Result<T, Refusal> {
-        self.enter_vm()?;
-        let (value, left) = self.scope(
-            |thread| {
-                answer(unsafe { sys::sp_enter_blocked(thread.party.at()) })?;
-                let (value, left) =
-                    thread.scope(|_| body(), |thread| thread.leave(sys::sp_leave_blocked));
-                left.map(|()| value)
-            },
-            Self::leave_vm,
-        );
-        value.and_then(|value| left.map(|()| value))
-    }
-
-    /// Exits at once, so that a refusal is answered: `Refusal::StackNotEmpty` in a method. Each later call answers
-    /// `Refusal::NotThis`.
-    pub fn exit(&mut self) -> Result<(), Refusal> {
-        self.leave(sys::sp_exit_thread)
-    }
-
-    /// Runs the body, then leaves what it ran in, also where it panicked.
-    fn scope<T>(
-        &mut self,
-        body: impl FnOnce(&mut Self) -> T,
-        leave: impl FnOnce(&mut Self) -> Result<(), Refusal>,
-    ) -> (T, Result<(), Refusal>) {
-        let ran = catch_unwind(AssertUnwindSafe(|| body(self)));
-        let left = leave(self);
-        match ran {
-            Ok(value) => (value, left),
-            // (what can't be left is refused once more at the exit, which says so)
-            Err(panic) => resume_unwind(panic),
-        }
-    }
-
-    fn enter_vm(&mut self) -> Result<(), Refusal> {
-        answer(unsafe { sys::sp_to_vm(self.party.at()) }).map(drop)
-    }
-
-    fn leave_vm(&mut self) -> Result<(), Refusal> {
-        let polled = answer(unsafe { sys::sp_from_vm(self.party.at()) })?;
-        self.stop_if(polled)
-    }
-
-    fn serving(&mut self, act: Stopping) -> Ran {
-        let party = self.party.at();
-        with_callback(&mut self.callback, |call, with| unsafe {
-            act(party, call, with)
+        self.within_vm(|thread| {
+            answer(thread.party.once(sys::sp_enter_blocked))?;
+            thread.within(
+                |thread| thread.serving(sys::sp_leave_blocked),
+                |_| Ok(body()),
+            )
         })
     }
 
-    fn leave(&mut self, act: Stopping) -> Result<(), Refusal> {
-        self.serving(act).resume().map(drop)
+    /// Exits at once. Each later call of a thread answers [`Refusal::NotThis`], and it goes on to ask what any [`Party`] may
+    /// ask.
+    ///
+    /// # Errors
+    /// [`Refusal::StackNotEmpty`] in a method; [`Refusal::NotThis`] where it has exited.
+    ///
+    /// # Panics
+    /// Where a callback panics. The thread has exited then.
+    pub fn exit(&mut self) -> Result<(), Refusal> {
+        self.serving(sys::sp_exit_thread).resume().map(drop)
     }
 
-    fn stop_if(&mut self, polled: u64) -> Result<(), Refusal> {
-        if polled > 0 {
-            self.leave(sys::sp_stop)?;
+    fn within_vm<T>(
+        &mut self,
+        body: impl FnOnce(&mut Self) -> Result<T, Refusal>,
+    ) -> Result<T, Refusal> {
+        answer(self.party.once(sys::sp_to_vm))?;
+        self.within(
+            |thread| {
+                let polled = thread.party.once(sys::sp_from_vm);
+                thread.stopped_by(polled)
+            },
+            body,
+        )
+    }
+
+    /// Runs the body, then leaves what it ran in, also where it panics. A panic of the body goes on, and else one of a
+    /// callback; a refusal of the body is answered, and else one of leaving.
+    fn within<T>(
+        &mut self,
+        leave: impl FnMut(&mut Self) -> Ran,
+        body: impl FnOnce(&mut Self) -> Result<T, Refusal>,
+    ) -> Result<T, Refusal> {
+        let mut left = Ran::of(0);
+        let scope = Scope {
+            thread: self,
+            leave,
+            left: &mut left,
+        };
+        let said = body(scope.thread);
+        drop(scope);
+        let left = left.resume();
+        said.and_then(|value| left.map(|_| value))
+    }
+
+    fn leave_down_to(&mut self, depth: usize) -> Ran {
+        let mut ran = Ran::of(0);
+        while self.depth > depth && ran.answer().is_ok() {
+            ran = ran.then(self.leave_top());
         }
-        Ok(())
+        ran
     }
 
-    fn is_started(&mut self) -> bool {
-        unsafe { sys::sp_name(self.party.at()) > 0 }
+    fn leave_top(&mut self) -> Ran {
+        let polled = self.party.once(sys::sp_ret);
+        if polled >= 0 {
+            self.depth -= 1;
+        }
+        self.stopped_by(polled)
+    }
+
+    /// Behind a poll: where this stopped the thread, it serves until it may go on.
+    fn stopped_by(&mut self, polled: i64) -> Ran {
+        match polled {
+            1.. => self.serving(sys::sp_stop),
+            said => Ran::of(said),
+        }
+    }
+
+    fn serving(&mut self, act: sys::Stopping) -> Ran {
+        serving(&self.party, &mut self.callback, act)
+    }
+}
+
+fn serving(party: &Party, callback: &mut dyn FnMut(Served), act: sys::Stopping) -> Ran {
+    // SAFETY: the pointer is that of a party, which this thread alone has, and the callback can't reach it.
+    with_callback(callback, |call, with| unsafe {
+        act(party.raw(), call, with)
+    })
+}
+
+/// What a body runs in. Its end leaves that, also where the body panics.
+struct Scope<'t, 'a, L: FnMut(&mut Thread<'a>) -> Ran> {
+    thread: &'t mut Thread<'a>,
+    leave: L,
+    left: &'t mut Ran,
+}
+
+impl<'a, L: FnMut(&mut Thread<'a>) -> Ran> Drop for Scope<'_, 'a, L> {
+    fn drop(&mut self) {
+        *self.left = (self.leave)(self.thread);
+    }
+}
+
+impl Deref for Thread<'_> {
+    type Target = Party;
+
+    fn deref(&self) -> &Party {
+        &self.party
     }
 }
 
@@ -187,22 +351,20 @@ impl fmt::Debug for Thread<'_> {
     fn fmt(&self, out: &mut fmt::Formatter<'_>) -> fmt::Result {
         out.debug_struct("Thread")
             .field("name", &self.name)
+            .field("place", &self.place)
             .finish_non_exhaustive()
     }
 }
 
 impl Drop for Thread<'_> {
-    /// Exits. A thread that can't exit keeps its place, and each request of its name waits for it. So a refusal is a
-    /// panic, or a line on standard error where a panic goes on already.
+    /// Leaves all methods and exits. A thread that doesn't exit keeps its place, and each request of its name waits for
+    /// it; no call of this crate leaves a thread so.
     fn drop(&mut self) {
-        if !self.is_started() {
+        if self.party.once(sys::sp_name) <= 0 {
             return;
         }
-        let ran = self.serving(sys::sp_exit_thread);
-        if !thread::panicking() {
-            ran.resume()
-                .unwrap_or_else(|refusal| panic!("thread {} doesn't exit: {refusal}", self.name));
-        } else if let Err(refusal) = ran.answer() {
+        let left = self.leave_down_to(0);
+        if let Err(refusal) = left.then(self.serving(sys::sp_exit_thread)).answer() {
             eprintln!("thread {} doesn't exit: {refusal}", self.name);
         }
     }

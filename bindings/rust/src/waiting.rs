@@ -12,6 +12,7 @@ pub fn wait(mut call: impl FnMut() -> i64) -> Result<u64, Refusal> {
     let mut pause = sys::Pause::default();
     loop {
         let said = call();
+        // SAFETY: the pause is of this loop alone.
         if !unsafe { sys::sp_again(said, &mut pause) } {
             return answer(said);
         }

@@ -1,35 +1,15 @@
 //! Threads with callbacks, beside a coordinator.
-use safepoint::{Ask, Client, Kind, Next, Reclaimed, Refusal, Safepoints, Served, Thread};
-use std::cell::Cell;
-use std::panic::{catch_unwind, resume_unwind, AssertUnwindSafe};
-use std::sync::atomic::{AtomicBool, AtomicU64, Ordering};
+mod common;
+
+use common::{clients, in_native, in_time, nap, threads, with_each_count, Ends};
+use safepoint::{Ask, Client, Kind, Next, Reclaimed, Refusal, Safepoints, Thread};
+use std::sync::atomic::{AtomicU64, Ordering};
 use std::sync::mpsc;
 use std::thread;
 
-/// What the threads of a test end by, also where the test panics.
-#[derive(Default)]
-struct Ends(AtomicBool);
-
-impl Ends {
-    fn has_come(&self) -> bool {
-        self.0.load(Ordering::SeqCst)
-    }
-
-    fn at_the_end(&self) -> EndsHere<'_> {
-        EndsHere(self)
-    }
-}
-
-struct EndsHere<'a>(&'a Ends);
-
-impl Drop for EndsHere<'_> {
-    fn drop(&mut self) {
-        self.0 .0.store(true, Ordering::SeqCst);
-    }
-}
-
 #[test]
 fn refusals_have_texts() {
+    let _in_time = in_time();
     assert_eq!(Safepoints::new(0, 1, 1).unwrap_err(), Refusal::BadSize);
     assert_eq!(
         Refusal::BadSize.to_string(),
@@ -51,7 +31,7 @@ fn assert_is_seen_open(
     kind: Kind,
     submit: impl FnOnce(&mut Safepoints, u64),
 ) {
-    let (mut looking, client) = (system.client().unwrap(), system.client().unwrap());
+    let (looking, client) = (system.client().unwrap(), system.client().unwrap());
     let (ready, started) = mpsc::channel();
     let ends = Ends::default();
     thread::scope(|scope| {
@@ -60,9 +40,7 @@ fn assert_is_seen_open(
         scope.spawn(move || {
             let mut thread = client.start(|_| {}).unwrap();
             ready.send(thread.name()).unwrap();
-            while !ends.has_come() {
-                thread::yield_now();
-            }
+            ends.wait();
             thread.poll().unwrap();
         });
         submit(system, started.recv().unwrap());
@@ -70,7 +48,7 @@ fn assert_is_seen_open(
         scope.spawn(move || {
             let _ends_here = ends.at_the_end();
             while looking.open_kind() != Ok(Some(kind)) {
-                thread::yield_now();
+                nap();
             }
         });
         system.drive(|_| {}).unwrap();
@@ -80,6 +58,7 @@ fn assert_is_seen_open(
 
 #[test]
 fn the_kind_of_what_is_open_is_told() {
+    let _in_time = in_time();
     let mut system = Safepoints::new(1, 1, 1).unwrap();
     assert_is_seen_open(&mut system, Kind::Handshake, |system, name| {
         system.submit(&[name], Ask::Depth).unwrap();
@@ -92,10 +71,11 @@ fn the_kind_of_what_is_open_is_told() {
 /// A host with its own waits: one thread is held in native code, the other serves itself.
 #[test]
 fn the_work_is_advanced_step_by_step() {
+    let _in_time = in_time();
     const ROUNDS: u64 = 100;
     let mut system = Safepoints::new(2, 1, 1).unwrap();
     assert_eq!(system.advance(), Err(Refusal::QueueEmpty));
-    let clients = [(); 2].map(|()| system.client().unwrap());
+    let clients = clients(&system, 2);
     let (own, ends) = (AtomicU64::new(0), Ends::default());
     thread::scope(|scope| {
         let _ends_here = ends.at_the_end();
@@ -116,7 +96,7 @@ fn the_work_is_advanced_step_by_step() {
                     _ => thread
                         .in_native(|| {
                             tell(name);
-                            wait_for(ends)
+                            ends.wait()
                         })
                         .unwrap(),
                 }
@@ -139,7 +119,7 @@ fn the_work_is_advanced_step_by_step() {
                     }
                     Next::Awaits(count) => {
                         assert!(count <= 2);
-                        thread::yield_now();
+                        nap();
                     }
                 }
             }
@@ -150,14 +130,9 @@ fn the_work_is_advanced_step_by_step() {
     });
 }
 
-fn wait_for(ends: &Ends) {
-    while !ends.has_come() {
-        thread::yield_now();
-    }
-}
-
 #[test]
 fn each_callback_runs_once() {
+    let _in_time = in_time();
     const THREADS: usize = 4;
     const ROUNDS: u64 = 200;
     let (own, ends) = (AtomicU64::new(0), Ends::default());
@@ -220,185 +195,123 @@ fn assert_replies(system: &mut Safepoints, operation: u64, names: &[u64]) {
     }
 }
 
-/// What a panic says that comes out of the body.
-fn panic_of<T>(body: impl FnOnce() -> T) -> Option<&'static str> {
-    let panic = catch_unwind(AssertUnwindSafe(body)).err()?;
-    Some(
-        *panic
-            .downcast::<&str>()
-            .unwrap_or_else(|other| resume_unwind(other)),
-    )
-}
-
-#[test]
-fn a_panic_for_a_held_thread_comes_after_the_close() {
-    const THREADS: usize = 3;
-    let mut system = Safepoints::new(4, 1, 1).unwrap();
-    let clients: Vec<_> = (0..THREADS).map(|_| system.client().unwrap()).collect();
-    let (ends, mut ran) = (Ends::default(), 0);
-    let (inside, are_inside) = mpsc::channel();
-    thread::scope(|scope| {
-        let _ends_here = ends.at_the_end();
-        for client in clients {
-            let (inside, ends) = (inside.clone(), &ends);
-            scope.spawn(move || {
-                let mut thread = client.start(|_| {}).unwrap();
-                let waits = || {
-                    inside.send(()).unwrap();
-                    while !ends.has_come() {
-                        thread::yield_now();
-                    }
-                };
-                thread.call(0, |thread| thread.in_native(waits)).unwrap();
-            });
-        }
-        (0..THREADS).for_each(|_| are_inside.recv().unwrap());
-        let names = system.live().unwrap();
-        assert_eq!(names.len(), THREADS);
-        let operation = system.submit(&names, Ask::Depth).unwrap();
-        let said = panic_of(|| {
-            system.drive(|served| {
-                assert!(served.is_held);
-                ran += 1;
-                match ran {
-                    1 => panic!("the first"),
-                    2 => panic!("the second"),
-                    _ => {}
-                }
-            })
-        });
-        assert_eq!((said, ran), (Some("the first"), THREADS));
-        for name in names {
-            assert_eq!(system.reply(operation, name).unwrap(), 1);
-        }
-        assert_eq!(system.drive(|_| {}).unwrap_err(), Refusal::QueueEmpty);
-    });
-    assert_eq!(system.live().unwrap(), []);
-}
-
-#[test]
-fn a_panic_of_a_thread_comes_after_the_stop() {
-    let mut system = Safepoints::new(2, 1, 1).unwrap();
-    let client = system.client().unwrap();
-    let (ready, started) = mpsc::channel();
-    let running = thread::spawn(move || {
-        let has_run = Cell::new(false);
-        let callback = |_| {
-            has_run.set(true);
-            panic!("in a callback");
-        };
-        let mut thread = client.start(callback).unwrap();
-        ready.send(thread.name()).unwrap();
-        let polls = |thread: &mut Thread| {
-            while !has_run.get() {
-                thread.poll()?;
-            }
-            Ok(())
-        };
-        let said = panic_of(|| thread.call(0, polls));
-        assert_eq!(said, Some("in a callback"));
-        thread.call(0, Thread::poll)
-    });
-    let name = started.recv().unwrap();
-    let operation = system.submit(&[name], Ask::Depth).unwrap();
-    assert_eq!(system.drive(|_: Served| {}).unwrap(), operation);
-    assert_eq!(system.reply(operation, name).unwrap(), 1);
-    running.join().unwrap().unwrap();
-    assert_eq!(system.live().unwrap(), []);
-}
-
-#[test]
-fn a_panic_of_a_body_leaves_all_that_it_ran_in() {
-    let mut system = Safepoints::new(2, 1, 1).unwrap();
-    let mut thread = system.client().unwrap().start(|_| {}).unwrap();
-    let panics = || -> () { panic!("in a body") };
-    assert_eq!(
-        panic_of(|| thread.call(0, |thread| thread.in_native(panics))),
-        Some("in a body")
-    );
-    assert_eq!(
-        panic_of(|| thread.call(0, |thread| thread.blocked(panics))),
-        Some("in a body")
-    );
-    assert_eq!(
-        panic_of(|| thread.call(0, |thread| thread.in_vm(panics))),
-        Some("in a body")
-    );
-    thread.exit().unwrap();
-    assert_eq!(system.live().unwrap(), []);
-}
-
 #[test]
 fn refusals_of_a_thread_are_answered() {
-    let mut system = Safepoints::new(2, 1, 1).unwrap();
+    let _in_time = in_time();
+    let system = Safepoints::new(2, 1, 1).unwrap();
     let mut thread = system.client().unwrap().start(|_| {}).unwrap();
-    assert_eq!(
-        thread.call(1, |_| Ok(())).unwrap_err(),
-        Refusal::NoSuchMethod
-    );
+    assert_eq!(thread.call(1, |_| Ok(())), Err(Refusal::NoSuchMethod));
     let both = thread.call(0, |thread| thread.call(1, |_| Ok(())));
-    assert_eq!(both.unwrap_err(), Refusal::NoSuchMethod);
-    assert_eq!(
-        thread.call(0, Thread::exit).unwrap_err(),
-        Refusal::StackNotEmpty
-    );
+    assert_eq!(both, Err(Refusal::NoSuchMethod));
+    let exited = thread.call(0, |thread| thread.exit());
+    assert_eq!(exited, Err(Refusal::StackNotEmpty));
+    assert_eq!(thread.leave(), Err(Refusal::EmptyStack));
     thread.exit().unwrap();
-    assert_eq!(thread.poll().unwrap_err(), Refusal::NotThis);
-    assert_eq!(thread.exit().unwrap_err(), Refusal::NotThis);
-    drop(thread);
-    let places: Vec<_> = (0..2)
-        .map(|_| system.client().unwrap().start(|_| {}).unwrap())
-        .collect();
-    assert_eq!(
-        system.client().unwrap().start(|_| {}).unwrap_err(),
-        Refusal::PlacesFull
-    );
-    drop(places);
-    assert_eq!(system.live().unwrap(), []);
+    assert_eq!(thread.poll(), Err(Refusal::NotThis));
+    assert_eq!(thread.publish(), Err(Refusal::NotThis));
+    assert_eq!(thread.in_native(|| ()), Err(Refusal::NotThis));
+    assert_eq!(thread.exit(), Err(Refusal::NotThis));
+    assert_eq!(thread.live(), Ok(vec![]));
 }
 
 #[test]
-fn a_thread_that_can_not_exit_panics() {
-    let mut system = Safepoints::new(2, 1, 1).unwrap();
+fn a_call_leaves_what_was_entered_in_it() {
+    let _in_time = in_time();
+    let mut system = Safepoints::new(1, 1, 2).unwrap();
+    let code = system.install(1).unwrap();
     let mut thread = system.client().unwrap().start(|_| {}).unwrap();
-    let mut other = system.client().unwrap().start(|_| {}).unwrap();
-    let name = thread.name();
-    // Each returns in the place of the other: one from no method, and one keeps its frame.
-    let said = thread.call(0, |thread| {
+    let depth_of = |system: &mut Safepoints, thread: &mut Thread| {
+        let operation = system.submit(&[thread.name()], Ask::Depth).unwrap();
+        let driven = thread.in_native(|| system.drive(|_| {}));
+        assert_eq!(driven, Ok(Ok(operation)));
+        system.reply(operation, thread.name()).unwrap()
+    };
+    assert_eq!(thread.enter(0), Ok(0));
+    let inside = thread.call_with(1, |thread, serial| {
+        assert_eq!((serial, thread.enter(1)), (code, Ok(code)));
+        thread.enter(0)?;
+        thread.leave()?;
+        Ok(depth_of(&mut system, thread))
+    });
+    assert_eq!(inside, Ok(3));
+    assert_eq!(depth_of(&mut system, &mut thread), 1);
+    assert_eq!(thread.exit(), Err(Refusal::StackNotEmpty));
+    drop(thread);
+    assert_eq!(system.live(), Ok(vec![]));
+}
+
+#[test]
+fn no_more_than_256_frames_are_entered_and_a_drop_leaves_all() {
+    let _in_time = in_time();
+    let system = Safepoints::new(1, 1, 1).unwrap();
+    let mut thread = system.client().unwrap().start(|_| {}).unwrap();
+    for _ in 0..256 {
+        assert_eq!(thread.enter(0), Ok(0));
+    }
+    assert_eq!(thread.enter(0), Err(Refusal::DepthFull));
+    assert_eq!(thread.call(0, |_| Ok(())), Err(Refusal::DepthFull));
+    drop(thread);
+    assert_eq!(system.live(), Ok(vec![]));
+}
+
+#[test]
+fn threads_that_are_swapped_in_a_method_exit() {
+    let _in_time = in_time();
+    let mut system = Safepoints::new(2, 1, 1).unwrap();
+    let mut both = threads(&system, 2);
+    let (mut other, mut thread) = (both.pop().unwrap(), both.pop().unwrap());
+    let swapped = thread.call(0, |thread| {
         std::mem::swap(thread, &mut other);
         Ok(())
     });
-    assert_eq!(said.unwrap_err(), Refusal::EmptyStack);
-    drop(thread);
-    let panic = catch_unwind(AssertUnwindSafe(|| drop(other))).unwrap_err();
-    let text = format!("thread {name} doesn't exit: {}", Refusal::StackNotEmpty);
-    assert_eq!(*panic.downcast::<String>().unwrap(), text);
-    assert_eq!(system.live().unwrap(), [name]);
+    assert_eq!(swapped, Ok(()));
+    drop((thread, other));
+    assert_eq!(system.live(), Ok(vec![]));
+    let census = system.census().unwrap();
+    assert_eq!(system.drive(|_| {}), Ok(census));
+}
+
+#[test]
+fn a_place_names_a_held_thread() {
+    with_each_count(|count| {
+        let mut system = Safepoints::new(count, 1, 1).unwrap();
+        let mut all = threads(&system, count);
+        let names: Vec<u64> = all.iter().map(|thread| thread.name()).collect();
+        let mut places: Vec<usize> = all.iter().map(|thread| thread.place()).collect();
+        let mut found = Vec::new();
+        system.submit(&names, Ask::Depth).unwrap();
+        in_native(&mut all, &mut || {
+            system.drive(|served| found.push(served.place)).unwrap();
+        });
+        places.sort_unstable();
+        found.sort_unstable();
+        assert_eq!(found, places);
+        assert_eq!(places, Vec::from_iter(0..count));
+    });
 }
 
 #[test]
 fn threads_start_and_exit_beside_a_coordinator() {
-    const THREADS: usize = 4;
-    const LIVES: usize = 1000;
-    let mut system = Safepoints::new(THREADS, 1, 1).unwrap();
-    let mut clients: Vec<_> = (0..THREADS * LIVES)
-        .map(|_| system.client().unwrap())
-        .collect();
-    let done = AtomicU64::new(0);
-    thread::scope(|scope| {
-        while !clients.is_empty() {
-            let its = clients.split_off(clients.len() - LIVES);
-            scope.spawn(|| {
-                its.into_iter().for_each(live);
-                done.fetch_add(1, Ordering::SeqCst);
-            });
-        }
-        while done.load(Ordering::SeqCst) < THREADS as u64 {
-            assert!(system.live().unwrap().is_sorted_by(|one, next| one < next));
-            system.forget().unwrap();
-        }
+    const LIVES: usize = 500;
+    with_each_count(|count| {
+        let system = Safepoints::new(count, 1, 1).unwrap();
+        let done = AtomicU64::new(0);
+        thread::scope(|scope| {
+            for _ in 0..count {
+                let (its, done) = (clients(&system, LIVES), &done);
+                scope.spawn(move || {
+                    its.into_iter().for_each(live);
+                    done.fetch_add(1, Ordering::SeqCst);
+                });
+            }
+            while done.load(Ordering::SeqCst) < count as u64 {
+                let names = system.live().unwrap();
+                assert!(names.windows(2).all(|two| two[0] < two[1]));
+                system.forget().unwrap();
+            }
+        });
+        assert_eq!(system.live(), Ok(vec![]));
     });
-    assert_eq!(system.live().unwrap(), []);
 }
 
 fn live(client: Client) {

@@ -1,4 +1,4 @@
-/* safepoint_wait.h for C++17: a system, and threads of it, by RAII. What a call may answer and
+/* safepoint_wait.h for C++14 and later: a system, and threads of it, by RAII. What a call may answer and
    who may call it is said in safepoint.h. */
 #ifndef SAFEPOINT_HPP
 #define SAFEPOINT_HPP
@@ -45,15 +45,28 @@ inline void at_safe_point(void *with, const sp_served *served) noexcept {
     if (callback && *callback) (*callback)(*served);
 }
 
+/* A party stands at another address from here on (safepoint_check.h). */
+inline void moved(sp_party &party) noexcept {
+#ifdef SP_CHECK
+    sp_checked_moved(&party);
+#else
+    static_cast<void>(party);
+#endif
+}
+
 /* A party: what is freed with its owner, and isn't copied. */
 class Party {
 public:
     Party() = default;
     Party(const Party &) = delete;
     Party &operator=(const Party &) = delete;
-    Party(Party &&other) noexcept : party_(std::exchange(other.party_, sp_party{})) {}
+    Party(Party &&other) noexcept : party_(std::exchange(other.party_, sp_party{})) {
+        moved(party_);
+    }
     Party &operator=(Party &&other) noexcept {
         std::swap(party_, other.party_);
+        moved(party_);
+        moved(other.party_);
         return *this;
     }
     ~Party() { sp_free(&party_); }
@@ -144,13 +157,15 @@ public:
 };
 
 /* The thread that makes it, as long as it stands: it starts, serves what it is told with its
-   callback, and exits. It isn't passed on. */
+   callback, and exits. It isn't passed on. Its scopes end also where an exception leaves them: the
+   stop that this needs is served, and then the exception goes on. */
 class Thread {
 public:
-    Thread(Party party, Callback callback = {})
-        : party_(std::move(party)), callback_(std::move(callback)) {
-        name_ = must(sp_start_thread(get(), at_safe_point, &callback_));
-    }
+    /* If the start is refused, the party stays the caller's, who may try again. */
+    Thread(Party &&party, Callback callback = {})
+        : callback_(std::move(callback)),
+          name_(must(sp_start_thread(party.get(), at_safe_point, &callback_))),
+          party_(std::move(party)) {}
     Thread(const Thread &) = delete;
     Thread &operator=(const Thread &) = delete;
     ~Thread() {
@@ -161,6 +176,10 @@ public:
     }
 
     std::uint64_t name() const noexcept { return name_; }
+    /* The place by which a callback for a held thread names it. */
+    std::size_t place() { return static_cast<std::size_t>(must(sp_place(get()))); }
+    /* To ask with: a running thread may ask what any party may. */
+    Party &party() noexcept { return party_; }
     void poll() { polled(sp_back_edge(get())); }
     void publish() { must(sp_publish(get())); }
 
@@ -172,10 +191,7 @@ public:
             : thread_(thread), serial_(must(sp_call(thread.get(), method))) {}
         Frame(const Frame &) = delete;
         Frame &operator=(const Frame &) = delete;
-        ~Frame() {
-            if (sp_ret(thread_.get()) > 0)
-                sp_stop(thread_.get(), at_safe_point, &thread_.callback_);
-        }
+        ~Frame() { thread_.stop_if(sp_ret(thread_.get())); }
         std::uint64_t serial() const noexcept { return serial_; }
 
     private:
@@ -195,20 +211,50 @@ public:
         Thread &thread_;
     };
 
+    /* In the VM, from here to the end of its scope: the thread doesn't poll. */
+    class Vm {
+    public:
+        explicit Vm(Thread &thread) : thread_(thread) { must(sp_to_vm(thread.get())); }
+        Vm(const Vm &) = delete;
+        Vm &operator=(const Vm &) = delete;
+        ~Vm() { thread_.stop_if(sp_from_vm(thread_.get())); }
+
+    private:
+        Thread &thread_;
+    };
+
+    /* Blocked in the VM, from here to the end of its scope: a wait inside the runtime. */
+    class Blocked {
+    public:
+        explicit Blocked(Thread &thread) : vm_(thread), thread_(thread) {
+            must(sp_enter_blocked(thread.get()));
+        }
+        Blocked(const Blocked &) = delete;
+        Blocked &operator=(const Blocked &) = delete;
+        ~Blocked() { sp_leave_blocked(thread_.get(), at_safe_point, &thread_.callback_); }
+
+    private:
+        Vm vm_;
+        Thread &thread_;
+    };
+
 private:
     sp_party *get() noexcept { return party_.get(); }
     void polled(std::int64_t answer) {
         if (must(answer)) must(sp_stop(get(), at_safe_point, &callback_));
     }
+    void stop_if(std::int64_t polled) noexcept {
+        if (polled > 0) sp_stop(get(), at_safe_point, &callback_);
+    }
     void bring_back() noexcept {
         if (sp_state(get()) == SP_IN_NATIVE) sp_leave_native(get(), at_safe_point, &callback_);
-        if (sp_state(get()) == SP_IN_VM && sp_from_vm(get()) > 0)
-            sp_stop(get(), at_safe_point, &callback_);
+        if (sp_state(get()) == SP_BLOCKED) sp_leave_blocked(get(), at_safe_point, &callback_);
+        if (sp_state(get()) == SP_IN_VM) stop_if(sp_from_vm(get()));
     }
 
-    Party party_;
     Callback callback_;
     std::uint64_t name_;
+    Party party_;
 };
 
 } // namespace safepoint
