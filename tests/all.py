@@ -53,7 +53,10 @@ ALONE = (
     (("embed.py", MODEL), ("model",)),
     (("safepoint.py", SAFEPOINT, MODEL), ("safepoint", "model")),
     (("stacks.py", SAFEPOINT), ("safepoint",)),
+    (("header.py", SAFEPOINT), ("safepoint",)),
+    (("watching.py", SAFEPOINT), ("safepoint",)),
     (("install.py",), ("safepoint", "model")),
+    (("packages.py",), ("safepoint", "model")),
     (("witness.py", SAFEPOINT, MONITOR, "1"), ("safepoint",)),
 )
 

@@ -20,32 +20,13 @@ import subprocess
 import sys
 import tempfile
 
-from tally import Tally, c_compiler, cpp_compiler
+from installed import FIRST_STOP, MODEL, MODEL_SAYS, SECONDS, WARNINGS, Installed, Tests, block
+from tally import c_compiler, cpp_compiler
 
 ROOT = pathlib.Path(__file__).resolve().parent.parent
-PAGE = ROOT / "docs" / "start" / "EMBEDDING.md"
 EXAMPLES = ROOT / "examples"
 CALLS = ROOT / "tests" / "calls" / "drives.log"
-SECONDS = 120
-WARNINGS = ["-O2", "-Wall", "-Wextra", "-Werror", "-Wno-unused-parameter"]
-FIRST_STOP = b"operation 1 at place 0\nclosed 1\n"
-MODEL = r"""#include <stdio.h>
-#include <string.h>
-#include <model.h>
-
-int main(void) {
-    struct model model = {0};
-    unsigned char answer[MODEL_ROOM];
-    if (model_new(&model, 3, 4, 2)) return 1;
-    for (int i = 0; i < 2; i++) {
-        ptrdiff_t length = model_line(&model, (const unsigned char *)"start", 5, answer, sizeof answer);
-        if (length < 0) return 1;
-        printf("%.*s\n", (int)length, (const char *)answer);
-    }
-    model_free(&model);
-}
-"""
-MODEL_SAYS = b"thread 1 place 0\nthread 2 place 1\n"
+FILLED = (".pc", ".cmake", ".txt", ".1", ".3")
 SCOPES = "#include <safepoint.hpp>\n#include <thread>\n\nint main() {\n%s}\n"
 # What stop_one answers, and how often the callback ran for the thread that runs.
 STOPS = b"""a thread that runs: true, 1
@@ -61,65 +42,6 @@ callbacks for others: 0
 """
 # What needs a C compiler: it compiles the installed waits.
 PARTS = ("make install", "the installed programs and libraries", "the pages for man", "make uninstall")
-
-
-class Tests(Tally):
-    def holds(self, what, is_right, said):
-        return self.judge(what, () if is_right else said)
-
-    def run(self, what, words, wanted=None, **how):
-        """Runs a command: its status must be 0, nothing on standard error, and what it prints as wanted, if given."""
-        ran = subprocess.run(words, capture_output=True, timeout=SECONDS, **how)
-        is_right = ran.returncode == 0 and not ran.stderr and wanted in (None, ran.stdout)
-        return self.holds(what, is_right, f"status {ran.returncode}, {ran.stdout[-600:]!r}, {ran.stderr[-600:]!r}")
-
-
-class Installed:
-    """What stands below a prefix, with or without a folder before it."""
-
-    def __init__(self, name, prefix, destdir=""):
-        self.name, self.prefix, self.destdir = name, prefix, destdir
-        self.top = pathlib.Path(f"{destdir}{prefix}")
-
-    def make(self, target):
-        return ["make", "-s", "-C", ROOT, target, f"PREFIX={self.prefix}", f"DESTDIR={self.destdir}"]
-
-    def is_named_in(self, page):
-        return bool(self.destdir) and self.destdir in page.read_text()
-
-    def files(self):
-        return sorted(it for it in self.top.rglob("*") if not it.is_dir())
-
-    def flags(self, package):
-        """The words by which a compiler finds a package."""
-        pages = self.top / "lib" / "pkgconfig"
-        if shutil.which("pkg-config") is None:
-            return self.read(pages / f"{package}.pc")
-        words = ["pkg-config", "--cflags", "--libs", package]
-        how = {"capture_output": True, "text": True, "check": True, "env": self.found()}
-        return shlex.split(subprocess.run(words, **how).stdout)
-
-    def found(self):
-        """The environment in which pkg-config finds what is installed, and nothing else."""
-        pages = self.top / "lib" / "pkgconfig"
-        return {**os.environ, "PKG_CONFIG_LIBDIR": str(pages), "PKG_CONFIG_SYSROOT_DIR": self.destdir}
-
-    def read(self, page):
-        """The same as pkg-config says, for a page whose lines name variables and the two lists."""
-        known, found = {}, {}
-        for line in page.read_text().splitlines():
-            line = re.sub(r"\$\{(\w+)\}", lambda it: known[it[1]], line)
-            if is_set := re.fullmatch(r"(\w+)=(.*)", line):
-                known[is_set[1]] = is_set[2]
-            elif is_list := re.fullmatch(r"(\w+): (.*)", line):
-                found[is_list[1]] = is_list[2]
-        words = shlex.split(found["Cflags"]) + shlex.split(found["Libs"])
-        return [re.sub(r"^-([IL])", rf"-\1{self.destdir}", it) for it in words]
-
-
-def block(kind, page=PAGE):
-    """The first program of a page in this language."""
-    return re.search(rf"^```{kind}\n(.*?)^```$", page.read_text(), re.MULTILINE | re.DOTALL)[1]
 
 
 class Uses:
@@ -159,20 +81,30 @@ class Uses:
             self.tests.run(name, words, cwd=ROOT / "bindings" / "rust", env=names)
 
     def program(self, name, words, given, wanted=None):
-        program = self.installed.top / "bin" / words[0]
-        self.tests.run(f"{self.installed.name}: {name}", [program, *words[1:]], wanted, input=given)
+        program, name = self.installed.top / "bin" / words[0], f"{self.installed.name}: {name}"
+        if program.is_file():
+            self.tests.run(name, [program, *words[1:]], wanted, input=given)
+        else:
+            self.tests.skip(name, f"{words[0]} isn't built")
 
     def programs(self):
         run, picture = EXAMPLES / "one_publication", EXAMPLES / "handshake_native"
         lines = {it: it.with_suffix(".lines").read_bytes() for it in (run, picture)}
         self.program("monitor", ["monitor", "replay"], lines[run], run.with_suffix(".out").read_bytes())
         self.program("timeline", ["timeline"], lines[picture], picture.with_suffix(".svg").read_bytes())
+        self.searches()
+
+    def searches(self):
+        name = f"{self.installed.name}: witness, with confirm"
+        if not (self.installed.top / "bin" / "confirm").is_file():
+            self.tests.skip(name, "confirm isn't built")
+            return
         calls, witness = CALLS.read_bytes(), self.installed.top / "bin" / "witness"
         ran = subprocess.run([witness], input=calls, capture_output=True, timeout=SECONDS)
         is_begun = ran.stdout.startswith(calls.splitlines(keepends=True)[1])
         said = f"status {ran.returncode}, {ran.stderr[-600:]!r}"
         is_ordered = ran.returncode == 0 and not ran.stderr and is_begun
-        if self.tests.holds(f"{self.installed.name}: witness, with confirm", is_ordered, said):
+        if self.tests.holds(name, is_ordered, said):
             self.program("monitor takes its lines", ["monitor", "replay"], ran.stdout)
 
     def pages(self):
@@ -185,13 +117,11 @@ class Uses:
 
 def whole(tests, installed, folder):
     """An install, all uses, and an uninstall that leaves what is another's."""
-    listing = [ROOT / "install" / "install.py", "list"]
-    listed = subprocess.run(listing, capture_output=True, text=True, check=True).stdout.split()
     if not tests.run(f"{installed.name}: make install", installed.make("install")):
         return
-    found = [str(it.relative_to(installed.top)) for it in installed.files()]
-    tests.holds(f"{installed.name}: the files are those of the list", found == sorted(listed), f"{found}")
-    named = [it for it in installed.files() if it.suffix == ".pc" and installed.is_named_in(it)]
+    found = installed.names()
+    tests.holds(f"{installed.name}: the files are those of the list", found == installed.listed(), f"{found}")
+    named = [it for it in installed.files() if it.suffix in FILLED and installed.is_named_in(it)]
     tests.holds(f"{installed.name}: no file names DESTDIR", not named, f"{named}")
     uses = Uses(tests, installed, folder)
     for part in (uses.of_c, uses.of_cpp, uses.of_rust, uses.programs, uses.pages):
@@ -208,8 +138,7 @@ def uninstalled(tests, installed):
     other.unlink()
     tests.run(f"{installed.name}: make uninstall once more", installed.make("uninstall"), b"")
     left = sorted(installed.top.rglob("*"))
-    is_all = not installed.files() and not other.parent.exists()
-    tests.holds(f"{installed.name}: nothing is left", is_all, f"{left}")
+    tests.holds(f"{installed.name}: no folder of its own is left", left == [other.parent.parent], f"{left}")
 
 
 def installs(tests):

@@ -24,7 +24,7 @@ PATH = re.compile(r"[\w.*/-]*\w/[\w.*/-]*|/\w[\w./-]*|[\w*-][\w.*-]*\." + ENDING
 OUTSIDE = {
     "made by a build": re.compile(r"(?:crates/\w+/)?out/[\w.*-]+"),
     "a device": re.compile(r"/dev/full"),
-    "a folder that `make install` makes": re.compile(r"share/safepoint"),
+    "a folder that `make install` makes": re.compile(r"(?:share|lib)/safepoint|share/safepoint/installed\.txt"),
     "a library of the toolchain": re.compile(r"c/liblibc_c\.a"),
     "any name": re.compile(r"NAME\.\w+"),
 }

@@ -10,8 +10,11 @@ LIBMODEL is crates/model/out/libmodel.a by default. It takes a minute on a quiet
 | `safepoint_threads.c`: threads at random beside a coordinator | futex, pthread condition, and two sanitizers |
 | `safepoint_threads.c` with -DSP_RECORD: whole logs of calls | with the futex and with the pthread condition |
 | `safepoint_soak.c`: threads start, ask and exit at random | futex, pthread condition, and two sanitizers |
+| `safepoint_misuse.c` with -DSP_CHECK: each call that a host mustn't make | it dies, with its line |
+| `safepoint_calls.c`, `safepoint_threads.c` and the scopes of C++ with -DSP_CHECK | they run as they do without |
 | `examples/jit` unmaps codes under its threads | with 1, 4 and 16 threads; with --careless it dies of SIGSEGV |
-| `safepoint_scopes.cpp`, `bindings/rust` | from C++ and Rust |
+| `safepoint_scopes.cpp`: threads by scopes, exceptions, refused starts | C++17; as C++14 to C++23 without a warning |
+| `bindings/rust` | its tests and examples; its documentation without a warning; clippy |
 
 The sanitizers are ThreadSanitizer and AddressSanitizer, of the C side alone.
 
@@ -21,6 +24,7 @@ N skipped`; the status is 0 where none failed.
 import functools
 import os
 import pathlib
+import re
 import signal
 import subprocess
 import sys
@@ -38,6 +42,7 @@ JIT = ROOT / "examples" / "jit" / "jit.c"
 BINDINGS = ROOT / "bindings"
 SECONDS = 600
 FLAGS = ("-O2", "-g", "-Wall", "-Wextra", "-Werror")
+CHECK = "-DSP_CHECK"
 CONDITION, RACES, MEMORY = "-DSP_PTHREAD", "-fsanitize=thread", "-fsanitize=address,undefined"
 VALGRIND = ("valgrind", "-q", "--leak-check=full", "--error-exitcode=9")
 # What takes memory, and so is refused it.
@@ -48,6 +53,17 @@ RUNS = ((1, 4000, 1), (4, 1000, 3), (16, 200, 5), (64, 20, 6))
 SLOW_RUNS = ((4, 200, 7), (16, 40, 8))
 # The same of runs that are recorded.
 RECORDED_RUNS = ((2, 60, 9), (3, 60, 10), (4, 40, 11), (8, 20, 12))
+# What a checked host says of each misuse: the call, and why.
+MISUSES = {
+    "two_threads": ("sp_back_edge", r"thread \d+ is in sp_stop with it"),
+    "own_callback": ("sp_back_edge", "it is made in a callback for the thread of the party"),
+    "callback_for_held": ("sp_back_edge", "it is made in a callback for the thread of the party"),
+    "waiting_callback": ("sp_drive", "it waits, and is made in a callback"),
+    "signal_handler": ("sp_census", "the thread is in sp_drive with it, and a signal handler or a jump came in between"),
+    "copy": ("sp_census", r"it is a copy of the party 0x[0-9a-f]+"),
+    "copy_of_freed": ("sp_census", f"it is a copy of a party that was freed, or no call with {CHECK} made it"),
+    "forked_child": ("sp_drive", r"process \d+ made its system, and this is process \d+"),
+}
 # ThreadSanitizer doesn't see the library's locks: its blocks go from thread to thread under them. Its functions alone
 # have `::` in their names.
 KNOWN = "race:rattle_alloc\nrace:rattle_realloc\nrace:rattle_dealloc\nrace:*::*\n"
@@ -160,6 +176,28 @@ def threads(tests):
             tests.judge_run(name, tests.run(program, *run), shows=True)
 
 
+def misuses(tests):
+    """Each call that a host mustn't make dies in a checked host, and says so in one line."""
+    program = tests.built(TESTS / "safepoint_misuse.c", CHECK)
+    for name, (call, why) in MISUSES.items() if program else ():
+        ran = tests.run(program, name)
+        party = ran.stdout.decode().strip()
+        line = rf"safepoint: {call} with party {party} in thread \d+: {why}\n"
+        has_died = ran.returncode == -signal.SIGABRT and party and re.fullmatch(line, ran.stderr.decode())
+        tests.holds(f"a misuse: {name}", has_died, f"status {ran.returncode}, {party}, {ran.stderr!r}")
+
+
+def checked(tests):
+    """What keeps the contract runs under the checks as it does without."""
+    calls = tests.built(TESTS / "safepoint_calls.c", CHECK)
+    if calls:
+        tests.judge_run("each call, checked", tests.run(calls), b"ok\n")
+    program = tests.built(TESTS / "safepoint_threads.c", CHECK)
+    for count, requests, seed in RUNS if program else ():
+        name = f"{count} threads, {requests} requests, seed {seed}, checked"
+        tests.judge_run(name, tests.run(program, count, requests, seed), shows=True)
+
+
 def soak(tests):
     source, factor = TESTS / "safepoint_soak.c", 30 if tests.is_long else 1
     for words, count, seconds in (((), 16, 4), ((CONDITION,), 8, 2), ((RACES,), 8, 2), ((MEMORY,), 16, 2)):
@@ -213,32 +251,64 @@ def jit(tests):
     tests.holds("jit --careless dies of SIGSEGV", has_died, f"status {ran.returncode}, {ran.stdout!r}, {ran.stderr!r}")
 
 
+RUST_CALLS = {
+    "bindings/rust: tests and examples": ("test",),
+    "bindings/rust: documentation": ("doc", "--no-deps"),
+    "bindings/rust: clippy": ("clippy", "--all-targets", "--", "-D", "warnings"),
+}
+
+
+def has_clippy():
+    return subprocess.run(["cargo", "clippy", "--version"], capture_output=True, timeout=SECONDS).returncode == 0
+
+
 def rust(tests):
-    if not tests.has("cargo", "bindings/rust"):
+    if not tests.has("cargo", *RUST_CALLS):
         return
     sys.path.insert(0, str(ROOT / "install"))
-    from install import waits_archive
+    from libraries import waits_archive
     archives = [waits_archive(tests.folder), *tests.archives]
-    names = {"SAFEPOINT_ARCHIVES": " ".join(map(str, archives))}
-    words = ["cargo", "test", "--quiet", "--offline", "--target-dir", tests.folder / "target"]
+    names = {"SAFEPOINT_ARCHIVES": " ".join(map(str, archives)), "RUSTDOCFLAGS": "-D warnings"}
     how = {"capture_output": True, "timeout": SECONDS, "cwd": BINDINGS / "rust", "env": {**os.environ, **names}}
-    ran = subprocess.run(words, **how)
-    said = [it.decode(errors="replace")[-2000:] for it in (ran.stdout, ran.stderr)]
-    tests.judge("bindings/rust", said if ran.returncode else ())
+    for name, (call, *words) in RUST_CALLS.items():
+        if call == "clippy" and not has_clippy():
+            tests.skip(name, "cargo has no clippy")
+            continue
+        shared = ["--quiet", "--offline", "--target-dir", tests.folder / "target"]
+        ran = subprocess.run(["cargo", call, *shared, *words], **how)
+        said = [it.decode(errors="replace")[-2000:] for it in (ran.stdout, ran.stderr)]
+        tests.judge(name, said if ran.returncode else ())
+
+
+STANDARDS = {f"scopes as {it}, without a warning": it for it in ("c++14", "c++17", "c++20", "c++2b")}
 
 
 def cpp(tests):
-    if not tests.has(cpp_compiler(), "scopes of C++"):
-        return
+    for name, words in (("scopes of C++", ()), ("scopes of C++, checked", (CHECK,))):
+        if tests.has(cpp_compiler(), name):
+            scopes(tests, name, *words)
+    if tests.has(cpp_compiler(), *STANDARDS):
+        standards(tests)
+
+
+def standards(tests):
+    command = [cpp_compiler(), *FLAGS, "-I", CRATE / "include", "-pedantic", "-fsyntax-only"]
+    for name, standard in STANDARDS.items():
+        words = [*command, f"-std={standard}", TESTS / "safepoint_scopes.cpp"]
+        made = subprocess.run(words, capture_output=True, timeout=SECONDS)
+        tests.judge(name, made.stderr.decode(errors="replace") if made.returncode else ())
+
+
+def scopes(tests, name, *words):
     objects = [tests.folder / f"{source.stem}.o" for source in WAITS]
     for source, made in zip(WAITS, objects):
         command = [c_compiler(), "-std=gnu11", *FLAGS, "-I", CRATE / "include"]
         subprocess.run([*command, "-c", source, "-o", made], check=True)
     program = tests.folder / "scopes"
     sources = [TESTS / "safepoint_scopes.cpp", *objects, *tests.archives]
-    command = [cpp_compiler(), "-std=c++17", *FLAGS, "-I", CRATE / "include", "-o", program]
+    command = [cpp_compiler(), "-std=c++17", *FLAGS, *words, "-I", CRATE / "include", "-o", program]
     subprocess.run([*command, *sources, "-lpthread"], check=True)
-    tests.judge_run("scopes of C++", tests.run(program), b"ok\n")
+    tests.judge_run(name, tests.run(program), b"ok\n")
 
 
 PARTS = {
@@ -247,6 +317,8 @@ PARTS = {
     "threads at random": threads,
     "logs of calls": recorded,
     "a soak": soak,
+    "misuses": misuses,
+    "what is checked": checked,
     "jit": jit,
     "scopes of C++": cpp,
     "bindings/rust": rust,

@@ -1,15 +1,17 @@
 /* Each call of safepoint.h with its refusals, from one thread, so that no lock is ever taken: SP_AGAIN says then that what a call needs isn't
    there. Where memory is refused the call is made again, and answers as if nothing had been refused; the last line tells which was.
-   tests/safepoint.py builds and runs it. */
+   With --met it prints each call with its answer. tests/safepoint.py and tests/header.py build and run it. */
 #include <stdio.h>
 #include <string.h>
 
 #include "../crates/safepoint/include/safepoint_wait.h"
 
 static int failed;
+static bool shows_met; /* each call that was made, with its answer */
 static const char *refused; /* the call that was refused memory */
 
 static void judge(int line, const char *call, int64_t found, int64_t wanted) {
+    if (shows_met) printf("met %.*s %lld\n", (int)strcspn(call, "("), call, (long long)found);
     if (found == wanted) return;
     printf("%d: %s: %lld (%s), and not %lld\n", line, call, (long long)found, sp_text(found), (long long)wanted);
     failed = 1;
@@ -218,7 +220,9 @@ static void a_thread_serves_itself(void) {
     IS(sp_tell(&c, 1), 1);
     IS(sp_tell(&c, 1), SP_ALREADY_TOLD);
     IS(sp_hold(&c, 0), SP_NOT_SAFE);
+    IS(sp_hold(&c, 1), SP_NOT_OF);
     IS(sp_close(&c), SP_NOT_DONE);
+    IS(sp_close_of(&c, 1), SP_NOT_DONE);
     IS(sp_back_edge(&a), 1);
     IS(sp_state(&a), SP_AT_POLL);
     IS(sp_back_edge(&a), SP_ILLEGAL);
@@ -257,6 +261,7 @@ static void a_held_thread_is_served(void) {
     IS(sp_serve(&c, 0), 2);
     IS(sp_serve(&c, 0), SP_ALREADY_DONE);
     IS(sp_close(&c), SP_HELD);
+    IS(sp_close_of(&c, 2), SP_HELD);
     IS(sp_release(&c, 0), 0);
     IS(sp_release(&c, 0), SP_NOT_HELD);
     IS(sp_from_native(&a), 0);
@@ -331,6 +336,8 @@ static void four_are_open(void) {
 static void the_queue_is_full(void) {
     for (int waiting = 0; waiting < 64; waiting++) IS(sp_census(&d), 9 + waiting);
     IS(sp_census(&d), SP_QUEUE_FULL);
+    IS(sp_target(&d, 1), 0);
+    IS(sp_submit(&d, SP_DEPTH, 0), SP_QUEUE_FULL);
     IS(sp_open_kind(&c), SP_NONE);
     IS(sp_reclaim_begin(&d, 1), SP_ALREADY_OPEN);
 }
@@ -347,6 +354,9 @@ static void a_code_is_reclaimed(void) {
     IS(sp_reclaim_begin(&one, 1), SP_STILL_IN_USE);
     IS(sp_reclaim_end(&one, 1), SP_NOT_WEIGHED);
     IS(sp_install(&one, 0), 2);
+    IS(sp_reclaim_end(&one, 1), SP_LATE);
+    for (int twice = 0; twice < 2; twice++) IS(sp_target(&one, 1), 0);
+    IS(sp_reclaim_begin(&one, 1), SP_BAD_TARGETS);
     IS(sp_reclaim_begin(&one, 1), 0);
     IS(sp_reclaim_end(&one, 1), SP_LATE);
     IS(sp_publish(&thread), 0);
@@ -617,6 +627,84 @@ static void the_oldest_is_awaited(void) {
     end();
 }
 
+static void targets_are_taken_back(void) {
+    begin();
+    IS(sp_target(&k, 1), 0);
+    IS(sp_reclaim_begin(&k, 0), SP_UNKNOWN);
+    IS(sp_submit(&k, SP_DEPTH, 0), SP_NO_TARGETS);
+    IS(sp_target(&k, 1), 0);
+    IS(sp_census(&k), 1);
+    IS(sp_submit(&k, SP_DEPTH, 0), SP_NO_TARGETS);
+    IS(sp_target(&k, 1), 0);
+    IS(sp_submit(&k, 3, 0), SP_BAD_ASK);
+    IS(sp_submit(&k, SP_DEPTH, 0), 2);
+    end();
+}
+
+/* Names that nobody has: 0, one that isn't given out yet, the greatest number. A name that is given out before the Open is a target. */
+static void names_never_were(void) {
+    static const uint64_t names[] = {0, 99, UINT64_MAX};
+    begin();
+    for (int i = 0; i < 3; i++) {
+        shake(names[i], 0, i + 1);
+        IS(sp_open(&k), i + 1);
+        IS(sp_tell(&k, names[i]), 0);
+        IS(sp_tell(&k, 77), SP_NOT_OF);
+        IS(sp_close(&k), i + 1);
+        IS(sp_reply(&k, (uint64_t)i + 1, names[i]), SP_NOT_ANSWERED);
+        IS(sp_live_after(&k, names[i]), names[i] ? 0 : 1);
+    }
+    IS(sp_reply(&k, 99, 1), SP_NOT_ANSWERED);
+    IS(sp_exit(&t), 0);
+    sp_free(&t);
+    IS(sp_fork(&k, &t), 0);
+    shake(3, 4, 4);
+    IS(sp_start(&t), 3);
+    IS(sp_open(&k), 4);
+    IS(sp_tell(&k, 3), 4);
+    serve_itself(&t, 4);
+    IS(sp_exit(&t), 0);
+    sp_free(&t);
+    IS(sp_fork(&k, &t), 0);
+    IS(sp_start(&t), 4);
+    IS(sp_tell(&k, 4), 0);
+    IS(sp_close(&k), 4);
+    IS(sp_reply(&k, 4, 3), 0);
+    IS(sp_reply(&k, 4, 4), SP_NOT_ANSWERED);
+    end();
+}
+
+/* Codes that never were, and an sp_reclaim_end that nobody began: a round of another code is as good, if it came later. */
+static void codes_are_weighed_unasked(void) {
+    begin();
+    IS(sp_reclaim_end(&k, 9), SP_NOT_WEIGHED);
+    IS(sp_counted(&k, 9), 0);
+    IS(sp_target(&k, 1), 0);
+    IS(sp_submit(&k, SP_COUNT_OF, 9), 1);
+    AWAITS(&k, 1);
+    serve_itself(&s, 1);
+    ADVANCES(&k, 1);
+    IS(sp_reply(&k, 1, 1), 0);
+    for (int64_t serial = 1; serial < 4; serial++) IS(sp_install(&k, 0), serial);
+    IS(sp_reclaim_end(&k, 3), SP_NOT_WEIGHED);
+    IS(sp_reclaim_end(&k, 1), SP_LATE);
+    IS(sp_publish(&s), 0);
+    IS(sp_publish(&t), 0);
+    IS(sp_reclaim_end(&k, 1), SP_LATE);
+    IS(sp_reclaim_begin(&k, 1), 0);
+    IS(sp_install(&k, 0), 4);
+    IS(sp_reclaim_end(&k, 2), SP_LATE);
+    IS(sp_publish(&s), 0);
+    IS(sp_publish(&t), 0);
+    IS(sp_reclaim_end(&k, 2), 0);
+    IS(sp_reclaim_end(&k, 3), SP_LATE);
+    IS(sp_ret(&s), 0);
+    IS(sp_exit(&s), 0);
+    IS(sp_exit(&t), 0);
+    IS(sp_reclaim_end(&k, 3), 0);
+    end();
+}
+
 /* --- the loops of safepoint_wait.h, where nobody has to be waited for --- */
 
 static int served_for[2]; /* each place */
@@ -653,7 +741,8 @@ static void held_threads_are_driven(void) {
     end();
 }
 
-int main(void) {
+int main(int count, char **words) {
+    shows_met = count > 1 && !strcmp(words[1], "--met");
     no_party_does_nothing();
     making();
     another_part_is_refused();
@@ -677,6 +766,9 @@ int main(void) {
     steps_are_mixed_in();
     steps_are_mixed_into_a_census();
     the_oldest_is_awaited();
+    targets_are_taken_back();
+    names_never_were();
+    codes_are_weighed_unasked();
     held_threads_are_driven();
     sp_free(&a);
     sp_free(&b);

@@ -1,12 +1,11 @@
 #!/usr/bin/env python3
 """Whether each place that says the version says that of the file VERSION: version.py
 
-`install/install.py` reads the file, and fills it into the pages for man and the files of pkg-config. Headers and
+`install/contents.py` fills it into the pages for man and the files of pkg-config and CMake. Headers and
 Cargo.toml can't read it: here they are compared with it, and so is the first entry of CHANGELOG.md. A program in C and
 one in C++ print what the headers say.
 The last line is `N passed, N failed, N skipped`; the status is 0 where none failed.
 """
-import importlib.util
 import pathlib
 import re
 import subprocess
@@ -16,6 +15,10 @@ import tempfile
 from tally import Tally, c_compiler, cpp_compiler
 
 ROOT = pathlib.Path(__file__).resolve().parent.parent
+sys.path.insert(0, str(ROOT / "install"))
+
+import contents
+
 CRATES = ROOT / "crates"
 HEADERS = {"SP": CRATES / "safepoint" / "include" / "safepoint.h", "MODEL": CRATES / "model" / "include" / "model.h"}
 CARGO = {"safepoint": ROOT / "bindings" / "rust", "toy": ROOT / "examples" / "embed" / "rust"}
@@ -36,14 +39,6 @@ int main(void) {
     printf("%%s %%s\\n", SP_VERSION, MODEL_VERSION);
 }
 """
-
-
-def loaded_install():
-    """The script that installs, as a module."""
-    spec = importlib.util.spec_from_file_location("installing", ROOT / "install" / "install.py")
-    module = importlib.util.module_from_spec(spec)
-    spec.loader.exec_module(module)
-    return module
 
 
 def differs(found, wanted):
@@ -69,10 +64,8 @@ def packages(tally, version):
 
 def filled(tally, version):
     """In what is installed the version is filled in, and nothing is left to fill."""
-    module = loaded_install()
-    place = module.Place("/opt/prefix", "/stage")
-    for to, source in module.filled_files():
-        text = place.filled(source.read_text())
+    for to, source in (it for crate in contents.CRATES_BUILT for it in contents.filled_files(crate)):
+        text = contents.filled(source.read_text(), "/opt/prefix")
         left = re.findall(r"@[A-Z]+@", text)
         tally.judge(f"the version of {to}", differs((version in text, left), (True, [])))
 

@@ -2,25 +2,26 @@
    there, and says when machine code can be freed.
 
    This page is the whole contract of libsafepoint.a. Its calls never wait and never call back;
-   safepoint_wait.h has the loops that do.
+   safepoint_wait.h has the loops that do. It is for C99 and C++14, and for what follows them. A host
+   that is compiled with -DSP_CHECK is told where it breaks a rule of PARTIES (safepoint_check.h).
 
-   PARTIES. The caller owns the memory of a `struct sp_party`, which is all zeros at first. sp_make
-   puts the coordinator of a new system into one party, and sp_fork puts a further party of the same
-   system into another. sp_free takes a party out, and its memory may be used again. A system ends
-   with its last party. There may be any number of systems. A party that sp_start started is a thread
-   until sp_exit. All parties but threads and coordinators are clients. The caller doesn't copy a
-   party. Only one thread of the caller at a time calls with a party, and a party may pass from one
-   thread to another. Calls with different parties may run at the same time. A thread that is freed
-   without sp_exit keeps its place. A coordinator that is freed leaves its held threads held.
+   PARTIES. The caller owns the memory of a `struct sp_party`, which is all zeros at first: `{0}` in
+   C, `{}` in C++. sp_make puts the coordinator of a new system into one party, and sp_fork puts a
+   further party of the same system into another. sp_free takes a party out, and its memory may be
+   used again. A system ends with its last party. There may be any number of systems. A party that
+   sp_start started is a thread until sp_exit. All parties but threads and coordinators are clients.
+   The caller doesn't copy a party. Only one thread of the caller at a time calls with a party, and
+   a party may pass from one thread to another. Calls with different parties may run at the same
+   time. A thread that is freed without sp_exit keeps its place. A coordinator that is freed leaves
+   its held threads held. No call comes from a signal handler. A system is of the process that made
+   it: a forked child makes no call with a party of its parent, nor sp_free.
 
    ANSWERS. Each call returns a number from 0 on, or a refusal below 0. Each reason has its own
-   number, and sp_text returns its words. A refusal changes nothing, except where the call's list
+   number, and sp_text returns its words. A refusal changes nothing, except where the call's text
    says so. Each call is one try, and only tries the locks that it takes. If another call has a lock,
    or if something that the call needs isn't there yet, it returns SP_AGAIN, and the caller repeats
-   it. Every call may return SP_AGAIN, except those marked (*). A thread's call with a party that is
-   no thread, a coordinator's call with another party, and any call with a party that isn't made
-   return SP_NOT_THIS. If several refusals apply, the call returns the first one of its list; but
-   SP_BAD_ASK comes before all others, and SP_NO_MEMORY may come before any.
+   it. If several refusals apply, the call returns the first one of its row in the table below; but
+   SP_BAD_ASK comes before all others, and SP_AGAIN and SP_NO_MEMORY may come before any.
 
    STACK. A call takes at most 12 KB of the stack of the thread that makes it, and doesn't check
    that this much is left.
@@ -35,7 +36,85 @@
    sp_stop_next returns the operation to serve. The runtime now runs its callback for that operation,
    on the thread's own stack, which is published. Each operation is served once for each target,
    either by the thread or by the coordinator for it. It is never served by both, since a thread's
-   stack is either with the thread or held. */
+   stack is either with the thread or held.
+
+   NAMES AND NUMBERS that never were. Each number of 64 bits may be asked about, and one that was
+   never given out is answered like one that is gone. A handshake may name such a thread: nobody is
+   waited for, sp_tell returns 0, sp_reply SP_NOT_ANSWERED. A name that is given out after sp_submit
+   and before sp_open is a target like any other; one that is given out later isn't. Of a code that
+   never was, SP_COUNT_OF and sp_counted count 0 frames.
+
+   TABLE of all calls. By: the party that may make the call; others get SP_NOT_THIS, and so does a
+   party that isn't made. (sp_make takes one that isn't.) Before: the states of the thread from which
+   the call is made; from others it returns SP_ILLEGAL. After: its state then. "back" is Java or the
+   VM: where the thread entered native code, or where the call that stopped it leads. "polls": after
+   0 the state is as the table says, and after the number of an operation the thread is at a poll.
+   (sp_start returns the name in both cases, and sp_state tells.) Refusals stand in the order of
+   their tests, without SP_ and without those two.
+
+   call                 by      before   after     returns           refusals
+   sp_make              none    -        -         0                 MADE BAD_SIZE NO_MEMORY
+   sp_fork              any     -        -         0                 MADE NO_MEMORY
+   sp_free              any     -        -         nothing           -
+   sp_start             client  -        Java      the name, polls   AGAIN SAFEPOINT_OPEN PLACES_FULL
+                                                                     SPENT HISTORY_FULL NO_MEMORY
+   sp_exit              thread  Java VM  -         0, polls          AGAIN STACK_NOT_EMPTY
+   sp_name              thread  all      same      the name          -
+   sp_place             thread  all      same      the place         -
+   sp_state             thread  all      same      the state         -
+   sp_call              thread  Java     same      a serial, or 0    NO_SUCH_METHOD DEPTH_FULL
+   sp_ret               thread  Java     same      0, polls          EMPTY_STACK
+   sp_back_edge         thread  Java     same      0, polls          -
+   sp_publish           thread  Java VM  same      0                 -
+   sp_to_vm             thread  Java     VM        0                 -
+   sp_from_vm           thread  VM       Java      0, polls          -
+   sp_to_native         thread  Java VM  native    0                 AGAIN
+   sp_from_native       thread  native   back      0, polls          AGAIN
+   sp_block             thread  VM       blocked   0                 AGAIN
+   sp_unblock           thread  blocked  VM        0, polls          AGAIN
+   sp_stop_next         thread  poll     serving   an operation      AGAIN
+                                         back      0
+   sp_stop_serve        thread  serving  back      0, polls          AGAIN
+   sp_target            any     -        -         0                 NO_MEMORY
+   sp_submit            any     -        -         a number          BAD_ASK AGAIN SPENT QUEUE_FULL
+                                                                     NO_TARGETS BAD_TARGETS
+                                                                     HISTORY_FULL NO_MEMORY
+   sp_census            any     -        -         a number          AGAIN SPENT QUEUE_FULL
+                                                                     HISTORY_FULL NO_MEMORY
+   sp_install           any     -        -         a serial          AGAIN NO_SUCH_METHOD TABLE_FULL
+                                                                     SPENT HISTORY_FULL NO_MEMORY
+   sp_invalidate        any     -        -         0                 AGAIN UNKNOWN NOT_IN_USE
+   sp_reply             any     -        -         the reply         AGAIN NOT_ANSWERED NO_MEMORY
+   sp_live_after        any     -        -         a name, or 0      AGAIN
+   sp_open_kind         any     -        -         a kind            AGAIN
+   sp_forget            any     -        -         0                 AGAIN
+   sp_advance           coord.  -        -         a number          RUN AWAITS AGAIN QUEUE_EMPTY
+                                                                     NO_MEMORY
+   sp_called_operation  any     -        -         an operation or 0 -
+   sp_called_place      any     -        -         a place           -
+   sp_awaited           any     -        -         how many          -
+   sp_open              coord.  -        -         a number          AGAIN ALREADY_OPEN QUEUE_EMPTY
+   sp_tell              coord.  -        -         an operation or 0 AGAIN NOTHING_OPEN NOT_OF
+                                                                     ALREADY_TOLD
+   sp_hold              coord.  -        -         an operation      AGAIN NO_SUCH_PLACE VACANT
+                                                                     NOTHING_OPEN NOT_OF NOT_TOLD
+                                                                     ALREADY_DONE HELD NOT_SAFE
+   sp_serve             coord.  -        -         an operation      AGAIN NO_SUCH_PLACE VACANT
+                                                                     NOT_HELD NOTHING_OPEN NOT_OF
+                                                                     NOT_TOLD ALREADY_DONE
+   sp_release           coord.  -        -         0                 AGAIN NO_SUCH_PLACE VACANT
+                                                                     NOT_HELD
+   sp_operate           coord.  -        -         a number          AGAIN NOTHING_OPEN NOT_OF
+                                                                     ALREADY_DONE NOT_ALL_HELD
+                                                                     NO_MEMORY
+   sp_counted           any     -        -         how many          -
+   sp_close             coord.  -        -         a number          AGAIN NOTHING_OPEN HELD NOT_DONE
+   sp_close_of          coord.  -        -         a number          AGAIN NOTHING_OPEN NOT_OF HELD
+                                                                     NOT_DONE
+   sp_reclaim_begin     any     -        -         a number, or 0    AGAIN UNKNOWN STILL_IN_USE
+                                                                     ALREADY_OPEN SPENT BAD_TARGETS
+                                                                     HISTORY_FULL NO_MEMORY
+   sp_reclaim_end       coord.  -        -         0, or how many    AGAIN NOT_WEIGHED LATE */
 #ifndef SAFEPOINT_H
 #define SAFEPOINT_H
 
@@ -83,33 +162,32 @@ enum { SP_DEPTH = 0, SP_COUNT_OF = 1, SP_TOP = 2 };
 /* What is open: nothing, up to four handshakes, or one census. */
 enum { SP_NONE = 0, SP_HANDSHAKE = 1, SP_CENSUS = 2 };
 
-/* SYSTEMS (*). sp_make makes a system of up to 64 threads at a time (places), 1024 codes (slots) and
-   256 methods, which are numbered from 0. It returns 0; SP_MADE if the party is made already,
-   SP_BAD_SIZE, SP_NO_MEMORY. */
+/* SYSTEMS. sp_make makes a system of up to 64 threads at a time (places), 1024 codes (slots) and 256
+   methods, which are numbered from 0. SP_MADE: the party is made already, or the other of sp_fork
+   is. Nothing happens where sp_free is given a party that isn't made. */
 int64_t sp_make(struct sp_party *coordinator, size_t places, size_t slots, size_t methods);
-/* Returns 0; SP_MADE if the other is made, SP_NOT_THIS if the party isn't, SP_NO_MEMORY. */
 int64_t sp_fork(struct sp_party *party, struct sp_party *other);
 void sp_free(struct sp_party *party);
 
 /* A THREAD. sp_start returns the thread's name, which is above all names given out before. After
-   SP_AGAIN the thread may be entered already, so repeat the call. SP_SAFEPOINT_OPEN,
-   SP_PLACES_FULL, SP_SPENT, SP_HISTORY_FULL, SP_NO_MEMORY. It polls: if sp_state says that the
-   thread is at a poll, it stops as after any poll. A party whose thread has exited can't start
-   again: SP_NOT_THIS. */
+   SP_AGAIN the thread may be entered already, so repeat the call. SP_SAFEPOINT_OPEN: a census is
+   open. It polls: if sp_state says that the thread is at a poll, it stops as after any poll. A party
+   whose thread has exited can't start again: SP_NOT_THIS. */
 int64_t sp_start(struct sp_party *thread);
 /* Returns 0, and the party is no longer a thread; or the number of an operation, if a poll stopped
-   the thread, which stays one. SP_ILLEGAL, SP_STACK_NOT_EMPTY. After SP_AGAIN the thread may have
-   left already, or may have published its stack, polled and gone into Java, so repeat the call. */
+   the thread, which stays one, and goes on in Java. After SP_AGAIN the thread may have left already,
+   or may have published its stack, polled and gone into Java, so repeat the call. */
 int64_t sp_exit(struct sp_party *thread);
-/* (*) The thread's name, its place (from 0 on), its state. */
+/* The thread's name, its place (from 0 on), its state. */
 int64_t sp_name(struct sp_party *thread);
 int64_t sp_place(struct sp_party *thread);
 int64_t sp_state(struct sp_party *thread);
 
-/* (*) In Java. sp_call enters a method, and returns the serial of the code to run, or 0 to interpret
-   it; SP_ILLEGAL, SP_NO_SUCH_METHOD, SP_DEPTH_FULL (256 frames). sp_ret leaves the top method and
-   polls; SP_ILLEGAL, SP_EMPTY_STACK. sp_back_edge polls. sp_publish, which the VM may call too,
-   publishes which codes have frames. sp_to_vm doesn't poll, sp_from_vm does. */
+/* In Java. sp_call enters a method, and returns the serial of the code to run, or 0 to interpret it.
+   SP_DEPTH_FULL: the stack has 256 frames. sp_ret leaves the top method and polls. sp_back_edge
+   polls: SP_ILLEGAL in the VM too, which doesn't poll. sp_publish, which the VM may call too,
+   publishes which codes have frames: SP_ILLEGAL in native code, blocked, at a poll and serving. The
+   way into native code publishes nothing. sp_to_vm doesn't poll, sp_from_vm does. */
 int64_t sp_call(struct sp_party *thread, uint32_t method);
 int64_t sp_ret(struct sp_party *thread);
 int64_t sp_back_edge(struct sp_party *thread);
@@ -118,7 +196,7 @@ int64_t sp_to_vm(struct sp_party *thread);
 int64_t sp_from_vm(struct sp_party *thread);
 
 /* Native code and waits. sp_to_native enters native code from Java or the VM, sp_block blocks from
-   the VM. sp_from_native and sp_unblock come back, and poll. SP_ILLEGAL. */
+   the VM. sp_from_native and sp_unblock come back, and poll. */
 int64_t sp_to_native(struct sp_party *thread);
 int64_t sp_from_native(struct sp_party *thread);
 int64_t sp_block(struct sp_party *thread);
@@ -126,32 +204,35 @@ int64_t sp_unblock(struct sp_party *thread);
 
 /* After a poll that stopped the thread, sp_stop_next returns the operation to serve now, or 0, and
    the thread continues. While it returns SP_AGAIN, the coordinator has the thread's stack.
-   sp_stop_serve reports that the callback is done, and returns what a poll returns. SP_ILLEGAL. */
+   sp_stop_serve reports that the callback is done, and returns what a poll returns. */
 int64_t sp_stop_next(struct sp_party *thread);
 int64_t sp_stop_serve(struct sp_party *thread);
 
-/* ANY PARTY. sp_target (*) adds a name to the targets of the party's next request; SP_NO_MEMORY.
-   That request takes all of them, unless it returns SP_AGAIN, SP_NO_MEMORY or SP_BAD_ASK.
-   sp_submit queues a handshake of these targets, and returns its number. SP_SPENT, SP_QUEUE_FULL
-   (64 wait), SP_NO_TARGETS, SP_BAD_TARGETS (a name twice, or more than 64), SP_HISTORY_FULL,
-   SP_NO_MEMORY, SP_BAD_ASK. sp_census queues a census of all threads, and returns its number. */
+/* ANY PARTY. sp_target adds a name to the targets of the party's next request: sp_submit, sp_census,
+   which drops them, or sp_reclaim_begin. That request takes all of them, also where it is refused,
+   unless it returns SP_AGAIN, SP_NO_MEMORY or SP_BAD_ASK. To take targets back without a request,
+   call sp_reclaim_begin with serial 0, which no code has, until it returns SP_UNKNOWN.
+   sp_submit queues a handshake of the targets, and returns its number. SP_QUEUE_FULL: 64 wait.
+   SP_BAD_TARGETS: a name twice, or more than 64. SP_BAD_ASK: `asks` isn't SP_DEPTH, SP_COUNT_OF or
+   SP_TOP. sp_census queues a census of all threads, and returns its number. */
 int64_t sp_target(struct sp_party *party, uint64_t name);
 int64_t sp_submit(struct sp_party *party, uint32_t asks, uint64_t serial);
 int64_t sp_census(struct sp_party *party);
 /* sp_install installs a new code for the method, and returns its serial. From then on no thread
-   enters the method's code before it. SP_NO_SUCH_METHOD, SP_TABLE_FULL, SP_SPENT, SP_HISTORY_FULL,
-   SP_NO_MEMORY. sp_invalidate takes a code out of use, so that no thread enters it: 0; SP_UNKNOWN,
-   SP_NOT_IN_USE. */
+   enters the method's code before it. SP_TABLE_FULL: each slot has a code that isn't freed.
+   sp_invalidate takes a code out of use, so that no thread enters it. SP_UNKNOWN: no code has the
+   serial, or it is freed. SP_NOT_IN_USE: it is out of use already. */
 int64_t sp_install(struct sp_party *party, uint32_t method);
 int64_t sp_invalidate(struct sp_party *party, uint64_t serial);
-/* sp_reply returns what the name answered in an operation; SP_NOT_ANSWERED, SP_NO_MEMORY.
-   sp_live_after returns the least live name above this one, or 0 for none. sp_open_kind returns of
-   which kind the open requests are: SP_HANDSHAKE or SP_CENSUS, or SP_NONE if nothing is open. */
+/* sp_reply returns what the name answered in an operation. SP_NOT_ANSWERED: it hasn't yet, it exited
+   before, it was no target, or the reply is forgotten. sp_live_after returns the least live name
+   above this one, or 0 for none. sp_open_kind returns of which kind the open requests are:
+   SP_HANDSHAKE or SP_CENSUS, or SP_NONE if nothing is open. */
 int64_t sp_reply(struct sp_party *party, uint64_t operation, uint64_t name);
 int64_t sp_live_after(struct sp_party *party, uint64_t name);
 int64_t sp_open_kind(struct sp_party *party);
 /* Forgets all entries so far, and the replies of all operations before the first one that is open or
-   waits: 0. A history of a million entries is full. */
+   waits. A history of a million entries is full: SP_HISTORY_FULL. */
 int64_t sp_forget(struct sp_party *party);
 
 /* THE COORDINATOR. sp_advance works on the oldest open request as far as it can without waiting, and
@@ -166,11 +247,11 @@ int64_t sp_forget(struct sp_party *party);
    SP_AWAITS  sp_awaited threads of the request have still to come. They come by themselves
    SP_AGAIN   a lock is taken, a thread is starting or exiting, or there is more to arm
 
-   What it has done stays, and it may be called again at any time. SP_QUEUE_EMPTY (nothing is open, and
-   nothing waits), SP_NO_MEMORY (for a list: the request may be open, and a census keeps the threads
-   that it holds, until a later call goes on).
+   What it has done stays, and it may be called again at any time. SP_QUEUE_EMPTY: nothing is open,
+   and nothing waits. SP_NO_MEMORY: for a list; the request may be open, and a census keeps the
+   threads that it holds, until a later call goes on.
 
-   The other three (*) tell about the last sp_advance. sp_called_operation returns the operation's
+   The other three tell about the last sp_advance. sp_called_operation returns the operation's
    number, or 0 if no thread is served next; sp_called_place its thread's place, from 0 on; sp_awaited
    a number up to 64. To any party but the coordinator they return 0.
 
@@ -193,47 +274,54 @@ int64_t sp_called_operation(struct sp_party *coordinator);
 int64_t sp_called_place(struct sp_party *coordinator);
 int64_t sp_awaited(struct sp_party *coordinator);
 /* SINGLE STEPS. sp_open opens the oldest waiting request, and returns its number. Up to four
-   handshakes may be open, or one census. SP_ALREADY_OPEN, SP_QUEUE_EMPTY. sp_tell arms the poll of
-   the thread of the name with the oldest open operation that the thread wasn't told, so that the
-   thread stops at its next poll. It returns that operation's number, or 0 if the name is gone.
-   SP_NOTHING_OPEN, SP_NOT_OF, SP_ALREADY_TOLD. */
+   handshakes may be open, or one census: else SP_ALREADY_OPEN. sp_tell arms the poll of the thread
+   of the name with the oldest open operation that the thread wasn't told, so that the thread stops
+   at its next poll. It returns that operation's number, or 0 if the name is gone. SP_NOT_OF: no open
+   request is of the name. SP_ALREADY_TOLD: the thread was told all that is open. */
 int64_t sp_open(struct sp_party *coordinator);
 int64_t sp_tell(struct sp_party *coordinator, uint64_t name);
 /* Holds the thread of a place, which was told an operation that it isn't done with, and doesn't own
-   itself. Returns the oldest operation that the thread owes. SP_NO_SUCH_PLACE, SP_VACANT,
-   SP_NOTHING_OPEN, SP_NOT_OF, SP_NOT_TOLD, SP_ALREADY_DONE, SP_HELD, SP_NOT_SAFE (the thread owns
-   itself: try again later). */
+   itself. Returns the oldest operation that the thread owes. SP_VACANT: no thread has the place.
+   SP_NOT_SAFE: the thread owns itself, so try again later. */
 int64_t sp_hold(struct sp_party *coordinator, size_t place);
 /* Serves the oldest operation of a held thread, after the runtime has run its callback for it.
-   Returns the operation's number. SP_NO_SUCH_PLACE, SP_VACANT, SP_NOT_HELD, SP_NOTHING_OPEN,
-   SP_NOT_OF (a census), SP_NOT_TOLD, SP_ALREADY_DONE. After SP_AGAIN the thread's stack may be
-   published. */
+   Returns the operation's number. SP_NOT_OF: what is open is a census. After SP_AGAIN the thread's
+   stack may be published. */
 int64_t sp_serve(struct sp_party *coordinator, size_t place);
-/* Lets a held thread go: 0. SP_NO_SUCH_PLACE, SP_VACANT, SP_NOT_HELD. */
+/* Lets a held thread go. */
 int64_t sp_release(struct sp_party *coordinator, size_t place);
 /* sp_operate operates the open census over the held threads, which are all live threads, and returns
-   its number. SP_NOTHING_OPEN, SP_NOT_OF (a handshake), SP_ALREADY_DONE, SP_NOT_ALL_HELD,
-   SP_NO_MEMORY. sp_counted (*) returns the frames of a code in the census that was operated last,
-   and 0 to any party but the coordinator. */
+   its number. SP_NOT_OF: what is open are handshakes. sp_counted returns the frames of a code in the
+   census that was operated last, and 0 to any party but the coordinator. */
 int64_t sp_operate(struct sp_party *coordinator);
 int64_t sp_counted(struct sp_party *coordinator, uint64_t serial);
-/* Closes the oldest open request, or the one of this number, and returns its number.
-   SP_NOTHING_OPEN, SP_NOT_OF, SP_HELD (the thread of a target is held), SP_NOT_DONE. */
+/* Closes the oldest open request, or the one of this number, and returns its number. SP_HELD: the
+   thread of a target is held. SP_NOT_DONE: a live target isn't done, or the census isn't operated.
+   SP_NOT_OF: something is open, and nothing of this number. */
 int64_t sp_close(struct sp_party *coordinator);
 int64_t sp_close_of(struct sp_party *coordinator, uint64_t number);
 
 /* RECLAIMING a code that no thread enters any more. Any party calls sp_reclaim_begin. It queues a
-   handshake of the party's targets, and returns its number, or 0 without targets; SP_UNKNOWN,
-   SP_STILL_IN_USE, SP_ALREADY_OPEN (something is open or waits), SP_SPENT, and the refusals of
-   sp_submit. After that handshake is closed, the coordinator calls sp_reclaim_end. It returns 0 if
-   the code is freed: no thread has a frame of it or can enter it, so its memory may be unmapped.
-   Else it returns how many frames of the code are on stacks; SP_LATE if a thread that hasn't
-   published since may still enter it: try again later; SP_NOT_WEIGHED. */
+   handshake of the party's targets, and returns its number, or 0 without targets. SP_STILL_IN_USE:
+   a thread may enter the code. SP_ALREADY_OPEN: something is open or waits.
+   After that handshake is closed, the coordinator calls sp_reclaim_end. It returns 0 if the code is
+   freed: no thread has a frame of it or can enter it, so its memory may be unmapped. Else it returns
+   how many frames of the code are on stacks; SP_LATE if a thread that hasn't published since may
+   still enter it: try again later; SP_NOT_WEIGHED if the code is in use, is freed, or never was.
+   sp_reclaim_end may come at any time. It frees a code on which no frame stands once each live
+   thread has published since an sp_reclaim_begin, of this code or of another, that came after the
+   code went out of use. Before that, and where none came, it returns SP_LATE. If no thread lives, it
+   frees the code at once. */
 int64_t sp_reclaim_begin(struct sp_party *party, uint64_t serial);
 int64_t sp_reclaim_end(struct sp_party *coordinator, uint64_t serial);
 
 #ifdef __cplusplus
 }
+#endif
+
+/* Each call is checked (safepoint_check.h). */
+#ifdef SP_CHECK
+#include "safepoint_wait.h"
 #endif
 
 #endif

@@ -3,7 +3,9 @@
    with its own way to park threads writes them again.
 
    Each call returns what the call in its loop returns, and never SP_AGAIN. With -DSP_PTHREAD it sleeps on a
-   pthread condition, else on a futex. With -DSP_RECORD the calls are noted (safepoint_record.h).
+   pthread condition, else on a futex. With -DSP_RECORD the calls are noted (safepoint_record.h), with
+   -DSP_CHECK they are checked (safepoint_check.h), and with -DSP_USDT there are static probes
+   (safepoint_probes.h).
    Each takes at most 12 KB of its thread's stack, and what its callback takes. */
 #ifndef SAFEPOINT_WAIT_H
 #define SAFEPOINT_WAIT_H
@@ -50,7 +52,10 @@ void sp_ring(void);
     } while (0)
 
 /* A thread. sp_stop follows a poll that returned a number. It serves the thread's operations until
-   the thread continues, and returns 0. */
+   the thread continues, and returns 0. sp_start_thread returns the name, and sp_exit_thread 0; both
+   serve what stops the thread meanwhile. sp_enter_native and sp_enter_blocked give the stack away,
+   by sp_to_native and sp_block. The calls that leave take it back, serve what stops the thread, and
+   return 0. */
 int64_t sp_stop(struct sp_party *thread, sp_callback call, void *with);
 int64_t sp_start_thread(struct sp_party *thread, sp_callback call, void *with);
 int64_t sp_exit_thread(struct sp_party *thread, sp_callback call, void *with);
@@ -66,13 +71,23 @@ int64_t sp_drive(struct sp_party *coordinator, sp_callback call, void *with);
 /* The same for up to four handshakes at once. Returns how many it closed. */
 int64_t sp_drive_four(struct sp_party *coordinator, sp_callback call, void *with);
 /* Reclaims a code that no thread enters any more, by a handshake of all live threads. Returns 0 if
-   the code is freed, else how many frames of it are on stacks; SP_LATE. */
+   the code is freed, else how many frames of it are on stacks; SP_LATE; and what sp_reclaim_begin
+   and sp_drive return. SP_BAD_TARGETS: threads started and exited while it listed the live names, so
+   that it has more than 64, or the coordinator had targets of its own. Call again. After
+   SP_NO_MEMORY names may be left among the coordinator's targets: sp_reclaim_begin with serial 0
+   takes them back. */
 int64_t sp_reclaim(struct sp_party *coordinator, uint64_t serial, sp_callback call, void *with);
 
 #ifdef __cplusplus
 }
 #endif
 
+#if defined(SP_CHECK) && defined(SP_RECORD)
+#error "a host is compiled with -DSP_CHECK or with -DSP_RECORD, and not with both"
+#endif
+#ifdef SP_CHECK
+#include "safepoint_check.h"
+#endif
 #ifdef SP_RECORD
 #include "safepoint_record.h"
 #endif

@@ -1,8 +1,17 @@
+/* The checks of safepoint_check.h are in front of these loops, and not within. */
+#undef SP_CHECK
 #define _GNU_SOURCE
 #include "safepoint_wait.h"
 
+#include <pthread.h>
 #include <sched.h>
 #include <stdatomic.h>
+
+#ifdef SP_USDT
+#include "safepoint_probes.h"
+#else
+#define PROBE(...) ((void)0)
+#endif
 
 /* What is shared here is hints: how many came, for how many a coordinator waits, who sleeps. One set serves all systems. Where a hint is wrong,
    as where two systems are driven at a time, somebody asks again too early, or sleeps for a nap; nothing else hangs on it. */
@@ -27,8 +36,18 @@ enum {
     LOOKS = 40,     /* of the coordinator whether those that are late have come, before it sleeps */
     NAP = 500000,   /* nanoseconds, which the first sleep of a wait lasts at most, since a lock that is given back doesn't ring */
     DOUBLED = 5,    /* so often a further one lasts twice as long */
-    PLACES = 64     /* the most that a system has */
+    PLACES = 64,    /* the most that a system has */
+    SYSTEMS = 16    /* so many can be listed for a debugger */
 };
+
+/* The parties of this process, for install/safepoint-gdb.py alone, which knows this form: a row for each place, and one
+   for coordinators. A party that finds its row full takes the entry of another. */
+struct listed {
+    _Atomic(void *) at; /* of its party, which may move itself */
+    _Atomic(pthread_t) thread; /* that started it; of a coordinator, that drove last */
+    atomic_int_least64_t name; /* 0 of a coordinator */
+};
+struct listed sp_listed[PLACES + 1][SYSTEMS];
 
 #if defined(__x86_64__) || defined(__i386__)
 #define PAUSE() __builtin_ia32_pause()
@@ -42,7 +61,6 @@ enum {
 static long length_of(unsigned before) { return (long)NAP << (before < DOUBLED ? before : DOUBLED); }
 
 #ifdef SP_PTHREAD
-#include <pthread.h>
 #include <time.h>
 static pthread_mutex_t mutex = PTHREAD_MUTEX_INITIALIZER;
 static pthread_cond_t changed = PTHREAD_COND_INITIALIZER; /* of both bells: who wakes for nothing asks again */
@@ -93,7 +111,9 @@ static void rest(struct sp_pause *pause) {
         sched_yield();
     } else {
         atomic_fetch_add(&all.gone.sleepers, 1);
+        PROBE(wait__begin, 0, length_of(turn - TRIES - YIELDS));
         nap(&all.gone, pause->seen, turn - TRIES - YIELDS);
+        PROBE(wait__end, 0);
         atomic_fetch_sub(&all.gone.sleepers, 1);
     }
     pause->seen = atomic_load(&all.gone.rings);
@@ -103,6 +123,31 @@ bool sp_again(int64_t answer, struct sp_pause *pause) {
     if (answer != SP_AGAIN) return false;
     rest(pause);
     return true;
+}
+
+/* --- for a debugger --- */
+
+/* Whether the entry is of the party, or was free and is so from here on. */
+static bool is_of(struct listed *entry, void *at) {
+    void *seen = atomic_load_explicit(&entry->at, memory_order_relaxed);
+    return seen == at || (!seen && atomic_compare_exchange_strong(&entry->at, &seen, at));
+}
+
+static void list(size_t row, struct sp_party *party, int64_t name) {
+    size_t column = 0;
+    while (column < SYSTEMS && !is_of(&sp_listed[row][column], party->at)) column++;
+    if (column == SYSTEMS) column = (size_t)name % SYSTEMS;
+    struct listed *entry = &sp_listed[row][column];
+    atomic_store_explicit(&entry->at, party->at, memory_order_relaxed);
+    atomic_store_explicit(&entry->thread, pthread_self(), memory_order_relaxed);
+    atomic_store_explicit(&entry->name, name, memory_order_relaxed);
+}
+
+static void unlist(size_t row, struct sp_party *party) {
+    for (size_t column = 0; column < SYSTEMS; column++) {
+        void *seen = party->at;
+        atomic_compare_exchange_strong(&sp_listed[row][column].at, &seen, NULL);
+    }
 }
 
 /* --- a thread --- */
@@ -137,22 +182,28 @@ static int64_t next_of(struct sp_party *thread) {
 /* Serves the operation: what the poll behind it answers. */
 static int64_t serve(struct sp_party *thread, int64_t operation, sp_callback call, void *with) {
     int64_t told;
+    PROBE(callback__begin, operation, sp_name(thread), sp_place(thread));
     if (call) call(with, &(struct sp_served){(uint64_t)operation, (size_t)sp_place(thread), thread});
+    PROBE(callback__end, operation, sp_name(thread), sp_place(thread));
     SP_WAIT(told, sp_stop_serve(thread));
     return told;
 }
 
 int64_t sp_stop(struct sp_party *thread, sp_callback call, void *with) {
+    int64_t told;
+    PROBE(stop__begin, sp_name(thread), sp_place(thread));
     for (;;) {
-        int64_t told, operation = next_of(thread);
-        if (operation <= 0) return operation;
+        int64_t operation = told = next_of(thread);
+        if (operation <= 0) break;
         unsigned ended = atomic_load(&all.ended);
         told = serve(thread, operation, call, with);
         come();
         if (told > 0) continue;
         give_way(ended);
-        return told;
+        break;
     }
+    PROBE(stop__end, sp_name(thread), sp_place(thread));
+    return told;
 }
 
 /* A call that takes a thread's stack away from it, or gives it back. */
@@ -189,24 +240,29 @@ static inline int64_t taken(int64_t answer, crossing call, struct sp_party *thre
 int64_t sp_start_thread(struct sp_party *thread, sp_callback call, void *with) {
     int64_t name, stopped = 0;
     SP_WAIT(name, sp_start(thread));
+    if (name > 0) list((size_t)sp_place(thread), thread, name);
     if (name > 0 && sp_state(thread) == SP_AT_POLL) stopped = sp_stop(thread, call, with);
     return stopped < 0 ? stopped : name;
 }
 
 /* It has come once it has left, or is told more: who is woken before might tell it the next in time, and so on. */
 int64_t sp_exit_thread(struct sp_party *thread, sp_callback call, void *with) {
+    int64_t place = sp_place(thread);
     for (bool has_served = false;;) {
         int64_t operation, answer;
         SP_WAIT(answer, sp_exit(thread));
+        if (answer == 0 && place >= 0) unlist((size_t)place, thread);
         if (has_served || (answer <= 0 && driven())) come();
         if (answer <= 0) return answer;
         has_served = false;
+        PROBE(stop__begin, sp_name(thread), sp_place(thread));
         while ((operation = next_of(thread)) > 0) {
             answer = serve(thread, operation, call, with);
             has_served = true;
             if (answer <= 0) break;
             come();
         }
+        PROBE(stop__end, sp_name(thread), sp_place(thread));
         if (operation < 0 || answer < 0) return operation < 0 ? operation : answer;
     }
 }
@@ -247,7 +303,11 @@ static void wait_for(struct late *it, unsigned awaited) {
     while (it->looks > 0 && !are_here(wanted)) it->looks--, PAUSE();
     if (!are_here(wanted)) {
         atomic_fetch_add(&all.come.sleepers, 1);
-        if (!are_here(wanted)) nap(&all.come, seen, it->naps++);
+        if (!are_here(wanted)) {
+            PROBE(wait__begin, awaited, length_of(it->naps));
+            nap(&all.come, seen, it->naps++);
+            PROBE(wait__end, awaited);
+        }
         atomic_fetch_sub(&all.come.sleepers, 1);
     }
     it->came = atomic_load(&all.came);
@@ -255,11 +315,15 @@ static void wait_for(struct late *it, unsigned awaited) {
 
 static void run_for_held(struct sp_party *coordinator, sp_callback call, void *with) {
     uint64_t operation = (uint64_t)sp_called_operation(coordinator);
+    PROBE(callback__begin, (int64_t)operation, 0, sp_called_place(coordinator));
     call(with, &(struct sp_served){operation, (size_t)sp_called_place(coordinator), NULL});
+    PROBE(callback__end, (int64_t)operation, 0, sp_called_place(coordinator));
 }
 
 /* It rings for threads that it let go: where it goes on at once, if some sleep already; before it waits, also for those that are about to. */
 int64_t sp_drive(struct sp_party *coordinator, sp_callback call, void *with) {
+    PROBE(request__begin, (int64_t)coordinator);
+    list(PLACES, coordinator, 0);
     struct late late = begin();
     struct sp_pause pause = {0, 0};
     int64_t answer;
@@ -278,6 +342,7 @@ int64_t sp_drive(struct sp_party *coordinator, sp_callback call, void *with) {
     }
     ring(&all.gone);
     atomic_fetch_add(&all.ended, 1);
+    PROBE(request__end, (int64_t)coordinator, answer);
     return answer;
 }
 
