@@ -87,6 +87,14 @@ class Tests(Tally):
         return None if "exited" in said else f"gdb can't run a program here: {said[-200:]!r}"
 
     @functools.cache
+    def lack_of_probes(self):
+        """Why no program with probes can be built here; nothing where one can."""
+        source = self.folder / "sdt.c"
+        source.write_text("#include <sys/sdt.h>\n")
+        ran = subprocess.run([c_compiler(), "-fsyntax-only", source], capture_output=True)
+        return "there is no sys/sdt.h (systemtap-sdt-dev)" if ran.returncode else None
+
+    @functools.cache
     def built(self, *words):
         """The program, built with these words."""
         program = self.folder / "".join(("watched", *words))
@@ -206,16 +214,14 @@ def arguments(tests):
 
 def probes(tests, lack):
     without_probes(tests)
-    source = tests.folder / "sdt.c"
-    source.write_text("#include <sys/sdt.h>\n")
-    has_header = not subprocess.run([c_compiler(), "-fsyntax-only", source], capture_output=True).returncode
-    for name in () if has_header else (*LISTINGS, *(f"{it} in gdb" for it in PROBES)):
-        tests.skip(name, "there is no sys/sdt.h (systemtap-sdt-dev)")
-    if has_header:
+    in_gdb, lacks_probes = [f"{it} in gdb" for it in PROBES], tests.lack_of_probes()
+    for name in LISTINGS if lacks_probes else ():
+        tests.skip(name, lacks_probes)
+    for name in in_gdb if lacks_probes or lack else ():
+        tests.skip(name, lacks_probes or lack)
+    if not lacks_probes:
         listed_probes(tests)
-    for name in (f"{it} in gdb" for it in PROBES) if has_header and lack else ():
-        tests.skip(name, lack)
-    if has_header and not lack:
+    if not lacks_probes and not lack:
         arguments(tests)
 
 
@@ -331,6 +337,7 @@ def refusals(tests):
     tests.holds("without a process", "safepoint: there is no process and no core dump" in none, none)
     ended = gdb(*asks("break exit", "run shake", f"source {SCRIPT}", "safepoint system", "kill"), program)
     is_bare = "0 threads, 8 places" in ended and "  awaited: nobody" in ended and not LISTS.findall(ended)
+    tests.holds("and none is listed that is gone", "listed parties that are gone" not in ended, ended)
     tests.holds("after all threads have exited", is_bare, ended)
     typed = ("safepoint awaited &ends", "safepoint")
     wrong = gdb(*asks("break look_now", "run stuck", f"source {SCRIPT}", *typed, "kill"), program)
@@ -373,6 +380,11 @@ def by_itself(tests):
     judge_system(tests, "beside a shared library", said, said, "stuck")
 
 
+# What the commands of the page show, each by a word of it.
+PAGE_SHOWS = {"readelf": "callback__begin", "info probes": "callback__begin", "probe-stap": "$1 = 1",
+              "safepoint system": "awaited: name 4", "safepoint awaited": "awaited: name 4"}
+
+
 def page_commands():
     """The commands of the page's section that readelf and gdb make."""
     section = PAGE.read_text().partition(f"## {SECTION}\n")[2].partition("\n## ")[0]
@@ -381,21 +393,27 @@ def page_commands():
 
 def of_page(tests, core):
     """What the page tells to type ends well, and shows what it says. The core dump is of a program without probes."""
-    shows = {"readelf": "callback__begin", "info probes": "callback__begin", "probe-stap": "$1 = 1",
-             "safepoint system": "awaited: name 4", "safepoint awaited": "awaited: name 4"}
     commands = page_commands()
-    tests.holds("the page has commands", len(commands) >= len(shows), f"{commands}")
-    with running(tests.built(USDT), "stuck") as (pid, _):
+    tests.holds("the page has commands", len(commands) >= len(PAGE_SHOWS), f"{commands}")
+    with running(tests.built(), "stuck") as (pid, _):
         for command in commands:
-            words = shlex.split(command)
-            program = tests.built(*(() if "core" in words else (USDT,)))
-            meant = {"PID": [str(pid)], "core": [core], "./host": [program], INSTALLED: [SCRIPT],
-                     "gdb": ["gdb", "-nx"], "run": ["run shake"]}
-            typed = [word for it in words for word in meant.get(it, [it])]
-            ran = subprocess.run(typed, capture_output=True, text=True, errors="replace", timeout=SECONDS)
-            wanted = next(it for name, it in shows.items() if name in command)
-            is_right = ran.returncode == 0 and wanted in ran.stdout
-            tests.holds(f"the page: {command}", is_right, f"{ran.returncode}, {ran.stdout[-800:]}, {ran.stderr[-800:]}")
+            words = (USDT,) if INSTALLED not in command else ()
+            if words and tests.lack_of_probes():
+                tests.skip(f"the page: {command}", tests.lack_of_probes())
+            elif tests.has(command.split()[0], f"the page: {command}"):
+                judge_command(tests, command, {"PID": str(pid), "core": core, "./host": tests.built(*words)})
+
+
+def judge_command(tests, command, meant):
+    """A command of the page, with these files and this process: it ends with status 0, and shows what it must."""
+    meant = {**meant, INSTALLED: SCRIPT, "run": "run shake"}
+    typed = [meant.get(it, it) for it in shlex.split(command)]
+    unset = ["-nx"] if typed[0] == "gdb" else []
+    how = {"capture_output": True, "text": True, "errors": "replace", "timeout": SECONDS}
+    ran = subprocess.run([typed[0], *unset, *typed[1:]], **how)
+    wanted = next(it for name, it in PAGE_SHOWS.items() if name in command)
+    said = f"{ran.returncode}, {ran.stdout[-800:]}, {ran.stderr[-800:]}"
+    tests.holds(f"the page: {command}", ran.returncode == 0 and wanted in ran.stdout, said)
 
 
 def main(words):

@@ -78,7 +78,7 @@ pub struct Party {
     has_old_targets: Cell<bool>,
 }
 
-// SAFETY: libsafepoint.a keeps nothing of the thread that calls, and `Party` isn't `Sync`, so one thread at a time calls.
+// SAFETY: libsafepoint.a keeps nothing of the thread that calls. `Party` isn't `Sync`, so one thread at a time calls.
 unsafe impl Send for Party {}
 
 impl Party {

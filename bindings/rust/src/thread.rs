@@ -228,7 +228,7 @@ impl<'a> Thread<'a> {
     }
 
     /// Runs the body, a wait inside the runtime: meanwhile the coordinator may hold the thread and serve for it, as in
-    /// [`in_native`](Thread::in_native).
+    /// [`in_native`](Thread::in_native). A body that asks has a [`client`](Party::client) of its own.
     ///
     /// # Errors
     /// `safepoint.h` lists none for a thread that hasn't exited.
@@ -245,8 +245,8 @@ impl<'a> Thread<'a> {
         })
     }
 
-    /// Exits at once. Each later call of a thread answers [`Refusal::NotThis`], and it goes on to ask what any [`Party`] may
-    /// ask.
+    /// Exits at once. Each later call of a thread answers [`Refusal::NotThis`], and the value still asks what any
+    /// [`Party`] may ask.
     ///
     /// # Errors
     /// [`Refusal::StackNotEmpty`] in a method; [`Refusal::NotThis`] where it has exited.
